@@ -1,0 +1,106 @@
+// The list type of the project: a vector that contracts see as the list of its elements.
+//
+// Wherever a type that contracts compare has a field that is a sequence or a text, it is an `Items<T>`, so that `≡` of two
+// values compares contents and never the memory that holds them. It stands on std alone.
+#![tactic(auto)]
+
+ghost use Rattle.std.specs.Prelude.{◌≡◌, [], ◌∷◌, ◌++◌, ◌==◌, length, OnOk, OnErr, IfOk, slice_get, option_copied};
+ghost use Rattle.std.specs.Slice.Iter.{iter_rest};
+ghost use Rattle.std.specs.Iterator.Adapters.{IterYieldsInOrder};
+
+use std::alloc::{AllocError, Global};
+use std::marker::Model;
+use std::slice::Iter;
+
+/// A growing list, seen by contracts as the list of its elements.
+#[derive(Drop)]
+pub struct Items<T> {
+    vec: Vec<T>,
+}
+
+impl<T> Model for Items<T> {
+    ghost use Rattle.std.specs.Prelude.{List};
+
+    ghost Value = { List T };
+
+    ghost view = { λ a. a.vec.items };
+}
+
+impl<T> Items<T> {
+    /// An empty list, which takes no memory until it grows.
+    pub fn new(alloc: Global) -> Self
+        ensures { result ≡ [] }
+    {
+        Items {
+            vec: Vec::new(alloc),
+        }
+    }
+
+    /// The list of a vector's elements.
+    pub fn from_vec(vec: Vec<T>) -> Self
+        ensures { result ≡ vec.items }
+    {
+        Items { vec }
+    }
+
+    /// The vector that holds the elements.
+    pub fn into_vec(self) -> Vec<T>
+        ensures { result.items ≡ self }
+    {
+        self.vec
+    }
+
+    pub fn as_slice(&self) -> &[T]
+        ensures { result.now ≡ self.now }
+    {
+        self.vec.as_slice()
+    }
+
+    pub fn len(&self) -> usize
+        ensures { result ≡ length self.now }
+    {
+        self.vec.len()
+    }
+
+    pub fn is_empty(&self) -> bool
+        ensures { result ≡ (length self.now == 0) }
+    {
+        self.vec.len() == 0
+    }
+
+    /// The element at a place, counted from 0.
+    pub fn get(&self, index: usize) -> Option<&T>
+        ensures { option_copied result ≡ slice_get self.now index }
+    {
+        self.vec.as_slice().get(index)
+    }
+
+    /// The elements in their order.
+    pub fn iter(&self) -> Iter<'_, T>
+        ensures rest { iter_rest result ≡ self.now }
+        ensures runs { IterYieldsInOrder T }
+    {
+        self.vec.as_slice().iter()
+    }
+}
+
+impl<T: Drop> Items<T> {
+    /// Adds an element at the end. A refused one leaves the list as it was.
+    pub fn push(&mut self, item: T) -> Result<(), AllocError>
+        ensures ok { OnOk result (self.new ≡ self.old ++ item ∷ []) }
+        ensures err { OnErr result (self.new ≡ self.old) }
+    {
+        self.vec.push(item)?;
+        Ok(())
+    }
+}
+
+impl<T: Copy> Items<T> {
+    /// A copy of a slice.
+    pub fn from_slice(alloc: Global, items: &[T]) -> Result<Self, AllocError>
+        ensures { IfOk result (λ list. list ≡ items.now) }
+    {
+        let vec = Vec::from_slice(alloc, items)?;
+        Ok(Items { vec })
+    }
+}
