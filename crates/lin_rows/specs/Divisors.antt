@@ -1,0 +1,33 @@
+use Rattle.std.specs.Prelude.{ℕ, zero, suc, ◌%◌, nat_eq, pos, unsigned_abs, Bool, cond, List, [], ◌∷◌, map, sum}
+use Rattle.std.specs.List.{list_all}
+use Rattle.std.specs.Int.{int_div_euclid}
+use Rattle.lin_rows.specs.declared.term.RowTerm.{RowTerm}
+use Rattle.lin_rows.specs.Rows.{Row}
+
+-- the greatest number from 1 to n that passes a test; 0 where none does
+abbrev pub greatest : (ℕ → Bool) → ℕ → ℕ
+greatest test zero = 0
+greatest test (suc n) = cond (test (suc n)) (suc n) (greatest test n)
+
+-- the greatest common divisor: the greatest number that divides all of a list; 0 where all are 0
+unfoldable pub common_divisor : List ℕ → ℕ
+common_divisor ns = greatest (λ d. list_all (λ n. nat_eq (n % d) 0) ns) (sum ns)
+
+-- the greatest common divisor of the coefficients
+abbrev pub divisor_of : List RowTerm → ℕ
+divisor_of ts = common_divisor (map (λ t. unsigned_abs t.coef) ts)
+
+-- each coefficient divided by a number, and the bound divided by it and rounded down
+abbrev pub divided : ℕ → Row → Row
+divided by r = record { terms = map over r.terms; bound = int_div_euclid r.bound (pos by) }
+  where
+    over : RowTerm → RowTerm
+    over t = record { place = t.place; coef = int_div_euclid t.coef (pos by) }
+
+-- a row divided by the greatest common divisor of its coefficients; a row without terms stays
+abbrev pub tightened : Row → Row
+tightened r = with_terms r.terms
+  where
+    with_terms : List RowTerm → Row
+    with_terms [] = r
+    with_terms (t ∷ ts) = divided (divisor_of r.terms) r

@@ -1,0 +1,6 @@
+pub mod Answers
+pub mod Numbers
+pub mod Rows
+pub mod Divisors
+pub mod Sums
+pub mod Cancelling
