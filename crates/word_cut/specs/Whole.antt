@@ -1,0 +1,35 @@
+-- Which texts spell whole numbers, and which numbers.
+use Rattle.std.specs.Prelude.{ℕ, ◌+◌, ◌*◌, ◌-◌, Bool, true, false, ◌==◌, nat_le, ◌&&◌, not, if◌then◌else◌, List, [], ◌∷◌, Option, Some, None, ℤ, pos, neg_ℤ}
+use Rattle.word_cut.specs.Texts.{is_number}
+
+-- the number that digits write behind those of n
+abbrev pub digits_behind : ℕ → List ℕ → ℕ
+digits_behind n [] = n
+digits_behind n (b ∷ bs) = digits_behind (10 * n + (b - 48)) bs
+
+-- the number that digits write
+abbrev pub number_of : List ℕ → ℕ
+number_of text = digits_behind 0 text
+
+-- a number, or a - before a number that is not 0
+abbrev pub is_whole : List ℕ → Bool
+is_whole [] = false
+is_whole (b ∷ bs) = if b == 45 then (is_number bs && not (number_of bs == 0)) else is_number (b ∷ bs)
+
+-- the whole number that such a text writes
+abbrev pub whole_of : List ℕ → ℤ
+whole_of [] = pos 0
+whole_of (b ∷ bs) = if b == 45 then neg_ℤ (pos (number_of bs)) else pos (number_of (b ∷ bs))
+
+-- the greatest size of a number that is read, 2^127 - 1
+abbrev pub greatest : ℕ
+greatest = 170141183460469231731687303715884105727
+
+-- the size of the number that such a text writes
+abbrev pub size_of : List ℕ → ℕ
+size_of [] = 0
+size_of (b ∷ bs) = if b == 45 then number_of bs else number_of (b ∷ bs)
+
+-- the whole number that a text writes, where it writes one of a size that is read
+abbrev pub read_of : List ℕ → Option ℤ
+read_of text = if (is_whole text && nat_le (size_of text) greatest) then Some (whole_of text) else None

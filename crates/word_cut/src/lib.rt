@@ -1,0 +1,12 @@
+//! From bytes to words, and from texts to whole numbers.
+//!
+//! The words of some bytes are defined in `specs/Words.antt`, as a statement about the bytes: gaps of white space and
+//! comments, and between them the longest names, numbers and signs. `specs/Texts.antt` says which texts are words,
+//! `specs/Whole.antt` which texts spell whole numbers. The crate stands on std alone.
+#![tactic(auto)]
+
+mod cutting;
+mod word;
+
+pub use cutting::CutRefused;
+pub use word::{Word, WordKind};
