@@ -1,0 +1,3 @@
+pub mod Lists
+pub mod Convergence
+pub mod Systems

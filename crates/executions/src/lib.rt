@@ -1,0 +1,7 @@
+// Executions of a replicated system: events, delivery orders, the state after an order, and why a safe system converges.
+//
+// A call runs at one replica and reaches the others in any order in which it stands after all that its replica had taken
+// before. `specs/Orders.antt` says what a delivery order is, `specs/Executions.antt` what an execution is and what it means
+// that a system converges. `proofs/Convergence.antt` has the proof, of events and steps alone; `proofs/Systems.antt` is the
+// theorem in the words of the definitions.
+#![tactic(auto)]
