@@ -1,0 +1,5 @@
+pub mod Part
+pub mod Choice
+pub mod Many
+pub mod Loop
+pub mod Pieces

@@ -1,0 +1,12 @@
+-- What a reader of the code returns, seen by view, is what reading gives, unless memory runs out.
+use Rattle.std.specs.Prelude.{◌≡◌, ℕ, Result, Ok, Err}
+use Rattle.token_readers.specs.declared.fault.ReadError.{ReadError}
+use Rattle.token_readers.specs.declared.fault.ReadError.TheVariants as errors
+
+abbrev pub Fails : {Y : Type 0} → ReadError → Result Y ℕ → Type 0
+Fails errors.Memory read = Unit {0}
+Fails (errors.Syntax n) read = read ≡ Err n
+
+abbrev pub Gives : {X Y : Type 0} → (X → Y) → Result X ReadError → Result Y ℕ → Type 0
+Gives view (Ok x) read = read ≡ Ok (view x)
+Gives view (Err e) read = Fails e read
