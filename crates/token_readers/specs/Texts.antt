@@ -1,8 +1,10 @@
 -- The text of each word, and which words there are.
-use Rattle.std.specs.Prelude.{◌≡◌, ℕ, Bool, true, false, if◌then◌else◌, ◌&&◌, ◌||◌, List, [], ◌∷◌, codes, length, Option, Some, None, nat_lt, nat_le, ◌^◌}
+use Rattle.std.specs.Prelude.{◌≡◌, ℕ, Bool, true, false, if◌then◌else◌, ◌&&◌, not, List, [], ◌∷◌, codes, Option, Some, None, nat_lt}
 use Rattle.std.specs.List.{AllByRecursion}
 use Rattle.std.specs.Str.{bytes_eq}
 use Rattle.std.specs.Fmt.{decimal}
+use Rattle.word_cut.specs.Texts.{is_name, is_reserved, is_number, is_long_name}
+use Rattle.word_cut.specs.Whole.{number_of}
 use Rattle.token_readers.specs.declared.token.Key.{Key}
 use Rattle.token_readers.specs.declared.token.Key.TheVariants as keys
 use Rattle.token_readers.specs.declared.token.Symbol.{Symbol}
@@ -61,34 +63,22 @@ text_of (symbol.Name text) = text
 text_of (symbol.Number n) = decimal n
 text_of (symbol.Key k) = key_text k
 
-abbrev pub is_letter : ℕ → Bool
-is_letter b = (nat_le 97 b && nat_le b 122) || (nat_le 65 b && nat_le b 90)
-
-abbrev pub is_digit : ℕ → Bool
-is_digit b = nat_le 48 b && nat_le b 57
-
--- letters, digits and underscores
-abbrev pub is_tail : List ℕ → Bool
-is_tail [] = true
-is_tail (b ∷ bs) = (is_letter b || (is_digit b || nat_le b 95 && nat_le 95 b)) && is_tail bs
-
--- A name begins with a letter, and letters, digits and underscores follow.
-abbrev pub is_name_text : List ℕ → Bool
-is_name_text [] = false
-is_name_text (b ∷ bs) = is_letter b && is_tail bs
-
 -- the reserved name or sign with this text, from a list
 abbrev pub key_from : List Key → List ℕ → Option Key
 key_from [] text = None
 key_from (k ∷ ks) text = if bytes_eq text (key_text k) then Some k else key_from ks text
 
-abbrev pub is_free : Option Key → Bool
-is_free None = true
-is_free (Some k) = false
+-- the word with this text, where it is one
+abbrev pub symbol_by : Option Key → List ℕ → Symbol
+symbol_by (Some k) text = symbol.Key k
+symbol_by None text = if is_number text then symbol.Number (number_of text) else symbol.Name text
 
--- The word can stand in a text: a name is none that is reserved, and a number has at most 38 digits.
+abbrev pub symbol_of : List ℕ → Symbol
+symbol_of text = symbol_by (key_from all_keys text) text
+
+-- The word can stand in a text: a name is none that is reserved and has at most 32 bytes, a number has at most 38 digits.
 abbrev pub is_word : Symbol → Bool
-is_word (symbol.Name text) = (is_name_text text && nat_le (length text) 32) && is_free (key_from all_keys text)
+is_word (symbol.Name text) = is_name text && (not (is_reserved text) && not (is_long_name text))
 is_word (symbol.Number n) = nat_lt n 100000000000000000000000000000000000000
 is_word (symbol.Key k) = true
 
