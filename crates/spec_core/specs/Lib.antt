@@ -1,0 +1,12 @@
+pub mod Name
+pub mod Form
+pub mod Code
+pub mod Line
+pub mod UpdateLine
+pub mod Specification
+pub mod State
+pub mod World
+pub mod Truth
+pub mod Meaning
+pub mod Fits
+pub mod Typed

@@ -1,0 +1,242 @@
+use Rattle.std.specs.Prelude.{if◌then◌else◌, ℕ, ◌+◌, nat_lt, nat_le, max, count_by, Bool, true, false, not, ◌&&◌, ◌||◌, ◌==◌, List, [], ◌∷◌, ◌++◌, length, map, Option, None, Some, option_map, slice_get}
+use Rattle.std.specs.List.{list_all}
+use Rattle.spec_core.specs.declared.formula.Elem.{Elem}
+use Rattle.spec_core.specs.declared.formula.Elem.TheVariants.{Const, Param, Var}
+use Rattle.spec_core.specs.declared.formula.Body.{Body}
+use Rattle.spec_core.specs.declared.formula.Body.TheVariants as body
+use Rattle.spec_core.specs.declared.formula.Summand.{Summand}
+use Rattle.spec_core.specs.declared.formula.Term.{Term}
+use Rattle.spec_core.specs.declared.operation.Kind.{Kind}
+use Rattle.spec_core.specs.declared.operation.Kind.TheVariants.{Sort, Int}
+use Rattle.spec_core.specs.declared.operation.Param.{Param as Parameter}
+use Rattle.spec_core.specs.declared.operation.Take.{Take}
+use Rattle.spec_core.specs.declared.operation.Operation.{Operation}
+use Rattle.spec_core.specs.declared.update.Thing.{Thing}
+use Rattle.spec_core.specs.declared.update.Thing.TheVariants as thing
+use Rattle.spec_core.specs.declared.update.Spot.{Spot}
+use Rattle.spec_core.specs.declared.update.Spot.TheVariants.{Every, One}
+use Rattle.spec_core.specs.declared.update.Change.{Change}
+use Rattle.spec_core.specs.declared.update.Change.TheVariants.{Insert, Remove, Add, Set}
+use Rattle.spec_core.specs.declared.spec.Relation.{Relation}
+use Rattle.spec_core.specs.declared.spec.Counter.{Counter}
+use Rattle.spec_core.specs.declared.spec.Token.{Token}
+use Rattle.spec_core.specs.declared.spec.Pattern.{Pattern}
+use Rattle.spec_core.specs.declared.spec.Rule.{Rule}
+use Rattle.spec_core.specs.declared.spec.Invariant.{Invariant}
+use Rattle.spec_core.specs.Form.{Form, true_form, false_form, not_form, and_form, or_form, implies_form, has_form, same_form, differ_form, compare_form}
+use Rattle.spec_core.specs.Line.{Line}
+use Rattle.spec_core.specs.UpdateLine.{UpdateLine}
+use Rattle.spec_core.specs.Specification.{Specification, relation_places, counter_keys, token_places, places_of}
+use Rattle.spec_core.specs.State.{is_in}
+use Rattle.spec_core.specs.World.{below}
+use Rattle.spec_core.specs.Truth.{is_exists}
+use Rattle.spec_core.specs.Fits.{in_literal_range, is_plain}
+
+-- ---- sorts
+
+-- the sort of the elements that an argument of this kind is
+abbrev pub sort_of_kind : Kind → Option ℕ
+sort_of_kind (Sort s) = Some s
+sort_of_kind Int = None
+
+abbrev pub sort_of_param : Option Parameter → Option ℕ
+sort_of_param None = None
+sort_of_param (Some p) = sort_of_kind p.kind
+
+-- The sort of what stands for an element, among these parameters and variables; none where it doesn't exist or is a number.
+abbrev pub sort_of : Specification → List Parameter → List ℕ → Elem → Option ℕ
+sort_of d params vars (Const n) = option_map (λ c. c.sort) (slice_get d.consts n)
+sort_of d params vars (Param n) = sort_of_param (slice_get params n)
+sort_of d params vars (Var n) = slice_get vars n
+
+abbrev pub is_sort : Option ℕ → ℕ → Bool
+is_sort None s = false
+is_sort (Some t) s = t == s
+
+abbrev pub same_sort : Option ℕ → Option ℕ → Bool
+same_sort None o = false
+same_sort (Some s) o = is_sort o s
+
+-- what stands at each place is of its sort
+abbrev pub elems_typed : Specification → List Parameter → List ℕ → List ℕ → List Elem → Bool
+elems_typed d params vars [] [] = true
+elems_typed d params vars [] (e ∷ es) = false
+elems_typed d params vars (s ∷ ss) [] = false
+elems_typed d params vars (s ∷ ss) (e ∷ es) = is_sort (sort_of d params vars e) s && elems_typed d params vars ss es
+
+-- ---- terms and formulas
+
+abbrev pub is_int : Kind → Bool
+is_int (Sort s) = false
+is_int Int = true
+
+-- a parameter that is a whole number
+abbrev pub is_number : Option Parameter → Bool
+is_number None = false
+is_number (Some p) = is_int p.kind
+
+abbrev pub body_typed : Specification → List Parameter → List ℕ → Body → Bool
+body_typed d params vars body.One = true
+body_typed d params vars (body.Param n) = is_number (slice_get params n)
+body_typed d params vars (body.Count k es) = nat_lt k (length d.counters) && elems_typed d params vars (counter_keys d k) es
+
+abbrev pub summand_typed : Specification → List Parameter → List ℕ → Summand → Bool
+summand_typed d params vars s = in_literal_range s.coef && body_typed d params vars s.body
+
+-- at most 16 summands
+abbrev pub term_typed : Specification → List Parameter → List ℕ → Term → Bool
+term_typed d params vars t = nat_le (length t.summands) 16 && list_all (summand_typed d params vars) t.summands
+
+abbrev pub form_typed : Specification → List Parameter → List ℕ → Form → Bool
+form_typed d params vars true_form = true
+form_typed d params vars false_form = true
+form_typed d params vars (not_form f) = form_typed d params vars f
+form_typed d params vars (and_form f g) = form_typed d params vars f && form_typed d params vars g
+form_typed d params vars (or_form f g) = form_typed d params vars f && form_typed d params vars g
+form_typed d params vars (implies_form f g) = form_typed d params vars f && form_typed d params vars g
+form_typed d params vars (has_form k es) = nat_lt k (length d.relations) && elems_typed d params vars (relation_places d k) es
+form_typed d params vars (same_form a b) = same_sort (sort_of d params vars a) (sort_of d params vars b)
+form_typed d params vars (differ_form a b) = same_sort (sort_of d params vars a) (sort_of d params vars b)
+form_typed d params vars (compare_form t c u) = term_typed d params vars t && term_typed d params vars u
+
+-- how many parts a formula has: truth values, connectives, readings and comparisons
+abbrev pub nodes : Form → ℕ
+nodes true_form = 1
+nodes false_form = 1
+nodes (not_form f) = 1 + nodes f
+nodes (and_form f g) = 1 + (nodes f + nodes g)
+nodes (or_form f g) = 1 + (nodes f + nodes g)
+nodes (implies_form f g) = 1 + (nodes f + nodes g)
+nodes (has_form k es) = 1
+nodes (same_form a b) = 1
+nodes (differ_form a b) = 1
+nodes (compare_form t c u) = 1
+
+-- how deep they nest
+abbrev pub depth : Form → ℕ
+depth true_form = 1
+depth false_form = 1
+depth (not_form f) = 1 + depth f
+depth (and_form f g) = 1 + max (depth f) (depth g)
+depth (or_form f g) = 1 + max (depth f) (depth g)
+depth (implies_form f g) = 1 + max (depth f) (depth g)
+depth (has_form k es) = 1
+depth (same_form a b) = 1
+depth (differ_form a b) = 1
+depth (compare_form t c u) = 1
+
+-- a formula of at most 200 parts, at most 200 deep
+abbrev pub is_formula : Specification → List Parameter → List ℕ → Form → Bool
+is_formula d params vars f = nat_le (nodes f) 200 && nat_le (depth f) 200 && form_typed d params vars f
+
+-- sorts that exist, at most so many
+abbrev pub are_sorts : Specification → ℕ → List ℕ → Bool
+are_sorts d most ss = nat_le (length ss) most && list_all (λ s. nat_lt s (length d.sorts)) ss
+
+-- a line with at most three variables, and none where it is plain
+abbrev pub is_line : Specification → List Parameter → Line → Bool
+is_line d params l = are_sorts d (if is_plain l.prefix then 0 else 3) l.vars && is_formula d params l.vars l.body
+
+-- ---- operations
+
+abbrev pub is_kind : Specification → Kind → Bool
+is_kind d (Sort s) = nat_lt s (length d.sorts)
+is_kind d Int = true
+
+abbrev pub is_parameter : Specification → Parameter → Bool
+is_parameter d p = is_kind d p.kind
+
+-- each spot is every element of its place, or of the place's sort
+abbrev pub spots_typed : Specification → List Parameter → List ℕ → List Spot → Bool
+spots_typed d params [] [] = true
+spots_typed d params [] (x ∷ xs) = false
+spots_typed d params (s ∷ ss) [] = false
+spots_typed d params (s ∷ ss) (Every ∷ xs) = spots_typed d params ss xs
+spots_typed d params (s ∷ ss) (One e ∷ xs) = is_sort (sort_of d params [] e) s && spots_typed d params ss xs
+
+-- relations are inserted into and removed from, counters added to and set
+abbrev pub change_typed : Specification → List Parameter → Thing → Change → Bool
+change_typed d params (thing.Relation k) Insert = nat_lt k (length d.relations)
+change_typed d params (thing.Relation k) Remove = nat_lt k (length d.relations)
+change_typed d params (thing.Relation k) (Add t) = false
+change_typed d params (thing.Relation k) (Set t) = false
+change_typed d params (thing.Counter k) Insert = false
+change_typed d params (thing.Counter k) Remove = false
+change_typed d params (thing.Counter k) (Add t) = nat_lt k (length d.counters) && term_typed d params [] t
+change_typed d params (thing.Counter k) (Set t) = nat_lt k (length d.counters) && term_typed d params [] t
+
+abbrev pub is_update : Specification → List Parameter → UpdateLine → Bool
+is_update d params u = change_typed d params u.thing u.change && spots_typed d params (places_of d u.thing) u.at && is_formula d params [] u.guard
+
+-- a taking of a token, shared in language version 2 alone
+abbrev pub is_take : Specification → List Parameter → Take → Bool
+is_take d params t = nat_lt t.token (length d.tokens) && elems_typed d params [] (token_places d t.token) t.args && (not t.shared || (d.version == 2))
+
+-- at most 6 parameters, 8 requires lines, 16 updates, 4 takings and, in version 2 alone, 8 observes lines
+abbrev pub is_operation : Specification → Operation → Bool
+is_operation d o =
+    nat_le (length o.params) 6 && list_all (is_parameter d) o.params
+    && nat_le (length o.requires_) 8 && list_all (is_line d o.params) o.requires_
+    && nat_le (length o.updates) 16 && list_all (is_update d o.params) o.updates
+    && nat_le (length o.takes) 4 && list_all (is_take d o.params) o.takes
+    && nat_le (length o.observes) (if d.version == 2 then 8 else 0) && list_all (is_line d o.params) o.observes
+
+-- ---- the other parts
+
+abbrev pub is_relation : Specification → Relation → Bool
+is_relation d r = are_sorts d 3 r.places
+
+abbrev pub is_counter : Specification → Counter → Bool
+is_counter d c = are_sorts d 2 c.keys && in_literal_range c.initial
+
+abbrev pub is_token : Specification → Token → Bool
+is_token d t = are_sorts d 3 t.places
+
+-- a rule variable at each place, by the sort of the place
+abbrev pub places_of_vars : List ℕ → List ℕ → List (ℕ × ℕ)
+places_of_vars (v ∷ vs) (s ∷ ss) = (v, s) ∷ places_of_vars vs ss
+places_of_vars vs ss = []
+
+abbrev pub is_pattern : Specification → Pattern → Bool
+is_pattern d p = nat_lt p.token (length d.tokens) && (length p.vars == length (token_places d p.token))
+
+-- a variable stands at places of one sort alone
+abbrev pub agree_on : List (ℕ × ℕ) → ℕ × ℕ → Bool
+agree_on xs x = list_all (λ y. not (x.0 == y.0) || (x.1 == y.1)) xs
+
+abbrev pub is_rule : Specification → Rule → Bool
+is_rule d r = is_pattern d r.left && is_pattern d r.right
+    && (let xs = places_of_vars r.left.vars (token_places d r.left.token) ++ places_of_vars r.right.vars (token_places d r.right.token) in list_all (agree_on xs) xs)
+
+-- an invariant's prefix is `forall` or missing
+abbrev pub is_invariant : Specification → Invariant → Bool
+is_invariant d i = not (is_exists i.line.prefix) && is_line d [] i.line
+
+-- the names that are declared for the whole specification
+abbrev pub global_names : Specification → List (List ℕ)
+global_names d = d.sorts ++ map (λ c. c.name) d.consts ++ map (λ r. r.name) d.relations ++ map (λ c. c.name) d.counters
+    ++ map (λ t. t.name) d.tokens ++ map (λ i. i.name) d.invariants ++ map (λ o. o.name) d.operations
+
+abbrev pub all_distinct : List (List ℕ) → Bool
+all_distinct [] = true
+all_distinct (n ∷ ns) = not (is_in n ns) && all_distinct ns
+
+-- at most four constants of each sort
+abbrev pub consts_typed : Specification → Bool
+consts_typed d = list_all (λ c. nat_lt c.sort (length d.sorts)) d.consts
+    && list_all (λ s. nat_le (count_by (λ c. c.sort == s) d.consts) 4) (below (length d.sorts))
+
+-- A specification is well formed: all that it names exists and is of the sort that its place needs, its names are distinct,
+-- and it is within the limits of the language: 8 sorts, 16 relations, 8 counters, 16 tokens, 32 rules, 16 invariants and
+-- 24 operations.
+abbrev pub is_specification : Specification → Bool
+is_specification d =
+    ((d.version == 1) || (d.version == 2))
+    && nat_le (length d.sorts) 8 && consts_typed d
+    && nat_le (length d.relations) 16 && list_all (is_relation d) d.relations
+    && nat_le (length d.counters) 8 && list_all (is_counter d) d.counters
+    && nat_le (length d.tokens) 16 && list_all (is_token d) d.tokens
+    && nat_le (length d.rules) 32 && list_all (is_rule d) d.rules
+    && nat_le (length d.invariants) 16 && list_all (is_invariant d) d.invariants
+    && nat_le (length d.operations) 24 && list_all (is_operation d) d.operations
+    && all_distinct (global_names d)

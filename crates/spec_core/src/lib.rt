@@ -1,0 +1,22 @@
+// What a specification is and what it means: worlds, states, truth, initial states, calls and their preconditions.
+//
+// It stands on `items`. The definitions are in specs/, over plain data: `Specification` (what is declared), `State` (a state
+// as it is listed and as it is read), `World` (elements and tuples), `Truth`, `Meaning` (invariant, precondition, observation,
+// initial state), `Fits` (which worlds, calls, states and arguments fit) and `Typed` (which specifications are well formed).
+#![tactic(auto)]
+
+mod formula;
+mod line;
+mod name;
+mod operation;
+mod spec;
+mod update;
+mod world;
+
+pub use formula::{Body, Cmp, Elem, Formula, Summand, Term};
+pub use line::{Prefix, Prefixed};
+pub use name::Name;
+pub use operation::{Kind, Operation, Param, Take};
+pub use spec::{Const, Counter, Invariant, Pattern, Relation, Rule, Spec, Token};
+pub use update::{Change, Spot, Thing, Update};
+pub use world::{Call, World};
