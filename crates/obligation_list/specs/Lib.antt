@@ -1,0 +1,2 @@
+pub mod Obligations
+pub mod Breaking

@@ -1,0 +1,9 @@
+// The obligations of a specification, and what breaks them.
+//
+// It stands on `spec_core`, `effectors` and `token_rules`. The definitions are in specs/: `Obligations` (the list, in its order)
+// and `Breaking` (when values break an obligation, when it holds, and when a specification is safe).
+#![tactic(auto)]
+
+mod obligation;
+
+pub use obligation::Obligation;
