@@ -1,0 +1,147 @@
+use Rattle.std.specs.Prelude.{ℕ, ◌+◌, ◌==◌, nat_lt, ℤ, pos, Bool, true, false, not, cond, ◌&&◌, ◌||◌, List, [], ◌∷◌, ◌++◌, length, map, slice_index_or, slice_set, Option, Some, None, is_some, Result, Ok, Err}
+use Rattle.std.specs.List.{list_any, list_all, fold}
+use Rattle.std.specs.Ordering.{int_eq}
+use Rattle.lin_rows.specs.declared.term.RowTerm.{RowTerm}
+use Rattle.lin_rows.specs.Rows.{Row}
+use Rattle.proof_kernel.specs.declared.clause.Lit.{Lit}
+use Rattle.proof_kernel.specs.declared.problem.AtomKind.{AtomKind}
+use Rattle.proof_kernel.specs.declared.problem.AtomKind.TheVariants.{Plain, Row as OfRow}
+use Rattle.proof_kernel.specs.declared.line.RowStep.{RowStep}
+use Rattle.proof_kernel.specs.declared.line.Line.{Line}
+use Rattle.proof_kernel.specs.declared.line.Line.TheVariants.{Resolve, Farkas, Split, Drop}
+use Rattle.proof_kernel.specs.declared.line.Why.{Why}
+use Rattle.proof_kernel.specs.declared.line.Why.TheVariants.{Place, Pivot, SplitAgain, Dropped}
+use Rattle.proof_kernel.specs.Clauses.{has, lit_of, resolvent, negations, is_empty, all_true}
+use Rattle.proof_kernel.specs.Problems.{PlainProblem, Meaning, atom_true}
+use Rattle.proof_kernel.specs.Steps.{then_, used_rows, held_rows, refuted, row_at, split_fits, split_cause}
+
+-- What stands after some lines: the atoms, the number of integer names, how many clauses the problem has, the clauses by their
+-- numbers without the dropped ones, and whether an empty clause was ever among them.
+pub record State : Type 0 where
+  pub atoms : List AtomKind
+  pub ints : ℕ
+  pub given : ℕ
+  pub slots : List (Option (List Lit))
+  pub empty : Bool
+
+-- what stands before the first line
+abbrev pub start : PlainProblem → State
+start p = record { atoms = p.atoms; ints = p.ints; given = length p.clauses; slots = map (λ c. Some c) p.clauses; empty = list_any is_empty p.clauses }
+
+-- the clause of a number, where it is there and wasn't dropped
+abbrev pub live_clause : State → ℕ → Option (List Lit)
+live_clause s i = slice_index_or s.slots i None
+
+abbrev pub is_live : State → ℕ → Bool
+is_live s i = is_some (live_clause s i)
+
+abbrev pub clause_or_empty : Option (List Lit) → List Lit
+clause_or_empty (Some c) = c
+clause_or_empty None = []
+
+abbrev pub clause_at : State → ℕ → List Lit
+clause_at s i = clause_or_empty (live_clause s i)
+
+-- the clauses that weren't dropped, in the order of their numbers
+abbrev pub live_of : List (Option (List Lit)) → List (List Lit)
+live_of [] = []
+live_of (Some c ∷ slots) = c ∷ live_of slots
+live_of (None ∷ slots) = live_of slots
+
+-- with one more clause
+abbrev pub grown : State → List Lit → State
+grown s c = record { atoms = s.atoms; ints = s.ints; given = s.given; slots = s.slots ++ Some c ∷ []; empty = s.empty || is_empty c }
+
+-- RESOLVE. Place: `left` or `right` isn't below the number of clauses, or `pivot` isn't below the number of atoms. Dropped: an
+-- earlier line dropped `left` or `right`. Pivot: the left clause lacks `+pivot`, or the right one lacks `-pivot`.
+abbrev pub resolved : State → ℕ → ℕ → ℕ → Result State Why
+resolved s left right pivot =
+    cond (nat_lt left (length s.slots) && (nat_lt right (length s.slots) && nat_lt pivot (length s.atoms)))
+    (cond (is_live s left && is_live s right)
+    (cond (has (clause_at s left) (lit_of pivot true) && has (clause_at s right) (lit_of pivot false))
+    (Ok (grown s (resolvent pivot (clause_at s left) (clause_at s right))))
+    (Err Pivot))
+    (Err Dropped))
+    (Err Place)
+
+-- FARKAS. The rules of the used literals and of the steps, then Contradiction. The clause is the opposites of the used literals.
+abbrev pub combined : State → List Lit → List RowStep → Result State Why
+combined s used steps = then_ (used_rows s.atoms used) (λ rows. then_ (refuted rows steps) (λ _. Ok (grown s (negations used))))
+
+-- SPLIT, by the order of its tests.
+
+-- the row `place <= at`
+abbrev pub at_most : ℕ → ℤ → Row
+at_most place at = record { terms = record { place = place; coef = pos 1 } ∷ []; bound = at }
+
+-- the term `1 * place`, and no other
+abbrev pub is_alone : ℕ → List RowTerm → Bool
+is_alone place [] = false
+is_alone place (t ∷ []) = (t.place == place) && int_eq t.coef (pos 1)
+is_alone place (t ∷ u ∷ ts) = false
+
+abbrev pub is_at_most : ℕ → ℤ → AtomKind → Bool
+is_at_most place at Plain = false
+is_at_most place at (OfRow r) = is_alone place r.terms && int_eq r.bound at
+
+-- with an atom for a row
+abbrev pub named : State → Row → State
+named s r = record { atoms = s.atoms ++ OfRow r ∷ []; ints = s.ints; given = s.given; slots = s.slots; empty = s.empty }
+
+-- SplitAgain: an atom has exactly the row `place <= at`
+abbrev pub split_after : State → ℕ → ℤ → List Row → ℕ → ℕ → List ℤ → Result State Why
+split_after s place at rows low high values =
+    cond (split_fits rows place low high values)
+    (cond (list_any (is_at_most place at) s.atoms)
+    (Err SplitAgain)
+    (then_ (split_cause place at (row_at rows low) (row_at rows high) values) (λ _. Ok (named s (at_most place at)))))
+    (Err Place)
+
+-- the place isn't below the number of integer names; the rules of the used literals and of the steps; then the rest
+abbrev pub split : State → ℕ → ℤ → List Lit → List RowStep → ℕ → ℕ → List ℤ → Result State Why
+split s place at used steps low high values =
+    cond (nat_lt place s.ints)
+    (then_ (used_rows s.atoms used) (λ rows. then_ (held_rows rows steps) (λ held. split_after s place at held low high values)))
+    (Err Place)
+
+-- DROP. Place: the list is empty, or one of its numbers isn't below the number of clauses. Dropped: a number stands in it twice,
+-- or an earlier line dropped it.
+abbrev pub stands_in : List ℕ → ℕ → Bool
+stands_in ns n = list_any (λ m. m == n) ns
+
+abbrev pub are_different : List ℕ → Bool
+are_different [] = true
+are_different (n ∷ ns) = not (stands_in ns n) && are_different ns
+
+abbrev pub is_some_number : List ℕ → Bool
+is_some_number [] = false
+is_some_number (n ∷ ns) = true
+
+abbrev pub without_clauses : State → List ℕ → State
+without_clauses s ns = record { atoms = s.atoms; ints = s.ints; given = s.given; slots = fold (λ slots n. slice_set slots n None) s.slots ns; empty = s.empty }
+
+abbrev pub dropped : State → List ℕ → Result State Why
+dropped s ns =
+    cond (is_some_number ns && list_all (λ n. nat_lt n (length s.slots)) ns)
+    (cond (are_different ns && list_all (is_live s) ns) (Ok (without_clauses s ns)) (Err Dropped))
+    (Err Place)
+
+-- THE RULES: what stands after a line, or the first rule that it breaks.
+abbrev pub next : State → Line → Result State Why
+next s (Resolve left right pivot) = resolved s left right pivot
+next s (Farkas used steps) = combined s used steps
+next s (Split place at used steps low high values) = split s place at used steps low high values
+next s (Drop clauses) = dropped s clauses
+
+-- what stands after some lines, or the number of the first that breaks a rule, counted on from k, with that rule
+abbrev pub run_from : ℕ → State → List Line → Result State (ℕ × Why)
+run_from k s [] = Ok s
+run_from k s (l ∷ ls) = elim (next s l) [ Ok t ↦ run_from (k + 1) t ls | Err w ↦ Err (k, w) ]
+
+-- a log, from the first line on
+abbrev pub run : PlainProblem → List Line → Result State (ℕ × Why)
+run p ls = run_from 0 (start p) ls
+
+-- WHAT A LOG MEANS. The clauses that stand are true, and none was empty, dropped or not.
+abbrev pub holds : Meaning → State → Bool
+holds m s = all_true (atom_true m s.atoms) (live_of s.slots) && not s.empty
