@@ -10,3 +10,4 @@ pub mod Truth
 pub mod Meaning
 pub mod Fits
 pub mod Typed
+pub mod Sizes

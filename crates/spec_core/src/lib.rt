@@ -10,6 +10,7 @@ mod line;
 mod name;
 mod operation;
 mod spec;
+mod truth;
 mod update;
 mod world;
 
@@ -18,5 +19,6 @@ pub use line::{Prefix, Prefixed};
 pub use name::Name;
 pub use operation::{Kind, Operation, Param, Take};
 pub use spec::{Const, Counter, Invariant, Pattern, Relation, Rule, Spec, Token};
+pub use truth::{Readings, count_at, elem_at, has_at, holds, term_value};
 pub use update::{Change, Spot, Thing, Update};
 pub use world::{Call, World};

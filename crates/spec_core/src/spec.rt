@@ -1,5 +1,8 @@
 // Specifications.
 
+ghost use Rattle.std.specs.Prelude.{◌≡◌, true};
+ghost use Rattle.spec_core.specs.Typed.{is_specification};
+
 use crate::line::Prefixed;
 use crate::name::Name;
 use crate::operation::Operation;
@@ -85,4 +88,13 @@ impl Model for Spec {
     ghost view = { λ a. record { version = a.version; sorts = a.sorts; consts = a.consts; relations = a.relations; counters = a.counters; tokens = a.tokens; rules = a.rules; invariants = a.invariants; operations = a.operations } };
 
     ghost invariant = { λ a. is_specification (record { version = a.version; sorts = a.sorts; consts = a.consts; relations = a.relations; counters = a.counters; tokens = a.tokens; rules = a.rules; invariants = a.invariants; operations = a.operations }) ≡ true };
+}
+
+impl Spec {
+    /// A fact for proofs: a specification that a program holds is well formed.
+    pub fn well_formed(&self)
+        ensures { is_specification self.now ≡ true }
+    {
+        let _version = self.version;
+    }
 }

@@ -1,0 +1,23 @@
+use Rattle.std.proofs.Common.{◌≡◌, ℕ, zero, suc, ◌<◌, Bool, true, false, ◌&&◌, ◌⊎◌, inl, inr, List, [], ◌∷◌, length, get_or, refl, arith}
+use Rattle.std.specs.List.{list_all}
+
+pub both : (a b : Bool) → (a && b) ≡ true → (a ≡ true) × (b ≡ true)
+both a b h = grind arith
+
+pub and_true : (a b : Bool) → a ≡ true → b ≡ true → (a && b) ≡ true
+and_true a b p q = grind arith
+
+pub tell : (b : Bool) → (b ≡ true) ⊎ (b ≡ false)
+tell true = inl refl
+tell false = inr refl
+
+-- what each passes, one passes
+pub list_all-get_or : {X : Type 0} (p : X → Bool) (xs : List X) → list_all p xs ≡ true → (k : ℕ) (x : X) → p x ≡ true → p (get_or xs k x) ≡ true
+list_all-get_or p [] h k x hx = hx
+list_all-get_or p (y ∷ ys) h zero x hx = (both (p y) (list_all p ys) h).0
+list_all-get_or p (y ∷ ys) h (suc k) x hx = list_all-get_or p ys (both (p y) (list_all p ys) h).1 k x hx
+
+pub list_all-within : {X : Type 0} (p : X → Bool) (xs : List X) → list_all p xs ≡ true → (k : ℕ) (x : X) → k < length xs → p (get_or xs k x) ≡ true
+list_all-within p [] h k x lt = absurd (omega arith)
+list_all-within p (y ∷ ys) h zero x lt = (both (p y) (list_all p ys) h).0
+list_all-within p (y ∷ ys) h (suc k) x lt = list_all-within p ys (both (p y) (list_all p ys) h).1 k x (omega arith)
