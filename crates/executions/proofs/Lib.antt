@@ -1,3 +1,5 @@
 pub mod Lists
 pub mod Convergence
 pub mod Systems
+pub mod Growth
+pub mod Safety
