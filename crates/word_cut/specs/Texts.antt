@@ -54,16 +54,35 @@ is_sign (b ∷ c ∷ d ∷ bs) = false
 abbrev pub is_word : List ℕ → Bool
 is_word text = is_name text || (is_number text || is_sign text)
 
--- the names that the language keeps for itself
-abbrev pub reserved_names : List (List ℕ)
-reserved_names = codes "cise" ∷ codes "sort" ∷ codes "const" ∷ codes "relation" ∷ codes "counter" ∷ codes "initially" ∷ codes "token" ∷ codes "conflict" ∷ codes "invariant" ∷ codes "operation" ∷ codes "end" ∷ codes "requires" ∷ codes "insert" ∷ codes "remove" ∷ codes "add" ∷ codes "set" ∷ codes "takes" ∷ codes "when" ∷ codes "forall" ∷ codes "exists" ∷ codes "true" ∷ codes "false" ∷ codes "not" ∷ codes "and" ∷ codes "or" ∷ codes "implies" ∷ codes "int" ∷ []
+-- The names that the language keeps for itself: those that begin an item or end one,
+abbrev pub item_names : List (List ℕ)
+item_names = codes "sort" ∷ codes "const" ∷ codes "relation" ∷ codes "counter" ∷ codes "initially" ∷ codes "token" ∷ codes "conflict" ∷ codes "invariant" ∷ codes "operation" ∷ codes "end" ∷ []
 
-abbrev pub is_reserved : List ℕ → Bool
-is_reserved text = list_any (bytes_eq text) reserved_names
+-- those that begin a line of an operation,
+abbrev pub line_names : List (List ℕ)
+line_names = codes "requires" ∷ codes "insert" ∷ codes "remove" ∷ codes "add" ∷ codes "set" ∷ codes "takes" ∷ []
+
+-- those of formulas,
+abbrev pub formula_names : List (List ℕ)
+formula_names = codes "forall" ∷ codes "exists" ∷ codes "true" ∷ codes "false" ∷ codes "not" ∷ codes "and" ∷ codes "or" ∷ codes "implies" ∷ []
+
+-- and the others.
+abbrev pub other_names : List (List ℕ)
+other_names = codes "cise" ∷ codes "when" ∷ codes "int" ∷ []
+
+abbrev pub is_among : List (List ℕ) → List ℕ → Bool
+is_among names text = list_any (bytes_eq text) names
+
+unfoldable pub is_reserved : List ℕ → Bool
+is_reserved text = is_among item_names text || (is_among line_names text || (is_among formula_names text || is_among other_names text))
+
+-- the kind of a text that is a word and isn't reserved
+abbrev pub free_kind : List ℕ → WordKind
+free_kind text = if is_name text then kinds.Name else (if is_number text then kinds.Number else kinds.Sign)
 
 -- the kind of a text that is a word
 abbrev pub kind_of : List ℕ → WordKind
-kind_of text = if is_reserved text then kinds.Reserved else (if is_name text then kinds.Name else (if is_number text then kinds.Number else kinds.Sign))
+kind_of text = if is_reserved text then kinds.Reserved else free_kind text
 
 -- the most bytes that a name may have, and a number
 abbrev pub longest_name : ℕ

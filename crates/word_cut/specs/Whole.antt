@@ -1,5 +1,5 @@
 -- Which texts spell whole numbers, and which numbers.
-use Rattle.std.specs.Prelude.{ℕ, ◌+◌, ◌*◌, ◌-◌, Bool, true, false, ◌==◌, nat_le, ◌&&◌, not, if◌then◌else◌, List, [], ◌∷◌, Option, Some, None, ℤ, pos, neg_ℤ}
+use Rattle.std.specs.Prelude.{ℕ, ◌+◌, ◌*◌, ◌-◌, Bool, false, ◌==◌, nat_le, ◌&&◌, not, if◌then◌else◌, List, [], ◌∷◌, Option, Some, None, ℤ, pos, neg_ℤ}
 use Rattle.word_cut.specs.Texts.{is_number}
 
 -- the number that digits write behind those of n

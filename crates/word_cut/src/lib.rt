@@ -6,7 +6,9 @@
 #![tactic(auto)]
 
 mod cutting;
+mod kinds;
+mod lengths;
 mod word;
 
-pub use cutting::CutRefused;
+pub use cutting::{CutRefused, cut};
 pub use word::{Word, WordKind};
