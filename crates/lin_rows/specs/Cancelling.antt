@@ -1,6 +1,6 @@
 use Rattle.std.specs.Prelude.{ℕ, ◌/◌, ℤ, pos, unsigned_abs, [], ◌∷◌, Option}
 use Rattle.std.specs.Option.{option_map}
-use Rattle.lin_rows.specs.declared.combine.Combined.{Combined}
+use Rattle.lin_rows.specs.declared.combining.Combined.{Combined}
 use Rattle.lin_rows.specs.Rows.{Row, coefficient_at}
 use Rattle.lin_rows.specs.Divisors.{common_divisor}
 use Rattle.lin_rows.specs.Sums.{row_sum}

@@ -1,4 +1,4 @@
-use Rattle.std.specs.Prelude.{ℕ, nat_eq, nat_le, nat_lt, suc, ℤ, pos, ◌+ℤ◌, ◌*ℤ◌, ◌-ℤ◌, ◌≤ℤ◌, int_le, Bool, true, false, cond, not, ◌&&◌, List, [], ◌∷◌, map, slice_index_or, Option, Some}
+use Rattle.std.specs.Prelude.{ℕ, nat_eq, nat_le, nat_lt, suc, ℤ, pos, ◌+ℤ◌, ◌*ℤ◌, ◌-ℤ◌, ◌≤ℤ◌, int_le, int_lt, Bool, true, false, cond, not, ◌&&◌, List, [], ◌∷◌, map, slice_index_or, Option, Some}
 use Rattle.std.specs.List.{list_all}
 use Rattle.std.specs.Option.{option_map, option_and_then}
 use Rattle.lin_rows.specs.Numbers.{in_range, fit, is_zero}
@@ -17,6 +17,10 @@ is_coefficient c = not (is_zero c) && in_range c
 abbrev pub rises_from : ℕ → List RowTerm → Bool
 rises_from least [] = true
 rises_from least (t ∷ ts) = nat_le least t.place && (is_coefficient t.coef && rises_from (suc t.place) ts)
+
+-- all coefficients are in the range of a row
+abbrev pub all_in_range : List RowTerm → Bool
+all_in_range ts = list_all (λ t. in_range t.coef) ts
 
 -- what the type of a row keeps
 abbrev pub is_row : Row → Bool
@@ -40,20 +44,20 @@ value_at x (t ∷ ts) = t.coef *ℤ x t.place +ℤ value_at x ts
 abbrev pub Satisfies : (ℕ → ℤ) → Row → Type 0
 Satisfies x r = value_at x r.terms ≤ℤ r.bound
 
+abbrev pub has_no_terms : List RowTerm → Bool
+has_no_terms [] = true
+has_no_terms (t ∷ ts) = false
+
 -- no point satisfies it: no terms and a negative bound
 abbrev pub is_contradiction : Row → Bool
-is_contradiction r = no_terms r.terms && int_le r.bound (pos 0 -ℤ pos 1)
-  where
-    no_terms : List RowTerm → Bool
-    no_terms [] = true
-    no_terms (t ∷ ts) = false
+is_contradiction r = has_no_terms r.terms && int_lt r.bound (pos 0)
+
+abbrev pub opposite : RowTerm → RowTerm
+opposite t = record { place = t.place; coef = pos 0 -ℤ t.coef }
 
 -- the opposite of a row over whole numbers: each coefficient negated, and the bound `-bound - 1`, where that is in range
 abbrev pub negated : Row → Option Row
 negated r = option_map (λ b. record { terms = map opposite r.terms; bound = b }) (fit (pos 0 -ℤ r.bound -ℤ pos 1))
-  where
-    opposite : RowTerm → RowTerm
-    opposite t = record { place = t.place; coef = pos 0 -ℤ t.coef }
 
 -- a sum so far and each product in turn, in rising place, where each product and each partial sum is in range
 abbrev pub sum_from : (ℕ → ℤ) → ℤ → List RowTerm → Option ℤ

@@ -6,12 +6,20 @@
 // truth), specs/Divisors (tightening), specs/Sums (sums), specs/Cancelling (the least multipliers that cancel a place).
 #![tactic(auto)]
 
-pub mod combine;
+pub mod adding;
+pub mod combining;
+pub mod negation;
+mod number;
 pub mod refused;
 pub mod row;
 pub mod term;
+mod terms;
+pub mod tightening;
 
-pub use combine::Combined;
+pub use adding::sum;
+pub use combining::Combined;
+pub use negation::negate;
 pub use refused::RowRefused;
-pub use row::Row;
+pub use row::{Row, same_row};
 pub use term::RowTerm;
+pub use tightening::tighten;

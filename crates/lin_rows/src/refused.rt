@@ -1,4 +1,8 @@
 // Why a call gives no row.
+ghost use Rattle.std.specs.Prelude.{◌≡◌};
+ghost use Rattle.lin_rows.specs.declared.refused.RowRefused.TheVariants.{Memory};
+
+use std::alloc::{AllocError, AllocFailed};
 
 /// Why a call gives no row.
 #[derive(Clone, Copy, PartialEq, Eq, Debug)]
@@ -7,4 +11,20 @@ pub enum RowRefused {
     Range,
     /// There was no memory for the result.
     Memory,
+}
+
+impl From<AllocError> for RowRefused {
+    ghost from_gives = { λ _ e. e ≡ Memory };
+
+    fn from(_e: AllocError) -> RowRefused {
+        RowRefused::Memory
+    }
+}
+
+impl<T: Drop> From<AllocFailed<T>> for RowRefused {
+    ghost from_gives = { λ _ e. e ≡ Memory };
+
+    fn from(_e: AllocFailed<T>) -> RowRefused {
+        RowRefused::Memory
+    }
 }

@@ -1,0 +1,49 @@
+// Sums of rows, and the combination of two rows in which a place cancels.
+ghost use Rattle.std.specs.Prelude.{◌≡◌, true, ◌≤ℤ◌, ◌<ℤ◌, ℕ, ℤ, pos, IfOk, unsigned_abs, ◌<◌, ◌≤◌, ◌^◌};
+ghost use Rattle.lin_rows.specs.Answers.{Gives};
+ghost use Rattle.lin_rows.specs.Rows.{is_row, Satisfies, coefficient_at};
+ghost use Rattle.lin_rows.specs.Sums.{times_row, plus_row, row_sum};
+
+use crate::number::{plus, times};
+use crate::refused::RowRefused;
+use crate::row::Row;
+use crate::terms::{merge, scale};
+use crate::tightening::tighten;
+use std::alloc::Global;
+
+fn times_row(alloc: Global, by: &i128, row: &Row) -> Result<Row, RowRefused>
+    ensures multiple { Gives result (times_row by.now row.now) }
+    ensures row { is_row row.now ≡ true }
+{
+    let terms = scale(alloc, by, row.terms())?;
+    let bound = times(by, &row.bound()).ok_or(RowRefused::Range)?;
+    Ok(Row::new(terms, bound))
+}
+
+fn plus_row(alloc: Global, left: &Row, right: &Row) -> Result<Row, RowRefused>
+    ensures { Gives result (plus_row left.now right.now) }
+{
+    let terms = merge(alloc, left.terms(), right.terms())?;
+    let bound = plus(&left.bound(), &right.bound()).ok_or(RowRefused::Range)?;
+    Ok(Row::new(terms, bound))
+}
+
+/// `first` times the left row plus `second` times the right row, tightened. Range comes exactly where a product or a sum,
+/// of terms or of bounds, leaves the range of a row.
+pub fn sum(
+    alloc: Global,
+    left: &Row,
+    first: i128,
+    right: &Row,
+    second: i128,
+) -> Result<Row, RowRefused>
+    requires first { pos 0 ≤ℤ first }
+    requires second { pos 0 ≤ℤ second }
+    ensures sum { Gives result (row_sum left.now first right.now second) }
+    ensures points { IfOk result (λ out. (x : ℕ → ℤ) → Satisfies x left.now → Satisfies x right.now → Satisfies x out) }
+{
+    let left = times_row(alloc, &first, left)?;
+    let right = times_row(alloc, &second, right)?;
+    let sum = plus_row(alloc, &left, &right)?;
+    Ok(tighten(alloc, &sum)?)
+}

@@ -1,0 +1,52 @@
+// Products and sums that stay in the range of a row.
+ghost use Rattle.std.specs.Prelude.{◌≡◌, ◌*ℤ◌, ◌+ℤ◌, ◌-ℤ◌, pos, true, ◌↔◌, IsTrue};
+ghost use Rattle.lin_rows.specs.Numbers.{fit, in_range};
+
+pub fn is_in_range(a: i128) -> bool
+    ensures { result ≡ in_range a }
+{
+    a != i128::MIN
+}
+
+pub fn times(a: &i128, b: &i128) -> Option<i128>
+    ensures { result ≡ fit (a.now *ℤ b.now) }
+{
+    match a.checked_mul(*b) {
+        Some(c) if is_in_range(c) => Some(c),
+        _ => None,
+    }
+}
+
+pub fn plus(a: &i128, b: &i128) -> Option<i128>
+    ensures { result ≡ fit (a.now +ℤ b.now) }
+{
+    match a.checked_add(*b) {
+        Some(c) if is_in_range(c) => Some(c),
+        _ => None,
+    }
+}
+
+/// The number with the other sign.
+pub fn minus(a: &i128) -> i128
+    requires { in_range a.now ≡ true }
+    ensures { result ≡ pos 0 -ℤ a.now }
+{
+    -*a
+}
+
+/// The greatest whole number below the one with the other sign.
+pub fn below_minus(a: &i128) -> Option<i128>
+    requires { in_range a.now ≡ true }
+    ensures { result ≡ fit (pos 0 -ℤ a.now -ℤ pos 1) }
+{
+    match minus(a).checked_sub(1) {
+        Some(c) if is_in_range(c) => Some(c),
+        _ => None,
+    }
+}
+
+pub fn same_number(left: &i128, right: &i128) -> bool
+    ensures { IsTrue result ↔ (left.now ≡ right.now) }
+{
+    *left == *right
+}
