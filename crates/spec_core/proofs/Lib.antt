@@ -1,3 +1,5 @@
 pub mod Lists
 pub mod Parts
 pub mod Places
+pub mod Tuples
+pub mod Fitting

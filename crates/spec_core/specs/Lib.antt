@@ -11,3 +11,4 @@ pub mod Meaning
 pub mod Fits
 pub mod Typed
 pub mod Sizes
+pub mod Choices

@@ -1,11 +1,12 @@
-use Rattle.std.specs.Prelude.{ℕ, Bool, cond, [], map, get_or}
+use Rattle.std.specs.Prelude.{ℕ, Bool, not, cond, Option, [], map, get_or}
+use Rattle.std.specs.List.{position_from}
 use Rattle.spec_core.specs.declared.world.World.{World}
 use Rattle.spec_core.specs.declared.world.Call.{Call}
 use Rattle.spec_core.specs.Line.{Line}
 use Rattle.spec_core.specs.Specification.{Specification, op_of, no_invariant}
 use Rattle.spec_core.specs.State.{Listing, Reads}
 use Rattle.spec_core.specs.World.{tuples}
-use Rattle.spec_core.specs.Truth.{lines_true}
+use Rattle.spec_core.specs.Truth.{line_true, lines_true}
 
 -- the line of an invariant, and of a precondition
 abbrev pub invariant_line : Specification → ℕ → Line
@@ -14,6 +15,10 @@ invariant_line d i = (get_or d.invariants i no_invariant).line
 -- Every invariant is true.
 abbrev pub inv : Specification → World → Reads → Bool
 inv d w r = lines_true w r [] (map (λ i. i.line) d.invariants)
+
+-- The place of the first invariant that is false.
+abbrev pub broken_at : Specification → World → Reads → Option ℕ
+broken_at d w r = position_from (λ i. not (line_true w r [] i.line)) 0 d.invariants
 
 -- The precondition of a call: all its operation's requires lines are true.
 abbrev pub pre : Specification → World → Call → Reads → Bool
