@@ -3,3 +3,5 @@
 // It stands on `spec_core`. The definition is in specs/Effect: for each tuple or key, the updates of its thing in written order,
 // whose guards and amounts read the old state.
 #![tactic(auto)]
+
+mod updates;
