@@ -1,2 +1,4 @@
 pub mod Reading
 pub mod Sizes
+pub mod Fitting
+pub mod Members
