@@ -3,3 +3,7 @@ pub mod Runs
 pub mod Longest
 pub mod KindLemmas
 pub mod CutLemmas
+pub mod Numbers
+pub mod Spelled
+pub mod Unique
+pub mod Standing

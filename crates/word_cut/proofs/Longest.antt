@@ -8,11 +8,11 @@ use Rattle.std.proofs.lemmas.Bool.Decides.{nat_tests}
 use Rattle.word_cut.specs.Texts.{is_letter, is_digit, is_name_byte, is_number, is_sign, is_single_sign, is_double_sign, is_word, is_empty}
 use Rattle.word_cut.specs.Fronts.{StopsAt, IsRun, IsWordFront, double_at}
 
-and_left : (a b : Bool) → a && b ≡ true → a ≡ true
+pub and_left : (a b : Bool) → a && b ≡ true → a ≡ true
 and_left true b e = refl
 and_left false b e = e
 
-and_right : (a b : Bool) → a && b ≡ true → b ≡ true
+pub and_right : (a b : Bool) → a && b ≡ true → b ≡ true
 and_right true b e = e
 and_right false b e = absurd (false≢true e)
 
@@ -39,7 +39,7 @@ digit_single b e = grind (arith, nat_tests)
 digit_double : (b : ℕ) → is_digit b ≡ true → is_double_sign b ≡ false
 digit_double b e = grind (arith, nat_tests)
 
-no_sign : (b : ℕ) (xs : List ℕ) → is_single_sign b ≡ false → is_double_sign b ≡ false → is_sign (b ∷ xs) ≡ false
+pub no_sign : (b : ℕ) (xs : List ℕ) → is_single_sign b ≡ false → is_double_sign b ≡ false → is_sign (b ∷ xs) ≡ false
 no_sign b [] s d = s
 no_sign b (c ∷ []) s d = rw d refl
 no_sign b (c ∷ e ∷ xs) s d = refl
@@ -47,7 +47,7 @@ no_sign b (c ∷ e ∷ xs) s d = refl
 pub digit_no_sign : (b : ℕ) (xs : List ℕ) → is_digit b ≡ true → is_sign (b ∷ xs) ≡ false
 digit_no_sign b xs e = no_sign b xs (digit_single b e) (digit_double b e)
 
-letter_no_number : (b : ℕ) (xs : List ℕ) → is_letter b ≡ true → is_number (b ∷ xs) ≡ false
+pub letter_no_number : (b : ℕ) (xs : List ℕ) → is_letter b ≡ true → is_number (b ∷ xs) ≡ false
 letter_no_number b xs e = let z = letter_zero b e in let d = letter_no_digit b e in rw (z, d) refl
 
 pub name_of_word : (b : ℕ) (xs : List ℕ) → is_letter b ≡ true → is_word (b ∷ xs) ≡ list_all is_name_byte xs

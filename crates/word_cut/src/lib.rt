@@ -7,8 +7,12 @@
 
 mod cutting;
 mod kinds;
+mod laws;
 mod lengths;
+mod whole;
 mod word;
 
 pub use cutting::{CutRefused, cut};
+pub use laws::{law_cut_or_refused, law_one_cut, law_one_refusal, law_words_stand};
+pub use whole::read_whole;
 pub use word::{Word, WordKind};
