@@ -1,5 +1,5 @@
 use Prim.Native.Nat.{◌∣◌}
-use Rattle.std.proofs.Common.{◌≡◌, ℕ, zero, suc, ◌+◌, ◌*◌, ◌%◌, ◌<◌, ◌≤◌, Bool, true, false, cond, ◌&&◌, List, [], ◌∷◌, map, length, get_or, drop, refl, sym, ◌∙◌, ap, subst, arith, add-one, drop-cons, unsigned_abs, ◌⊎◌, inl, inr}
+use Rattle.std.proofs.Common.{◌≡◌, ℕ, zero, suc, ◌+◌, ◌%◌, ◌<◌, ◌≤◌, Bool, true, false, cond, List, [], ◌∷◌, map, length, get_or, drop, refl, sym, ◌∙◌, ap, subst, arith, add-one, drop-cons, unsigned_abs, ◌⊎◌, inl, inr}
 use Rattle.std.specs.Prelude.{nat_eq, sum}
 use Rattle.std.specs.List.{list_all}
 use Rattle.std.specs.Int.{IsGcd}
@@ -130,6 +130,23 @@ common_divisor-divides ns h =
     ones [] = tt
     ones (n ∷ ns) = (dvd_of_mod-eq-zero 1 (mod-one n), ones ns)
 
+-- no number that divides all is greater
+pub le_common_divisor : (ns : List ℕ) (d : ℕ) → 0 < sum ns → DividesAll d ns → d ≤ common_divisor ns
+unfolding common_divisor
+le_common_divisor ns d h k = le_greatest (λ d. divides_all d ns) (sum ns) d (le_sum d ns k h) (DividesAll-to d ns k)
+  where
+    le_greatest : (test : ℕ → Bool) (n d : ℕ) → d ≤ n → test d ≡ true → d ≤ greatest test n
+    le_greatest test zero d h k = h
+    le_greatest test (suc n) d h k = by_top (tell (test (suc n))) (order d (suc n)) (λ l. le_greatest test n d l k)
+      where
+        order : (a b : ℕ) → (a < b) ⊎ (b ≤ a)
+        order a b = grind arith
+
+        by_top : (test (suc n) ≡ true) ⊎ (test (suc n) ≡ false) → (d < suc n) ⊎ (suc n ≤ d) → (d ≤ n → d ≤ greatest test n) → d ≤ greatest test (suc n)
+        by_top (inl t) o f = subst (λ (z : ℕ). d ≤ z) (sym (ap (λ (z : Bool). cond z (suc n) (greatest test n)) t)) h
+        by_top (inr t) (inl l) f = subst (λ (z : ℕ). d ≤ z) (sym (ap (λ (z : Bool). cond z (suc n) (greatest test n)) t)) (f (omega arith))
+        by_top (inr t) (inr l) f = let e : d ≡ suc n = omega arith in let q = subst (λ (z : ℕ). test z ≡ true) e k in absurd cc
+
 abbrev pub sizes_of : List RowTerm → List ℕ
 sizes_of ts = map (λ t. unsigned_abs t.coef) ts
 
@@ -162,3 +179,13 @@ divisor_of-is ts g h = sym (common_divisor-is (sizes_of ts) g (common_divides 0 
 
 pub common_divisor-pair : (a b g : ℕ) → IsGcd a b g → g ≡ common_divisor (a ∷ b ∷ [])
 common_divisor-pair a b g h = sym (common_divisor-is (a ∷ b ∷ []) g (h.0, (h.1, tt)) (λ d k. h.2 d k.0 k.1.0))
+
+pub positive_divisor : (g n : ℕ) → 0 < n → g ∣ n → 0 < g
+positive_divisor g n h d = by_size (size g)
+  where
+    size : (a : ℕ) → (a ≡ 0) ⊎ (0 < a)
+    size a = grind arith
+
+    by_size : (g ≡ 0) ⊎ (0 < g) → 0 < g
+    by_size (inl e) = absurd (let z = eq-zero_of_zero-dvd (subst (λ (w : ℕ). w ∣ n) e d) in omega arith)
+    by_size (inr l) = l

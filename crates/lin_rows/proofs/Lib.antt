@@ -5,3 +5,4 @@ pub mod Kept
 pub mod Divisor
 pub mod Rounding
 pub mod Sums
+pub mod CancellingLemmas

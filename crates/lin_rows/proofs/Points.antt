@@ -1,13 +1,14 @@
-use Rattle.std.proofs.Common.{◌≡◌, ℕ, zero, suc, ℤ, pos, negsuc, ◌+ℤ◌, ◌*ℤ◌, ◌-ℤ◌, neg_ℤ, ◌≤ℤ◌, ◌⊎◌, inl, inr, map, Bool, true, false, cond, List, [], ◌∷◌, ◌++◌, refl, sym, ◌∙◌, ap, subst, arith, Option, Some, None}
-use Rattle.std.specs.Prelude.{nat_lt, ◌↔◌}
+use Rattle.std.proofs.Common.{◌≡◌, ℕ, ◌+◌, ◌<◌, length, get_or, drop, zero, suc, ℤ, pos, negsuc, ◌+ℤ◌, ◌*ℤ◌, ◌-ℤ◌, neg_ℤ, ◌≤ℤ◌, ◌⊎◌, inl, inr, map, Bool, true, false, cond, List, [], ◌∷◌, refl, sym, ◌∙◌, ap, subst, arith, Option, Some, None}
+use Rattle.std.specs.Prelude.{nat_lt, ◌↔◌, int_le, int_lt, ◌&&◌, IsTrue}
 use Rattle.std.specs.Option.{option_map, option_and_then}
 use Rattle.std.proofs.lemmas.Int.{ints}
 use Rattle.std.proofs.lemmas.Bool.Decides.{nat_tests}
 use Rattle.std.proofs.Math.IntN.{zero-*ℤ, *ℤ-zero}
 use Rattle.lin_rows.specs.Numbers.{fit, in_range, is_zero}
 use Rattle.lin_rows.specs.declared.term.RowTerm.{RowTerm}
-use Rattle.lin_rows.specs.Rows.{Row, value_at, Satisfies, opposite, negated}
+use Rattle.lin_rows.specs.Rows.{Row, value_at, Satisfies, opposite, negated, sum_from, truth_at, has_no_terms, is_contradiction}
 use Rattle.lin_rows.specs.Sums.{put, put_fit, scaled, merged_with, merged, collected}
+use Rattle.lin_rows.proofs.Steps.{rest_is}
 use Rattle.lin_rows.proofs.Ring.{mul_add, add_mul, mul_assoc, mul_neg}
 
 pub fit-is : (e c : ℤ) → fit e ≡ Some c → e ≡ c
@@ -132,3 +133,55 @@ satisfies-negated x r out h =
     by_order : {a b c d : ℤ} → (a ≤ℤ b) ⊎ ((b +ℤ pos 1) ≤ℤ a) → ¬ (a ≤ℤ b) → pos 0 -ℤ b -ℤ pos 1 ≡ c → d ≡ pos 0 -ℤ a → d ≤ℤ c
     by_order (inl l) n f v = absurd (n l)
     by_order (inr l) n f v = omega (arith, ints)
+
+-- one step of a sum whose numbers are in range
+pub sum_from-step : (x : ℕ → ℤ) (s : ℤ) (ts : List RowTerm) (i : ℕ) (d : RowTerm) (next : ℤ) → i < length ts
+    → option_and_then (λ product. fit (s +ℤ product)) (fit ((get_or ts i d).coef *ℤ x (get_or ts i d).place)) ≡ Some next
+    → sum_from x s (drop i ts) ≡ sum_from x next (drop (i + 1) ts)
+sum_from-step x s ts i d next h e =
+    let w = option_and_then-went (λ product. fit (s +ℤ product)) (fit ((get_or ts i d).coef *ℤ x (get_or ts i d).place)) next e in
+    ap (sum_from x s) (rest_is ts i d h)
+    ∙ ap (option_and_then (λ p. option_and_then (λ n. sum_from x n (drop (i + 1) ts)) (fit (s +ℤ p)))) w.1
+    ∙ ap (option_and_then (λ n. sum_from x n (drop (i + 1) ts))) w.2
+
+pub sum_from-stops : (x : ℕ → ℤ) (s : ℤ) (ts : List RowTerm) (i : ℕ) (d : RowTerm) → i < length ts
+    → option_and_then (λ product. fit (s +ℤ product)) (fit ((get_or ts i d).coef *ℤ x (get_or ts i d).place)) ≡ None
+    → sum_from x s (drop i ts) ≡ None
+sum_from-stops x s ts i d h e = ap (sum_from x s) (rest_is ts i d h) ∙ by_product (fit ((get_or ts i d).coef *ℤ x (get_or ts i d).place)) e
+  where
+    by_product : (o : Option ℤ) → option_and_then (λ product. fit (s +ℤ product)) o ≡ None → option_and_then (λ p. option_and_then (λ n. sum_from x n (drop (i + 1) ts)) (fit (s +ℤ p))) o ≡ None
+    by_product None e = refl
+    by_product (Some p) e = ap (option_and_then (λ n. sum_from x n (drop (i + 1) ts))) e
+
+-- a sum whose numbers are in range is the value
+pub sum_from-value : (x : ℕ → ℤ) (s : ℤ) (ts : List RowTerm) (v : ℤ) → sum_from x s ts ≡ Some v → v ≡ s +ℤ value_at x ts
+sum_from-value x s [] v h = let e = some_is h in omega (arith, ints)
+sum_from-value x s (t ∷ ts) v h =
+    let w = option_and_then-went (λ p. option_and_then (λ n. sum_from x n ts) (fit (s +ℤ p))) (fit (t.coef *ℤ x t.place)) v h in
+    let u = option_and_then-went (λ n. sum_from x n ts) (fit (s +ℤ w.0)) v w.2 in
+    let a = fit-is (t.coef *ℤ x t.place) w.0 w.1 in
+    let b = fit-is (s +ℤ w.0) u.0 u.1 in
+    let ih = sum_from-value x u.0 ts v u.2 in omega (arith, ints)
+
+-- the truth of a row at a point is whether the point satisfies it
+pub truth_at-means : (x : ℕ → ℤ) (r : Row) (b : Bool) → truth_at x r ≡ Some b → IsTrue b ↔ Satisfies x r
+truth_at-means x r b h =
+    let w = option_map-went (λ value. int_le value r.bound) (sum_from x (pos 0) r.terms) b h in
+    let v = sum_from-value x (pos 0) r.terms w.0 w.1 in
+    let e : w.0 ≡ value_at x r.terms = omega (arith, ints) in
+    let f : int_le (value_at x r.terms) r.bound ≡ b = ap (λ (z : ℤ). int_le z r.bound) (sym e) ∙ w.2 in
+    subst (λ (z : Bool). IsTrue z ↔ Satisfies x r) f (decides (value_at x r.terms) r.bound)
+  where
+    decides : (a b : ℤ) → IsTrue (int_le a b) ↔ (a ≤ℤ b)
+    decides a b = ((λ h. grind (arith, ints)), (λ h. grind (arith, ints)))
+
+-- no point satisfies a contradiction
+pub satisfies-contradiction : (x : ℕ → ℤ) (r : Row) → is_contradiction r ≡ true → ¬ (Satisfies x r)
+satisfies-contradiction x r h m = by_terms r.terms r.bound h m
+  where
+    negative : (b : ℤ) → int_lt b (pos 0) ≡ true → pos 0 ≤ℤ b → ⊥
+    negative b h m = grind (arith, ints)
+
+    by_terms : (ts : List RowTerm) (b : ℤ) → (has_no_terms ts && int_lt b (pos 0)) ≡ true → value_at x ts ≤ℤ b → ⊥
+    by_terms [] b h m = negative b h m
+    by_terms (t ∷ ts) b h m = absurd cc

@@ -1,6 +1,6 @@
 use Prim.Native.Nat.{◌∣◌}
 use Rattle.std.proofs.Common.{◌≡◌, ℕ, zero, suc, ◌+◌, ◌*◌, ◌/◌, ◌%◌, ◌^◌, ◌<◌, ◌≤◌, ℤ, pos, negsuc, ◌+ℤ◌, ◌*ℤ◌, neg_ℤ, ◌≤ℤ◌, ◌<ℤ◌, Bool, true, false, cond, not, List, [], ◌∷◌, map, refl, sym, ◌∙◌, ap, subst, arith, unsigned_abs, ◌⊎◌, inl, inr}
-use Rattle.std.specs.Prelude.{nat_lt, sum, ◌↔◌}
+use Rattle.std.specs.Prelude.{nat_lt, ◌↔◌}
 use Rattle.std.specs.Int.{int_div_euclid}
 use Rattle.std.proofs.lemmas.Int.{ints}
 use Rattle.std.proofs.lemmas.Bool.Decides.{nat_tests}
@@ -14,7 +14,7 @@ use Rattle.lin_rows.specs.Rows.{Row, has_no_terms, is_coefficient, rises_from, i
 use Rattle.lin_rows.specs.Divisors.{divisor_of, divided_term, divided, tightened}
 use Rattle.lin_rows.proofs.Ring.{add_mul, mul_assoc}
 use Rattle.lin_rows.proofs.Points.{is_zero-is}
-use Rattle.lin_rows.proofs.Kept.{first_of_both, second_of_both, both_hold, Rises, rises, rises-cons}
+use Rattle.lin_rows.proofs.Kept.{first_of_both, second_of_both, both_hold, rises, rises-cons}
 use Rattle.lin_rows.proofs.Divisor.{DividesAll, sizes_of, common_divisor-divides}
 
 pub mul_le : (n : ℕ) (a b : ℤ) → a ≤ℤ b → (pos n *ℤ a) ≤ℤ (pos n *ℤ b)
@@ -156,7 +156,7 @@ is_row-divided r h k =
     (rises-divided (divisor_of r.terms) 0 r.terms d.positive d.divides rising)
     (in_range-div (divisor_of r.terms) r.bound (second_of_both (rises_from 0 r.terms) (in_range r.bound) k))
 
-tightened-cases : (P : Row → Type 0) (r : Row) → (has_no_terms r.terms ≡ true → P r) → (has_no_terms r.terms ≡ false → P (divided (pos (divisor_of r.terms)) r)) → P (tightened r)
+pub tightened-cases : (P : Row → Type 0) (r : Row) → (has_no_terms r.terms ≡ true → P r) → (has_no_terms r.terms ≡ false → P (divided (pos (divisor_of r.terms)) r)) → P (tightened r)
 tightened-cases P r a b = by_terms (has_no_terms r.terms) refl
   where
     by_terms : (e : Bool) → has_no_terms r.terms ≡ e → P (cond e r (divided (pos (divisor_of r.terms)) r))

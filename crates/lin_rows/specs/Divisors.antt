@@ -1,4 +1,4 @@
-use Rattle.std.specs.Prelude.{ℕ, zero, suc, ◌%◌, nat_eq, ℤ, pos, unsigned_abs, Bool, cond, List, [], ◌∷◌, map, sum}
+use Rattle.std.specs.Prelude.{ℕ, zero, suc, ◌%◌, nat_eq, ℤ, pos, unsigned_abs, Bool, cond, List, map, sum}
 use Rattle.std.specs.List.{list_all}
 use Rattle.std.specs.Int.{int_div_euclid}
 use Rattle.lin_rows.specs.declared.term.RowTerm.{RowTerm}

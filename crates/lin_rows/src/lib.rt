@@ -8,6 +8,7 @@
 
 pub mod adding;
 pub mod combining;
+pub mod making;
 pub mod negation;
 mod number;
 pub mod refused;
@@ -15,11 +16,14 @@ pub mod row;
 pub mod term;
 mod terms;
 pub mod tightening;
+pub mod truth;
 
 pub use adding::sum;
-pub use combining::Combined;
+pub use combining::{Combined, combine};
+pub use making::row_of;
 pub use negation::negate;
 pub use refused::RowRefused;
 pub use row::{Row, same_row};
 pub use term::RowTerm;
 pub use tightening::tighten;
+pub use truth::truth_at;

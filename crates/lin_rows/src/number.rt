@@ -1,5 +1,6 @@
 // Products and sums that stay in the range of a row.
-ghost use Rattle.std.specs.Prelude.{◌≡◌, ◌*ℤ◌, ◌+ℤ◌, ◌-ℤ◌, pos, true, ◌↔◌, IsTrue};
+ghost use Rattle.std.specs.Prelude.{◌≡◌, int_le, ◌*ℤ◌, ◌+ℤ◌, ◌-ℤ◌, pos, true, ◌↔◌, IsTrue};
+ghost use Rattle.std.specs.Option.{option_and_then};
 ghost use Rattle.lin_rows.specs.Numbers.{fit, in_range};
 
 pub fn is_in_range(a: i128) -> bool
@@ -24,6 +25,19 @@ pub fn plus(a: &i128, b: &i128) -> Option<i128>
         Some(c) if is_in_range(c) => Some(c),
         _ => None,
     }
+}
+
+/// A sum so far and a product.
+pub fn add_product(so_far: &i128, a: &i128, b: &i128) -> Option<i128>
+    ensures { result ≡ option_and_then (λ product. fit (so_far.now +ℤ product)) (fit (a.now *ℤ b.now)) }
+{
+    plus(so_far, &times(a, b)?)
+}
+
+pub fn is_at_most(a: &i128, b: &i128) -> bool
+    ensures { result ≡ int_le a.now b.now }
+{
+    *a <= *b
 }
 
 /// The number with the other sign.

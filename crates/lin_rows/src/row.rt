@@ -1,6 +1,6 @@
 // The type of rows.
-ghost use Rattle.std.specs.Prelude.{◌≡◌, true, IfOk, IsTrue, ◌↔◌};
-ghost use Rattle.lin_rows.specs.Rows.{is_row, places_below, coefficient_at, is_contradiction};
+ghost use Rattle.std.specs.Prelude.{◌≡◌, true, IfOk, IsTrue, ◌↔◌, ℕ, ℤ};
+ghost use Rattle.lin_rows.specs.Rows.{is_row, places_below, coefficient_at, is_contradiction, Satisfies};
 
 use crate::number::same_number;
 use crate::term::RowTerm;
@@ -64,7 +64,8 @@ impl Row {
 
     /// The coefficient at a place, 0 where the row doesn't name it.
     pub fn coefficient(&self, place: u32) -> i128
-        ensures { result ≡ coefficient_at self.now.terms place }
+        ensures coefficient { result ≡ coefficient_at self.now.terms place }
+        ensures row { is_row self.now ≡ true }
     {
         for term in self.terms.as_slice() {
             if term.place == place {
@@ -81,9 +82,10 @@ impl Row {
         self.terms.as_slice().iter().all(|term| term.place < places)
     }
 
-    /// Whether the row has no terms and a negative bound, so that no point satisfies it.
+    /// Whether the row has no terms and a negative bound. No point satisfies such a row.
     pub fn is_contradiction(&self) -> bool
-        ensures { result ≡ is_contradiction self.now }
+        ensures contradiction { result ≡ is_contradiction self.now }
+        ensures no_point { IsTrue result → (x : ℕ → ℤ) → ¬ (Satisfies x self.now) }
     {
         self.terms.is_empty() && self.bound < 0
     }

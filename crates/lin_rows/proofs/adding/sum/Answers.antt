@@ -1,5 +1,3 @@
-use mir.Val.{to_z, of_z}
-use mir.Syntax.{w128}
 use Rattle.std.proofs.Common.{rules, ◌≡◌, Some}
 use Rattle.lin_rows.specs.Sums.{row_sum}
 use Rattle.lin_rows.proofs.Sums.{satisfies-sum}

@@ -1,6 +1,6 @@
 use mir.Val.{to_z, of_z}
 use mir.Syntax.{w128}
-use Rattle.std.proofs.Common.{rules, ◌≡◌, ◌∙◌, true, Some, subst, sym, List}
+use Rattle.std.proofs.Common.{rules, ◌≡◌, true, Some, subst, sym, List}
 use Rattle.lin_rows.specs.declared.term.RowTerm.{RowTerm}
 use Rattle.lin_rows.specs.Rows.{Row, negated, all_in_range}
 use Rattle.lin_rows.proofs.Points.{satisfies-negated}

@@ -1,5 +1,5 @@
 use mir.Syntax.{w128}
-use Rattle.std.proofs.Common.{rules, ◌≡◌, ◌∙◌, ap, pos, to_z, ◌^◌, ◌<◌, subst, sym, ℕ, arith, ℤ, ◌<ℤ◌}
+use Rattle.std.proofs.Common.{rules, ◌≡◌, ◌∙◌, ap, pos, ◌^◌, ◌<◌, subst, sym, ℕ, arith, ℤ, ◌<ℤ◌}
 use Rattle.std.proofs.lemmas.Int.{to_z_pos, fits_signed_from_abs, ints}
 use Rattle.lin_rows.specs.Divisors.{divisor_of}
 use Rattle.lin_rows.proofs.Rounding.{divisor_of-row}
