@@ -5,3 +5,5 @@
 #![tactic(auto)]
 
 mod updates;
+
+pub use updates::{is_thing, spots_match};

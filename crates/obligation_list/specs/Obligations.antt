@@ -26,23 +26,31 @@ things d = map (λ k. thing.Relation k) (below (length d.relations)) ++ map (λ 
 abbrev pub init_obligations : Specification → List Obligation
 init_obligations d = map (λ i. Init i) (below (length d.invariants))
 
--- Each operation keeps each invariant.
-abbrev pub safety_obligations : Specification → List Obligation
-safety_obligations d = flat_map (λ o. map (λ i. Safety o i) (below (length d.invariants))) (below (length d.operations))
+-- An operation keeps each invariant.
+abbrev pub safety_of : Specification → ℕ → List Obligation
+safety_of d o = map (λ i. Safety o i) (below (length d.invariants))
 
--- Each operation commutes with itself and with each later one, on each thing that either writes.
-abbrev pub commute_obligations : Specification → List Obligation
-commute_obligations d = flat_map (λ o. flat_map (λ p. map (λ x. Commute o p x) (filter (either_writes d o p) (things d)))
-    (filter (nat_le o) (below (length d.operations)))) (below (length d.operations))
+-- Two operations commute on each thing that either writes.
+abbrev pub commute_of : Specification → ℕ → ℕ → List Obligation
+commute_of d o p = map (λ x. Commute o p x) (filter (either_writes d o p) (things d))
 
--- Each requires line of each operation stays true after each operation, itself too.
-abbrev pub stable_obligations : Specification → List Obligation
-stable_obligations d = flat_map (λ o. flat_map (λ l. map (λ p. Stable o l p) (below (length d.operations)))
-    (below (length (op_of d o).requires_))) (below (length d.operations))
+-- An operation commutes with itself and with each later one.
+abbrev pub commute_from : Specification → ℕ → List Obligation
+commute_from d o = flat_map (commute_of d o) (filter (nat_le o) (below (length d.operations)))
 
--- The obligations of a specification.
+-- A requires line of an operation stays true after each operation, the same one too.
+abbrev pub stable_of : Specification → ℕ → ℕ → List Obligation
+stable_of d o l = map (λ p. Stable o l p) (below (length d.operations))
+
+-- So does each of its requires lines.
+abbrev pub stable_from : Specification → ℕ → List Obligation
+stable_from d o = flat_map (stable_of d o) (below (length (op_of d o).requires_))
+
+-- The obligations of a specification, in their order.
 abbrev pub obligations_of : Specification → List Obligation
-obligations_of d = init_obligations d ++ safety_obligations d ++ commute_obligations d ++ stable_obligations d
+obligations_of d =
+    let operations = below (length d.operations) in
+    init_obligations d ++ flat_map (safety_of d) operations ++ flat_map (commute_from d) operations ++ flat_map (stable_from d) operations
 
 -- a thing of the specification
 abbrev pub IsThing : Specification → Thing → Type 0

@@ -4,6 +4,7 @@
 // and `Breaking` (when values break an obligation, when it holds, and when a specification is safe).
 #![tactic(auto)]
 
+mod list;
 mod obligation;
 
 pub use obligation::Obligation;
