@@ -2,4 +2,5 @@ pub mod Lists
 pub mod Convergence
 pub mod Systems
 pub mod Growth
+pub mod Folding
 pub mod Safety

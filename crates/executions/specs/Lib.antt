@@ -1,3 +1,4 @@
 pub mod Orders
 pub mod Executions
 pub mod Convergence
+pub mod Ranges
