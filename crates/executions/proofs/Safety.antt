@@ -20,6 +20,7 @@ use Rattle.spec_core.specs.World.{tuples}
 use Rattle.spec_core.specs.Truth.{truth, is_exists, line_true, lines_true, int_eq}
 use Rattle.spec_core.specs.Meaning.{inv, pre, initial, invariant_line}
 use Rattle.spec_core.specs.Fits.{fits_places, is_world, is_call, is_state, are_arguments}
+use Rattle.spec_core.proofs.Tuples.{all_tuples}
 use Rattle.effectors.specs.Effect.{after_call, after}
 use Rattle.token_rules.specs.Conflict.{matched, conflicts}
 use Rattle.obligation_list.specs.declared.obligation.Obligation.{Obligation}
@@ -63,15 +64,11 @@ member_fits w ss (u ∷ us) h t i =
     here_or_later true e k here later = ap (fits_places w ss) ((bytes_eq-Decides t u).0 e) ∙ here
     here_or_later false e k here later = later k
 
-all_fitting : (fits p : List ℕ → Bool) (ts : List (List ℕ)) → list_all fits ts ≡ true → ((t : List ℕ) → fits t ≡ true → p t ≡ true) → list_all p ts ≡ true
-all_fitting fits p [] h k = refl
-all_fitting fits p (t ∷ ts) h k = both (p t) (list_all p ts) (k t (first (fits t) (list_all fits ts) h)) (all_fitting fits p ts (rest (fits t) (list_all fits ts) h) k)
-
 by_prefix : (w : World) (b : Bool) (vars : List ℕ) (p : List ℕ → Bool)
     → ((es : List ℕ) → fits_places w (cond b [] vars) es ≡ true → cond b (cond b (list_any p (tuples w vars)) (list_all p (tuples w vars))) (p es) ≡ true)
     → cond b (list_any p (tuples w vars)) (list_all p (tuples w vars)) ≡ true
 by_prefix w true vars p h = h [] refl
-by_prefix w false vars p h = all_fitting (fits_places w vars) p (tuples w vars) (tuples_fit w vars) h
+by_prefix w false vars p h = all_tuples w vars p h
 
 line_from : (w : World) (r : Reads) (args : List ℤ) (l : Line) → ((es : List ℕ) → fits_places w (failing_vars l) es ≡ true → line_at w r args l es ≡ true) → line_true w r args l ≡ true
 line_from w r args l h = by_prefix w (is_exists l.prefix) l.vars (λ vars. truth w r args vars l.body) h

@@ -14,3 +14,6 @@ mod order;
 pub use event::Event;
 pub use law::law_converges;
 pub use order::is_order;
+
+#[cfg(test)]
+mod tests;
