@@ -15,7 +15,7 @@ use Rattle.spec_core.specs.declared.world.Call.{Call}
 use Rattle.spec_core.specs.Specification.{Specification, no_operation, op_of, places_of}
 use Rattle.spec_core.specs.UpdateLine.{UpdateLine}
 use Rattle.spec_core.specs.Fits.{in_state_range, is_world, are_arguments, is_call, world_fits, call_fits, spots_fit, change_fits, update_fits}
-use Rattle.spec_core.specs.Typed.{is_sort, sort_of, spots_typed, change_typed, is_update, is_formula, is_parameter, is_line, is_take, is_operation, is_specification}
+use Rattle.spec_core.specs.Typed.{is_sort, sort_of, spots_typed, change_typed, is_update, is_formula, is_operation, is_specification}
 use Rattle.spec_core.proofs.Lists.{both, and_true, list_all-within}
 use Rattle.spec_core.proofs.Parts.{parts_of}
 use Rattle.spec_core.proofs.Fitting.{stands, term_fits_typed, formula_fits}

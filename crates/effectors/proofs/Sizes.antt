@@ -1,5 +1,5 @@
 -- How large the values after one call of a state are.
-use Rattle.std.proofs.Common.{◌≡◌, Bool, true, false, cond, ◌&&◌, nat_le, nat_lt, ℕ, ℤ, pos, List, [], ◌∷◌, length, map, slice_index_or, get_or, ◌≤◌, ◌*◌, ◌^◌, ◌+◌, ◌+ℤ◌, ◌*ℤ◌, unsigned_abs, arith, zero, suc}
+use Rattle.std.proofs.Common.{◌≡◌, Bool, true, false, cond, nat_le, ℕ, ℤ, pos, List, [], ◌∷◌, length, slice_index_or, ◌≤◌, ◌*◌, ◌^◌, ◌+◌, ◌+ℤ◌, ◌*ℤ◌, unsigned_abs, arith, zero, suc}
 use Rattle.std.specs.List.{list_all}
 use Rattle.std.proofs.lemmas.Bool.Decides.{nat_tests}
 use Rattle.std.proofs.lemmas.Int.{ints, unsigned_abs-mul}
@@ -16,7 +16,7 @@ use Rattle.spec_core.specs.Specification.{Specification}
 use Rattle.spec_core.specs.UpdateLine.{UpdateLine}
 use Rattle.spec_core.specs.State.{Reads}
 use Rattle.spec_core.specs.Truth.{elems_of, body_of, sum_of, term_of}
-use Rattle.spec_core.specs.Fits.{in_state_range, body_fits, summand_fits, term_fits, change_fits, update_fits}
+use Rattle.spec_core.specs.Fits.{in_state_range, summand_fits, term_fits, change_fits, update_fits}
 use Rattle.spec_core.proofs.Lists.{both}
 use Rattle.effectors.specs.Effect.{acts, count_changed, count_after}
 

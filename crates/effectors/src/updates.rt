@@ -35,14 +35,23 @@ pub fn spots_match(world: &World, args: &[i64], spots: &[Spot], key: &[u32]) -> 
             [] => false,
             [element, key @ ..] => match spot {
                 Spot::Every => spots_match(world, args, spots, key),
-                Spot::One(elem) => elem_at(world, args, &[], *elem) == *element as u64 && spots_match(world, args, spots, key),
+                Spot::One(elem) => elem_at(world, args, &[], *elem) == *element as u64
+                    && spots_match(world, args, spots, key),
             },
         },
     }
 }
 
 // The update acts on the tuple or key of the thing.
-fn acts<R: Readings>(spec: &Spec, world: &World, at: &R, args: &[i64], thing: Thing, key: &[u32], update: &Update) -> bool
+fn acts<R: Readings>(
+    spec: &Spec,
+    world: &World,
+    at: &R,
+    args: &[i64],
+    thing: Thing,
+    key: &[u32],
+    update: &Update,
+) -> bool
     requires world { world_fits spec.now world.now ≡ true }
     requires args { list_all in_state_range args.now ≡ true }
     requires fits { update_fits spec.now world.now args.now update.now ≡ true }
@@ -64,7 +73,15 @@ fn has_changed(change: &Change, old: bool) -> bool
     }
 }
 
-fn count_changed<R: Readings>(spec: &Spec, world: &World, at: &R, args: &[i64], thing: Thing, change: &Change, old: i128) -> i128
+fn count_changed<R: Readings>(
+    spec: &Spec,
+    world: &World,
+    at: &R,
+    args: &[i64],
+    thing: Thing,
+    change: &Change,
+    old: i128,
+) -> i128
     requires world { world_fits spec.now world.now ≡ true }
     requires args { list_all in_state_range args.now ≡ true }
     requires fits { change_fits spec.now world.now args.now thing change.now ≡ true }
@@ -81,13 +98,30 @@ fn count_changed<R: Readings>(spec: &Spec, world: &World, at: &R, args: &[i64], 
 }
 
 // What a tuple of a relation reads after one update, from what it reads before it.
-fn has_step<R: Readings>(spec: &Spec, world: &World, at: &R, args: &[i64], relation: u8, tuple: &[u32], update: &Update, old: bool) -> bool
+fn has_step<R: Readings>(
+    spec: &Spec,
+    world: &World,
+    at: &R,
+    args: &[i64],
+    relation: u8,
+    tuple: &[u32],
+    update: &Update,
+    old: bool,
+) -> bool
     requires world { world_fits spec.now world.now ≡ true }
     requires args { list_all in_state_range args.now ≡ true }
     requires fits { update_fits spec.now world.now args.now update.now ≡ true }
     ensures { result ≡ cond (acts world.now (R.reads at.now) args.now (Thing.Relation relation) tuple.now update.now) (has_changed update.now.change old) old }
 {
-    if acts(spec, world, at, args, Thing::Relation(relation), tuple, update) {
+    if acts(
+        spec,
+        world,
+        at,
+        args,
+        Thing::Relation(relation),
+        tuple,
+        update,
+    ) {
         has_changed(&update.change, old)
     } else {
         old
@@ -95,7 +129,16 @@ fn has_step<R: Readings>(spec: &Spec, world: &World, at: &R, args: &[i64], relat
 }
 
 // What a key of a counter reads after one update, from what it reads before it.
-fn count_step<R: Readings>(spec: &Spec, world: &World, at: &R, args: &[i64], counter: u8, key: &[u32], update: &Update, old: i128) -> i128
+fn count_step<R: Readings>(
+    spec: &Spec,
+    world: &World,
+    at: &R,
+    args: &[i64],
+    counter: u8,
+    key: &[u32],
+    update: &Update,
+    old: i128,
+) -> i128
     requires world { world_fits spec.now world.now ≡ true }
     requires args { list_all in_state_range args.now ≡ true }
     requires fits { update_fits spec.now world.now args.now update.now ≡ true }
@@ -111,7 +154,15 @@ fn count_step<R: Readings>(spec: &Spec, world: &World, at: &R, args: &[i64], cou
 }
 
 /// What a tuple of a relation reads after updates that fit.
-pub fn has_after<R: Readings>(spec: &Spec, world: &World, at: &R, args: &[i64], updates: &[Update], relation: u8, tuple: &[u32]) -> bool
+pub fn has_after<R: Readings>(
+    spec: &Spec,
+    world: &World,
+    at: &R,
+    args: &[i64],
+    updates: &[Update],
+    relation: u8,
+    tuple: &[u32],
+) -> bool
     requires world { world_fits spec.now world.now ≡ true }
     requires args { list_all in_state_range args.now ≡ true }
     requires fits { list_all (update_fits spec.now world.now args.now) updates.now ≡ true }
@@ -125,7 +176,15 @@ pub fn has_after<R: Readings>(spec: &Spec, world: &World, at: &R, args: &[i64], 
 }
 
 /// What a key of a counter reads after at most 16 updates that fit, at most 8 * 10^37 in size.
-pub fn count_after<R: Readings>(spec: &Spec, world: &World, at: &R, args: &[i64], updates: &[Update], counter: u8, key: &[u32]) -> i128
+pub fn count_after<R: Readings>(
+    spec: &Spec,
+    world: &World,
+    at: &R,
+    args: &[i64],
+    updates: &[Update],
+    counter: u8,
+    key: &[u32],
+) -> i128
     requires world { world_fits spec.now world.now ≡ true }
     requires args { list_all in_state_range args.now ≡ true }
     requires few { length updates.now ≤ 16 }

@@ -4,7 +4,8 @@
 // and `Breaking` (when values break an obligation, when it holds, and when a specification is safe).
 #![tactic(auto)]
 
-mod list;
+mod listing;
 mod obligation;
 
+pub use listing::{law_obligations, list};
 pub use obligation::Obligation;

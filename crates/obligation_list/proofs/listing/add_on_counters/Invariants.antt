@@ -1,10 +1,10 @@
 use Rattle.std.proofs.Common.{◌≡◌, ◌++◌, map}
-use Rattle.std.specs.List.{filter, flat_map}
+use Rattle.std.specs.List.{filter}
 use Rattle.spec_core.specs.World.{below}
 use Rattle.spec_core.specs.declared.update.Thing.TheVariants as thing
-use Rattle.obligation_list.specs.declared.obligation.Obligation.TheVariants.{Init, Safety, Commute, Stable}
-use Rattle.obligation_list.specs.Obligations.{either_writes, safety_of, commute_of, commute_from, stable_of, stable_from}
-use Rattle.obligation_list.proofs.list.add_on_counters.Given as goal
+use Rattle.obligation_list.specs.declared.obligation.Obligation.TheVariants.{Commute}
+use Rattle.obligation_list.specs.Obligations.{either_writes}
+use Rattle.obligation_list.proofs.listing.add_on_counters.Given as goal
 
 abbrev pub invariant-loop-k : goal.invariant-loop-k
 invariant-loop-k l = l.list ≡ l.fn.list ++ map (λ x. Commute l.first l.second x) (filter (either_writes l.spec l.first l.second) (map (λ k. thing.Counter k) (below l.k)))

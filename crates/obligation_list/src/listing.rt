@@ -1,10 +1,12 @@
 // The list of a specification's obligations.
 
 ghost use Rattle.std.specs.Prelude.{◌≡◌, ◌<◌, ◌++◌, ◌∷◌, [], ℕ, true, cond, map, length, IfOk, OnOk};
-ghost use Rattle.std.specs.List.{filter, flat_map, list_any};
+ghost use Rattle.std.specs.List.{filter, flat_map, Contains};
 ghost use Rattle.spec_core.specs.World.{below};
-ghost use Rattle.spec_core.specs.Specification.{op_of};
-ghost use Rattle.obligation_list.specs.Obligations.{writes, either_writes, things, init_obligations, safety_of, commute_of, commute_from, stable_of, stable_from, obligations_of};
+ghost use Rattle.spec_core.specs.Specification.{Specification, op_of};
+ghost use Rattle.obligation_list.specs.Obligations.{writes, either_writes, things, init_obligations, safety_of, commute_of, commute_from, stable_of, stable_from, obligations_of, IsObligation};
+ghost use Rattle.obligation_list.specs.Breaking.{Holds, Safe};
+ghost use Rattle.obligation_list.specs.declared.obligation.Obligation.{Obligation};
 
 use crate::obligation::Obligation;
 use effectors::is_thing;
@@ -75,7 +77,12 @@ fn add_safety(list: &mut Items<Obligation>, op: u8, invariants: u8) -> Result<()
     Ok(())
 }
 
-fn add_stable(list: &mut Items<Obligation>, op: u8, line: u8, operations: u8) -> Result<(), AllocError>
+fn add_stable(
+    list: &mut Items<Obligation>,
+    op: u8,
+    line: u8,
+    operations: u8,
+) -> Result<(), AllocError>
     ensures { OnOk result (list.new ≡ list.old ++ map (λ p. Obligation.Stable op line p) (below operations)) }
 {
     for other in 0..operations {
@@ -85,16 +92,32 @@ fn add_stable(list: &mut Items<Obligation>, op: u8, line: u8, operations: u8) ->
 }
 
 // The obligation that two operations commute on a thing, where either writes it.
-fn add_if_written(list: &mut Items<Obligation>, spec: &Spec, first: u8, second: u8, thing: Thing) -> Result<(), AllocError>
+fn add_if_written(
+    list: &mut Items<Obligation>,
+    spec: &Spec,
+    first: u8,
+    second: u8,
+    thing: Thing,
+) -> Result<(), AllocError>
     ensures { OnOk result (list.new ≡ list.old ++ cond (either_writes spec.now first second thing) (Obligation.Commute first second thing ∷ []) []) }
 {
     if either_writes(spec, first, second, thing) {
-        list.push(Obligation::Commute { first, second, thing })?;
+        list.push(Obligation::Commute {
+            first,
+            second,
+            thing,
+        })?;
     }
     Ok(())
 }
 
-fn add_on_relations(list: &mut Items<Obligation>, spec: &Spec, first: u8, second: u8, relations: u8) -> Result<(), AllocError>
+fn add_on_relations(
+    list: &mut Items<Obligation>,
+    spec: &Spec,
+    first: u8,
+    second: u8,
+    relations: u8,
+) -> Result<(), AllocError>
     ensures { OnOk result (list.new ≡ list.old ++ map (λ x. Obligation.Commute first second x) (filter (either_writes spec.now first second) (map (λ k. Thing.Relation k) (below relations)))) }
 {
     for k in 0..relations {
@@ -103,7 +126,13 @@ fn add_on_relations(list: &mut Items<Obligation>, spec: &Spec, first: u8, second
     Ok(())
 }
 
-fn add_on_counters(list: &mut Items<Obligation>, spec: &Spec, first: u8, second: u8, counters: u8) -> Result<(), AllocError>
+fn add_on_counters(
+    list: &mut Items<Obligation>,
+    spec: &Spec,
+    first: u8,
+    second: u8,
+    counters: u8,
+) -> Result<(), AllocError>
     ensures { OnOk result (list.new ≡ list.old ++ map (λ x. Obligation.Commute first second x) (filter (either_writes spec.now first second) (map (λ k. Thing.Counter k) (below counters)))) }
 {
     for k in 0..counters {
@@ -112,7 +141,12 @@ fn add_on_counters(list: &mut Items<Obligation>, spec: &Spec, first: u8, second:
     Ok(())
 }
 
-fn add_commute(list: &mut Items<Obligation>, spec: &Spec, first: u8, second: u8) -> Result<(), AllocError>
+fn add_commute(
+    list: &mut Items<Obligation>,
+    spec: &Spec,
+    first: u8,
+    second: u8,
+) -> Result<(), AllocError>
     ensures { OnOk result (list.new ≡ list.old ++ commute_of spec.now first second) }
 {
     let sizes = sizes_of(spec);
@@ -193,3 +227,10 @@ pub fn list(alloc: Global, spec: &Spec) -> Result<Items<Obligation>, AllocError>
     add_all_stable(&mut list, spec)?;
     Ok(list)
 }
+
+/// The members of the list are the obligations by their parts, so a specification is safe where each member of the list holds.
+pub fn law_obligations()
+    ensures listed { (d : Specification) (ob : Obligation) → Contains (obligations_of d) ob → IsObligation d ob }
+    ensures all { (d : Specification) (ob : Obligation) → IsObligation d ob → Contains (obligations_of d) ob }
+    ensures safe { (d : Specification) → ((ob : Obligation) → Contains (obligations_of d) ob → Holds d ob) → Safe d }
+{}

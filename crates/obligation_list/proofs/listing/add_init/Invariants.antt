@@ -1,7 +1,7 @@
 use Rattle.std.proofs.Common.{◌≡◌, ◌++◌, map}
 use Rattle.spec_core.specs.World.{below}
-use Rattle.obligation_list.specs.declared.obligation.Obligation.TheVariants.{Init, Safety, Commute, Stable}
-use Rattle.obligation_list.proofs.list.add_init.Given as goal
+use Rattle.obligation_list.specs.declared.obligation.Obligation.TheVariants.{Init}
+use Rattle.obligation_list.proofs.listing.add_init.Given as goal
 
 abbrev pub invariant-loop-inv : goal.invariant-loop-inv
 invariant-loop-inv l = l.list ≡ l.fn.list ++ map (λ i. Init i) (below l.inv)
