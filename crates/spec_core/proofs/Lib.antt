@@ -3,3 +3,5 @@ pub mod Parts
 pub mod Places
 pub mod Tuples
 pub mod Fitting
+pub mod Entries
+pub mod States

@@ -26,7 +26,7 @@ use Rattle.spec_core.specs.Form.{Form, true_form, false_form, not_form, and_form
 use Rattle.spec_core.specs.Line.{Line}
 use Rattle.spec_core.specs.UpdateLine.{UpdateLine}
 use Rattle.spec_core.specs.Specification.{Specification, relation_places, counter_keys, token_places, places_of, op_of}
-use Rattle.spec_core.specs.State.{Listing}
+use Rattle.spec_core.specs.State.{Listing, listed_keys, is_rising}
 use Rattle.spec_core.specs.World.{size_of, tuples}
 use Rattle.spec_core.specs.Truth.{elem_of, elems_of}
 
@@ -79,6 +79,14 @@ is_state d w s = lists_fit w d.relations s.relations && values_fit w d.counters 
 -- the range of a state: -10^15 to 10^15
 abbrev pub in_state_range : ℤ → Bool
 in_state_range n = nat_le (unsigned_abs n) (10 ^ 15)
+
+-- keys in rising order, with values in the range of a state
+abbrev pub is_counts : List (List ℕ × ℤ) → Bool
+is_counts es = is_rising (listed_keys es) && list_all (λ (e : List ℕ × ℤ). in_state_range e.1) es
+
+-- a state as a program holds it
+abbrev pub is_listing : Listing → Bool
+is_listing s = list_all is_rising s.relations && list_all is_counts s.counters
 
 -- a world whose sorts have at most 100 elements
 abbrev pub world_fits : Specification → World → Bool

@@ -7,10 +7,12 @@
 
 mod formula;
 mod line;
+mod listed;
 mod name;
 mod operation;
 mod quantified;
 mod spec;
+mod state;
 mod truth;
 mod update;
 mod world;
@@ -21,6 +23,7 @@ pub use name::Name;
 pub use operation::{Kind, Operation, Param, Take};
 pub use quantified::{invariant_broken_at, line_holds};
 pub use spec::{Const, Counter, Invariant, Pattern, Relation, Rule, Spec, Token};
+pub use state::State;
 pub use truth::{Readings, count_at, elem_at, has_at, holds, term_value};
 pub use update::{Change, Spot, Thing, Update};
 pub use world::{Call, World};

@@ -1,0 +1,138 @@
+// States, as a program holds them.
+//
+// A state has one list for each relation and each counter. What isn't listed reads false or 0.
+
+ghost use Rattle.std.specs.Prelude.{◌≡◌, ℕ, ◌<◌, ◌≤◌, ◌^◌, unsigned_abs, List, true, length, OnOk, OnErr, IfOk};
+ghost use Rattle.spec_core.specs.declared.world.World.{World};
+ghost use Rattle.spec_core.specs.Specification.{Specification, relation_places, counter_keys};
+ghost use Rattle.spec_core.specs.State.{reads, with_has, with_count};
+ghost use Rattle.spec_core.specs.Fits.{in_state_range, fits_places, is_state};
+
+use crate::listed::{Counts, Tuples};
+use crate::truth::Readings;
+use std::alloc::{AllocError, Global};
+use std::marker::Model;
+
+/// What holds of each relation's tuples and of each counter's keys. Values are from -10^15 to 10^15.
+#[derive(Drop)]
+pub struct State {
+    relations: Vec<Tuples>,
+    counters: Vec<Counts>,
+    alloc: Global,
+}
+
+impl Model for State {
+    ghost use Rattle.std.specs.Prelude.{◌≡◌, true};
+    ghost use Rattle.spec_core.specs.State.{Listing};
+    ghost use Rattle.spec_core.specs.Fits.{is_listing};
+
+    ghost Value = { Listing };
+
+    ghost view = { λ a. record { relations = a.relations.items; counters = a.counters.items } };
+
+    ghost invariant = { λ a. is_listing (record { relations = a.relations.items; counters = a.counters.items }) ≡ true };
+}
+
+fn copy_tuples(alloc: Global, lists: &[Tuples]) -> Result<Vec<Tuples>, AllocError>
+    ensures { IfOk result (λ v. v.items ≡ lists.now) }
+{
+    let mut copies = Vec::new(alloc);
+    for list in lists {
+        copies.push(list.copy()?)?;
+    }
+    Ok(copies)
+}
+
+fn copy_counts(alloc: Global, lists: &[Counts]) -> Result<Vec<Counts>, AllocError>
+    ensures { IfOk result (λ v. v.items ≡ lists.now) }
+{
+    let mut copies = Vec::new(alloc);
+    for list in lists {
+        copies.push(list.copy()?)?;
+    }
+    Ok(copies)
+}
+
+impl State {
+    /// Whether a tuple is in a relation.
+    pub fn has(&self, relation: u8, tuple: &[u32]) -> bool
+        ensures { result ≡ (reads self.now).has relation tuple.now }
+    {
+        match self.relations.get(relation as usize) {
+            Some(tuples) => tuples.has(tuple),
+            None => false,
+        }
+    }
+
+    /// The value of a counter at a key.
+    pub fn count(&self, counter: u8, key: &[u32]) -> i128
+        ensures { result ≡ (reads self.now).count counter key.now }
+    {
+        match self.counters.get(counter as usize) {
+            Some(counts) => counts.count(key) as i128,
+            None => 0,
+        }
+    }
+
+    /// The same lists again.
+    pub fn copy(&self) -> Result<State, AllocError>
+        ensures { IfOk result (λ s. s ≡ self.now) }
+    {
+        let relations = copy_tuples(self.alloc, &self.relations)?;
+        let counters = copy_counts(self.alloc, &self.counters)?;
+        Ok(State {
+            relations,
+            counters,
+            alloc: self.alloc,
+        })
+    }
+
+    /// A fact for proofs: all values are in the range of a state.
+    pub fn stays_in_range(&self)
+        ensures { (k : ℕ) (t : List ℕ) → unsigned_abs ((reads self.now).count k t) ≤ 10 ^ 15 }
+    {
+        let _counters = &self.counters;
+    }
+
+    /// Puts a tuple into a relation, or takes it out. No other reading changes.
+    pub fn set_has(&mut self, relation: u8, tuple: &[u32], value: bool) -> Result<(), AllocError>
+        requires { relation < length self.old.relations }
+        ensures ok { OnOk result (reads self.new ≡ with_has (reads self.old) relation tuple.now value) }
+        ensures err { OnErr result (self.new ≡ self.old) }
+        ensures relations { length self.new.relations ≡ length self.old.relations }
+        ensures counters { length self.new.counters ≡ length self.old.counters }
+        ensures fits { (d : Specification) (w : World) → is_state d w self.old ≡ true → fits_places w (relation_places d relation) tuple.now ≡ true → is_state d w self.new ≡ true }
+    {
+        let tuples = &mut self.relations[relation as usize];
+        tuples.set(tuple, value)?;
+        Ok(())
+    }
+
+    /// Sets the value of a counter at a key. No other reading changes.
+    pub fn set_count(&mut self, counter: u8, key: &[u32], value: i64) -> Result<(), AllocError>
+        requires counter { counter < length self.old.counters }
+        requires value { in_state_range value ≡ true }
+        ensures ok { OnOk result (reads self.new ≡ with_count (reads self.old) counter key.now value) }
+        ensures err { OnErr result (self.new ≡ self.old) }
+        ensures relations { length self.new.relations ≡ length self.old.relations }
+        ensures counters { length self.new.counters ≡ length self.old.counters }
+        ensures fits { (d : Specification) (w : World) → is_state d w self.old ≡ true → fits_places w (counter_keys d counter) key.now ≡ true → is_state d w self.new ≡ true }
+    {
+        let counts = &mut self.counters[counter as usize];
+        counts.set(key, value)?;
+        Ok(())
+    }
+}
+
+impl Readings for State {
+    ghost reads = { λ s. reads s };
+
+    fn has(&self, relation: u8, tuple: &[u32]) -> bool {
+        State::has(self, relation, tuple)
+    }
+
+    fn count(&self, counter: u8, key: &[u32]) -> i128 {
+        self.stays_in_range();
+        State::count(self, counter, key)
+    }
+}
