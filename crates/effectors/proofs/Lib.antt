@@ -2,3 +2,4 @@ pub mod Reading
 pub mod Sizes
 pub mod Fitting
 pub mod Members
+pub mod Whole

@@ -1,1 +1,2 @@
 pub mod Effect
+pub mod Places

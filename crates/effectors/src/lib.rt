@@ -4,6 +4,8 @@
 // whose guards and amounts read the old state.
 #![tactic(auto)]
 
+mod readings;
 mod updates;
 
+pub use readings::{count_after_call, fits_places, has_after_call, updates_of};
 pub use updates::{is_thing, spots_match};
