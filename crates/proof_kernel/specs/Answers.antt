@@ -14,9 +14,14 @@ use Rattle.proof_kernel.specs.Rules.{State, run}
 use Rattle.proof_kernel.specs.Evidence.{is_fresh, rows_hold, range_holds}
 
 -- a refusal of a line names the first rule that it breaks; want of memory may come at any time
-abbrev pub IsTold : LineRefused → Result State Why → Type 0
+abbrev pub IsTold : {A : Type 0} → LineRefused → Result A Why → Type 0
 IsTold (Bad w) given = given ≡ Err w
 IsTold Memory given = Unit {0}
+
+-- a call answers what the rules give, or the first broken one
+abbrev pub Gives : {A B : Type 0} → (B → A) → Result B LineRefused → Result A Why → Type 0
+Gives seen (Ok b) given = given ≡ Ok (seen b)
+Gives seen (Err e) given = IsTold e given
 
 -- an answer to a whole log: accepted where an empty clause stands, the first bad line, or no empty clause
 abbrev pub IsJudged : List Line → Result State (ℕ × Why) → Result Checked KernelRefused → Type 0

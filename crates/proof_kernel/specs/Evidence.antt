@@ -11,7 +11,7 @@ use Rattle.proof_kernel.specs.declared.line.RangeWhat.{RangeWhat}
 use Rattle.proof_kernel.specs.declared.line.RangeWhat.TheVariants.{Product, Value, Sum}
 use Rattle.proof_kernel.specs.declared.line.Why.{Why}
 use Rattle.proof_kernel.specs.Clauses.{sub, is_empty, holds_both_ways}
-use Rattle.proof_kernel.specs.Steps.{then_, used_rows, held_rows, row_at, is_negative, is_positive, other_names, point, rest_at}
+use Rattle.proof_kernel.specs.Steps.{line_rows, row_at, is_negative, is_positive, other_names, point, rest_at}
 use Rattle.proof_kernel.specs.Rules.{State, live_of}
 
 -- A FRESH LOG.
@@ -30,10 +30,6 @@ abbrev pub is_fresh : State → Bool
 is_fresh s = list_all (λ o. is_some o) s.slots && each_new (take s.given (live_of s.slots)) (drop s.given (live_of s.slots))
 
 -- ROWS AND STEPS OF EVIDENCE.
-
--- no atom is used both ways, and the rows and steps keep the rules of a Farkas line but for its contradiction
-abbrev pub evident_rows : State → List Lit → List RowStep → Result (List Row) Why
-evident_rows s used steps = then_ (used_rows s.atoms used) (λ rows. held_rows rows steps)
 
 -- a step cancels a place: the left row has a positive coefficient there and the right row a negative one, and the multipliers are
 -- the least that cancel it
@@ -63,14 +59,15 @@ abbrev pub all_different : List Row → Bool
 all_different [] = true
 all_different (r ∷ rows) = not (list_any (same_row r) rows) && all_different rows
 
--- TOO MANY ROWS: 10,000 different rows, by cancelling steps.
+-- TOO MANY ROWS: 10,000 different rows. No atom is used both ways, and the rows and steps keep the rules of a Farkas line but for
+-- its contradiction.
 abbrev pub rows_shown : List RowStep → Result (List Row) Why → Bool
 rows_shown steps (Ok rows) = all_different rows && all_cancel rows steps
 rows_shown steps (Err w) = false
 
 abbrev pub rows_hold : State → List Lit → List RowStep → Bool
 rows_hold s used steps =
-    (length used + length steps == 10000) && (not (holds_both_ways used) && rows_shown steps (evident_rows s used steps))
+    (length used + length steps == 10000) && (not (holds_both_ways used) && rows_shown steps (line_rows s.atoms used steps))
 
 -- A NUMBER BEYOND THE RANGE.
 
@@ -85,7 +82,7 @@ values_fit rows i place values =
     && ((length values == length (other_names place (row_at rows i ∷ []))) && list_all in_state values)
 
 abbrev pub rest_with : Row → ℕ → List ℤ → Option ℤ
-rest_with r place values = rest_at place (point (other_names place (r ∷ [])) values) r
+rest_with r place values = rest_at (point (other_names place (r ∷ [])) values) r
 
 -- with the rest of the row put in, the row says `place >= p` with p above 10^15, or `place <= q` with q below -10^15: with the
 -- coefficient c, p and -q are (rest - bound) / |c|
@@ -109,4 +106,4 @@ range_shown steps what (Ok rows) = all_cancel rows steps && is_beyond rows what
 range_shown steps what (Err w) = false
 
 abbrev pub range_holds : State → List Lit → List RowStep → RangeWhat → Bool
-range_holds s used steps what = not (holds_both_ways used) && range_shown steps what (evident_rows s used steps)
+range_holds s used steps what = not (holds_both_ways used) && range_shown steps what (line_rows s.atoms used steps)

@@ -1,4 +1,4 @@
-use Rattle.std.specs.Prelude.{ℕ, ◌+◌, ◌==◌, nat_lt, ℤ, pos, Bool, true, false, not, cond, ◌&&◌, ◌||◌, List, [], ◌∷◌, ◌++◌, length, map, slice_index_or, slice_set, Option, Some, None, is_some, Result, Ok, Err}
+use Rattle.std.specs.Prelude.{◌≡◌, ℕ, ◌<◌, ◌≤◌, ◌^◌, ◌+◌, ◌==◌, nat_lt, ℤ, pos, Bool, true, false, not, cond, ◌&&◌, ◌||◌, List, [], ◌∷◌, ◌++◌, length, map, slice_index_or, slice_set, Option, Some, None, is_some, Result, Ok, Err}
 use Rattle.std.specs.List.{list_any, list_all, fold}
 use Rattle.std.specs.Ordering.{int_eq}
 use Rattle.lin_rows.specs.declared.term.RowTerm.{RowTerm}
@@ -10,10 +10,10 @@ use Rattle.proof_kernel.specs.declared.line.RowStep.{RowStep}
 use Rattle.proof_kernel.specs.declared.line.Line.{Line}
 use Rattle.proof_kernel.specs.declared.line.Line.TheVariants.{Resolve, Farkas, Split, Drop}
 use Rattle.proof_kernel.specs.declared.line.Why.{Why}
-use Rattle.proof_kernel.specs.declared.line.Why.TheVariants.{Place, Pivot, SplitAgain, Dropped}
+use Rattle.proof_kernel.specs.declared.line.Why.TheVariants.{Place, Pivot, Contradiction, SplitAgain, Dropped}
 use Rattle.proof_kernel.specs.Clauses.{has, lit_of, resolvent, negations, is_empty, all_true}
-use Rattle.proof_kernel.specs.Problems.{PlainProblem, Meaning, atom_true}
-use Rattle.proof_kernel.specs.Steps.{then_, used_rows, held_rows, refuted, row_at, split_fits, split_cause}
+use Rattle.proof_kernel.specs.Problems.{PlainProblem, Meaning, atom_true, atoms_below, names_below}
+use Rattle.proof_kernel.specs.Steps.{then_, line_rows, ends_badly, row_at, split_fits, split_cause}
 
 -- What stands after some lines: the atoms, the number of integer names, how many clauses the problem has, the clauses by their
 -- numbers without the dropped ones, and whether an empty clause was ever among them.
@@ -23,6 +23,20 @@ pub record State : Type 0 where
   pub given : ℕ
   pub slots : List (Option (List Lit))
   pub empty : Bool
+
+-- the clauses that weren't dropped, in the order of their numbers
+abbrev pub live_of : List (Option (List Lit)) → List (List Lit)
+live_of [] = []
+live_of (Some c ∷ slots) = c ∷ live_of slots
+live_of (None ∷ slots) = live_of slots
+
+-- what a kernel keeps of its state
+pub record StateFits (s : State) : Type 0 where
+  pub few_clauses : length s.slots < 2 ^ 32
+  pub few_atoms : length s.atoms < 2 ^ 32
+  pub given_first : s.given ≤ length s.slots
+  pub atoms_named : list_all (atoms_below (length s.atoms)) (live_of s.slots) ≡ true
+  pub places_named : list_all (names_below s.ints) s.atoms ≡ true
 
 -- what stands before the first line
 abbrev pub start : PlainProblem → State
@@ -42,12 +56,6 @@ clause_or_empty None = []
 abbrev pub clause_at : State → ℕ → List Lit
 clause_at s i = clause_or_empty (live_clause s i)
 
--- the clauses that weren't dropped, in the order of their numbers
-abbrev pub live_of : List (Option (List Lit)) → List (List Lit)
-live_of [] = []
-live_of (Some c ∷ slots) = c ∷ live_of slots
-live_of (None ∷ slots) = live_of slots
-
 -- with one more clause
 abbrev pub grown : State → List Lit → State
 grown s c = record { atoms = s.atoms; ints = s.ints; given = s.given; slots = s.slots ++ Some c ∷ []; empty = s.empty || is_empty c }
@@ -65,8 +73,11 @@ resolved s left right pivot =
     (Err Place)
 
 -- FARKAS. The rules of the used literals and of the steps, then Contradiction. The clause is the opposites of the used literals.
+abbrev pub combined_after : State → List Lit → List Row → Result State Why
+combined_after s used rows = cond (ends_badly rows) (Ok (grown s (negations used))) (Err Contradiction)
+
 abbrev pub combined : State → List Lit → List RowStep → Result State Why
-combined s used steps = then_ (used_rows s.atoms used) (λ rows. then_ (refuted rows steps) (λ _. Ok (grown s (negations used))))
+combined s used steps = then_ (line_rows s.atoms used steps) (combined_after s used)
 
 -- SPLIT, by the order of its tests.
 
@@ -101,7 +112,7 @@ split_after s place at rows low high values =
 abbrev pub split : State → ℕ → ℤ → List Lit → List RowStep → ℕ → ℕ → List ℤ → Result State Why
 split s place at used steps low high values =
     cond (nat_lt place s.ints)
-    (then_ (used_rows s.atoms used) (λ rows. then_ (held_rows rows steps) (λ held. split_after s place at held low high values)))
+    (then_ (line_rows s.atoms used steps) (λ rows. split_after s place at rows low high values))
     (Err Place)
 
 -- DROP. Place: the list is empty, or one of its numbers isn't below the number of clauses. Dropped: a number stands in it twice,
@@ -117,8 +128,12 @@ abbrev pub is_some_number : List ℕ → Bool
 is_some_number [] = false
 is_some_number (n ∷ ns) = true
 
+-- without the clauses of some numbers
+abbrev pub cleared : List (Option (List Lit)) → List ℕ → List (Option (List Lit))
+cleared slots ns = fold (λ left n. slice_set left n None) slots ns
+
 abbrev pub without_clauses : State → List ℕ → State
-without_clauses s ns = record { atoms = s.atoms; ints = s.ints; given = s.given; slots = fold (λ slots n. slice_set slots n None) s.slots ns; empty = s.empty }
+without_clauses s ns = record { atoms = s.atoms; ints = s.ints; given = s.given; slots = cleared s.slots ns; empty = s.empty }
 
 abbrev pub dropped : State → List ℕ → Result State Why
 dropped s ns =

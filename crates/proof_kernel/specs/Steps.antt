@@ -1,6 +1,6 @@
-use Rattle.std.specs.Prelude.{ℕ, ◌==◌, nat_lt, ℤ, pos, ◌+ℤ◌, ◌-ℤ◌, ◌*ℤ◌, int_lt, Bool, true, false, not, cond, ◌&&◌, ◌||◌, List, [], ◌∷◌, ◌++◌, length, map, slice_get, slice_index_or, Option, Some, None, Result, Ok, Err, is_some}
+use Rattle.std.specs.Prelude.{ℕ, ◌-◌, ◌==◌, nat_lt, ℤ, pos, negsuc, ◌+ℤ◌, ◌-ℤ◌, ◌*ℤ◌, int_lt, Bool, true, false, not, cond, ◌&&◌, ◌||◌, List, [], ◌∷◌, ◌++◌, length, map, slice_get, slice_index_or, Option, Some, None, Result, Ok, Err, is_some}
 use Rattle.std.specs.List.{list_all, filter, fold}
-use Rattle.std.specs.Option.{option_and_then}
+use Rattle.std.specs.Option.{option_and_then, option_map}
 use Rattle.lin_rows.specs.declared.term.RowTerm.{RowTerm}
 use Rattle.lin_rows.specs.Rows.{Row, coefficient_at, is_contradiction, negated, sum_from}
 use Rattle.lin_rows.specs.Divisors.{tightened}
@@ -10,7 +10,7 @@ use Rattle.proof_kernel.specs.declared.problem.AtomKind.{AtomKind}
 use Rattle.proof_kernel.specs.declared.problem.AtomKind.TheVariants.{Plain, Row as OfRow}
 use Rattle.proof_kernel.specs.declared.line.RowStep.{RowStep}
 use Rattle.proof_kernel.specs.declared.line.Why.{Why}
-use Rattle.proof_kernel.specs.declared.line.Why.TheVariants.{Place, Multiplier, Contradiction, Range, SplitCause}
+use Rattle.proof_kernel.specs.declared.line.Why.TheVariants.{Place, Multiplier, Range, SplitCause}
 
 -- one rule after the other: the second is asked where the first is kept
 abbrev pub then_ : {A B : Type 0} → Result A Why → (A → Result B Why) → Result B Why
@@ -45,9 +45,10 @@ with_row (Some r) (Some rs) = Some (r ∷ rs)
 with_row (Some r) None = None
 with_row None rs = None
 
+-- the rows of some literals, tightened
 abbrev pub lit_rows : List AtomKind → List Lit → Option (List Row)
 lit_rows atoms [] = Some []
-lit_rows atoms (l ∷ ls) = with_row (lit_row atoms l) (lit_rows atoms ls)
+lit_rows atoms (l ∷ ls) = with_row (option_map tightened (lit_row atoms l)) (lit_rows atoms ls)
 
 abbrev pub is_some_literal : List Lit → Bool
 is_some_literal [] = false
@@ -85,23 +86,29 @@ abbrev pub with_steps : List Row → List RowStep → Result (List Row) Why
 with_steps rows [] = Ok rows
 with_steps rows (s ∷ ss) = then_ (step_row rows s) (λ r. with_steps (rows ++ r ∷ []) ss)
 
--- all rows of a line over its used rows
+-- all rows of a line
+abbrev pub line_rows : List AtomKind → List Lit → List RowStep → Result (List Row) Why
+line_rows atoms used steps = then_ (used_rows atoms used) (λ rows. with_steps rows steps)
+
+-- the same over given rows, without literals
 abbrev pub held_rows : List Row → List RowStep → Result (List Row) Why
-held_rows used steps = with_steps (map tightened used) steps
+held_rows given steps = with_steps (map tightened given) steps
 
 -- THE CAUSE OF A FARKAS LINE: the last row is a contradiction.
 
 abbrev pub last_row : List Row → Row
-last_row [] = no_row
-last_row (r ∷ []) = r
-last_row (r ∷ q ∷ rows) = last_row (q ∷ rows)
+last_row rows = row_at rows (length rows - 1)
 
-abbrev pub farkas_cause : List Row → Result (List Row) Why
-farkas_cause rows = cond (is_contradiction (last_row rows)) (Ok rows) (Err Contradiction)
+abbrev pub ends_badly : List Row → Bool
+ends_badly rows = is_contradiction (last_row rows)
 
--- the used rows with the steps are refuted: no whole numbers satisfy all used rows
-abbrev pub refuted : List Row → List RowStep → Result (List Row) Why
-refuted used steps = then_ (held_rows used steps) farkas_cause
+-- given rows are refuted by steps: no whole numbers satisfy them all
+abbrev pub refutes_so : Result (List Row) Why → Bool
+refutes_so (Ok rows) = ends_badly rows
+refutes_so (Err w) = false
+
+abbrev pub refutes : List Row → List RowStep → Bool
+refutes given steps = refutes_so (held_rows given steps)
 
 -- THE CAUSE OF A SPLIT: with values for their other names, one row says `place >= p` and another `place <= q`, and both fractions
 -- lie strictly between `at` and `at + 1`.
@@ -111,16 +118,16 @@ abbrev pub put_rising : List ℕ → ℕ → List ℕ
 put_rising [] n = n ∷ []
 put_rising (m ∷ ms) n = cond (nat_lt n m) (n ∷ m ∷ ms) (cond (n == m) (m ∷ ms) (m ∷ put_rising ms n))
 
--- the terms of a row at other names than one
-abbrev pub other_terms : ℕ → Row → List RowTerm
-other_terms place r = filter (λ t. not (t.place == place)) r.terms
+-- the terms at other names than one
+abbrev pub other_terms : ℕ → List RowTerm → List RowTerm
+other_terms place ts = filter (λ t. not (t.place == place)) ts
 
 abbrev pub places_of : List RowTerm → List ℕ
 places_of ts = map (λ t. t.place) ts
 
 -- the names other than one of some rows, in rising order
 abbrev pub other_names : ℕ → List Row → List ℕ
-other_names place rows = fold (λ names r. fold put_rising names (places_of (other_terms place r))) [] rows
+other_names place rows = fold (λ names r. fold put_rising names (places_of (other_terms place r.terms))) [] rows
 
 -- the values of names, one for each; other names have 0
 abbrev pub point : List ℕ → List ℤ → ℕ → ℤ
@@ -128,14 +135,22 @@ point [] vs p = pos 0
 point (n ∷ ns) [] p = pos 0
 point (n ∷ ns) (v ∷ vs) p = cond (n == p) v (point ns vs p)
 
--- the sum of a row's other terms at a point, where each product and each partial sum is in the range of a row
-abbrev pub rest_at : ℕ → (ℕ → ℤ) → Row → Option ℤ
-rest_at place x r = sum_from x (pos 0) (other_terms place r)
+-- the sum of a row's terms at the other names, where each product and each partial sum is in the range of a row; the place
+-- itself has 0 in the point, and so counts for nothing
+abbrev pub rest_at : (ℕ → ℤ) → Row → Option ℤ
+rest_at x r = sum_from x (pos 0) r.terms
 
 -- the fraction n / d lies strictly between the whole number `at` and the next one; so it isn't whole, and `at` is the greatest
 -- whole number below it
 abbrev pub is_in_gap : ℤ → ℤ → ℤ → Bool
 is_in_gap at n d = int_lt (at *ℤ d) n && int_lt n ((at +ℤ pos 1) *ℤ d)
+
+-- the same of a fraction that isn't whole, by its sign and the quotient of its size
+abbrev pub is_floor : ℤ → Bool → ℕ → Bool
+is_floor (pos k) true quotient = k == quotient
+is_floor (negsuc k) true quotient = false
+is_floor (pos k) false quotient = false
+is_floor (negsuc k) false quotient = k == quotient
 
 -- with rests of the two rows the fractions p and q. In `low` the coefficient c is negative, so that p = (rest - bound) / -c;
 -- in `high` it is positive, so that q = (bound - rest) / c
@@ -158,7 +173,7 @@ split_point place low high values = point (other_names place (low ∷ high ∷ [
 abbrev pub split_cause : ℕ → ℤ → Row → Row → List ℤ → Result (Unit {0}) Why
 split_cause place at low high values =
     cond (is_negative (coefficient_at low.terms place) && is_positive (coefficient_at high.terms place))
-    (with_rests at place low (rest_at place (split_point place low high values) low) high (rest_at place (split_point place low high values) high))
+    (with_rests at place low (rest_at (split_point place low high values) low) high (rest_at (split_point place low high values) high))
     (Err SplitCause)
 
 -- `low` and `high` are rows, and there is one value for each name other than the place in the two rows
@@ -166,7 +181,7 @@ abbrev pub split_fits : List Row → ℕ → ℕ → ℕ → List ℤ → Bool
 split_fits rows place low high values =
     nat_lt low (length rows) && (nat_lt high (length rows) && (length values == length (other_names place (row_at rows low ∷ row_at rows high ∷ []))))
 
--- the rule of a Split over its used rows, but for what it says of atoms and of the number of integer names
+-- the rule of a Split over given rows, but for what it says of atoms and of the number of integer names
 abbrev pub splits : List Row → List RowStep → ℕ → ℤ → ℕ → ℕ → List ℤ → Result (Unit {0}) Why
-splits used steps place at low high values =
-    then_ (held_rows used steps) (λ rows. cond (split_fits rows place low high values) (split_cause place at (row_at rows low) (row_at rows high) values) (Err Place))
+splits given steps place at low high values =
+    then_ (held_rows given steps) (λ rows. cond (split_fits rows place low high values) (split_cause place at (row_at rows low) (row_at rows high) values) (Err Place))

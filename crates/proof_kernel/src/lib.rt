@@ -11,10 +11,14 @@
 #![tactic(auto)]
 
 pub mod clause;
+pub mod kernel;
 pub mod line;
 pub mod problem;
+pub mod splitting;
+pub mod steps;
 
 pub use clause::{Clause, Lit};
+pub use kernel::Kernel;
 pub use line::{
     Checked, KernelRefused, Line, LineRefused, RangeEvidence, RangeWhat, RowStep, RowsEvidence, Why,
 };

@@ -34,6 +34,15 @@ impl Model for Problem {
     ghost invariant = { λ a. fits (record { atoms = a.atoms; ints = a.ints; clauses = a.clauses }) ≡ true };
 }
 
+impl Problem {
+    /// What the type keeps: literals name atoms of the problem, and the places of rows are below `ints`.
+    pub fn law_fits(&self)
+        ensures { fits self.now ≡ true }
+    {
+        let _ = &self.ints;
+    }
+}
+
 /// A truth value for each atom, of which those of plain atoms count, and a whole number for each integer name.
 #[derive(Drop)]
 pub struct Interpretation {

@@ -1,0 +1,48 @@
+use Rattle.std.proofs.Common.{◌≡◌, ℕ, zero, suc, ◌<◌, Bool, true, List, [], ◌∷◌, ◌++◌, length, get_or, drop, drop-cons, refl, sym, ◌∙◌, ap, arith, append_assoc, Option, Some, None, Ok, Err}
+use Rattle.std.specs.List.{list_all}
+use Rattle.std.specs.Option.{option_map}
+use Rattle.lin_rows.specs.Rows.{Row}
+use Rattle.lin_rows.specs.Divisors.{tightened}
+use Rattle.proof_kernel.specs.declared.clause.Lit.{Lit}
+use Rattle.proof_kernel.specs.declared.problem.AtomKind.{AtomKind}
+use Rattle.proof_kernel.specs.declared.line.LineRefused.{LineRefused}
+use Rattle.proof_kernel.specs.declared.line.LineRefused.TheVariants.{Bad, Memory}
+use Rattle.proof_kernel.specs.declared.line.Why.{Why}
+use Rattle.proof_kernel.specs.declared.line.Why.TheVariants.{Range}
+use Rattle.proof_kernel.specs.Steps.{or_broken, with_row, lit_row, lit_rows}
+use Rattle.proof_kernel.specs.Answers.{IsTold}
+use Rattle.proof_kernel.proofs.Sets.{both}
+
+pub all_at : {X : Type 0} (p : X → Bool) (xs : List X) (i : ℕ) (d : X) → i < length xs → list_all p xs ≡ true → p (get_or xs i d) ≡ true
+all_at p [] i d lt h = absurd (omega arith)
+all_at p (x ∷ xs) zero d lt h = (both (p x) (list_all p xs) h).0
+all_at p (x ∷ xs) (suc i) d lt h = all_at p xs i d (omega arith) (both (p x) (list_all p xs) h).1
+
+-- one row more of the used ones
+with_row-some : (rows : List Row) (r : Row) (o : Option (List Row)) → option_map (λ more. rows ++ more) (with_row (Some r) o) ≡ option_map (λ more. (rows ++ r ∷ []) ++ more) o
+with_row-some rows r (Some more) = ap (λ (z : List Row). Some z) (sym (append_assoc rows (r ∷ []) more))
+with_row-some rows r None = refl
+
+pub rows-more : (atoms : List AtomKind) (used : List Lit) (i j : ℕ) (d : Lit) (rows : List Row) (r : Row) → j ≡ suc i → i < length used
+    → or_broken Range (option_map tightened (lit_row atoms (get_or used i d))) ≡ Ok r
+    → option_map (λ more. rows ++ more) (lit_rows atoms (drop i used)) ≡ option_map (λ more. (rows ++ r ∷ []) ++ more) (lit_rows atoms (drop j used))
+rows-more atoms used i j d rows r e lt h =
+    let s = found (option_map tightened (lit_row atoms (get_or used i d))) h in
+    rw (drop-cons used i d) (rw e (ap (λ (o : Option Row). option_map (λ more. rows ++ more) (with_row o (lit_rows atoms (drop (suc i) used)))) s ∙ with_row-some rows r (lit_rows atoms (drop (suc i) used))))
+  where
+    found : (o : Option Row) → or_broken Range o ≡ Ok r → o ≡ Some r
+    found (Some q) k = cc
+    found None k = absurd cc
+
+pub rows-stop : (atoms : List AtomKind) (used : List Lit) (i : ℕ) (d : Lit) (rows : List Row) → i < length used → option_map tightened (lit_row atoms (get_or used i d)) ≡ None
+    → option_map (λ more. rows ++ more) (lit_rows atoms (drop i used)) ≡ None
+rows-stop atoms used i d rows lt e =
+    rw (drop-cons used i d) (ap (λ (o : Option Row). option_map (λ more. rows ++ more) (with_row o (lit_rows atoms (drop (suc i) used)))) e)
+
+lift_err : {A B : Type 0} {q : Option B} {w : Why} → or_broken {A = A} Range None ≡ Err w → q ≡ None → or_broken Range q ≡ Err w
+lift_err {B = B} t e = ap (λ (z : Option B). or_broken Range z) e ∙ cc
+
+pub told-stop : {A B : Type 0} (o : Option A) (q : Option B) (e : LineRefused) → IsTold e (or_broken Range o) → (o ≡ None → q ≡ None) → IsTold e (or_broken Range q)
+told-stop o q Memory t h = tt
+told-stop (Some a) q (Bad w) t h = absurd cc
+told-stop None q (Bad w) t h = lift_err t (h refl)

@@ -1,0 +1,171 @@
+use Rattle.std.proofs.Common.{◌≡◌, ℕ, zero, suc, ◌+◌, ◌*◌, ◌/◌, ◌%◌, ◌<◌, ◌≤◌, Bool, true, false, not, ◌&&◌, refl, sym, ◌∙◌, ap, arith}
+use Rattle.std.specs.Prelude.{nat_lt, nat_eq, ℤ, pos, negsuc, ◌+ℤ◌, ◌-ℤ◌, ◌*ℤ◌, ◌<ℤ◌, ◌≤ℤ◌, int_lt, unsigned_abs, neg_ℤ}
+use Rattle.std.proofs.lemmas.Int.{ints}
+use Rattle.std.proofs.Math.Nat.{div-add-mod', mod-lt, mul-le-mul_left, mul_comm}
+use Rattle.std.proofs.lemmas.Bool.Decides.{nat_tests}
+use Rattle.proof_kernel.specs.Steps.{is_in_gap, is_floor}
+use Rattle.proof_kernel.proofs.Sets.{both}
+use Rattle.proof_kernel.proofs.States.{and_true}
+
+pub test_eq : (a b : Bool) → (a ≡ true → b ≡ true) → (b ≡ true → a ≡ true) → a ≡ b
+test_eq true b f g = sym (f refl)
+test_eq false true f g = g refl
+test_eq false false f g = refl
+
+pub lt_is : (a b : ℕ) → nat_lt a b ≡ true → a < b
+lt_is a b h = grind (arith, nat_tests)
+
+pub is_lt : (a b : ℕ) → a < b → nat_lt a b ≡ true
+is_lt a b h = grind (arith, nat_tests)
+
+pub not_lt : (a b : ℕ) → b ≤ a → nat_lt a b ≡ false
+not_lt a b h = grind (arith, nat_tests)
+
+eq_is : (a b : ℕ) → nat_eq a b ≡ true → a ≡ b
+eq_is a b h = grind (arith, nat_tests)
+
+is_eq : (a b : ℕ) → a ≡ b → nat_eq a b ≡ true
+is_eq a b h = grind (arith, nat_tests)
+
+not_eq : (a b : ℕ) → (a ≡ b → ⊥) → not (nat_eq a b) ≡ true
+not_eq a b h = by_case (nat_eq a b) refl
+  where
+    by_case : (e : Bool) → nat_eq a b ≡ e → not e ≡ true
+    by_case true p = absurd (h (eq_is a b p))
+    by_case false p = refl
+
+eq_not : (a b : ℕ) → not (nat_eq a b) ≡ true → a ≡ b → ⊥
+eq_not a b h e = let p = is_eq a b e in clash (nat_eq a b) p h
+  where
+    clash : (e : Bool) → e ≡ true → not e ≡ true → ⊥
+    clash true p q = absurd cc
+    clash false p q = absurd cc
+
+-- k * b < g < (k + 1) * b
+pub around : ℕ → ℕ → ℕ → Bool
+around k g b = nat_lt (k * b) g && nat_lt g ((k + 1) * b)
+
+times_up : (k w b : ℕ) → k < w → k * b + b ≤ w * b
+times_up k w b h =
+    let m : b * (k + 1) ≤ b * w = mul-le-mul_left b (omega (arith, h)) in
+    let c = mul_comm b w in
+    omega (arith, m, c)
+
+-- a whole number stands right below g / b where it is the quotient and something is left
+pub core : (k g b : ℕ) → 0 < b → (nat_eq k (g / b) && not (nat_eq (g % b) 0)) ≡ around k g b
+unfolding around
+core k g b h = test_eq (nat_eq k (g / b) && not (nat_eq (g % b) 0)) (nat_lt (k * b) g && nat_lt g ((k + 1) * b)) there back
+  where
+    is : g / b * b + g % b ≡ g
+    is = div-add-mod' g b
+
+    small : g % b < b
+    small = mod-lt g h
+
+    there : (nat_eq k (g / b) && not (nat_eq (g % b) 0)) ≡ true → (nat_lt (k * b) g && nat_lt g ((k + 1) * b)) ≡ true
+    there t =
+        let p = both (nat_eq k (g / b)) (not (nat_eq (g % b) 0)) t in
+        let e : k * b ≡ g / b * b = ap (λ (n : ℕ). n * b) (eq_is k (g / b) p.0) in
+        let n = eq_not (g % b) 0 p.1 in
+        let some : 0 < g % b = positive (g % b) n in
+        and_true (nat_lt (k * b) g) (nat_lt g ((k + 1) * b)) (is_lt (k * b) g (omega (arith, e, some, is))) (is_lt g ((k + 1) * b) (omega (arith, e, small, is)))
+      where
+        positive : (n : ℕ) → (n ≡ 0 → ⊥) → 0 < n
+        positive zero f = absurd (f refl)
+        positive (suc n) f = omega arith
+
+    back : (nat_lt (k * b) g && nat_lt g ((k + 1) * b)) ≡ true → (nat_eq k (g / b) && not (nat_eq (g % b) 0)) ≡ true
+    back t =
+        let p = both (nat_lt (k * b) g) (nat_lt g ((k + 1) * b)) t in
+        let l = lt_is (k * b) g p.0 in
+        let r = lt_is g ((k + 1) * b) p.1 in
+        let not_below : (k < g / b → ⊥) = λ (q : k < g / b). (let m = times_up k (g / b) b q in omega (arith, m, r, is)) in
+        let not_above : (g / b < k → ⊥) = λ (q : g / b < k). (let m = times_up (g / b) k b q in omega (arith, m, l, is, small)) in
+        let e : k ≡ g / b = omega (arith, not_below, not_above) in
+        let f : k * b ≡ g / b * b = ap (λ (n : ℕ). n * b) e in
+        and_true (nat_eq k (g / b)) (not (nat_eq (g % b) 0)) (is_eq k (g / b) e) (not_eq (g % b) 0 (λ z. omega (arith, f, l, is, z)))
+
+and_false : (a b : Bool) → b ≡ false → (a && b) ≡ false
+and_false true b e = e
+and_false false b e = refl
+
+swap : (a b c d : Bool) → a ≡ d → b ≡ c → (a && b) ≡ (c && d)
+swap a b c d e f = by_case a b ∙ (λ i. f i && e i)
+  where
+    by_case : (a b : Bool) → (a && b) ≡ (b && a)
+    by_case true true = refl
+    by_case true false = refl
+    by_case false true = refl
+    by_case false false = refl
+
+suc_lt : (a b : ℕ) → nat_lt a b ≡ nat_lt (suc a) (suc b)
+suc_lt a b = test_eq (nat_lt a b) (nat_lt (suc a) (suc b)) (λ h. is_lt (suc a) (suc b) (let l = lt_is a b h in omega (arith, l))) (λ h. is_lt a b (let l = lt_is (suc a) (suc b) h in omega (arith, l)))
+
+neg_lt : (a g : ℕ) → int_lt (neg_ℤ (pos a)) (negsuc g) ≡ nat_lt (suc g) a
+neg_lt zero g = sym (not_lt (suc g) 0 (omega arith))
+neg_lt (suc a) g = suc_lt g a
+
+lt_neg : (a g : ℕ) → int_lt (negsuc g) (neg_ℤ (pos a)) ≡ nat_lt a (suc g)
+lt_neg zero g = sym (is_lt 0 (suc g) (omega arith))
+lt_neg (suc a) g = suc_lt a g
+
+below_pos : (a g : ℕ) → int_lt (pos g) (neg_ℤ (pos a)) ≡ false
+below_pos zero g = not_lt g 0 (omega arith)
+below_pos (suc a) g = refl
+
+second : (k b : ℕ) (n : ℤ) → int_lt n ((negsuc (suc k) +ℤ pos 1) *ℤ pos b) ≡ int_lt n (negsuc k *ℤ pos b)
+second k b n = ap (λ (z : ℤ). int_lt n (z *ℤ pos b)) one_more
+  where
+    one_more : negsuc (suc k) +ℤ pos 1 ≡ negsuc k
+    one_more = omega (arith, ints)
+
+-- over whole numbers: n is positive
+up : (at n : ℤ) (b : ℕ) → 0 < b → pos 0 <ℤ n → (is_floor at true (unsigned_abs n / b) && not (nat_eq (unsigned_abs n % b) 0)) ≡ is_in_gap at n (pos b)
+unfolding around
+up at (negsuc g) b h p = absurd (omega (arith, ints, p))
+up at n zero h p = absurd (omega arith)
+up (pos k) (pos g) (suc b) h p = core k g (suc b) h
+up (negsuc zero) (pos g) (suc b) h p = sym (and_false (int_lt (negsuc 0 *ℤ pos (suc b)) (pos g)) (nat_lt g (0 * suc b)) (not_lt g (0 * suc b) (omega arith)))
+up (negsuc (suc k)) (pos g) (suc b) h p =
+    sym (and_false (int_lt (negsuc (suc k) *ℤ pos (suc b)) (pos g)) (int_lt (pos g) ((negsuc (suc k) +ℤ pos 1) *ℤ pos (suc b))) (second k (suc b) (pos g) ∙ below_pos (suc k * suc b) g))
+
+-- n isn't positive
+down : (at n : ℤ) (b : ℕ) → 0 < b → n ≤ℤ pos 0 → (is_floor at false (unsigned_abs n / b) && not (nat_eq (unsigned_abs n % b) 0)) ≡ is_in_gap at n (pos b)
+unfolding around
+down at (pos (suc g)) b h p = absurd (omega (arith, ints, p))
+down at n zero h p = absurd (omega arith)
+down (pos k) (pos zero) (suc b) h p = sym (ap (λ (t : Bool). t && nat_lt 0 ((k + 1) * suc b)) (not_lt (k * suc b) 0 (omega arith)))
+down (pos k) (negsuc g) (suc b) h p = refl
+down (negsuc zero) (pos zero) (suc b) h p = core 0 0 (suc b) h ∙ ap (λ (t : Bool). t && nat_lt 0 ((0 + 1) * suc b)) (not_lt (0 * suc b) 0 (omega arith))
+    ∙ sym (and_false (int_lt (negsuc 0 *ℤ pos (suc b)) (pos 0)) (nat_lt 0 (0 * suc b)) (not_lt 0 (0 * suc b) (omega arith)))
+down (negsuc (suc k)) (pos zero) (suc b) h p = core (suc k) 0 (suc b) h ∙ ap (λ (t : Bool). t && nat_lt 0 ((suc k + 1) * suc b)) (not_lt (suc k * suc b) 0 (omega arith))
+    ∙ sym (and_false (int_lt (negsuc (suc k) *ℤ pos (suc b)) (pos 0)) (int_lt (pos 0) ((negsuc (suc k) +ℤ pos 1) *ℤ pos (suc b))) (second k (suc b) (pos 0) ∙ below_pos (suc k * suc b) 0))
+down (negsuc zero) (negsuc g) (suc b) h p = core 0 (suc g) (suc b) h
+    ∙ swap (nat_lt (0 * suc b) (suc g)) (nat_lt (suc g) ((0 + 1) * suc b)) (int_lt (negsuc 0 *ℤ pos (suc b)) (negsuc g)) true
+    (is_lt (0 * suc b) (suc g) (omega arith)) (sym (neg_lt (1 * suc b) g))
+down (negsuc (suc k)) (negsuc g) (suc b) h p = core (suc k) (suc g) (suc b) h
+    ∙ swap (nat_lt (suc k * suc b) (suc g)) (nat_lt (suc g) ((suc k + 1) * suc b)) (int_lt (negsuc (suc k) *ℤ pos (suc b)) (negsuc g)) (int_lt (negsuc g) ((negsuc (suc k) +ℤ pos 1) *ℤ pos (suc b)))
+    (sym (second k (suc b) (negsuc g) ∙ lt_neg (suc k * suc b) g)) (ap (λ (n : ℕ). nat_lt (suc g) (n * suc b)) add_one ∙ sym (neg_lt (suc (suc k) * suc b) g))
+  where
+    add_one : suc k + 1 ≡ suc (suc k)
+    add_one = omega arith
+
+above : (more less : ℤ) → int_lt less more ≡ true → pos 0 <ℤ (more -ℤ less)
+above more less h = omega (arith, ints, h)
+
+not_above : (more less : ℤ) → int_lt less more ≡ false → (more -ℤ less) ≤ℤ pos 0
+not_above more less h = omega (arith, ints, h)
+
+pub gap_is : (at more less : ℤ) (b : ℕ) → 0 < b
+    → (is_floor at (int_lt less more) (unsigned_abs (more -ℤ less) / b) && not (nat_eq (unsigned_abs (more -ℤ less) % b) 0)) ≡ is_in_gap at (more -ℤ less) (pos b)
+gap_is at more less b h = by_case (int_lt less more) refl
+  where
+    by_case : (t : Bool) → int_lt less more ≡ t → (is_floor at t (unsigned_abs (more -ℤ less) / b) && not (nat_eq (unsigned_abs (more -ℤ less) % b) 0)) ≡ is_in_gap at (more -ℤ less) (pos b)
+    by_case true e = up at (more -ℤ less) b h (above more less e)
+    by_case false e = down at (more -ℤ less) b h (not_above more less e)
+
+pub gap_so : (at more less : ℤ) (b g : ℕ) (u f : Bool) → 0 < b → g ≡ unsigned_abs (more -ℤ less) → u ≡ int_lt less more → f ≡ is_floor at u (g / b)
+    → (f && not (nat_eq (g % b) 0)) ≡ is_in_gap at (more -ℤ less) (pos b)
+gap_so at more less b g u f h ge ue fe =
+    let whole = fe ∙ (λ i. is_floor at (ue i) (ge i / b)) in
+    (λ i. whole i && not (nat_eq (ge i % b) 0)) ∙ gap_is at more less b h

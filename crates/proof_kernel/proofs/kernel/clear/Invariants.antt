@@ -1,0 +1,6 @@
+use Rattle.std.proofs.Common.{◌≡◌, take, length}
+use Rattle.proof_kernel.specs.Rules.{cleared}
+use Rattle.proof_kernel.proofs.kernel.clear.Given as goal
+
+abbrev pub invariant-loop-number : goal.invariant-loop-number
+invariant-loop-number l = (l.slots.items ≡ cleared l.fn.slots.items (take l.number-index l.numbers)) × (length l.slots.items ≡ length l.fn.slots.items)

@@ -1,0 +1,6 @@
+use Rattle.std.proofs.Common.{◌≡◌, ◌≤◌, take, length}
+use Rattle.proof_kernel.specs.Rules.{live_of}
+use Rattle.proof_kernel.proofs.kernel.count_live.Given as goal
+
+abbrev pub invariant-loop-slot : goal.invariant-loop-slot
+invariant-loop-slot l = (l.count ≡ length (live_of (take l.slot-index l.slots))) × (l.count ≤ l.slot-index)

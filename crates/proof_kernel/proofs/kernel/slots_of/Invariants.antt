@@ -1,0 +1,5 @@
+use Rattle.std.proofs.Common.{◌≡◌, map, Some}
+use Rattle.proof_kernel.proofs.kernel.slots_of.Given as goal
+
+abbrev pub invariant-loop-clause : goal.invariant-loop-clause
+invariant-loop-clause l = l.slots.items ≡ map (λ c. Some c) l.yielded

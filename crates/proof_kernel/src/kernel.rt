@@ -1,0 +1,273 @@
+// The kernel: what stands after the lines taken so far.
+ghost use Rattle.std.specs.Prelude.{◌≡◌, ℕ, ◌<◌, ◌≤◌, ◌^◌, Bool, true, MatchResult, OnOk, OnErr, IsOk, IfOk, IsTrue, length, option_copied, slice_get, Ok, nat_lt, map, Some};
+ghost use Rattle.std.specs.List.{list_all, list_any};
+ghost use Rattle.proof_kernel.specs.Clauses.{is_empty};
+ghost use Rattle.proof_kernel.specs.Problems.{Meaning, makes_true, atoms_below};
+ghost use Rattle.proof_kernel.specs.Rules.{State, StateFits, start, grown, live_of, live_clause, is_live, resolved, dropped, are_different, cleared, stands_in, next, holds};
+ghost use Rattle.proof_kernel.specs.Answers.{IsTold};
+
+use crate::clause::{Clause, Lit};
+use crate::line::{Line, LineRefused, Why};
+use crate::problem::{AtomKind, Problem};
+use items::Items;
+use std::alloc::{AllocError, Global};
+use std::marker::Model;
+
+/// The atoms and clauses that stand after some lines. Contracts see them as a `State`; the literals of dropped clauses aren't
+/// kept.
+#[derive(Drop)]
+pub struct Kernel {
+    atoms: Items<AtomKind>,
+    ints: u32,
+    given: u32,
+    slots: Vec<Option<Clause>>,
+    empty: bool,
+    alloc: Global,
+}
+
+impl Model for Kernel {
+    ghost use Rattle.proof_kernel.specs.Rules.{State, StateFits};
+
+    ghost Value = { State };
+
+    ghost view = { λ a. record { atoms = a.atoms; ints = a.ints; given = a.given; slots = a.slots.items; empty = a.empty } };
+
+    ghost invariant = { λ a. StateFits (record { atoms = a.atoms; ints = a.ints; given = a.given; slots = a.slots.items; empty = a.empty }) };
+}
+
+impl Kernel {
+    /// The kernel before the first line of a log. More than 2^32 - 1 clauses or atoms are answered as want of memory.
+    pub fn new(alloc: Global, problem: Problem) -> Result<Kernel, AllocError>
+        ensures exact { IfOk result (λ kernel. kernel ≡ start problem) }
+        ensures sound { IfOk result (λ kernel. (m : Meaning) → makes_true m problem ≡ true → holds m kernel ≡ true) }
+    {
+        Kernel::begin(alloc, problem)
+    }
+
+    fn begin(alloc: Global, problem: Problem) -> Result<Kernel, AllocError>
+        ensures { IfOk result (λ kernel. kernel ≡ start problem) }
+    {
+        let Problem {
+            atoms,
+            ints,
+            clauses,
+        } = problem;
+        if clauses.len() > u32::MAX as usize || atoms.len() > u32::MAX as usize {
+            return Err(AllocError);
+        }
+        let given = clauses.len() as u32;
+        let empty = holds_empty(clauses.as_slice());
+        let slots = slots_of(alloc, clauses.into_vec())?;
+        Ok(Kernel {
+            atoms,
+            ints,
+            given,
+            slots,
+            empty,
+            alloc,
+        })
+    }
+
+    /// Begins anew with another problem. A refusal leaves the kernel as before.
+    pub fn restart(&mut self, problem: Problem) -> Result<(), AllocError>
+        ensures exact { OnOk result (self.new ≡ start problem) }
+        ensures kept { OnErr result (self.new ≡ self.old) }
+        ensures sound { OnOk result ((m : Meaning) → makes_true m problem ≡ true → holds m self.new ≡ true) }
+    {
+        let next = Kernel::new(self.alloc, problem)?;
+        *self = next;
+        Ok(())
+    }
+
+    /// What a kernel keeps of its state: numbers fit, literals name atoms, and the places of rows are numbers of integer names.
+    pub fn law_fits(&self)
+        ensures { StateFits self.now }
+    {
+        let _ = &self.empty;
+    }
+
+    /// The clause of a number; nothing where there is none or it was dropped.
+    pub fn clause(&self, number: u32) -> Option<&Clause>
+        ensures { option_copied result ≡ live_clause self.now number }
+    {
+        match self.slots.get(number as usize) {
+            Some(slot) => slot.as_ref(),
+            None => None,
+        }
+    }
+
+    /// The atom of a number, if there is one.
+    pub fn atom(&self, number: u32) -> Option<&AtomKind>
+        ensures { option_copied result ≡ slice_get self.now.atoms number }
+    {
+        self.atoms.get(number as usize)
+    }
+
+    /// How many atoms there are: those of the problem, and one for each Split line.
+    pub fn atom_count(&self) -> u32
+        ensures is { result ≡ length self.now.atoms }
+    {
+        self.atoms.len() as u32
+    }
+
+    /// How many integer names there are.
+    pub fn ints(&self) -> u32
+        ensures { result ≡ self.now.ints }
+    {
+        self.ints
+    }
+
+    /// How many clauses there were, dropped or not: those of the problem, and one for each Resolve and Farkas line.
+    pub fn clause_count(&self) -> u32
+        ensures { result ≡ length self.now.slots }
+    {
+        self.slots.len() as u32
+    }
+
+    /// How many clauses weren't dropped.
+    pub fn live_count(&self) -> u32
+        ensures { result ≡ length (live_of self.now.slots) }
+    {
+        count_live(self.slots.as_slice()) as u32
+    }
+
+    /// Whether an empty clause was among the clauses, dropped or not. Then no interpretation makes all clauses of the problem
+    /// true.
+    pub fn has_empty(&self) -> bool
+        ensures exact { result ≡ self.now.empty }
+        ensures sound { IsTrue result → (m : Meaning) → holds m self.now ≡ true → ⊥ }
+    {
+        self.empty
+    }
+
+    fn is_live(&self, number: u32) -> bool
+        ensures { result ≡ is_live self.now number }
+    {
+        self.clause(number).is_some()
+    }
+
+    fn all_live(&self, numbers: &[u32]) -> bool
+        ensures { result ≡ list_all (is_live self.now) numbers.now }
+    {
+        numbers.iter().all(|number| self.is_live(*number))
+    }
+
+    // Takes a clause under the next number.
+    fn grow(&mut self, clause: Clause) -> Result<(), AllocError>
+        requires { atoms_below (length self.old.atoms) clause ≡ true }
+        ensures exact { OnOk result (self.new ≡ grown self.old clause) }
+        ensures kept { OnErr result (self.new ≡ self.old) }
+    {
+        if self.slots.len() >= u32::MAX as usize {
+            return Err(AllocError);
+        }
+        let empty = self.empty || clause.is_empty();
+        self.slots.push(Some(clause))?;
+        self.empty = empty;
+        Ok(())
+    }
+
+    fn resolve(&mut self, left: u32, right: u32, pivot: u32) -> Result<(), LineRefused>
+        ensures exact { MatchResult result (λ _. resolved self.old left right pivot ≡ Ok self.new) (λ e. IsTold e (resolved self.old left right pivot)) }
+        ensures kept { OnErr result (self.new ≡ self.old) }
+    {
+        let count = self.clause_count();
+        if left >= count || right >= count || pivot >= self.atom_count() {
+            return Err(LineRefused::Bad(Why::Place));
+        }
+        let (Some(left), Some(right)) = (self.clause(left), self.clause(right)) else {
+            return Err(LineRefused::Bad(Why::Dropped));
+        };
+        let up = Lit {
+            atom: pivot,
+            positive: true,
+        };
+        if !left.holds(up) || !right.holds(up.opposite()) {
+            return Err(LineRefused::Bad(Why::Pivot));
+        }
+        let Ok(clause) = Clause::resolvent(self.alloc, left, right, pivot) else {
+            return Err(LineRefused::Memory);
+        };
+        let Ok(()) = self.grow(clause) else {
+            return Err(LineRefused::Memory);
+        };
+        Ok(())
+    }
+
+    fn drop_clauses(&mut self, numbers: &[u32]) -> Result<(), LineRefused>
+        ensures exact { MatchResult result (λ _. dropped self.old numbers.now ≡ Ok self.new) (λ e. IsTold e (dropped self.old numbers.now)) }
+        ensures kept { OnErr result (self.new ≡ self.old) }
+    {
+        if numbers.is_empty() || !all_below(numbers, self.clause_count()) {
+            return Err(LineRefused::Bad(Why::Place));
+        }
+        if !are_different(numbers) || !self.all_live(numbers) {
+            return Err(LineRefused::Bad(Why::Dropped));
+        }
+        clear(&mut self.slots, numbers);
+        Ok(())
+    }
+}
+
+fn holds_empty(clauses: &[Clause]) -> bool
+    ensures { result ≡ list_any is_empty clauses.now }
+{
+    clauses.iter().any(|clause| clause.is_empty())
+}
+
+fn all_below(numbers: &[u32], count: u32) -> bool
+    ensures { result ≡ list_all (λ n. nat_lt n count) numbers.now }
+{
+    numbers.iter().all(|number| *number < count)
+}
+
+// The clauses of a problem by their numbers.
+fn slots_of(alloc: Global, clauses: Vec<Clause>) -> Result<Vec<Option<Clause>>, AllocError>
+    ensures { IfOk result (λ slots. slots.items ≡ map (λ c. Some c) clauses.items) }
+{
+    let mut slots = Vec::new(alloc);
+    for clause in clauses {
+        slots.push(Some(clause))?;
+    }
+    Ok(slots)
+}
+
+fn count_live(slots: &[Option<Clause>]) -> usize
+    ensures count { result ≡ length (live_of slots.now) }
+    ensures few { result ≤ length slots.now }
+{
+    let mut count = 0;
+    for slot in slots {
+        if slot.is_some() {
+            count += 1;
+        }
+    }
+    count
+}
+
+fn clear(slots: &mut Vec<Option<Clause>>, numbers: &[u32])
+    requires { list_all (λ n. nat_lt n (length slots.old.items)) numbers.now ≡ true }
+    ensures { slots.new.items ≡ cleared slots.old.items numbers.now }
+{
+    for number in numbers {
+        slots[*number as usize] = None;
+    }
+}
+
+fn stands_in(numbers: &[u32], number: u32) -> bool
+    ensures { result ≡ stands_in numbers.now number }
+{
+    numbers.iter().any(|other| *other == number)
+}
+
+// Whether no number stands in a list twice.
+fn are_different(numbers: &[u32]) -> bool
+    ensures { result ≡ are_different numbers.now }
+{
+    for (i, number) in numbers.iter().enumerate() {
+        if stands_in(&numbers[i + 1..], *number) {
+            return false;
+        }
+    }
+    true
+}
