@@ -3,3 +3,4 @@ pub mod Choice
 pub mod Many
 pub mod Loop
 pub mod Pieces
+pub mod KeyLemmas

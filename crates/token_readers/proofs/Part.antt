@@ -3,9 +3,8 @@ use Rattle.std.proofs.Common.{◌≡◌, ℕ, suc, Bool, false, List, [], ◌∷
 use Rattle.token_readers.specs.declared.token.Symbol.{Symbol}
 use Rattle.token_readers.specs.declared.token.Token.{Token}
 use Rattle.token_readers.specs.declared.token.Kind.{Kind}
-use Rattle.std.specs.List.{AllByRecursion}
 use Rattle.token_readers.specs.Words.{next, seen, Spelt, plain, Matches, with_place}
-use Rattle.token_readers.specs.Texts.{IsWord, AreWords}
+use Rattle.token_readers.specs.Texts.{AreWords}
 use Rattle.token_readers.specs.Read.{Read, ◌>>=◌, mapped, both, placed, place_of}
 
 -- ---- lists of words

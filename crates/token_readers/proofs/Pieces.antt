@@ -1,5 +1,5 @@
 -- Single words, lists with commas, lists in brackets, and what may be missing.
-use Rattle.std.proofs.Common.{◌≡◌, ℕ, Bool, true, false, cond, ◌||◌, List, [], ◌∷◌, ◌++◌, Option, Some, None, refl, sym, ap, ◌∙◌}
+use Rattle.std.proofs.Common.{◌≡◌, ℕ, Bool, true, false, cond, ◌||◌, List, [], ◌∷◌, ◌++◌, Option, Some, None, refl, ap}
 use Rattle.std.specs.Prelude.{◌==◌}
 use Rattle.std.specs.List.{AllByRecursion}
 use Rattle.std.specs.Str.{bytes_eq}
@@ -15,7 +15,7 @@ use Rattle.token_readers.specs.declared.token.Kind.TheVariants as kind
 use Rattle.token_readers.specs.declared.token.Version.{Version}
 use Rattle.token_readers.specs.Words.{next, kind_of, Spelt, plain, Matches, shared_text, exclusive_text, observes_text, name_kind, number_kind, is_key, is_name, is_number, name_of, value_of, key, sign, each, listed, group, AllSame, NotEmpty}
 use Rattle.token_readers.specs.Read.{Read, mapped, both, second, cons, key_at, sign_at, one_more, listed_at, list_of, between, group_at}
-use Rattle.token_readers.proofs.Part.{Part, Joins, both_part, then_part, mapped_part, regroup}
+use Rattle.token_readers.proofs.Part.{Part, Joins, both_part, then_part, mapped_part}
 use Rattle.token_readers.proofs.Choice.{word_part, perhaps_part, option_same, option_of}
 use Rattle.token_readers.proofs.Many.{many_part, list_on, list_on_tail, list_on_false, or_false, false_or}
 

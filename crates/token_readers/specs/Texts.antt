@@ -1,5 +1,5 @@
 -- The text of each word, and which words there are.
-use Rattle.std.specs.Prelude.{◌≡◌, ℕ, Bool, true, false, if◌then◌else◌, ◌&&◌, not, List, [], ◌∷◌, codes, Option, Some, None, nat_lt}
+use Rattle.std.specs.Prelude.{◌≡◌, ℕ, Bool, true, if◌then◌else◌, ◌&&◌, not, List, [], ◌∷◌, codes, Option, Some, None, nat_lt}
 use Rattle.std.specs.List.{AllByRecursion}
 use Rattle.std.specs.Str.{bytes_eq}
 use Rattle.std.specs.Fmt.{decimal}
@@ -73,8 +73,12 @@ abbrev pub symbol_by : Option Key → List ℕ → Symbol
 symbol_by (Some k) text = symbol.Key k
 symbol_by None text = if is_number text then symbol.Number (number_of text) else symbol.Name text
 
+-- the reserved name or sign with this text
+unfoldable pub key_of : List ℕ → Option Key
+key_of text = key_from all_keys text
+
 abbrev pub symbol_of : List ℕ → Symbol
-symbol_of text = symbol_by (key_from all_keys text) text
+symbol_of text = symbol_by (key_of text) text
 
 -- The word can stand in a text: a name is none that is reserved and has at most 32 bytes, a number has at most 38 digits.
 abbrev pub is_word : Symbol → Bool

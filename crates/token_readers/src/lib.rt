@@ -10,8 +10,10 @@
 
 mod fault;
 mod looking;
+mod making;
 mod token;
 
 pub use fault::ReadError;
 pub use looking::{is_key, is_name, is_number, key, kind_of_symbol, next_kind, sign};
+pub use making::{key_text, tokens};
 pub use token::{Key, Kind, Symbol, Token, Version};

@@ -41,7 +41,7 @@ same_by b k e = grind (arith, nat_tests)
 other_by : (b k : ℕ) → nat_eq b k ≡ false → b ≡ k → ⊥
 other_by b k e = grind (arith, nat_tests)
 
-decimal_of_number : (text : List ℕ) → is_number text ≡ true → number_of text ≤ greatest → decimal (number_of text) ≡ text
+pub decimal_of_number : (text : List ℕ) → is_number text ≡ true → number_of text ≤ greatest → decimal (number_of text) ≡ text
 decimal_of_number [] e small = absurd (false≢true e)
 decimal_of_number (b ∷ bs) e small = by_case (nat_eq b 48) refl
   where
@@ -82,7 +82,7 @@ is_number-last (b ∷ bs) d e some k = by_case (nat_eq b 48) refl
         let all : list_all is_digit (bs ++ d ∷ []) ≡ true = list_all-append is_digit bs (d ∷ []) ∙ rw (more, k) refl in
         rw (z, first, all) refl
 
-abbrev Writes : ℕ → List ℕ → Type 0
+abbrev pub Writes : ℕ → List ℕ → Type 0
 Writes n ds = (is_number ds ≡ true) × (number_of ds ≡ n)
 
 is_digit-of : (k : ℕ) → k < 10 → is_digit (48 + k) ≡ true
@@ -102,7 +102,7 @@ more_digits n ds h w =
     let last = digits_behind-last 0 ds (48 + n % 10) in
     (is_number-last ds (48 + n % 10) w.0 some (is_digit-of (n % 10) (omega arith)), last ∙ omega arith)
 
-decimal_writes : (n : ℕ) → n ≤ greatest → Writes n (decimal n)
+pub decimal_writes : (n : ℕ) → n ≤ greatest → Writes n (decimal n)
 decimal_writes n small = decimal_by_steps_wide Writes one_digit more_digits n (omega arith)
 
 -- ---- whole numbers

@@ -14,7 +14,7 @@ mod word;
 
 pub use cutting::{CutRefused, cut};
 pub use laws::{law_cut_or_refused, law_one_cut, law_one_refusal, law_words_stand};
-pub use whole::read_whole;
+pub use whole::{read_number, read_whole};
 pub use word::{Word, WordKind};
 
 #[cfg(test)]

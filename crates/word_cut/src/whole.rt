@@ -55,7 +55,8 @@ fn number_of(text: &[u8]) -> Option<u128>
     Some(number)
 }
 
-fn size_of(text: &[u8]) -> Option<u128>
+/// The number that a text writes without a sign, up to 2^127 - 1.
+pub fn read_number(text: &[u8]) -> Option<u128>
     ensures { result ≡ size_read text.now }
 {
     if !is_number(text) {
@@ -79,11 +80,11 @@ fn read(text: &[u8]) -> Option<i128>
             if rest == b"0".as_slice() {
                 return None;
             }
-            let size = size_of(rest)?;
+            let size = read_number(rest)?;
             Some(negative(size))
         }
         _ => {
-            let size = size_of(text)?;
+            let size = read_number(text)?;
             Some(size as i128)
         }
     }
