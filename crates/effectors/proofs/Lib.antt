@@ -3,3 +3,4 @@ pub mod Sizes
 pub mod Fitting
 pub mod Members
 pub mod Whole
+pub mod AfterCall

@@ -62,7 +62,7 @@ term_within d w r args vars t i h f =
     let sum = sum_within d w r args vars t.summands i h parts.1 in
     omega arith
 
-cond_within : (b : Bool) (x y : ℤ) (m : ℕ) → unsigned_abs x ≤ m → unsigned_abs y ≤ m → unsigned_abs (cond b x y) ≤ m
+pub cond_within : (b : Bool) (x y : ℤ) (m : ℕ) → unsigned_abs x ≤ m → unsigned_abs y ≤ m → unsigned_abs (cond b x y) ≤ m
 cond_within true x y m h k = h
 cond_within false x y m h k = k
 

@@ -4,8 +4,10 @@
 // whose guards and amounts read the old state.
 #![tactic(auto)]
 
+mod after;
 mod readings;
 mod updates;
 
+pub use after::{After, post2_count, post2_has, post_count, post_has};
 pub use readings::{count_after_call, fits_places, has_after_call, updates_of};
 pub use updates::{is_thing, spots_match};
