@@ -6,3 +6,4 @@ pub mod Divisor
 pub mod Rounding
 pub mod Sums
 pub mod CancellingLemmas
+pub mod Least

@@ -1,5 +1,5 @@
 // Combining two rows so that a place cancels, a step of the elimination of Fourier and Motzkin.
-ghost use Rattle.std.specs.Prelude.{◌≡◌, ◌≢◌, true, ◌<ℤ◌, ◌≤ℤ◌, ℕ, ℤ, pos, IfOk};
+ghost use Rattle.std.specs.Prelude.{◌≡◌, ◌*ℤ◌, ◌+ℤ◌, ◌≢◌, true, ◌<ℤ◌, ◌≤ℤ◌, ℕ, ℤ, pos, IfOk};
 ghost use Rattle.lin_rows.specs.Answers.{Gives};
 ghost use Rattle.lin_rows.specs.Rows.{Satisfies, coefficient_at};
 ghost use Rattle.lin_rows.specs.Cancelling.{least_factor, combined};
@@ -47,3 +47,8 @@ pub fn combine(alloc: Global, left: &Row, right: &Row, place: u32) -> Result<Com
     let row = sum(alloc, left, first, right, second)?;
     Ok(Combined { row, first, second })
 }
+
+/// The multipliers of a combination are the least positive ones that cancel: no others are less.
+pub fn law_least_multipliers()
+    ensures { (a b u v : ℤ) → pos 0 <ℤ a → b <ℤ pos 0 → pos 0 <ℤ u → pos 0 <ℤ v → u *ℤ a +ℤ v *ℤ b ≡ pos 0 → (least_factor a b ≤ℤ u) × (least_factor b a ≤ℤ v) }
+{}
