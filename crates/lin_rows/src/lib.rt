@@ -19,15 +19,12 @@ pub mod tightening;
 pub mod truth;
 
 pub use adding::sum;
-pub use combining::{Combined, combine};
+pub use combining::{Combined, combine, law_least_multipliers, least_factors};
 pub use making::row_of;
 pub use negation::negate;
-pub use number::add_product;
+pub use number::{add_product, plus, times};
 pub use refused::RowRefused;
 pub use row::{Row, same_row};
 pub use term::RowTerm;
 pub use tightening::tighten;
 pub use truth::truth_at;
-
-#[cfg(test)]
-mod tests;

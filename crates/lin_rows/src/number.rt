@@ -3,12 +3,14 @@ ghost use Rattle.std.specs.Prelude.{◌≡◌, int_le, ◌*ℤ◌, ◌+ℤ◌, �
 ghost use Rattle.std.specs.Option.{option_and_then};
 ghost use Rattle.lin_rows.specs.Numbers.{fit, in_range};
 
+/// Whether a number is in the range of a row: all but the least `i128`.
 pub fn is_in_range(a: i128) -> bool
     ensures { result ≡ in_range a }
 {
     a != i128::MIN
 }
 
+/// The product, where it is in range.
 pub fn times(a: &i128, b: &i128) -> Option<i128>
     ensures { result ≡ fit (a.now *ℤ b.now) }
 {
@@ -18,6 +20,7 @@ pub fn times(a: &i128, b: &i128) -> Option<i128>
     }
 }
 
+/// The sum, where it is in range.
 pub fn plus(a: &i128, b: &i128) -> Option<i128>
     ensures { result ≡ fit (a.now +ℤ b.now) }
 {
@@ -27,7 +30,7 @@ pub fn plus(a: &i128, b: &i128) -> Option<i128>
     }
 }
 
-/// A sum so far and a product.
+/// A sum so far and one more product, where the product and the sum are in range.
 pub fn add_product(so_far: &i128, a: &i128, b: &i128) -> Option<i128>
     ensures { result ≡ option_and_then (λ product. fit (so_far.now +ℤ product)) (fit (a.now *ℤ b.now)) }
 {
