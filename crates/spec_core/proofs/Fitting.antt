@@ -21,7 +21,7 @@ use Rattle.spec_core.specs.Truth.{elem_of, elems_of}
 use Rattle.spec_core.specs.Fits.{fits_places, is_world, is_argument, are_arguments, in_literal_range, elem_exists, elems_fit, body_fits, summand_fits, term_fits, form_fits, is_plain, line_fits}
 use Rattle.spec_core.specs.Typed.{sort_of_kind, sort_of_param, sort_of, is_sort, same_sort, elems_typed, is_number, body_typed, summand_typed, term_typed, form_typed, nodes, depth, is_formula, are_sorts, is_line}
 use Rattle.spec_core.proofs.Lists.{both, and_true}
-use Rattle.spec_core.proofs.Tuples.{all_tuples}
+use Rattle.spec_core.proofs.Choosing.{all_tuples}
 
 -- What is typed by sorts fits at every world, arguments and variables of these sorts.
 

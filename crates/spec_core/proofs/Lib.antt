@@ -1,7 +1,7 @@
 pub mod Lists
 pub mod Parts
 pub mod Places
-pub mod Tuples
+pub mod Choosing
 pub mod Fitting
 pub mod Entries
 pub mod States

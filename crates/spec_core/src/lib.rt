@@ -14,6 +14,7 @@ mod quantified;
 mod spec;
 mod state;
 mod truth;
+mod tuples;
 mod update;
 mod world;
 

@@ -4,7 +4,7 @@ use Rattle.spec_core.specs.World.{size_of}
 use Rattle.spec_core.specs.Truth.{truth}
 use Rattle.spec_core.specs.Fits.{form_fits}
 use Rattle.spec_core.specs.Choices.{all_below, agrees}
-use Rattle.spec_core.proofs.Tuples.{last_at, last_fail, last_all}
+use Rattle.spec_core.proofs.Choosing.{last_at, last_fail, last_all}
 use Rattle.spec_core.proofs.quantified.all_last.Goals as goal
 
 pub agrees_with-requires-clause-fits : goal.agrees_with-requires-clause-fits

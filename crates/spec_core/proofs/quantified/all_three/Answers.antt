@@ -4,7 +4,7 @@ use Rattle.spec_core.specs.World.{size_of}
 use Rattle.spec_core.specs.Truth.{truth}
 use Rattle.spec_core.specs.Fits.{form_fits}
 use Rattle.spec_core.specs.Choices.{all_below, all_choices, agrees}
-use Rattle.spec_core.proofs.Tuples.{choices_at, choices_fail, choices_all}
+use Rattle.spec_core.proofs.Choosing.{choices_at, choices_fail, choices_all}
 use Rattle.spec_core.proofs.quantified.all_three.Goals as goal
 
 pub all_last_two-requires-clause-fits : goal.all_last_two-requires-clause-fits

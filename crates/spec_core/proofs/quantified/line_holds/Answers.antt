@@ -4,7 +4,7 @@ use Rattle.spec_core.specs.Form.{form_of}
 use Rattle.spec_core.specs.Line.{Line}
 use Rattle.spec_core.specs.World.{tuples}
 use Rattle.spec_core.specs.Truth.{truth, is_exists, line_true}
-use Rattle.spec_core.proofs.Tuples.{list_any-not}
+use Rattle.spec_core.proofs.Choosing.{list_any-not}
 use Rattle.spec_core.proofs.quantified.line_holds.Goals as goal
 
 pub returns-in-Exists : goal.returns-in-Exists

@@ -1,6 +1,7 @@
-use Rattle.std.proofs.Common.{◌≡◌, ℕ, zero, suc, ◌<◌, Bool, true, false, not, ◌&&◌, ◌||◌, ◌⊎◌, inl, inr, nat_lt, List, [], ◌∷◌, ◌++◌, map, refl, sym, ◌∙◌, ap, append_assoc, append-nil, arith}
+use Rattle.std.proofs.Common.{◌≡◌, ℕ, zero, suc, ◌+◌, ◌<◌, ◌≤◌, Bool, true, false, not, ◌&&◌, ◌||◌, ◌⊎◌, inl, inr, nat_lt, List, [], ◌∷◌, ◌++◌, length, get_or, drop, map, refl, sym, ◌∙◌, ap, append_assoc, append-nil, drop-cons, arith}
 use Rattle.std.proofs.lemmas.Bool.Decides.{nat_tests}
 use Rattle.std.proofs.lemmas.List.Folds.{list_all-append}
+use Rattle.std.proofs.lemmas.Grind.{common_steps}
 use Rattle.std.specs.List.{list_all, list_any}
 use Rattle.spec_core.specs.declared.world.World.{World}
 use Rattle.spec_core.specs.World.{size_of, below, each_before, tuples}
@@ -107,3 +108,21 @@ module _ (w : World) (chosen : List ℕ) (s : ℕ) (p : List ℕ → Bool) where
 
   pub last_all : all_below (size_of w s) (λ e. p (chosen ++ e ∷ [])) ≡ true → all_choices w chosen (s ∷ []) p ≡ true
   last_all h = choices_all [] ((λ i. all_below (size_of w s) (λ e. whole e i)) ∙ h)
+
+-- ---- tuples, one more element or sort at a time
+
+each_before-append : (es : List ℕ) (e : ℕ) (ts : List (List ℕ)) → each_before (es ++ e ∷ []) ts ≡ each_before es ts ++ map (λ t. e ∷ t) ts
+each_before-append [] e ts = append-nil (map (λ t. e ∷ t) ts)
+each_before-append (x ∷ xs) e ts = ap (λ us. map (λ t. x ∷ t) ts ++ us) (each_before-append xs e ts) ∙ sym (append_assoc (map (λ t. x ∷ t) ts) (each_before xs ts) (map (λ t. e ∷ t) ts))
+
+pub each_before-below : (n : ℕ) (ts : List (List ℕ)) → each_before (below (n + 1)) ts ≡ each_before (below n) ts ++ map (λ t. n ∷ t) ts
+each_before-below n ts = (let e : n + 1 ≡ suc n = omega arith in ap (λ m. each_before (below m) ts) e) ∙ each_before-append (below n) n ts
+
+pub tuples-drop : (w : World) (ss : List ℕ) (k j : ℕ) → k < length ss → j ≡ k + 1 → tuples w (drop k ss) ≡ each_before (below (size_of w (get_or ss k 0))) (tuples w (drop j ss))
+tuples-drop w ss k j lt e = ap (tuples w) (drop-cons ss k 0 lt) ∙ (let f : suc k ≡ j = omega arith in ap (λ n. each_before (below (size_of w (get_or ss k 0))) (tuples w (drop n ss))) f)
+
+pub tuples-end : (w : World) (ss : List ℕ) (k : ℕ) → length ss ≤ k → tuples w (drop k ss) ≡ [] ∷ []
+tuples-end w ss k le = ap (tuples w) (past ss k le)
+  where
+    past : (ss : List ℕ) (k : ℕ) → length ss ≤ k → drop k ss ≡ []
+    past ss k le = grind (arith, common_steps)
