@@ -1,5 +1,5 @@
-use Rattle.std.proofs.Common.{◌≡◌, ℕ, zero, suc, ◌<◌, Bool, true, false, ◌&&◌, ◌⊎◌, inl, inr, List, [], ◌∷◌, length, get_or, refl, arith}
-use Rattle.std.specs.List.{list_all}
+use Rattle.std.proofs.Common.{◌≡◌, ℕ, zero, suc, ◌<◌, Bool, true, false, ◌&&◌, ◌⊎◌, inl, inr, List, [], ◌∷◌, ◌++◌, length, get_or, take, refl, arith}
+use Rattle.std.specs.List.{AllZip, list_all}
 
 pub both : (a b : Bool) → (a && b) ≡ true → (a ≡ true) × (b ≡ true)
 both a b h = grind arith
@@ -21,3 +21,11 @@ pub list_all-within : {X : Type 0} (p : X → Bool) (xs : List X) → list_all p
 list_all-within p [] h k x lt = absurd (omega arith)
 list_all-within p (y ∷ ys) h zero x lt = (both (p y) (list_all p ys) h).0
 list_all-within p (y ∷ ys) h (suc k) x lt = list_all-within p ys (both (p y) (list_all p ys) h).1 k x (omega arith)
+
+-- two lists place by place, one more of each
+pub zip_more : {A B : Type 0} (R : A → B → Type 0) (xs : List A) (ys : List B) (i : ℕ) (x : A) (y : B) → i < length xs → AllZip R (take i xs) ys → R (get_or xs i x) y → AllZip R (take (suc i) xs) (ys ++ y ∷ [])
+zip_more R [] ys i x y lt h r = absurd (omega arith)
+zip_more R (a ∷ xs) [] zero x y lt h r = (r, tt)
+zip_more R (a ∷ xs) (b ∷ ys) zero x y lt h r = absurd h
+zip_more R (a ∷ xs) [] (suc i) x y lt h r = absurd h
+zip_more R (a ∷ xs) (b ∷ ys) (suc i) x y lt h r = (h.0, zip_more R xs ys i x y (omega arith) h.1 r)

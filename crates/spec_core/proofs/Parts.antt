@@ -1,9 +1,11 @@
-use Rattle.std.proofs.Common.{◌≡◌, ℕ, ◌≤◌, true, ◌||◌, ◌==◌, nat_le, nat_lt, List, length, refl, arith}
+use Rattle.std.proofs.Common.{◌≡◌, ℕ, ℤ, ◌≤◌, true, ◌||◌, ◌==◌, nat_le, nat_lt, List, [], ◌∷◌, length, refl, arith}
 use Rattle.std.proofs.lemmas.Bool.Decides.{nat_tests}
 use Rattle.std.specs.List.{list_all}
+use Rattle.spec_core.specs.declared.spec.Counter.{Counter}
+use Rattle.spec_core.specs.Fits.{in_literal_range, in_state_range}
 use Rattle.spec_core.specs.Specification.{Specification, no_relation, no_counter, no_token, relation_places, counter_keys, token_places}
 use Rattle.spec_core.specs.Typed.{are_sorts, consts_typed, is_relation, is_counter, is_token, is_rule, is_invariant, is_operation, all_distinct, global_names, is_specification}
-use Rattle.spec_core.proofs.Lists.{both, list_all-get_or}
+use Rattle.spec_core.proofs.Lists.{both, and_true, list_all-get_or}
 
 -- what a well-formed specification keeps
 pub record Parts (d : Specification) : Type 0 where
@@ -60,3 +62,16 @@ few_keys d h k = at_most 2 d (counter_keys d k) (both _ _ (list_all-get_or (is_c
 
 pub few_token_places : (d : Specification) → is_specification d ≡ true → (k : ℕ) → length (token_places d k) ≤ 3
 few_token_places d h k = at_most 3 d (token_places d k) (list_all-get_or (is_token d) d.tokens (parts_of d h).tokens k no_token refl)
+
+-- a counter begins in the range of a state
+pub counters_in_range : (d : Specification) → is_specification d ≡ true → list_all (λ (c : Counter). in_state_range c.initial) d.counters ≡ true
+counters_in_range d h = each d.counters (parts_of d h).counters
+  where
+    one : (n : ℤ) → in_literal_range n ≡ true → in_state_range n ≡ true
+    one n h = grind (arith, nat_tests)
+
+    each : (cs : List Counter) → list_all (is_counter d) cs ≡ true → list_all (λ (c : Counter). in_state_range c.initial) cs ≡ true
+    each [] h = refl
+    each (c ∷ cs) h =
+        let p = both (is_counter d c) (list_all (is_counter d) cs) h in
+        and_true (in_state_range c.initial) (list_all (λ (c : Counter). in_state_range c.initial) cs) (one c.initial (both (are_sorts d 2 c.keys) (in_literal_range c.initial) p.0).1) (each cs p.1)

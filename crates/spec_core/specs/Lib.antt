@@ -12,3 +12,4 @@ pub mod Fits
 pub mod Typed
 pub mod Sizes
 pub mod Choices
+pub mod Starting

@@ -1,4 +1,4 @@
-use Rattle.std.specs.Prelude.{ℕ, ℤ, pos, Bool, true, cond, ◌&&◌, ◌==◌, List, [], ◌∷◌, map, get_or}
+use Rattle.std.specs.Prelude.{ℕ, ℤ, pos, Bool, true, false, cond, ◌&&◌, ◌==◌, List, [], ◌∷◌, map, get_or}
 use Rattle.std.specs.Ordering.{nat_cmp, is_lt}
 use Rattle.std.specs.Cmp.Lexicographic.{slice_cmp}
 use Rattle.std.specs.Str.{bytes_eq}
@@ -26,6 +26,10 @@ count_in (e ∷ es) q = cond (bytes_eq q e.0) e.1 (count_in es q)
 -- what isn't listed reads false or 0
 abbrev pub reads : Listing → Reads
 reads s = record { has = λ k t. is_in t (get_or s.relations k []); count = λ k t. count_in (get_or s.counters k []) t }
+
+-- every reading false or 0
+abbrev pub nothing : Reads
+nothing = record { has = λ k t. false; count = λ k t. pos 0 }
 
 -- the readings with one of a relation changed, and with one of a counter
 abbrev pub with_has : Reads → ℕ → List ℕ → Bool → Reads

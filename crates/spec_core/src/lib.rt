@@ -6,6 +6,7 @@
 #![tactic(auto)]
 
 mod formula;
+mod initial;
 mod line;
 mod listed;
 mod name;

@@ -2,14 +2,19 @@
 //
 // A state has one list for each relation and each counter. What isn't listed reads false or 0.
 
-ghost use Rattle.std.specs.Prelude.{◌≡◌, ℕ, ◌<◌, ◌≤◌, ◌^◌, unsigned_abs, List, true, length, OnOk, OnErr, IfOk};
+ghost use Rattle.std.specs.Prelude.{◌≡◌, ℕ, ◌<◌, ◌≤◌, ◌^◌, unsigned_abs, List, true, length, [], OnOk, OnErr, IfOk};
+ghost use Rattle.std.specs.Prelude.{replicate};
 ghost use Rattle.spec_core.specs.declared.world.World.{World};
 ghost use Rattle.spec_core.specs.Specification.{Specification, relation_places, counter_keys};
-ghost use Rattle.spec_core.specs.State.{reads, with_has, with_count};
-ghost use Rattle.spec_core.specs.Fits.{in_state_range, fits_places, is_state};
+ghost use Rattle.spec_core.specs.State.{reads, nothing, with_has, with_count};
+ghost use Rattle.spec_core.specs.Meaning.{initial};
+ghost use Rattle.spec_core.specs.Fits.{in_state_range, fits_places, is_state, world_fits};
 
+use crate::initial::{first_counters, first_relations};
 use crate::listed::{Counts, Tuples};
+use crate::spec::Spec;
 use crate::truth::Readings;
+use crate::world::World;
 use std::alloc::{AllocError, Global};
 use std::marker::Model;
 
@@ -53,7 +58,58 @@ fn copy_counts(alloc: Global, lists: &[Counts]) -> Result<Vec<Counts>, AllocErro
     Ok(copies)
 }
 
+fn no_tuples(alloc: Global, count: usize) -> Result<Vec<Tuples>, AllocError>
+    ensures { IfOk result (λ v. v.items ≡ replicate count []) }
+{
+    let mut lists = Vec::new(alloc);
+    for _i in 0..count {
+        lists.push(Tuples::new(alloc))?;
+    }
+    Ok(lists)
+}
+
+fn no_counts(alloc: Global, count: usize) -> Result<Vec<Counts>, AllocError>
+    ensures { IfOk result (λ v. v.items ≡ replicate count []) }
+{
+    let mut lists = Vec::new(alloc);
+    for _i in 0..count {
+        lists.push(Counts::new(alloc))?;
+    }
+    Ok(lists)
+}
+
 impl State {
+    /// The initial state: each relation and each counter has its one stated value at all tuples and keys.
+    pub fn initial(alloc: Global, spec: &Spec, world: &World) -> Result<State, AllocError>
+        requires { world_fits spec.now world.now ≡ true }
+        ensures reads { IfOk result (λ s. reads s ≡ reads (initial spec.now world.now)) }
+        ensures fits { IfOk result (λ s. is_state spec.now world.now s ≡ true) }
+    {
+        spec.well_formed();
+        let relations = first_relations(alloc, world, spec.relations.as_slice())?;
+        let counters = first_counters(alloc, world, spec.counters.as_slice())?;
+        Ok(State {
+            relations,
+            counters,
+            alloc,
+        })
+    }
+
+    /// The state in which every reading is false or 0.
+    pub fn empty(alloc: Global, spec: &Spec, world: &World) -> Result<State, AllocError>
+        requires { world_fits spec.now world.now ≡ true }
+        ensures reads { IfOk result (λ s. reads s ≡ nothing) }
+        ensures fits { IfOk result (λ s. is_state spec.now world.now s ≡ true) }
+    {
+        let relations = no_tuples(alloc, spec.relations.len())?;
+        let counters = no_counts(alloc, spec.counters.len())?;
+        Ok(State {
+            relations,
+            counters,
+            alloc,
+        })
+    }
+
     /// Whether a tuple is in a relation.
     pub fn has(&self, relation: u8, tuple: &[u32]) -> bool
         ensures { result ≡ (reads self.now).has relation tuple.now }

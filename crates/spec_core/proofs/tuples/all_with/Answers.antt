@@ -1,4 +1,4 @@
-use Rattle.std.proofs.Common.{◌≡◌, ◌∷◌, ◌++◌, map, ap, sym, ◌∙◌}
+use Rattle.std.proofs.Common.{◌∷◌, ◌++◌, map, ap, sym, ◌∙◌}
 use Rattle.spec_core.proofs.Choosing.{each_before-below}
 use Rattle.spec_core.proofs.tuples.all_with.Goals as goal
 
