@@ -1,8 +1,9 @@
-use Rattle.std.proofs.Common.{◌≡◌, ℕ, zero, suc, ◌+◌, ◌*◌, ◌/◌, ◌%◌, ◌<◌, ◌≤◌, Bool, true, false, not, ◌&&◌, refl, sym, ◌∙◌, ap, arith}
-use Rattle.std.specs.Prelude.{nat_lt, nat_eq, ℤ, pos, negsuc, ◌+ℤ◌, ◌-ℤ◌, ◌*ℤ◌, ◌<ℤ◌, ◌≤ℤ◌, int_lt, unsigned_abs, neg_ℤ}
+use Rattle.std.proofs.Common.{◌≡◌, ℕ, zero, suc, ◌+◌, ◌-◌, ◌*◌, ◌/◌, ◌%◌, ◌<◌, ◌≤◌, Bool, true, false, not, ◌&&◌, refl, sym, ◌∙◌, ap, arith}
+use Rattle.std.specs.Prelude.{◌^◌, IsTrue, nat_lt, nat_eq, ℤ, pos, negsuc, ◌+ℤ◌, ◌-ℤ◌, ◌*ℤ◌, ◌<ℤ◌, ◌≤ℤ◌, int_lt, unsigned_abs, neg_ℤ}
 use Rattle.std.proofs.lemmas.Int.{ints}
 use Rattle.std.proofs.Math.Nat.{div-add-mod', mod-lt, mul-le-mul_left, mul_comm}
 use Rattle.std.proofs.lemmas.Bool.Decides.{nat_tests}
+use Rattle.lin_rows.specs.Numbers.{in_range}
 use Rattle.proof_kernel.specs.Steps.{is_in_gap, is_floor}
 use Rattle.proof_kernel.proofs.Sets.{both}
 use Rattle.proof_kernel.proofs.States.{and_true}
@@ -169,3 +170,57 @@ pub gap_so : (at more less : ℤ) (b g : ℕ) (u f : Bool) → 0 < b → g ≡ u
 gap_so at more less b g u f h ge ue fe =
     let whole = fe ∙ (λ i. is_floor at (ue i) (ge i / b)) in
     (λ i. whole i && not (nat_eq (ge i % b) 0)) ∙ gap_is at more less b h
+
+-- how far the whole number below a fraction may lie
+abs_le : (z : ℤ) (m : ℕ) → z ≤ℤ pos m → (pos 0 -ℤ pos m) ≤ℤ z → unsigned_abs z ≤ m
+abs_le (pos k) m h l = omega (arith, ints, h)
+abs_le (negsuc k) m h l = omega (arith, ints, l)
+
+at_most_abs : (z : ℤ) (m : ℕ) → unsigned_abs z ≤ m → z ≤ℤ pos m
+at_most_abs (pos k) m h = omega (arith, ints, h)
+at_most_abs (negsuc k) m h = omega (arith, ints)
+
+at_least_abs : (z : ℤ) (m : ℕ) → unsigned_abs z ≤ m → (pos 0 -ℤ pos m) ≤ℤ z
+at_least_abs (pos k) m h = omega (arith, ints)
+at_least_abs (negsuc k) m h = omega (arith, ints, h)
+
+distance_le : (a b : ℤ) (m : ℕ) → unsigned_abs a ≤ m → unsigned_abs b ≤ m → unsigned_abs (a -ℤ b) ≤ m + m
+distance_le a b m h k =
+    let p = at_most_abs a m h in
+    let q = at_least_abs a m h in
+    let r = at_most_abs b m k in
+    let s = at_least_abs b m k in
+    abs_le (a -ℤ b) (m + m) (omega (arith, ints, p, s)) (omega (arith, ints, q, r))
+
+floor_le : (at : ℤ) (u : Bool) (q : ℕ) → is_floor at u q ≡ true → unsigned_abs at ≤ q + 1
+floor_le (pos k) true q h = let e = eq_is k q h in omega (arith, e)
+floor_le (negsuc k) true q h = absurd cc
+floor_le (pos k) false q h = absurd cc
+floor_le (negsuc k) false q h = let e = eq_is k q h in omega (arith, e)
+
+half : (g b : ℕ) → 0 < b → not (nat_eq (g % b) 0) ≡ true → g / b + g / b < g
+half g b h n =
+    let is = div-add-mod' g b in
+    let small : g % b < b = mod-lt g h in
+    let some : 0 < g % b = positive (g % b) (eq_not (g % b) 0 n) in
+    let m : g / b * 2 ≤ g / b * b = mul-le-mul_left (g / b) (omega (arith, small, some)) in
+    omega (arith, is, some, m)
+  where
+    positive : (n : ℕ) → (n ≡ 0 → ⊥) → 0 < n
+    positive zero f = absurd (f refl)
+    positive (suc n) f = omega arith
+
+pub gap_fits : (at more less : ℤ) (b : ℕ) → 0 < b → is_in_gap at (more -ℤ less) (pos b) ≡ true → in_range more ≡ true → in_range less ≡ true → in_range at ≡ true
+gap_fits at more less b h g m l =
+    let n = unsigned_abs (more -ℤ less) in
+    let p = both (is_floor at (int_lt less more) (n / b)) (not (nat_eq (n % b) 0)) (gap_is at more less b h ∙ g) in
+    let f = floor_le at (int_lt less more) (n / b) p.0 in
+    let k = half n b h p.1 in
+    let mm = lt_is (unsigned_abs more) (2 ^ 127) m in
+    let ll = lt_is (unsigned_abs less) (2 ^ 127) l in
+    let d = distance_le more less (2 ^ 127 - 1) (omega (arith, mm)) (omega (arith, ll)) in
+    is_lt (unsigned_abs at) (2 ^ 127) (omega (arith, f, k, d))
+
+pub gap_told : (t : Bool) (at more less : ℤ) (b : ℕ) → 0 < b → t ≡ is_in_gap at (more -ℤ less) (pos b) → IsTrue t → in_range more ≡ true → in_range less ≡ true → in_range at ≡ true
+gap_told true at more less b h e t = gap_fits at more less b h (sym e)
+gap_told false at more less b h e t = absurd cc

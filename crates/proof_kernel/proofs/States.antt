@@ -1,10 +1,17 @@
 use Rattle.std.proofs.Common.{◌≡◌, ℕ, zero, suc, ◌+◌, ◌<◌, ◌≤◌, ◌^◌, Bool, true, false, not, cond, ◌&&◌, List, [], ◌∷◌, ◌++◌, length, map, set, get_or, take, refl, sym, ◌∙◌, ap, subst, arith, Option, Some, None, length-append, drop, drop-cons}
-use Rattle.std.specs.Prelude.{slice_index_or, slice_set, is_some}
+use Rattle.std.specs.Prelude.{slice_index_or, slice_set, is_some, nat_lt, Ok, Err}
 use Rattle.std.specs.List.{list_all}
+use Rattle.std.proofs.lemmas.Bool.Decides.{nat_tests}
 use Rattle.std.proofs.lemmas.List.Folds.{list_all-append}
+use Rattle.lin_rows.specs.Rows.{Row, is_row, places_below}
 use Rattle.proof_kernel.specs.declared.clause.Lit.{Lit}
-use Rattle.proof_kernel.specs.Clauses.{has, same_lit, insert, join, without, lit_of, resolvent}
-use Rattle.proof_kernel.specs.Problems.{PlainProblem, atoms_below, names_below, fits}
+use Rattle.proof_kernel.specs.declared.problem.AtomKind.{AtomKind}
+use Rattle.proof_kernel.specs.declared.problem.AtomKind.TheVariants.{Row as OfRow}
+use Rattle.proof_kernel.specs.declared.line.RowStep.{RowStep}
+use Rattle.proof_kernel.specs.declared.line.Why.TheVariants.{Place, Range}
+use Rattle.proof_kernel.specs.Steps.{then_, or_broken, atom_row, has_row, is_some_literal, lit_rows, with_steps, line_rows}
+use Rattle.proof_kernel.specs.Clauses.{has, same_lit, insert, join, without, lit_of, resolvent, flip, negations}
+use Rattle.proof_kernel.specs.Problems.{PlainProblem, atoms_below, names_below, has_good_row, fits}
 use Rattle.proof_kernel.specs.Rules.{State, StateFits, live_of, live_clause, clause_or_empty, cleared, are_different, stands_in}
 use Rattle.proof_kernel.proofs.Sets.{both}
 
@@ -95,6 +102,7 @@ fits-grown s slots c e f is few below =
       given_first = omega (arith, l, g);
       atoms_named = subst (λ (z : List (Option (List Lit))). list_all (atoms_below (length s.atoms)) (live_of z) ≡ true) (sym is) named;
       places_named = f.places_named;
+      rows_good = f.rows_good;
     }
 
 pub fits-cleared : (s : State) (slots : List (Option (List Lit))) (ns : List ℕ) → StateFits s → slots ≡ cleared s.slots ns
@@ -109,11 +117,12 @@ fits-cleared s slots ns f is =
       given_first = omega (arith, l, g);
       atoms_named = subst (λ (z : List (Option (List Lit))). list_all (atoms_below (length s.atoms)) (live_of z) ≡ true) (sym is) (all-cleared (atoms_below (length s.atoms)) s.slots ns f.atoms_named);
       places_named = f.places_named;
+      rows_good = f.rows_good;
     }
 
-pub fits-start : (p : PlainProblem) (slots : List (Option (List Lit))) (g : ℕ) (e : Bool) → g ≡ length p.clauses → fits p ≡ true → slots ≡ map (λ c. Some c) p.clauses → length p.clauses < 2 ^ 32 → length p.atoms < 2 ^ 32
+pub fits-start : (p : PlainProblem) (slots : List (Option (List Lit))) (g : ℕ) (e : Bool) → g ≡ length p.clauses → fits p ≡ true → list_all has_good_row p.atoms ≡ true → slots ≡ map (λ c. Some c) p.clauses → length p.clauses < 2 ^ 32 → length p.atoms < 2 ^ 32
     → StateFits (record { atoms = p.atoms; ints = p.ints; given = g; slots = slots; empty = e })
-fits-start p slots g e gl f is few fewer =
+fits-start p slots g e gl f good is few fewer =
     let q = both (list_all (names_below p.ints) p.atoms) (list_all (atoms_below (length p.atoms)) p.clauses) f in
     let l : length slots ≡ length p.clauses = ap length is ∙ length-somes p.clauses in
     record {
@@ -122,6 +131,7 @@ fits-start p slots g e gl f is few fewer =
       given_first = omega (arith, l, gl);
       atoms_named = subst (λ (z : List (Option (List Lit))). list_all (atoms_below (length p.atoms)) (live_of z) ≡ true) (sym is) (rw (live_of-map p.clauses) q.1);
       places_named = q.0;
+      rows_good = good;
     }
   where
     length-somes : (cs : List (List Lit)) → length (map (λ (c : List Lit). Some c) cs) ≡ length cs
@@ -157,3 +167,59 @@ live_of-more (Some c ∷ slots) (suc i) d b lt is s = let h = live_of-more slots
     one_more : (m n k : ℕ) → m ≡ n + k → suc m ≡ suc n + k
     one_more m n k h = omega (arith, h)
 live_of-more (None ∷ slots) (suc i) d b lt is s = live_of-more slots i d b (omega arith) is s
+
+-- literals below a number are below a greater one
+all_weaker : (m n : ℕ) (cs : List (List Lit)) → m ≤ n → list_all (atoms_below m) cs ≡ true → list_all (atoms_below n) cs ≡ true
+all_weaker m n [] h a = refl
+all_weaker m n (c ∷ cs) h a =
+    let q = both (atoms_below m c) (list_all (atoms_below m) cs) a in
+    and_true (atoms_below n c) (list_all (atoms_below n) cs) (weaker c q.0) (all_weaker m n cs h q.1)
+  where
+    lt_more : (a : ℕ) → nat_lt a m ≡ true → nat_lt a n ≡ true
+    lt_more a l = grind (arith, nat_tests)
+
+    weaker : (c : List Lit) → atoms_below m c ≡ true → atoms_below n c ≡ true
+    weaker [] a = refl
+    weaker (l ∷ c) a =
+        let q = both (nat_lt l.atom m) (atoms_below m c) a in
+        and_true (nat_lt l.atom n) (atoms_below n c) (lt_more l.atom q.0) (weaker c q.1)
+
+pub fits-named : (s : State) (atoms : List AtomKind) (r : Row) → StateFits s → atoms ≡ s.atoms ++ OfRow r ∷ [] → length atoms < 2 ^ 32 → is_row r ≡ true → places_below s.ints r ≡ true
+    → StateFits (record { atoms = atoms; ints = s.ints; given = s.given; slots = s.slots; empty = s.empty })
+fits-named s atoms r f is few good below =
+    let l : length atoms ≡ length s.atoms + 1 = ap length is ∙ length-append s.atoms (OfRow r ∷ []) in
+    let placed : list_all (names_below s.ints) (s.atoms ++ OfRow r ∷ []) ≡ true =
+    rw list_all-append (and_true (list_all (names_below s.ints) s.atoms) (places_below s.ints r && true) f.places_named (and_true (places_below s.ints r) true below refl)) in
+    let goods : list_all has_good_row (s.atoms ++ OfRow r ∷ []) ≡ true =
+    rw list_all-append (and_true (list_all has_good_row s.atoms) (is_row r && true) f.rows_good (and_true (is_row r) true good refl)) in
+    record {
+      few_clauses = f.few_clauses;
+      few_atoms = few;
+      given_first = f.given_first;
+      atoms_named = all_weaker (length s.atoms) (length atoms) (live_of s.slots) (omega (arith, l)) f.atoms_named;
+      places_named = subst (λ (z : List AtomKind). list_all (names_below s.ints) z ≡ true) (sym is) placed;
+      rows_good = subst (λ (z : List AtomKind). list_all has_good_row z ≡ true) (sym is) goods;
+    }
+
+-- the literals of a Farkas line name atoms
+row_there : (atoms : List AtomKind) (a : ℕ) → is_some (atom_row atoms a) ≡ true → nat_lt a (length atoms) ≡ true
+row_there [] a h = absurd cc
+row_there (k ∷ atoms) zero h = grind (arith, nat_tests)
+row_there (k ∷ atoms) (suc a) h = let l = row_there atoms a h in grind (arith, nat_tests)
+
+rows_there : (atoms : List AtomKind) (used : List Lit) → list_all (has_row atoms) used ≡ true → atoms_below (length atoms) (map flip used) ≡ true
+rows_there atoms [] h = refl
+rows_there atoms (l ∷ used) h =
+    let q = both (has_row atoms l) (list_all (has_row atoms) used) h in
+    and_true (nat_lt l.atom (length atoms)) (atoms_below (length atoms) (map flip used)) (row_there atoms l.atom q.0) (rows_there atoms used q.1)
+
+pub used-have_rows : (atoms : List AtomKind) (used : List Lit) (steps : List RowStep) (rows : List Row) → line_rows atoms used steps ≡ Ok rows → list_all (has_row atoms) used ≡ true
+used-have_rows atoms used steps rows h = by_case (is_some_literal used) (list_all (has_row atoms) used) h
+  where
+    by_case : (a b : Bool) → then_ (cond (a && b) (or_broken Range (lit_rows atoms used)) (Err Place)) (λ rows. with_steps rows steps) ≡ Ok rows → b ≡ true
+    by_case true true h = refl
+    by_case true false h = absurd cc
+    by_case false b h = absurd cc
+
+pub negations-below : (atoms : List AtomKind) (used : List Lit) (steps : List RowStep) (rows : List Row) → line_rows atoms used steps ≡ Ok rows → atoms_below (length atoms) (negations used) ≡ true
+negations-below atoms used steps rows h = all-join (λ l. nat_lt l.atom (length atoms)) [] (map flip used) refl (rows_there atoms used (used-have_rows atoms used steps rows h))

@@ -11,7 +11,7 @@ use Rattle.proof_kernel.specs.declared.line.RangeWhat.{RangeWhat}
 use Rattle.proof_kernel.specs.declared.line.RangeWhat.TheVariants.{Product, Value, Sum}
 use Rattle.proof_kernel.specs.declared.line.Why.{Why}
 use Rattle.proof_kernel.specs.Clauses.{sub, is_empty, holds_both_ways}
-use Rattle.proof_kernel.specs.Steps.{line_rows, row_at, is_negative, is_positive, other_names, point, rest_at}
+use Rattle.proof_kernel.specs.Steps.{line_rows, row_at, is_negative, is_positive, size_at, other_names, point, rest_at}
 use Rattle.proof_kernel.specs.Rules.{State, live_of}
 
 -- A FRESH LOG.
@@ -84,10 +84,10 @@ values_fit rows i place values =
 abbrev pub rest_with : Row → ℕ → List ℤ → Option ℤ
 rest_with r place values = rest_at (point (other_names place (r ∷ [])) values) r
 
--- with the rest of the row put in, the row says `place >= p` with p above 10^15, or `place <= q` with q below -10^15: with the
--- coefficient c, p and -q are (rest - bound) / |c|
+-- with the rest of the row put in, the row says `place >= p` with p above 10^15, or `place <= q` with q below -10^15: p and -q are
+-- (rest - bound) / size, with the size of the coefficient
 abbrev pub leaves_state : Row → ℕ → Option ℤ → Bool
-leaves_state r place (Some rest) = int_lt (pos (10 ^ 15) *ℤ pos (unsigned_abs (coefficient_at r.terms place))) (rest -ℤ r.bound)
+leaves_state r place (Some rest) = int_lt (pos (10 ^ 15) *ℤ size_at r place) (rest -ℤ r.bound)
 leaves_state r place None = false
 
 -- Product: the left row has a positive coefficient at the place and the right row a negative one, and the least sum that cancels

@@ -1,6 +1,6 @@
 use Rattle.std.specs.Prelude.{◌≡◌, ℕ, nat_lt, ℤ, pos, int_le, Bool, true, false, ◌&&◌, List, length, slice_index_or, slice_get, Option, Some, None}
 use Rattle.std.specs.List.{list_all}
-use Rattle.lin_rows.specs.Rows.{Row, value_at, places_below}
+use Rattle.lin_rows.specs.Rows.{Row, value_at, places_below, is_row}
 use Rattle.proof_kernel.specs.declared.clause.Lit.{Lit}
 use Rattle.proof_kernel.specs.declared.problem.AtomKind.{AtomKind}
 use Rattle.proof_kernel.specs.declared.problem.AtomKind.TheVariants.{Plain, Row as OfRow}
@@ -21,6 +21,11 @@ atoms_below n c = list_all (λ l. nat_lt l.atom n) c
 abbrev pub names_below : ℕ → AtomKind → Bool
 names_below n Plain = true
 names_below n (OfRow r) = places_below n r
+
+-- the row of an atom, if it has one, is what the type of rows keeps: its places rise and its numbers are in range
+abbrev pub has_good_row : AtomKind → Bool
+has_good_row Plain = true
+has_good_row (OfRow r) = is_row r
 
 -- what the type of a problem keeps
 abbrev pub fits : PlainProblem → Bool

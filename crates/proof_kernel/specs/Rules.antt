@@ -12,7 +12,7 @@ use Rattle.proof_kernel.specs.declared.line.Line.TheVariants.{Resolve, Farkas, S
 use Rattle.proof_kernel.specs.declared.line.Why.{Why}
 use Rattle.proof_kernel.specs.declared.line.Why.TheVariants.{Place, Pivot, Contradiction, SplitAgain, Dropped}
 use Rattle.proof_kernel.specs.Clauses.{has, lit_of, resolvent, negations, is_empty, all_true}
-use Rattle.proof_kernel.specs.Problems.{PlainProblem, Meaning, atom_true, atoms_below, names_below}
+use Rattle.proof_kernel.specs.Problems.{PlainProblem, Meaning, atom_true, atoms_below, names_below, has_good_row}
 use Rattle.proof_kernel.specs.Steps.{then_, line_rows, ends_badly, row_at, split_fits, split_cause}
 
 -- What stands after some lines: the atoms, the number of integer names, how many clauses the problem has, the clauses by their
@@ -37,6 +37,7 @@ pub record StateFits (s : State) : Type 0 where
   pub given_first : s.given ≤ length s.slots
   pub atoms_named : list_all (atoms_below (length s.atoms)) (live_of s.slots) ≡ true
   pub places_named : list_all (names_below s.ints) s.atoms ≡ true
+  pub rows_good : list_all has_good_row s.atoms ≡ true
 
 -- what stands before the first line
 abbrev pub start : PlainProblem → State

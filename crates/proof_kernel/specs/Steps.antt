@@ -1,4 +1,4 @@
-use Rattle.std.specs.Prelude.{ℕ, ◌-◌, ◌==◌, nat_lt, ℤ, pos, negsuc, ◌+ℤ◌, ◌-ℤ◌, ◌*ℤ◌, int_lt, Bool, true, false, not, cond, ◌&&◌, ◌||◌, List, [], ◌∷◌, ◌++◌, length, map, slice_get, slice_index_or, Option, Some, None, Result, Ok, Err, is_some}
+use Rattle.std.specs.Prelude.{ℕ, ◌-◌, ◌==◌, nat_lt, ℤ, pos, negsuc, ◌+ℤ◌, ◌-ℤ◌, ◌*ℤ◌, int_lt, unsigned_abs, Bool, true, false, not, cond, ◌&&◌, ◌||◌, List, [], ◌∷◌, ◌++◌, length, map, slice_get, slice_index_or, Option, Some, None, Result, Ok, Err, is_some}
 use Rattle.std.specs.List.{list_all, filter, fold}
 use Rattle.std.specs.Option.{option_and_then, option_map}
 use Rattle.lin_rows.specs.declared.term.RowTerm.{RowTerm}
@@ -152,12 +152,15 @@ is_floor (negsuc k) true quotient = false
 is_floor (pos k) false quotient = false
 is_floor (negsuc k) false quotient = k == quotient
 
--- with rests of the two rows the fractions p and q. In `low` the coefficient c is negative, so that p = (rest - bound) / -c;
--- in `high` it is positive, so that q = (bound - rest) / c
+-- the size of a row's coefficient at a place
+abbrev pub size_at : Row → ℕ → ℤ
+size_at r place = pos (unsigned_abs (coefficient_at r.terms place))
+
+-- with rests of the two rows the fractions p and q. In `low` the coefficient is negative, so that p = (rest - bound) / size; in
+-- `high` it is positive, so that q = (bound - rest) / size
 abbrev pub in_gap : ℤ → ℕ → Row → ℤ → Row → ℤ → Bool
 in_gap at place low rest_low high rest_high =
-    is_in_gap at (rest_low -ℤ low.bound) (pos 0 -ℤ coefficient_at low.terms place)
-    && is_in_gap at (high.bound -ℤ rest_high) (coefficient_at high.terms place)
+    is_in_gap at (rest_low -ℤ low.bound) (size_at low place) && is_in_gap at (high.bound -ℤ rest_high) (size_at high place)
 
 abbrev pub with_rests : ℤ → ℕ → Row → Option ℤ → Row → Option ℤ → Result (Unit {0}) Why
 with_rests at place low (Some l) high (Some h) = cond (in_gap at place low l high h) (Ok tt) (Err SplitCause)

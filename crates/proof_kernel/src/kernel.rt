@@ -1,15 +1,19 @@
 // The kernel: what stands after the lines taken so far.
 ghost use Rattle.std.specs.Prelude.{◌≡◌, ℕ, ◌<◌, ◌≤◌, ◌^◌, Bool, true, MatchResult, OnOk, OnErr, IsOk, IfOk, IsTrue, length, option_copied, slice_get, Ok, nat_lt, map, Some};
 ghost use Rattle.std.specs.List.{list_all, list_any};
+ghost use Rattle.lin_rows.specs.Rows.{is_row, places_below};
 ghost use Rattle.proof_kernel.specs.Clauses.{is_empty};
 ghost use Rattle.proof_kernel.specs.Problems.{Meaning, makes_true, atoms_below};
-ghost use Rattle.proof_kernel.specs.Rules.{State, StateFits, start, grown, live_of, live_clause, is_live, resolved, dropped, are_different, cleared, stands_in, next, holds};
+ghost use Rattle.proof_kernel.specs.Rules.{State, StateFits, start, grown, live_of, live_clause, is_live, resolved, combined, split, split_after, named, dropped, are_different, cleared, stands_in, next, holds};
 ghost use Rattle.proof_kernel.specs.Answers.{IsTold};
 
 use crate::clause::{Clause, Lit};
-use crate::line::{Line, LineRefused, Why};
-use crate::problem::{AtomKind, Problem};
+use crate::line::{Line, LineRefused, RowStep, Why};
+use crate::problem::{AtomKind, Problem, law_rows};
+use crate::splitting::{at_most, is_named, names_of_two, split_cause};
+use crate::steps::{ends_badly, line_rows};
 use items::Items;
+use lin_rows::Row;
 use std::alloc::{AllocError, Global};
 use std::marker::Model;
 
@@ -55,6 +59,7 @@ impl Kernel {
         if clauses.len() > u32::MAX as usize || atoms.len() > u32::MAX as usize {
             return Err(AllocError);
         }
+        law_rows(atoms.as_slice());
         let given = clauses.len() as u32;
         let empty = holds_empty(clauses.as_slice());
         let slots = slots_of(alloc, clauses.into_vec())?;
@@ -77,6 +82,45 @@ impl Kernel {
         let next = Kernel::new(self.alloc, problem)?;
         *self = next;
         Ok(())
+    }
+
+    /// Takes the next line of the log. A refusal changes nothing. With 2^32 - 1 clauses or atoms a further one is answered as
+    /// want of memory.
+    pub fn add(&mut self, line: &Line) -> Result<(), LineRefused>
+        ensures exact { MatchResult result (λ _. next self.old line.now ≡ Ok self.new) (λ e. IsTold e (next self.old line.now)) }
+        ensures kept { OnErr result (self.new ≡ self.old) }
+        ensures sound { OnOk result ((m : Meaning) → holds m self.old ≡ true → holds m self.new ≡ true) }
+    {
+        self.law_fits();
+        self.take(line)
+    }
+
+    fn take(&mut self, line: &Line) -> Result<(), LineRefused>
+        ensures exact { MatchResult result (λ _. next self.old line.now ≡ Ok self.new) (λ e. IsTold e (next self.old line.now)) }
+        ensures kept { OnErr result (self.new ≡ self.old) }
+    {
+        match line {
+            Line::Resolve { left, right, pivot } => self.resolve(*left, *right, *pivot),
+            Line::Farkas { used, steps } => self.farkas(used.as_slice(), steps.as_slice()),
+            Line::Split {
+                place,
+                at,
+                used,
+                steps,
+                low,
+                high,
+                values,
+            } => self.split(
+                *place,
+                at,
+                used.as_slice(),
+                steps.as_slice(),
+                *low,
+                *high,
+                values.as_slice(),
+            ),
+            Line::Drop { clauses } => self.drop_clauses(clauses.as_slice()),
+        }
     }
 
     /// What a kernel keeps of its state: numbers fit, literals name atoms, and the places of rows are numbers of integer names.
@@ -191,6 +235,102 @@ impl Kernel {
         let Ok(()) = self.grow(clause) else {
             return Err(LineRefused::Memory);
         };
+        Ok(())
+    }
+
+    fn farkas(&mut self, used: &[Lit], steps: &[RowStep]) -> Result<(), LineRefused>
+        ensures exact { MatchResult result (λ _. combined self.old used.now steps.now ≡ Ok self.new) (λ e. IsTold e (combined self.old used.now steps.now)) }
+        ensures kept { OnErr result (self.new ≡ self.old) }
+    {
+        let rows = match line_rows(self.alloc, self.atoms.as_slice(), used, steps) {
+            Ok(rows) => rows,
+            Err(refused) => return Err(refused),
+        };
+        if !ends_badly(rows.as_slice()) {
+            return Err(LineRefused::Bad(Why::Contradiction));
+        }
+        let Ok(clause) = Clause::of_opposites(self.alloc, used) else {
+            return Err(LineRefused::Memory);
+        };
+        let Ok(()) = self.grow(clause) else {
+            return Err(LineRefused::Memory);
+        };
+        Ok(())
+    }
+
+    fn split(
+        &mut self,
+        place: u32,
+        at: &i128,
+        used: &[Lit],
+        steps: &[RowStep],
+        low: u32,
+        high: u32,
+        values: &[i128],
+    ) -> Result<(), LineRefused>
+        ensures exact { MatchResult result (λ _. split self.old place at.now used.now steps.now low high values.now ≡ Ok self.new) (λ e. IsTold e (split self.old place at.now used.now steps.now low high values.now)) }
+        ensures kept { OnErr result (self.new ≡ self.old) }
+    {
+        if place >= self.ints {
+            return Err(LineRefused::Bad(Why::Place));
+        }
+        let rows = match line_rows(self.alloc, self.atoms.as_slice(), used, steps) {
+            Ok(rows) => rows,
+            Err(refused) => return Err(refused),
+        };
+        self.split_after(place, at, rows.as_slice(), low, high, values)
+    }
+
+    fn split_after(
+        &mut self,
+        place: u32,
+        at: &i128,
+        rows: &[Row],
+        low: u32,
+        high: u32,
+        values: &[i128],
+    ) -> Result<(), LineRefused>
+        requires { place < self.old.ints }
+        ensures exact { MatchResult result (λ _. split_after self.old place at.now rows.now low high values.now ≡ Ok self.new) (λ e. IsTold e (split_after self.old place at.now rows.now low high values.now)) }
+        ensures kept { OnErr result (self.new ≡ self.old) }
+    {
+        let (low, high) = (low as usize, high as usize);
+        if low >= rows.len() || high >= rows.len() {
+            return Err(LineRefused::Bad(Why::Place));
+        }
+        let (low, high) = (&rows[low], &rows[high]);
+        let Ok(names) = names_of_two(self.alloc, place, low, high) else {
+            return Err(LineRefused::Memory);
+        };
+        if values.len() != names.len() {
+            return Err(LineRefused::Bad(Why::Place));
+        }
+        if is_named(place, at, self.atoms.as_slice()) {
+            return Err(LineRefused::Bad(Why::SplitAgain));
+        }
+        if let Err(why) = split_cause(place, at, low, high, names.as_slice(), values) {
+            return Err(LineRefused::Bad(why));
+        }
+        let Ok(row) = at_most(self.alloc, place, at) else {
+            return Err(LineRefused::Memory);
+        };
+        let Ok(()) = self.name(row) else {
+            return Err(LineRefused::Memory);
+        };
+        Ok(())
+    }
+
+    // Takes an atom for a row under the next number.
+    fn name(&mut self, row: Row) -> Result<(), AllocError>
+        requires below { places_below self.old.ints row ≡ true }
+        requires good { is_row row ≡ true }
+        ensures exact { OnOk result (self.new ≡ named self.old row) }
+        ensures kept { OnErr result (self.new ≡ self.old) }
+    {
+        if self.atoms.len() >= u32::MAX as usize {
+            return Err(AllocError);
+        }
+        self.atoms.push(AtomKind::Row(row))?;
         Ok(())
     }
 

@@ -1,10 +1,12 @@
 // Problems: clauses over plain atoms and over atoms that stand for rows.
 ghost use Rattle.std.specs.Prelude.{◌≡◌, true, IfOk, List};
-ghost use Rattle.proof_kernel.specs.Problems.{fits};
+ghost use Rattle.std.specs.List.{list_all};
+ghost use Rattle.proof_kernel.specs.Problems.{fits, has_good_row};
 
 use crate::clause::Clause;
 use items::Items;
 use lin_rows::row::Row;
+use std::alloc::{AllocError, Global};
 use std::marker::Model;
 
 /// What an atom stands for: nothing but itself, or a row over the integer names.
@@ -12,6 +14,29 @@ use std::marker::Model;
 pub enum AtomKind {
     Plain,
     Row(Row),
+}
+
+impl AtomKind {
+    fn copy(&self, alloc: Global) -> Result<AtomKind, AllocError>
+        ensures { IfOk result (λ atom. atom ≡ self.now) }
+    {
+        match self {
+            AtomKind::Plain => Ok(AtomKind::Plain),
+            AtomKind::Row(row) => Ok(AtomKind::Row(row.copy(alloc)?)),
+        }
+    }
+
+    // The fact that the row of an atom keeps what the type of rows keeps.
+    fn law_row(&self)
+        ensures { has_good_row self.now ≡ true }
+    {
+        match self {
+            AtomKind::Plain => {}
+            AtomKind::Row(row) => {
+                let _ = row.bound();
+            }
+        }
+    }
 }
 
 /// Clauses, all of which are to be true. Their literals name its atoms, and the places of its rows are numbers of integer
@@ -34,6 +59,15 @@ impl Model for Problem {
     ghost invariant = { λ a. fits (record { atoms = a.atoms; ints = a.ints; clauses = a.clauses }) ≡ true };
 }
 
+/// The fact that the rows of atoms keep what the type of rows keeps. It looks at each atom once.
+pub fn law_rows(atoms: &[AtomKind])
+    ensures { list_all has_good_row atoms.now ≡ true }
+{
+    for atom in atoms {
+        atom.law_row();
+    }
+}
+
 impl Problem {
     /// What the type keeps: literals name atoms of the problem, and the places of rows are below `ints`.
     pub fn law_fits(&self)
@@ -41,6 +75,39 @@ impl Problem {
     {
         let _ = &self.ints;
     }
+
+    /// A copy of this problem.
+    pub fn copy(&self, alloc: Global) -> Result<Problem, AllocError>
+        ensures { IfOk result (λ problem. problem ≡ self.now) }
+    {
+        let atoms = copy_atoms(alloc, self.atoms.as_slice())?;
+        let clauses = copy_clauses(alloc, self.clauses.as_slice())?;
+        Ok(Problem {
+            atoms: Items::from_vec(atoms),
+            ints: self.ints,
+            clauses: Items::from_vec(clauses),
+        })
+    }
+}
+
+fn copy_atoms(alloc: Global, atoms: &[AtomKind]) -> Result<Vec<AtomKind>, AllocError>
+    ensures { IfOk result (λ out. out.items ≡ atoms.now) }
+{
+    let mut out = Vec::new(alloc);
+    for atom in atoms {
+        out.push(atom.copy(alloc)?)?;
+    }
+    Ok(out)
+}
+
+fn copy_clauses(alloc: Global, clauses: &[Clause]) -> Result<Vec<Clause>, AllocError>
+    ensures { IfOk result (λ out. out.items ≡ clauses.now) }
+{
+    let mut out = Vec::new(alloc);
+    for clause in clauses {
+        out.push(clause.copy(alloc)?)?;
+    }
+    Ok(out)
 }
 
 /// A truth value for each atom, of which those of plain atoms count, and a whole number for each integer name.

@@ -1,0 +1,15 @@
+use Rattle.std.proofs.Common.{◌≡◌, true, length, sym, ◌∙◌, ap, subst, List}
+use Rattle.proof_kernel.specs.declared.clause.Lit.{Lit}
+use Rattle.proof_kernel.specs.declared.problem.AtomKind.{AtomKind}
+use Rattle.proof_kernel.specs.Clauses.{negations}
+use Rattle.proof_kernel.specs.Problems.{atoms_below}
+use Rattle.proof_kernel.specs.Rules.{State}
+use Rattle.proof_kernel.proofs.States.{negations-below}
+use Rattle.proof_kernel.proofs.kernel.Kernel.farkas.Goals as goal
+
+pub grow-requires : goal.grow-requires
+grow-requires c =
+    let atoms = c.as_slice.ensures ∙ ap (λ (s : State). s.atoms) c.self.view_is in
+    let below = negations-below c.as_slice.result.now c.args.used.now c.args.steps.now c.in-Ok.rows.items c.in-Ok.ensures in
+    subst (λ (z : List Lit). atoms_below (length c.args.self.now.atoms) z ≡ true) (sym c.in-Ok-of_opposites.ensures)
+    (subst (λ (z : List AtomKind). atoms_below (length z) (negations c.args.used.now) ≡ true) atoms below)
