@@ -4,3 +4,4 @@ pub mod Many
 pub mod Loop
 pub mod Pieces
 pub mod KeyLemmas
+pub mod TextFacts

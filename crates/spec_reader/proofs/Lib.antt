@@ -1,0 +1,10 @@
+pub mod TermParts
+pub mod FormParts
+pub mod LineParts
+pub mod ItemParts
+pub mod TreeParts
+pub mod FormCode
+pub mod TreeCode
+pub mod Shrinking
+pub mod Names
+pub mod Bytes

@@ -1,0 +1,13 @@
+use Rattle.std.proofs.Common.{◌≡◌, length}
+use Rattle.token_readers.specs.declared.token.Key.TheVariants as keys
+use Rattle.token_readers.specs.Words.{is_key}
+use Rattle.token_readers.specs.Read.{many, one_more, listed_at}
+use Rattle.spec_reader.specs.Reading.{name_at}
+use Rattle.token_readers.proofs.Loop.{with_front}
+use Rattle.spec_reader.proofs.terms.names.Given as goal
+
+abbrev pub invariant-names : goal.invariant-names
+invariant-names l = with_front l.marks (many (is_key keys.Comma) (one_more (name_at l.version)) l.rest) ≡ listed_at (name_at l.version) l.fn.tokens
+
+abbrev pub decreases-names : goal.decreases-names
+decreases-names l = length l.rest

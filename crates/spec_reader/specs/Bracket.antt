@@ -1,0 +1,9 @@
+-- What stands in brackets, wherever it lies in memory.
+use Rattle.spec_reader.specs.declared.formulas.Bracket.{Bracket}
+use Rattle.spec_reader.specs.declared.formulas.Bracket.TheVariants as bracket
+use Rattle.spec_reader.specs.Form.{form_of}
+use Rattle.spec_reader.specs.Reading.{Inside, compared, connected}
+
+abbrev pub bracket_of : Bracket → Inside
+bracket_of (bracket.Compared s c t) = compared s c t
+bracket_of (bracket.Connected f c g) = connected (form_of f) c (form_of g)

@@ -1,0 +1,308 @@
+//! Reading the items of a specification.
+
+ghost use Rattle.std.specs.Prelude.{◌≡◌, length, map};
+ghost use Rattle.token_readers.specs.Gives.{Gives};
+ghost use Rattle.token_readers.specs.Read.{one_more, listed_at};
+ghost use Rattle.spec_reader.specs.Form.{sentence_of, line_of, item_of};
+ghost use Rattle.spec_reader.specs.Reading.{value_at, param_kind_at, param_at, params_at, sort_at, const_at, places_at, initially_at, conflict_at, invariant_at, operation_at, item_at, items_at, starts_item as item_test};
+
+use crate::lines::lines;
+use crate::sentences::sentence;
+use crate::terms::{args, minus, reading};
+use crate::tree::{Item, Line, Mark, Param, ParamKind, Prefixed, Reading, Value};
+use crate::words::{figure, name};
+use items::Items;
+use std::alloc::Global;
+use token_readers::{Key, Kind, ReadError, Token, Version, is_key, key, next_kind, sign};
+
+#[tactic(auto, unfolding(crate::specs::Reading::value_at))]
+fn value(tokens: &[Token]) -> Result<(Value, &[Token]), ReadError>
+    ensures { Gives (λ x. (x.0, x.1.now)) result (value_at tokens.now) }
+{
+    let kind = next_kind(tokens);
+    if is_key(kind, Key::True) {
+        let rest = sign(tokens, Key::True)?;
+        return Ok((Value::True, rest));
+    }
+    if is_key(kind, Key::False) {
+        let rest = sign(tokens, Key::False)?;
+        return Ok((Value::False, rest));
+    }
+    let (minus, rest) = minus(tokens)?;
+    let (figure, rest) = figure(rest)?;
+    Ok((Value::Number(minus, figure), rest))
+}
+
+#[tactic(auto, unfolding(crate::specs::Reading::param_kind_at))]
+fn param_kind(
+    alloc: Global,
+    version: Version,
+    tokens: &[Token],
+) -> Result<(ParamKind, &[Token]), ReadError>
+    ensures { Gives (λ x. (x.0, x.1.now)) result (param_kind_at version tokens.now) }
+{
+    if is_key(next_kind(tokens), Key::Int) {
+        let rest = sign(tokens, Key::Int)?;
+        return Ok((ParamKind::Int, rest));
+    }
+    let (sort, rest) = name(alloc, version, tokens)?;
+    Ok((ParamKind::Sort(sort), rest))
+}
+
+#[tactic(auto, unfolding(crate::specs::Reading::param_at))]
+fn param(alloc: Global, version: Version, tokens: &[Token]) -> Result<(Param, &[Token]), ReadError>
+    ensures { Gives (λ x. (x.0, x.1.now)) result (param_at version tokens.now) }
+{
+    let (name, rest) = name(alloc, version, tokens)?;
+    let rest = sign(rest, Key::Colon)?;
+    let (kind, rest) = param_kind(alloc, version, rest)?;
+    Ok((Param { name, kind }, rest))
+}
+
+fn next_param(
+    alloc: Global,
+    version: Version,
+    tokens: &[Token],
+) -> Result<(Param, &[Token]), ReadError>
+    ensures { Gives (λ x. (x.0, x.1.now)) result (one_more (param_at version) tokens.now) }
+{
+    let rest = sign(tokens, Key::Comma)?;
+    let (param, rest) = param(alloc, version, rest)?;
+    Ok((param, rest))
+}
+
+fn param_list(
+    alloc: Global,
+    version: Version,
+    tokens: &[Token],
+) -> Result<(Items<Param>, &[Token]), ReadError>
+    ensures { Gives (λ x. (x.0, x.1.now)) result (listed_at (param_at version) tokens.now) }
+{
+    let (first, after_first) = param(alloc, version, tokens)?;
+    let mut list = Items::new(alloc);
+    list.push(first)?;
+    let mut rest = after_first;
+    'params: while is_key(next_kind(rest), Key::Comma) {
+        let (param, after) = next_param(alloc, version, rest)?;
+        list.push(param)?;
+        rest = after;
+    }
+    Ok((list, rest))
+}
+
+/// Parameters in brackets, or none.
+#[tactic(auto, unfolding(crate::specs::Reading::params_at))]
+fn params(
+    alloc: Global,
+    version: Version,
+    tokens: &[Token],
+) -> Result<(Items<Param>, &[Token]), ReadError>
+    ensures { Gives (λ x. (x.0, x.1.now)) result (params_at version tokens.now) }
+{
+    if !is_key(next_kind(tokens), Key::Open) {
+        return Ok((Items::new(alloc), tokens));
+    }
+    let rest = sign(tokens, Key::Open)?;
+    let (list, rest) = param_list(alloc, version, rest)?;
+    let rest = sign(rest, Key::Close)?;
+    Ok((list, rest))
+}
+
+#[tactic(auto, unfolding(crate::specs::Reading::sort_at))]
+fn sort(
+    alloc: Global,
+    version: Version,
+    tokens: &[Token],
+) -> Result<(u32, Mark, &[Token]), ReadError>
+    ensures { Gives (λ x. ((x.0, x.1), x.2.now)) result (sort_at version tokens.now) }
+{
+    let (word, rest) = key(tokens, Key::Sort)?;
+    let (name, rest) = name(alloc, version, rest)?;
+    Ok((word, name, rest))
+}
+
+#[tactic(auto, unfolding(crate::specs::Reading::const_at))]
+fn constant(
+    alloc: Global,
+    version: Version,
+    tokens: &[Token],
+) -> Result<(u32, Mark, Mark, &[Token]), ReadError>
+    ensures { Gives (λ x. ((x.0, (x.1, (tt, x.2))), x.3.now)) result (const_at version tokens.now) }
+{
+    let (word, rest) = key(tokens, Key::Const)?;
+    let (name_mark, rest) = name(alloc, version, rest)?;
+    let rest = sign(rest, Key::Colon)?;
+    let (sort, rest) = name(alloc, version, rest)?;
+    Ok((word, name_mark, sort, rest))
+}
+
+/// A name with the sorts of its places, behind a reserved name.
+#[tactic(auto, unfolding(crate::specs::Reading::places_at))]
+fn places(
+    alloc: Global,
+    kind: Key,
+    version: Version,
+    tokens: &[Token],
+) -> Result<(u32, Mark, Items<Mark>, &[Token]), ReadError>
+    ensures { Gives (λ x. ((x.0, (x.1, x.2)), x.3.now)) result (places_at kind version tokens.now) }
+{
+    let (word, rest) = key(tokens, kind)?;
+    let (name, rest) = name(alloc, version, rest)?;
+    let (places, rest) = args(alloc, version, rest)?;
+    Ok((word, name, places, rest))
+}
+
+#[tactic(auto, unfolding(crate::specs::Reading::initially_at))]
+fn initially(
+    alloc: Global,
+    version: Version,
+    tokens: &[Token],
+) -> Result<(u32, Mark, Value, &[Token]), ReadError>
+    ensures { Gives (λ x. ((x.0, (x.1, x.2)), x.3.now)) result (initially_at version tokens.now) }
+{
+    let (word, rest) = key(tokens, Key::Initially)?;
+    let (name, rest) = name(alloc, version, rest)?;
+    let (value, rest) = value(rest)?;
+    Ok((word, name, value, rest))
+}
+
+#[tactic(auto, unfolding(crate::specs::Reading::conflict_at))]
+fn conflict(
+    alloc: Global,
+    version: Version,
+    tokens: &[Token],
+) -> Result<(u32, Reading, Reading, &[Token]), ReadError>
+    ensures { Gives (λ x. ((x.0, (x.1, x.2)), x.3.now)) result (conflict_at version tokens.now) }
+{
+    let (word, rest) = key(tokens, Key::Conflict)?;
+    let (left, rest) = reading(alloc, version, rest)?;
+    let (right, rest) = reading(alloc, version, rest)?;
+    Ok((word, left, right, rest))
+}
+
+#[tactic(auto, unfolding(crate::specs::Reading::invariant_at))]
+fn named_sentence(
+    alloc: Global,
+    version: Version,
+    depth: u32,
+    tokens: &[Token],
+) -> Result<(u32, Mark, Prefixed, &[Token]), ReadError>
+    ensures { Gives (λ x. ((x.0, (x.1, sentence_of x.2)), x.3.now)) result (invariant_at version depth tokens.now) }
+{
+    let (word, rest) = key(tokens, Key::Invariant)?;
+    let (name, rest) = name(alloc, version, rest)?;
+    let (sentence, rest) = sentence(alloc, version, depth, rest)?;
+    Ok((word, name, sentence, rest))
+}
+
+#[derive(Drop)]
+struct Operation {
+    word: u32,
+    name: Mark,
+    params: Items<Param>,
+    lines: Items<Line>,
+}
+
+#[tactic(auto, unfolding(crate::specs::Reading::operation_at))]
+fn operation_item(
+    alloc: Global,
+    version: Version,
+    depth: u32,
+    tokens: &[Token],
+) -> Result<(Operation, &[Token]), ReadError>
+    ensures { Gives (λ x. ((x.0.word, (x.0.name, (x.0.params, (map line_of x.0.lines, tt)))), x.1.now)) result (operation_at version depth tokens.now) }
+{
+    let (word, rest) = key(tokens, Key::Operation)?;
+    let (name, rest) = name(alloc, version, rest)?;
+    let (params, rest) = params(alloc, version, rest)?;
+    let (lines, rest) = lines(alloc, version, depth, rest)?;
+    let rest = sign(rest, Key::End)?;
+    Ok((
+        Operation {
+            word,
+            name,
+            params,
+            lines,
+        },
+        rest,
+    ))
+}
+
+#[tactic(auto, unfolding(crate::specs::Reading::item_at))]
+fn item(
+    alloc: Global,
+    version: Version,
+    depth: u32,
+    tokens: &[Token],
+) -> Result<(Item, &[Token]), ReadError>
+    ensures { Gives (λ x. (item_of x.0, x.1.now)) result (item_at version depth tokens.now) }
+{
+    let kind = next_kind(tokens);
+    if is_key(kind, Key::Sort) {
+        let (word, name, rest) = sort(alloc, version, tokens)?;
+        return Ok((Item::Sort(word, name), rest));
+    }
+    if is_key(kind, Key::Const) {
+        let (word, name, sort, rest) = constant(alloc, version, tokens)?;
+        return Ok((Item::Const(word, name, sort), rest));
+    }
+    if is_key(kind, Key::Relation) {
+        let (word, name, places, rest) = places(alloc, Key::Relation, version, tokens)?;
+        return Ok((Item::Relation(word, name, places), rest));
+    }
+    if is_key(kind, Key::Counter) {
+        let (word, name, places, rest) = places(alloc, Key::Counter, version, tokens)?;
+        return Ok((Item::Counter(word, name, places), rest));
+    }
+    if is_key(kind, Key::Initially) {
+        let (word, name, value, rest) = initially(alloc, version, tokens)?;
+        return Ok((Item::Initially(word, name, value), rest));
+    }
+    if is_key(kind, Key::Token) {
+        let (word, name, places, rest) = places(alloc, Key::Token, version, tokens)?;
+        return Ok((Item::Token(word, name, places), rest));
+    }
+    if is_key(kind, Key::Conflict) {
+        let (word, left, right, rest) = conflict(alloc, version, tokens)?;
+        return Ok((Item::Conflict(word, left, right), rest));
+    }
+    if is_key(kind, Key::Invariant) {
+        let (word, name, sentence, rest) = named_sentence(alloc, version, depth, tokens)?;
+        return Ok((Item::Invariant(word, name, sentence), rest));
+    }
+    let (o, rest) = operation_item(alloc, version, depth, tokens)?;
+    Ok((Item::Operation(o.word, o.name, o.params, o.lines), rest))
+}
+
+fn starts_item(kind: Kind) -> bool
+    ensures { result ≡ item_test kind }
+{
+    is_key(kind, Key::Sort)
+        || is_key(kind, Key::Const)
+        || is_key(kind, Key::Relation)
+        || is_key(kind, Key::Counter)
+        || is_key(kind, Key::Initially)
+        || is_key(kind, Key::Token)
+        || is_key(kind, Key::Conflict)
+        || is_key(kind, Key::Invariant)
+        || is_key(kind, Key::Operation)
+}
+
+/// As many items as there are.
+pub fn items(
+    alloc: Global,
+    version: Version,
+    depth: u32,
+    tokens: &[Token],
+) -> Result<(Items<Item>, &[Token]), ReadError>
+    ensures { Gives (λ x. (map item_of x.0, x.1.now)) result (items_at version depth tokens.now) }
+{
+    let mut items = Items::new(alloc);
+    let mut rest = tokens;
+    'items: while starts_item(next_kind(rest)) {
+        let (item, after) = item(alloc, version, depth, rest)?;
+        items.push(item)?;
+        rest = after;
+    }
+    Ok((items, rest))
+}
