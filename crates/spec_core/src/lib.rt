@@ -5,6 +5,7 @@
 // initial state), `Fits` (which worlds, calls, states and arguments fit) and `Typed` (which specifications are well formed).
 #![tactic(auto)]
 
+mod fits;
 mod formula;
 mod initial;
 mod line;
@@ -19,6 +20,7 @@ mod tuples;
 mod update;
 mod world;
 
+pub use fits::is_in_state_range;
 pub use formula::{Body, Cmp, Elem, Formula, Summand, Term};
 pub use line::{Prefix, Prefixed};
 pub use name::Name;

@@ -2,11 +2,13 @@
 //
 // Both are ordered maps, so a reading is a look-up, and going through them gives tuples and keys in rising order.
 
-ghost use Rattle.std.specs.Prelude.{◌≡◌, [], OnOk, OnErr, IfOk, List, ℕ, ◌||◌, cond, true, false};
+ghost use Rattle.std.specs.Prelude.{◌≡◌, [], OnOk, OnErr, IfOk, List, ℕ, ◌||◌, cond, true, false, map};
 ghost use Rattle.std.specs.Str.{bytes_eq};
+ghost use Rattle.std.specs.List.{list_all};
 ghost use Rattle.spec_core.specs.State.{is_in, count_in, is_rising, listed_keys};
-ghost use Rattle.spec_core.specs.Fits.{in_state_range, is_counts};
+ghost use Rattle.spec_core.specs.Fits.{fits_places, in_state_range, is_counts};
 
+use crate::world::World;
 use std::alloc::{AllocError, Global};
 use std::collections::{BTreeMap, BTreeSet};
 use std::marker::Model;
@@ -29,6 +31,14 @@ impl Model for Tuples {
     ghost invariant = { λ a. is_rising (map (λ k. k.items) a.keys.keys) ≡ true };
 }
 
+fn all_tuples_fit(tuples: &BTreeSet<Vec<u32>>, world: &World, places: &[u8]) -> bool
+    ensures { result ≡ list_all (λ k. fits_places world.now places.now k.items) tuples.now.keys }
+{
+    tuples
+        .iter()
+        .all(|tuple| world.has_tuple(places, tuple.as_slice()))
+}
+
 impl Tuples {
     /// No tuple.
     pub fn new(alloc: Global) -> Self
@@ -45,6 +55,13 @@ impl Tuples {
         ensures { result ≡ is_in tuple.now self.now }
     {
         self.keys.contains(tuple)
+    }
+
+    /// Whether all tuples hold elements of these sorts.
+    pub fn fits(&self, world: &World, places: &[u8]) -> bool
+        ensures { result ≡ list_all (λ t. fits_places world.now places.now t) self.now }
+    {
+        all_tuples_fit(&self.keys, world, places)
     }
 
     /// A fact for proofs: the tuples rise.
@@ -115,6 +132,14 @@ impl Model for Counts {
     ghost invariant = { λ a. is_counts (map (λ e. (e.0.items, e.1)) a.entries.entries) ≡ true };
 }
 
+fn all_keys_fit(entries: &BTreeMap<Vec<u32>, i64>, world: &World, sorts: &[u8]) -> bool
+    ensures { result ≡ list_all (λ k. fits_places world.now sorts.now k.items) (map (λ e. e.0) entries.now.entries) }
+{
+    entries
+        .keys()
+        .all(|key| world.has_tuple(sorts, key.as_slice()))
+}
+
 impl Counts {
     /// No key.
     pub fn new(alloc: Global) -> Self
@@ -131,6 +156,13 @@ impl Counts {
         ensures { result ≡ count_in self.now key.now }
     {
         self.entries.get(key).copied().unwrap_or(0)
+    }
+
+    /// Whether all keys hold elements of these sorts.
+    pub fn fits(&self, world: &World, sorts: &[u8]) -> bool
+        ensures { result ≡ list_all (λ e. fits_places world.now sorts.now e.0) self.now }
+    {
+        all_keys_fit(&self.entries, world, sorts)
     }
 
     /// A fact for proofs: the keys rise, and the values are in range.

@@ -8,11 +8,11 @@ ghost use Rattle.spec_core.specs.declared.world.World.{World};
 ghost use Rattle.spec_core.specs.Specification.{Specification, relation_places, counter_keys};
 ghost use Rattle.spec_core.specs.State.{reads, nothing, with_has, with_count};
 ghost use Rattle.spec_core.specs.Meaning.{initial};
-ghost use Rattle.spec_core.specs.Fits.{in_state_range, fits_places, is_state, world_fits};
+ghost use Rattle.spec_core.specs.Fits.{in_state_range, fits_places, lists_fit, values_fit, is_state, world_fits};
 
 use crate::initial::{first_counters, first_relations};
 use crate::listed::{Counts, Tuples};
-use crate::spec::Spec;
+use crate::spec::{Counter, Relation, Spec};
 use crate::truth::Readings;
 use crate::world::World;
 use std::alloc::{AllocError, Global};
@@ -78,7 +78,41 @@ fn no_counts(alloc: Global, count: usize) -> Result<Vec<Counts>, AllocError>
     Ok(lists)
 }
 
+fn tuples_fit(world: &World, relations: &[Relation], lists: &[Tuples]) -> bool
+    ensures { result ≡ lists_fit world.now relations.now lists.now }
+{
+    match relations {
+        [] => lists.is_empty(),
+        [relation, relations @ ..] => match lists {
+            [] => false,
+            [list, lists @ ..] => list.fits(world, relation.places.as_slice())
+                && tuples_fit(world, relations, lists),
+        },
+    }
+}
+
+fn counts_fit(world: &World, counters: &[Counter], lists: &[Counts]) -> bool
+    ensures { result ≡ values_fit world.now counters.now lists.now }
+{
+    match counters {
+        [] => lists.is_empty(),
+        [counter, counters @ ..] => match lists {
+            [] => false,
+            [list, lists @ ..] => list.fits(world, counter.keys.as_slice())
+                && counts_fit(world, counters, lists),
+        },
+    }
+}
+
 impl State {
+    /// Whether there is one list for each relation and each counter, of tuples and keys that hold elements of the world.
+    pub fn fits(&self, spec: &Spec, world: &World) -> bool
+        ensures { result ≡ is_state spec.now world.now self.now }
+    {
+        tuples_fit(world, spec.relations.as_slice(), &self.relations)
+            && counts_fit(world, spec.counters.as_slice(), &self.counters)
+    }
+
     /// The initial state: each relation and each counter has its one stated value at all tuples and keys.
     pub fn initial(alloc: Global, spec: &Spec, world: &World) -> Result<State, AllocError>
         requires { world_fits spec.now world.now ≡ true }
