@@ -7,7 +7,7 @@ use Rattle.std.proofs.Math.IntN.{zero-*ℤ, *ℤ-zero}
 use Rattle.lin_rows.specs.Numbers.{fit, in_range, is_zero}
 use Rattle.lin_rows.specs.declared.term.RowTerm.{RowTerm}
 use Rattle.lin_rows.specs.Rows.{Row, value_at, Satisfies, opposite, negated, sum_from, truth_at, has_no_terms, is_contradiction}
-use Rattle.lin_rows.specs.Sums.{put, put_fit, scaled, merged_with, merged, collected}
+use Rattle.lin_rows.specs.Sums.{put, put_fit, scaled, merged_with, merged, collected, row_of}
 use Rattle.lin_rows.proofs.Steps.{rest_is}
 use Rattle.lin_rows.proofs.Ring.{mul_add, add_mul, mul_assoc, mul_neg}
 
@@ -133,6 +133,13 @@ satisfies-negated x r out h =
     by_order : {a b c d : ℤ} → (a ≤ℤ b) ⊎ ((b +ℤ pos 1) ≤ℤ a) → ¬ (a ≤ℤ b) → pos 0 -ℤ b -ℤ pos 1 ≡ c → d ≡ pos 0 -ℤ a → d ≤ℤ c
     by_order (inl l) n f v = absurd (n l)
     by_order (inr l) n f v = omega (arith, ints)
+
+pub value_at-row_of : (x : ℕ → ℤ) (ts : List RowTerm) (bound : ℤ) (out : Row) → row_of ts bound ≡ Some out → value_at x out.terms ≡ value_at x ts
+value_at-row_of x ts bound out h =
+    let w = option_map-went (λ terms. record { terms = terms; bound = bound }) (collected [] ts) out h in
+    let e : w.0 ≡ out.terms = ap (λ (r : Row). r.terms) w.2 in
+    let v = value_at-collected x [] ts w.0 w.1 in
+    let f = ap (value_at x) e in omega (arith, ints)
 
 -- one step of a sum whose numbers are in range
 pub sum_from-step : (x : ℕ → ℤ) (s : ℤ) (ts : List RowTerm) (i : ℕ) (d : RowTerm) (next : ℤ) → i < length ts

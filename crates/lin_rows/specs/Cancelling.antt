@@ -5,7 +5,7 @@ use Rattle.lin_rows.specs.Rows.{Row, coefficient_at}
 use Rattle.lin_rows.specs.Divisors.{common_divisor}
 use Rattle.lin_rows.specs.Sums.{row_sum}
 
--- the least positive n for which n times `one` is a multiple of `other`, for positive numbers
+-- the least positive number by which `one` is multiplied to be a multiple of `other`, neither of them 0
 abbrev pub least_factor : ℤ → ℤ → ℤ
 least_factor one other = pos (unsigned_abs other / common_divisor (unsigned_abs one ∷ unsigned_abs other ∷ []))
 

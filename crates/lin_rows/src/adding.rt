@@ -1,7 +1,7 @@
 // Sums of rows, and the combination of two rows in which a place cancels.
-ghost use Rattle.std.specs.Prelude.{◌≡◌, true, ◌≤ℤ◌, ◌<ℤ◌, ℕ, ℤ, pos, IfOk, unsigned_abs, ◌<◌, ◌≤◌, ◌^◌};
+ghost use Rattle.std.specs.Prelude.{◌≡◌, true, ◌≤ℤ◌, ℕ, ℤ, pos, IfOk};
 ghost use Rattle.lin_rows.specs.Answers.{Gives};
-ghost use Rattle.lin_rows.specs.Rows.{is_row, Satisfies, coefficient_at};
+ghost use Rattle.lin_rows.specs.Rows.{is_row, Satisfies};
 ghost use Rattle.lin_rows.specs.Sums.{times_row, plus_row, row_sum};
 
 use crate::number::{plus, times};

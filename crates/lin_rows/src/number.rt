@@ -37,6 +37,7 @@ pub fn add_product(so_far: &i128, a: &i128, b: &i128) -> Option<i128>
     plus(so_far, &times(a, b)?)
 }
 
+/// Whether one number is at most another.
 pub fn is_at_most(a: &i128, b: &i128) -> bool
     ensures { result ≡ int_le a.now b.now }
 {
@@ -62,6 +63,7 @@ pub fn below_minus(a: &i128) -> Option<i128>
     }
 }
 
+/// Whether two numbers are equal.
 pub fn same_number(left: &i128, right: &i128) -> bool
     ensures { IsTrue result ↔ (left.now ≡ right.now) }
 {

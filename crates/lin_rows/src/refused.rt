@@ -1,4 +1,4 @@
-// Why a call gives no row.
+// The reasons for which a call gives no row.
 ghost use Rattle.std.specs.Prelude.{◌≡◌};
 ghost use Rattle.lin_rows.specs.declared.refused.RowRefused.TheVariants.{Memory};
 

@@ -44,6 +44,7 @@ impl Row {
         self.terms.as_slice()
     }
 
+    /// What the sum of coefficients times values is at most.
     pub fn bound(&self) -> i128
         ensures bound { result ≡ self.now.bound }
         ensures row { is_row self.now ≡ true }

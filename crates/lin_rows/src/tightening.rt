@@ -1,6 +1,6 @@
 // Tightening: over whole numbers a row says the same when it is divided by the greatest common divisor of its coefficients
 // and the bound is rounded down.
-ghost use Rattle.std.specs.Prelude.{◌≡◌, ◌<ℤ◌, ℕ, ℤ, pos, IfOk, map, ◌↔◌, false, true};
+ghost use Rattle.std.specs.Prelude.{◌≡◌, ◌<ℤ◌, ℕ, ℤ, pos, IfOk, map, ◌↔◌, false};
 ghost use Rattle.std.specs.Int.{IsGcd};
 ghost use Rattle.lin_rows.specs.Rows.{has_no_terms, Satisfies};
 ghost use Rattle.lin_rows.specs.Divisors.{divisor_of, divided_term, tightened};

@@ -1,12 +1,7 @@
-use mir.Val.{to_z, of_z}
-use mir.Syntax.{w128}
-use Rattle.std.proofs.Common.{rules, ◌≡◌, true, subst, Some, ℤ}
-use Rattle.lin_rows.specs.Numbers.{in_range}
-use Rattle.lin_rows.specs.Rows.{coefficient_at}
+use Rattle.std.proofs.Common.{rules, ◌≡◌, Some}
 use Rattle.lin_rows.specs.Sums.{row_sum}
 use Rattle.lin_rows.specs.Cancelling.{first_factor, second_factor}
-use Rattle.lin_rows.proofs.Kept.{rises_of}
-use Rattle.lin_rows.proofs.CancellingLemmas.{in_range-coefficient, coefficient_at-combined}
+use Rattle.lin_rows.proofs.CancellingLemmas.{coefficient_at-combined}
 use Rattle.lin_rows.proofs.combining.combine.Goals as goal
 
 pub returns-clause-cancels : goal.returns-clause-cancels
