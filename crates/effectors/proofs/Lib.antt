@@ -4,3 +4,4 @@ pub mod Fitting
 pub mod Members
 pub mod Whole
 pub mod AfterCall
+pub mod Reached

@@ -19,7 +19,7 @@ nil_in-map : (e : ℕ) (ts : List (List ℕ)) → is_in [] (map (λ t. e ∷ t) 
 nil_in-map e [] = refl
 nil_in-map e (t ∷ ts) = nil_in-map e ts
 
-nil_in-each_before : (es : List ℕ) (ts : List (List ℕ)) → is_in [] (each_before es ts) ≡ false
+pub nil_in-each_before : (es : List ℕ) (ts : List (List ℕ)) → is_in [] (each_before es ts) ≡ false
 nil_in-each_before [] ts = refl
 nil_in-each_before (e ∷ es) ts =
     list_any-append (bytes_eq []) (map (λ t. e ∷ t) ts) (each_before es ts)
@@ -38,14 +38,14 @@ cons_in-map : (k e : ℕ) (ks : List ℕ) (ts : List (List ℕ)) → is_in (k �
 cons_in-map k e ks [] = no_and (k == e)
 cons_in-map k e ks (t ∷ ts) = ap (λ b. ((k == e) && bytes_eq ks t) || b) (cons_in-map k e ks ts) ∙ split_and (k == e) (bytes_eq ks t) (is_in ks ts)
 
-cons_in-each_before : (k : ℕ) (ks es : List ℕ) (ts : List (List ℕ)) → is_in (k ∷ ks) (each_before es ts) ≡ (list_any (λ e. k == e) es && is_in ks ts)
+pub cons_in-each_before : (k : ℕ) (ks es : List ℕ) (ts : List (List ℕ)) → is_in (k ∷ ks) (each_before es ts) ≡ (list_any (λ e. k == e) es && is_in ks ts)
 cons_in-each_before k ks [] ts = refl
 cons_in-each_before k ks (e ∷ es) ts =
     list_any-append (bytes_eq (k ∷ ks)) (map (λ t. e ∷ t) ts) (each_before es ts)
     ∙ (λ i. cons_in-map k e ks ts i || cons_in-each_before k ks es ts i)
     ∙ split_or (k == e) (list_any (λ e. k == e) es) (is_in ks ts)
 
-in_below : (k n : ℕ) → list_any (λ e. k == e) (below n) ≡ nat_lt k n
+pub in_below : (k n : ℕ) → list_any (λ e. k == e) (below n) ≡ nat_lt k n
 in_below k zero = none k
   where
     none : (k : ℕ) → false ≡ nat_lt k 0

@@ -5,6 +5,7 @@
 #![tactic(auto)]
 
 mod after;
+mod matching;
 mod readings;
 mod updates;
 
