@@ -5,3 +5,8 @@ pub mod Members
 pub mod Whole
 pub mod AfterCall
 pub mod Reached
+pub mod Written
+pub mod Ranges
+pub mod Sized
+pub mod Steps
+pub mod Outsides

@@ -16,6 +16,7 @@ use Rattle.spec_core.specs.State.{Reads, is_in, with_has, with_count}
 use Rattle.spec_core.specs.Truth.{elem_of, truth}
 use Rattle.spec_core.specs.Fits.{fits_places, elem_exists, spots_fit, change_fits, update_fits}
 use Rattle.spec_core.proofs.Lists.{both, tell}
+use Rattle.spec_core.proofs.States.{list_all-from_is_in}
 use Rattle.effectors.specs.Effect.{spots_match, is_thing, has_changed, count_changed, has_after, count_after}
 use Rattle.effectors.specs.Reaching.{matching, reached, with_tuples, with_keys, with_thing, with_updates}
 use Rattle.effectors.proofs.Members.{cons_in-each_before, nil_in-each_before, in_below}
@@ -67,7 +68,10 @@ is_in-matching w args (s ∷ ss) (One e ∷ xs) h (k ∷ ks) =
 
 -- ---- one tuple or key more
 
-same_number : (j k : ℕ) → (j == k) ≡ true → j ≡ k
+pub matching_fit : (w : World) (args : List ℤ) (ss : List ℕ) (xs : List Spot) → spots_fit w args ss xs ≡ true → list_all (fits_places w ss) (matching w args ss xs) ≡ true
+matching_fit w args ss xs h = list_all-from_is_in (fits_places w ss) (matching w args ss xs) (λ q m. (both (fits_places w ss q) (spots_match w args xs q) (sym (is_in-matching w args ss xs h q) ∙ m)).0)
+
+pub same_number : (j k : ℕ) → (j == k) ≡ true → j ≡ k
 same_number j k h = grind (arith, nat_tests)
 
 write_step : {X : Type 0} (a b c : Bool) (x y z : X) → (a ≡ true → b ≡ true → y ≡ x) → cond (a && c) x (cond (a && b) y z) ≡ cond (a && (b || c)) x z
@@ -123,14 +127,14 @@ module _ (d : Specification) (w : World) (args : List ℤ) (n : Reads) where
   thing_count (thing.Relation j) ts r k q = refl
   thing_count (thing.Counter j) ts r k q = ap (λ b. cond (b && is_in q ts) (n.count k q) (r.count k q)) (equal_either_way k j)
 
-  updates_has : (us : List UpdateLine) (r : Reads) (k : ℕ) (q : List ℕ) → (with_updates d w args us n r).has k q ≡ cond (reaches d w args us (thing.Relation k) q) (n.has k q) (r.has k q)
+  pub updates_has : (us : List UpdateLine) (r : Reads) (k : ℕ) (q : List ℕ) → (with_updates d w args us n r).has k q ≡ cond (reaches d w args us (thing.Relation k) q) (n.has k q) (r.has k q)
   updates_has [] r k q = refl
   updates_has (u ∷ us) r k q =
       updates_has us (with_thing u.thing (reached d w args u) n r) k q
       ∙ ap (λ z. cond (reaches d w args us (thing.Relation k) q) (n.has k q) z) (thing_has u.thing (reached d w args u) r k q)
       ∙ choose_twice (is_thing u.thing (thing.Relation k) && is_in q (reached d w args u)) (reaches d w args us (thing.Relation k) q) (n.has k q) (r.has k q)
 
-  updates_count : (us : List UpdateLine) (r : Reads) (k : ℕ) (q : List ℕ) → (with_updates d w args us n r).count k q ≡ cond (reaches d w args us (thing.Counter k) q) (n.count k q) (r.count k q)
+  pub updates_count : (us : List UpdateLine) (r : Reads) (k : ℕ) (q : List ℕ) → (with_updates d w args us n r).count k q ≡ cond (reaches d w args us (thing.Counter k) q) (n.count k q) (r.count k q)
   updates_count [] r k q = refl
   updates_count (u ∷ us) r k q =
       updates_count us (with_thing u.thing (reached d w args u) n r) k q
@@ -143,7 +147,7 @@ neither : (a b : Bool) → (a || b) ≡ false → (a ≡ false) × (b ≡ false)
 neither a b h = grind arith
 
 module _ (d : Specification) (w : World) (r : Reads) (args : List ℤ) where
-  spots_of : (u : UpdateLine) → update_fits d w args u ≡ true → spots_fit w args (places_of d u.thing) u.at ≡ true
+  pub spots_of : (u : UpdateLine) → update_fits d w args u ≡ true → spots_fit w args (places_of d u.thing) u.at ≡ true
   spots_of u f = (both (change_fits d w args u.thing u.change) (spots_fit w args (places_of d u.thing) u.at) (both _ _ f).0).1
 
   not_acting_has : (x : Thing) (at : List Spot) (g : Bool) (k : ℕ) (q : List ℕ) → spots_fit w args (places_of d x) at ≡ true → fits_places w (relation_places d k) q ≡ true

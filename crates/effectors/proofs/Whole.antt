@@ -23,16 +23,16 @@ below_or_not k n = at (nat_lt k n) refl
 module _ (d : Specification) (w : World) (c : Call) (r : Reads) where
   pub has-after : (k : ℕ) (t : List ℕ) → (after d w c r).has k t ≡ (fits_relation d w k t && has_after w r c.args k t (op_of d c.op).updates (r.has k t))
   has-after k t = elim (below_or_not k (length d.relations)) [
-      inl p ↦ has_in_world d w c r k t p.0
+    | inl p ↦ has_in_world d w c r k t p.0
         ∙ ap (λ (b : Bool). b && has_after w r c.args k t (op_of d c.op).updates (r.has k t)) (is_in-tuples w (relation_places d k) t)
         ∙ ap (λ (b : Bool). (b && fits_places w (relation_places d k) t) && has_after w r c.args k t (op_of d c.op).updates (r.has k t)) (sym p.1)
     | inr p ↦ has_undeclared d w c r k t p.0 ∙ ap (λ (b : Bool). (b && fits_places w (relation_places d k) t) && has_after w r c.args k t (op_of d c.op).updates (r.has k t)) (sym p.1)
-    ]
+  ]
 
   pub count-after : (k : ℕ) (t : List ℕ) → (after d w c r).count k t ≡ cond (fits_counter d w k t) (count_after w r c.args k t (op_of d c.op).updates (r.count k t)) (pos 0)
   count-after k t = elim (below_or_not k (length d.counters)) [
-      inl p ↦ count_in_world d w c r k t p.0
+    | inl p ↦ count_in_world d w c r k t p.0
         ∙ ap (λ (b : Bool). cond b (count_after w r c.args k t (op_of d c.op).updates (r.count k t)) (pos 0)) (is_in-tuples w (counter_keys d k) t)
         ∙ ap (λ (b : Bool). cond (b && fits_places w (counter_keys d k) t) (count_after w r c.args k t (op_of d c.op).updates (r.count k t)) (pos 0)) (sym p.1)
     | inr p ↦ count_undeclared d w c r k t p.0 ∙ ap (λ (b : Bool). cond (b && fits_places w (counter_keys d k) t) (count_after w r c.args k t (op_of d c.op).updates (r.count k t)) (pos 0)) (sym p.1)
-    ]
+  ]

@@ -1,3 +1,5 @@
 pub mod Effect
 pub mod Places
 pub mod Reaching
+pub mod Outside
+pub mod Refusal

@@ -26,7 +26,9 @@ impl Readings for After<'_> {
     ghost reads = { λ s. after s.spec.now s.world.now s.call.now (reads s.state.now) };
 
     fn has(&self, relation: u8, tuple: &[u32]) -> bool {
-        has_after_call(self.spec, self.world, self.state, self.call, relation, tuple)
+        has_after_call(
+            self.spec, self.world, self.state, self.call, relation, tuple,
+        )
     }
 
     fn count(&self, counter: u8, key: &[u32]) -> i128 {
@@ -37,7 +39,14 @@ impl Readings for After<'_> {
 }
 
 /// Whether a tuple is in a relation after a call.
-pub fn post_has(spec: &Spec, world: &World, state: &State, call: &Call, relation: u8, tuple: &[u32]) -> bool
+pub fn post_has(
+    spec: &Spec,
+    world: &World,
+    state: &State,
+    call: &Call,
+    relation: u8,
+    tuple: &[u32],
+) -> bool
     requires world { world_fits spec.now world.now ≡ true }
     requires state { is_state spec.now world.now state.now ≡ true }
     requires call { call_fits spec.now world.now call.now ≡ true }
@@ -47,7 +56,14 @@ pub fn post_has(spec: &Spec, world: &World, state: &State, call: &Call, relation
 }
 
 /// The value of a counter at a key after a call, at most 3 * 10^26 in size.
-pub fn post_count(spec: &Spec, world: &World, state: &State, call: &Call, counter: u8, key: &[u32]) -> i128
+pub fn post_count(
+    spec: &Spec,
+    world: &World,
+    state: &State,
+    call: &Call,
+    counter: u8,
+    key: &[u32],
+) -> i128
     requires world { world_fits spec.now world.now ≡ true }
     requires state { is_state spec.now world.now state.now ≡ true }
     requires call { call_fits spec.now world.now call.now ≡ true }

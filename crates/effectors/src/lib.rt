@@ -5,10 +5,14 @@
 #![tactic(auto)]
 
 mod after;
+mod applying;
 mod matching;
+mod outside;
 mod readings;
 mod updates;
+mod writing;
 
-pub use after::{After, post2_count, post2_has, post_count, post_has};
+pub use after::{After, post_count, post_has, post2_count, post2_has};
+pub use applying::{ApplyRefused, apply};
 pub use readings::{count_after_call, fits_places, has_after_call, updates_of};
 pub use updates::{is_thing, spots_match};

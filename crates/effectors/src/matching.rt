@@ -3,11 +3,12 @@
 ghost use Rattle.std.specs.Prelude.{◌≡◌, ◌++◌, ◌∷◌, [], true, map, nat_le, IfOk, OnOk};
 ghost use Rattle.spec_core.specs.World.{below, each_before};
 ghost use Rattle.std.specs.List.{list_all};
-ghost use Rattle.spec_core.specs.Fits.{spots_fit};
-ghost use Rattle.effectors.specs.Reaching.{matching};
+ghost use Rattle.spec_core.specs.Specification.{places_of};
+ghost use Rattle.spec_core.specs.Fits.{fits_places, world_fits, spots_fit, update_fits};
+ghost use Rattle.effectors.specs.Reaching.{matching, reached};
 
 use items::Items;
-use spec_core::{Spot, World, elem_at};
+use spec_core::{Call, Spec, Spot, Thing, Update, World, elem_at};
 use std::alloc::{AllocError, Global};
 
 // An element before a tuple.
@@ -23,7 +24,12 @@ fn before(alloc: Global, element: u32, tuple: &[u32]) -> Result<Items<u32>, Allo
 }
 
 // Adds each tuple with an element before it.
-fn add_before(alloc: Global, list: &mut Items<Items<u32>>, element: u32, tuples: &[Items<u32>]) -> Result<(), AllocError>
+fn add_before(
+    alloc: Global,
+    list: &mut Items<Items<u32>>,
+    element: u32,
+    tuples: &[Items<u32>],
+) -> Result<(), AllocError>
     ensures { OnOk result (list.new ≡ list.old ++ map (λ t. element ∷ t) tuples.now) }
 {
     for tuple in tuples {
@@ -33,7 +39,11 @@ fn add_before(alloc: Global, list: &mut Items<Items<u32>>, element: u32, tuples:
 }
 
 // Each element below a size before each tuple.
-fn all_before(alloc: Global, size: u32, tuples: &[Items<u32>]) -> Result<Items<Items<u32>>, AllocError>
+pub fn all_before(
+    alloc: Global,
+    size: u32,
+    tuples: &[Items<u32>],
+) -> Result<Items<Items<u32>>, AllocError>
     ensures { IfOk result (λ list. list ≡ each_before (below size) tuples.now) }
 {
     let mut list = Items::new(alloc);
@@ -44,7 +54,11 @@ fn all_before(alloc: Global, size: u32, tuples: &[Items<u32>]) -> Result<Items<I
 }
 
 // One element before each tuple.
-fn one_before(alloc: Global, element: u32, tuples: &[Items<u32>]) -> Result<Items<Items<u32>>, AllocError>
+fn one_before(
+    alloc: Global,
+    element: u32,
+    tuples: &[Items<u32>],
+) -> Result<Items<Items<u32>>, AllocError>
     ensures { IfOk result (λ list. list ≡ each_before (element ∷ []) tuples.now) }
 {
     let mut list = Items::new(alloc);
@@ -53,7 +67,13 @@ fn one_before(alloc: Global, element: u32, tuples: &[Items<u32>]) -> Result<Item
 }
 
 /// The lists of elements of these sorts that the spots of an update match.
-pub fn matching(alloc: Global, world: &World, args: &[i64], sorts: &[u8], spots: &[Spot]) -> Result<Items<Items<u32>>, AllocError>
+pub fn matching(
+    alloc: Global,
+    world: &World,
+    args: &[i64],
+    sorts: &[u8],
+    spots: &[Spot],
+) -> Result<Items<Items<u32>>, AllocError>
     requires sizes { list_all (λ n. nat_le n 100) world.now.sizes ≡ true }
     requires fits { spots_fit world.now args.now sorts.now spots.now ≡ true }
     ensures { IfOk result (λ list. list ≡ matching world.now args.now sorts.now spots.now) }
@@ -70,9 +90,53 @@ pub fn matching(alloc: Global, world: &World, args: &[i64], sorts: &[u8], spots:
                 let rest = matching(alloc, world, args, sorts, spots)?;
                 match spot {
                     Spot::Every => all_before(alloc, world.size(*sort), rest.as_slice()),
-                    Spot::One(elem) => one_before(alloc, elem_at(world, args, &[], *elem) as u32, rest.as_slice()),
+                    Spot::One(elem) => one_before(
+                        alloc,
+                        elem_at(world, args, &[], *elem) as u32,
+                        rest.as_slice(),
+                    ),
                 }
             }
         },
     }
+}
+
+/// The sorts of the places of a relation or of the keys of a counter; none where there is no such thing.
+pub fn places_of(spec: &Spec, thing: Thing) -> &[u8]
+    ensures { result.now ≡ places_of spec.now thing }
+{
+    match thing {
+        Thing::Relation(k) => match spec.relations.as_slice().get(k as usize) {
+            Some(it) => it.places.as_slice(),
+            None => &[],
+        },
+        Thing::Counter(k) => match spec.counters.as_slice().get(k as usize) {
+            Some(it) => it.keys.as_slice(),
+            None => &[],
+        },
+    }
+}
+
+/// The tuples or keys that an update of a call reaches.
+pub fn reached(
+    alloc: Global,
+    spec: &Spec,
+    world: &World,
+    call: &Call,
+    update: &Update,
+) -> Result<Items<Items<u32>>, AllocError>
+    requires world { world_fits spec.now world.now ≡ true }
+    requires update { update_fits spec.now world.now call.now.args update.now ≡ true }
+    ensures reached { IfOk result (λ list. list ≡ reached spec.now world.now call.now.args update.now) }
+    ensures fits { IfOk result (λ list. list_all (fits_places world.now (places_of spec.now update.now.thing)) list ≡ true) }
+{
+    let places = places_of(spec, update.thing);
+    let list = matching(
+        alloc,
+        world,
+        call.args.as_slice(),
+        places,
+        update.at.as_slice(),
+    )?;
+    Ok(list)
 }

@@ -27,7 +27,8 @@ pub fn fits_places(world: &World, sorts: &[u8], tuple: &[u32]) -> bool
         [] => tuple.is_empty(),
         [sort, sorts @ ..] => match tuple {
             [] => false,
-            [element, tuple @ ..] => *element < world.size(*sort) && fits_places(world, sorts, tuple),
+            [element, tuple @ ..] => *element < world.size(*sort)
+                && fits_places(world, sorts, tuple),
         },
     }
 }
@@ -53,36 +54,81 @@ pub fn fits_counter(spec: &Spec, world: &World, counter: u8, key: &[u32]) -> boo
 }
 
 // What a tuple reads after the updates of a call.
-fn has_updated<R: Readings>(spec: &Spec, world: &World, at: &R, call: &Call, relation: u8, tuple: &[u32]) -> bool
+pub fn has_updated<R: Readings>(
+    spec: &Spec,
+    world: &World,
+    at: &R,
+    call: &Call,
+    relation: u8,
+    tuple: &[u32],
+) -> bool
     requires world { world_fits spec.now world.now ≡ true }
     requires call { call_fits spec.now world.now call.now ≡ true }
     ensures { result ≡ has_after world.now (R.reads at.now) call.now.args relation tuple.now (op_of spec.now call.now.op).updates ((R.reads at.now).has relation tuple.now) }
 {
     spec.well_formed();
-    has_after(spec, world, at, call.args.as_slice(), updates_of(spec, call.op), relation, tuple)
+    has_after(
+        spec,
+        world,
+        at,
+        call.args.as_slice(),
+        updates_of(spec, call.op),
+        relation,
+        tuple,
+    )
 }
 
 // What a key reads after the updates of a call.
-fn count_updated<R: Readings>(spec: &Spec, world: &World, at: &R, call: &Call, counter: u8, key: &[u32]) -> i128
+pub fn count_updated<R: Readings>(
+    spec: &Spec,
+    world: &World,
+    at: &R,
+    call: &Call,
+    counter: u8,
+    key: &[u32],
+) -> i128
     requires world { world_fits spec.now world.now ≡ true }
     requires call { call_fits spec.now world.now call.now ≡ true }
     ensures { result ≡ count_after world.now (R.reads at.now) call.now.args counter key.now (op_of spec.now call.now.op).updates ((R.reads at.now).count counter key.now) }
 {
     spec.well_formed();
-    count_after(spec, world, at, call.args.as_slice(), updates_of(spec, call.op), counter, key)
+    count_after(
+        spec,
+        world,
+        at,
+        call.args.as_slice(),
+        updates_of(spec, call.op),
+        counter,
+        key,
+    )
 }
 
 /// Whether the state after a call holds a tuple of a relation.
-pub fn has_after_call<R: Readings>(spec: &Spec, world: &World, at: &R, call: &Call, relation: u8, tuple: &[u32]) -> bool
+pub fn has_after_call<R: Readings>(
+    spec: &Spec,
+    world: &World,
+    at: &R,
+    call: &Call,
+    relation: u8,
+    tuple: &[u32],
+) -> bool
     requires world { world_fits spec.now world.now ≡ true }
     requires call { call_fits spec.now world.now call.now ≡ true }
     ensures { result ≡ (after spec.now world.now call.now (R.reads at.now)).has relation tuple.now }
 {
-    fits_relation(spec, world, relation, tuple) && has_updated(spec, world, at, call, relation, tuple)
+    fits_relation(spec, world, relation, tuple)
+        && has_updated(spec, world, at, call, relation, tuple)
 }
 
 /// The value of a counter at a key in the state after a call, at most 8 * 10^37 in size.
-pub fn count_after_call<R: Readings>(spec: &Spec, world: &World, at: &R, call: &Call, counter: u8, key: &[u32]) -> i128
+pub fn count_after_call<R: Readings>(
+    spec: &Spec,
+    world: &World,
+    at: &R,
+    call: &Call,
+    counter: u8,
+    key: &[u32],
+) -> i128
     requires world { world_fits spec.now world.now ≡ true }
     requires call { call_fits spec.now world.now call.now ≡ true }
     ensures { result ≡ (after spec.now world.now call.now (R.reads at.now)).count counter key.now }

@@ -1,0 +1,174 @@
+// The state after a call, as a state.
+//
+// A copy of the old state gets the new readings of what the updates reach. Only where a value is out of range are all counters
+// gone through, for the first one that is.
+
+ghost use Rattle.std.specs.Prelude.{◌≡◌, ◌≢◌, ◌+◌, ◌≤◌, ℕ, ℤ, List, ◌∷◌, true, map, length, suc, nat_le, IfOk, OnOk, Err, Some, None};
+ghost use Rattle.std.specs.List.{list_all};
+ghost use Rattle.spec_core.specs.Specification.{op_of};
+ghost use Rattle.spec_core.specs.World.{tuples};
+ghost use Rattle.spec_core.specs.State.{reads};
+ghost use Rattle.spec_core.specs.Fits.{world_fits, call_fits, is_state};
+ghost use Rattle.effectors.specs.Effect.{count_after, numbered, after_call, after, Beyond, first_beyond};
+ghost use Rattle.effectors.specs.Outside.{outside_or};
+ghost use Rattle.effectors.specs.Refusal.{refused_by};
+
+use crate::matching::all_before;
+use crate::outside::Outside;
+use crate::readings::{count_updated, updates_of};
+use crate::writing::{in_range, write_updates};
+use items::Items;
+use spec_core::{Call, Counter, Spec, State, World};
+use std::alloc::{AllocError, Global};
+
+/// Why a call isn't applied.
+#[derive(Drop)]
+pub enum ApplyRefused {
+    /// A value is beyond -10^15 to 10^15: that of the first such counter at its least such key.
+    Range {
+        counter: u8,
+        key: Items<u32>,
+        value: i128,
+    },
+    /// There was no memory for the new state.
+    Memory,
+}
+
+impl From<AllocError> for ApplyRefused {
+    ghost use Rattle.std.specs.Prelude.{◌≡◌};
+    ghost use Rattle.effectors.specs.declared.applying.ApplyRefused.TheVariants.{Memory};
+
+    ghost from_gives = { λ e r. r ≡ Memory };
+
+    fn from(_: AllocError) -> Self {
+        ApplyRefused::Memory
+    }
+}
+
+// Every list of elements of these sorts, rising.
+fn tuples(alloc: Global, world: &World, sorts: &[u8]) -> Result<Items<Items<u32>>, AllocError>
+    ensures { IfOk result (λ list. list ≡ tuples world.now sorts.now) }
+{
+    match sorts {
+        [] => {
+            let mut list = Items::new(alloc);
+            list.push(Items::new(alloc))?;
+            Ok(list)
+        }
+        [sort, sorts @ ..] => {
+            let rest = tuples(alloc, world, sorts)?;
+            all_before(alloc, world.size(*sort), rest.as_slice())
+        }
+    }
+}
+
+// The first of these keys at which the new value of a counter is out of range.
+fn first_outside_in(
+    alloc: Global,
+    spec: &Spec,
+    world: &World,
+    state: &State,
+    call: &Call,
+    counter: u8,
+    keys: &[Items<u32>],
+) -> Result<Option<Outside>, AllocError>
+    requires world { world_fits spec.now world.now ≡ true }
+    requires call { call_fits spec.now world.now call.now ≡ true }
+    ensures { IfOk result (λ o. (rest : List (List (List ℕ × ℤ))) → first_beyond counter (map (λ t. (t, count_after world.now (reads state.now) call.now.args counter t (op_of spec.now call.now.op).updates ((reads state.now).count counter t))) keys.now ∷ rest) ≡ outside_or counter o (first_beyond (suc counter) rest)) }
+{
+    for key in keys {
+        let value = count_updated(spec, world, state, call, counter, key.as_slice());
+        if !in_range(value) {
+            let key = Items::from_slice(alloc, key.as_slice())?;
+            return Ok(Some(Outside { key, value }));
+        }
+    }
+    Ok(None)
+}
+
+// The first of these counters, numbered on from one, that has a new value out of range.
+fn first_outside(
+    alloc: Global,
+    spec: &Spec,
+    world: &World,
+    state: &State,
+    call: &Call,
+    counter: u8,
+    counters: &[Counter],
+) -> Result<Option<ApplyRefused>, AllocError>
+    requires world { world_fits spec.now world.now ≡ true }
+    requires call { call_fits spec.now world.now call.now ≡ true }
+    requires few { counter + length counters.now ≤ 8 }
+    ensures { IfOk result (λ o. refused_by o (first_beyond counter (numbered (λ k it. map (λ t. (t, count_after world.now (reads state.now) call.now.args k t (op_of spec.now call.now.op).updates ((reads state.now).count k t))) (tuples world.now it.keys)) counter counters.now))) }
+{
+    match counters {
+        [] => Ok(None),
+        [it, counters @ ..] => {
+            let keys = tuples(alloc, world, it.keys.as_slice())?;
+            match first_outside_in(alloc, spec, world, state, call, counter, keys.as_slice())? {
+                Some(Outside { key, value }) => Ok(Some(ApplyRefused::Range {
+                    counter,
+                    key,
+                    value,
+                })),
+                None => first_outside(alloc, spec, world, state, call, counter + 1, counters),
+            }
+        }
+    }
+}
+
+// Why no state comes after a call that leaves a value out of range.
+fn why_refused(
+    alloc: Global,
+    spec: &Spec,
+    world: &World,
+    state: &State,
+    call: &Call,
+) -> ApplyRefused
+    requires world { world_fits spec.now world.now ≡ true }
+    requires call { call_fits spec.now world.now call.now ≡ true }
+    requires outside { first_beyond 0 (after_call spec.now world.now call.now (reads state.now)).counters ≢ None }
+    ensures { (b : Beyond) → result ≡ ApplyRefused.Range b.counter b.key b.value → first_beyond 0 (after_call spec.now world.now call.now (reads state.now)).counters ≡ Some b }
+{
+    spec.well_formed();
+    match first_outside(alloc, spec, world, state, call, 0, spec.counters.as_slice()) {
+        Ok(Some(refused)) => refused,
+        Ok(None) => unreachable!(),
+        Err(_) => ApplyRefused::Memory,
+    }
+}
+
+/// The state after a call. The old one stays. It is refused as `Range` exactly where a value that the call leaves is beyond
+/// -10^15 to 10^15, with the first such counter, its least such key and the value there.
+pub fn apply(
+    alloc: Global,
+    spec: &Spec,
+    world: &World,
+    state: &State,
+    call: &Call,
+) -> Result<State, ApplyRefused>
+    requires world { world_fits spec.now world.now ≡ true }
+    requires state { is_state spec.now world.now state.now ≡ true }
+    requires call { call_fits spec.now world.now call.now ≡ true }
+    ensures reads { IfOk result (λ s. reads s ≡ after spec.now world.now call.now (reads state.now)) }
+    ensures fits { IfOk result (λ s. is_state spec.now world.now s ≡ true) }
+    ensures in_range { OnOk result (first_beyond 0 (after_call spec.now world.now call.now (reads state.now)).counters ≡ None) }
+    ensures range { (b : Beyond) → result ≡ Err (ApplyRefused.Range b.counter b.key b.value) → first_beyond 0 (after_call spec.now world.now call.now (reads state.now)).counters ≡ Some b }
+{
+    spec.well_formed();
+    state.stays_in_range();
+    let mut new = state.copy()?;
+    if write_updates(
+        alloc,
+        spec,
+        world,
+        state,
+        call,
+        &mut new,
+        updates_of(spec, call.op),
+    )? {
+        Ok(new)
+    } else {
+        Err(why_refused(alloc, spec, world, state, call))
+    }
+}
