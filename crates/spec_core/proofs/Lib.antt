@@ -5,3 +5,4 @@ pub mod Choosing
 pub mod Fitting
 pub mod Entries
 pub mod States
+pub mod Sameness

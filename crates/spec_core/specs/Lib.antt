@@ -13,3 +13,4 @@ pub mod Typed
 pub mod Sizes
 pub mod Choices
 pub mod Starting
+pub mod Same

@@ -6,6 +6,8 @@ ghost use Rattle.std.specs.Prelude.{◌≡◌, [], OnOk, OnErr, IfOk, List, ℕ,
 ghost use Rattle.std.specs.Str.{bytes_eq};
 ghost use Rattle.std.specs.List.{list_all};
 ghost use Rattle.spec_core.specs.State.{is_in, count_in, is_rising, listed_keys};
+ghost use Rattle.spec_core.specs.Truth.{int_eq};
+ghost use Rattle.spec_core.specs.Same.{agrees_at_keys};
 ghost use Rattle.spec_core.specs.Fits.{fits_places, in_state_range, is_counts};
 
 use crate::world::World;
@@ -39,6 +41,12 @@ fn all_tuples_fit(tuples: &BTreeSet<Vec<u32>>, world: &World, places: &[u8]) -> 
         .all(|tuple| world.has_tuple(places, tuple.as_slice()))
 }
 
+fn all_within(tuples: &BTreeSet<Vec<u32>>, other: &Tuples) -> bool
+    ensures { result ≡ list_all (λ k. is_in k.items other.now) tuples.now.keys }
+{
+    tuples.iter().all(|tuple| other.has(tuple.as_slice()))
+}
+
 impl Tuples {
     /// No tuple.
     pub fn new(alloc: Global) -> Self
@@ -55,6 +63,13 @@ impl Tuples {
         ensures { result ≡ is_in tuple.now self.now }
     {
         self.keys.contains(tuple)
+    }
+
+    /// Whether the other set lists all these tuples.
+    pub fn is_within(&self, other: &Tuples) -> bool
+        ensures { result ≡ list_all (λ t. is_in t other.now) self.now }
+    {
+        all_within(&self.keys, other)
     }
 
     /// Whether all tuples hold elements of these sorts.
@@ -140,6 +155,26 @@ fn all_keys_fit(entries: &BTreeMap<Vec<u32>, i64>, world: &World, sorts: &[u8]) 
         .all(|key| world.has_tuple(sorts, key.as_slice()))
 }
 
+fn is_same(a: i64, b: i64) -> bool
+    ensures { result ≡ int_eq a b }
+{
+    a == b
+}
+
+fn have_one_value(one: &Counts, other: &Counts, key: &[u32]) -> bool
+    ensures { result ≡ int_eq (count_in one.now key.now) (count_in other.now key.now) }
+{
+    is_same(one.count(key), other.count(key))
+}
+
+fn all_agree(entries: &BTreeMap<Vec<u32>, i64>, one: &Counts, other: &Counts) -> bool
+    ensures { result ≡ list_all (λ k. int_eq (count_in one.now k.items) (count_in other.now k.items)) (map (λ e. e.0) entries.now.entries) }
+{
+    entries
+        .keys()
+        .all(|key| have_one_value(one, other, key.as_slice()))
+}
+
 impl Counts {
     /// No key.
     pub fn new(alloc: Global) -> Self
@@ -156,6 +191,13 @@ impl Counts {
         ensures { result ≡ count_in self.now key.now }
     {
         self.entries.get(key).copied().unwrap_or(0)
+    }
+
+    /// Whether both have one value at each of these keys.
+    pub fn agrees(&self, other: &Counts) -> bool
+        ensures { result ≡ agrees_at_keys self.now other.now }
+    {
+        all_agree(&self.entries, self, other)
     }
 
     /// Whether all keys hold elements of these sorts.

@@ -2,11 +2,12 @@
 //
 // A state has one list for each relation and each counter. What isn't listed reads false or 0.
 
-ghost use Rattle.std.specs.Prelude.{◌≡◌, ℕ, ◌<◌, ◌≤◌, ◌^◌, unsigned_abs, List, true, length, [], OnOk, OnErr, IfOk};
+ghost use Rattle.std.specs.Prelude.{◌≡◌, ℕ, ◌<◌, ◌≤◌, ◌^◌, unsigned_abs, List, true, length, [], OnOk, OnErr, IfOk, IsTrue, ◌↔◌};
 ghost use Rattle.std.specs.Prelude.{replicate};
 ghost use Rattle.spec_core.specs.declared.world.World.{World};
 ghost use Rattle.spec_core.specs.Specification.{Specification, relation_places, counter_keys};
 ghost use Rattle.spec_core.specs.State.{reads, nothing, with_has, with_count};
+ghost use Rattle.spec_core.specs.Same.{lists_within, values_agree, same_listing};
 ghost use Rattle.spec_core.specs.Meaning.{initial};
 ghost use Rattle.spec_core.specs.Fits.{in_state_range, fits_places, lists_fit, values_fit, is_state, world_fits};
 
@@ -104,7 +105,51 @@ fn counts_fit(world: &World, counters: &[Counter], lists: &[Counts]) -> bool
     }
 }
 
+fn tuples_within(lists: &[Tuples], others: &[Tuples], none: &Tuples) -> bool
+    requires { none.now ≡ [] }
+    ensures { result ≡ lists_within lists.now others.now }
+{
+    match lists {
+        [] => true,
+        [list, lists @ ..] => match others {
+            [] => list.is_within(none) && tuples_within(lists, &[], none),
+            [other, others @ ..] => list.is_within(other) && tuples_within(lists, others, none),
+        },
+    }
+}
+
+fn counts_agree(lists: &[Counts], others: &[Counts], none: &Counts) -> bool
+    requires { none.now ≡ [] }
+    ensures { result ≡ values_agree lists.now others.now }
+{
+    match lists {
+        [] => true,
+        [list, lists @ ..] => match others {
+            [] => list.agrees(none) && counts_agree(lists, &[], none),
+            [other, others @ ..] => list.agrees(other) && counts_agree(lists, others, none),
+        },
+    }
+}
+
 impl State {
+    /// Whether all readings agree.
+    pub fn same(&self, other: &State) -> bool
+        ensures { IsTrue result ↔ (reads self.now ≡ reads other.now) }
+    {
+        self.lists_same(other)
+    }
+
+    fn lists_same(&self, other: &State) -> bool
+        ensures { result ≡ same_listing self.now other.now }
+    {
+        let no_tuples = Tuples::new(self.alloc);
+        let no_counts = Counts::new(self.alloc);
+        tuples_within(&self.relations, &other.relations, &no_tuples)
+            && tuples_within(&other.relations, &self.relations, &no_tuples)
+            && counts_agree(&self.counters, &other.counters, &no_counts)
+            && counts_agree(&other.counters, &self.counters, &no_counts)
+    }
+
     /// Whether there is one list for each relation and each counter, of tuples and keys that hold elements of the world.
     pub fn fits(&self, spec: &Spec, world: &World) -> bool
         ensures { result ≡ is_state spec.now world.now self.now }
