@@ -1,6 +1,10 @@
-use Rattle.std.proofs.Common.{◌≡◌, ℕ, zero, suc, ◌<◌, Bool, true, List, [], ◌∷◌, ◌++◌, length, get_or, drop, drop-cons, refl, sym, ◌∙◌, ap, arith, append_assoc, Option, Some, None, Ok, Err}
+use Rattle.std.proofs.Common.{◌≡◌, ℕ, zero, suc, ◌<◌, Bool, ◌&&◌, true, List, [], ◌∷◌, ◌++◌, length, get_or, drop, drop-cons, refl, sym, ◌∙◌, ap, arith, append_assoc, Option, Some, None, Ok, Err}
 use Rattle.std.specs.List.{list_all}
 use Rattle.std.specs.Option.{option_map}
+use Rattle.std.specs.Prelude.{nat_eq}
+use Rattle.std.specs.Ordering.{int_eq}
+use Rattle.std.proofs.lemmas.Bool.Decides.{Decides-int_eq, Decides-eqb}
+use Rattle.lin_rows.specs.declared.term.RowTerm.{RowTerm}
 use Rattle.lin_rows.specs.Rows.{Row}
 use Rattle.lin_rows.specs.Divisors.{tightened}
 use Rattle.proof_kernel.specs.declared.clause.Lit.{Lit}
@@ -10,8 +14,10 @@ use Rattle.proof_kernel.specs.declared.line.LineRefused.TheVariants.{Bad, Memory
 use Rattle.proof_kernel.specs.declared.line.Why.{Why}
 use Rattle.proof_kernel.specs.declared.line.Why.TheVariants.{Range}
 use Rattle.proof_kernel.specs.Steps.{or_broken, with_row, lit_row, lit_rows}
+use Rattle.proof_kernel.specs.Evidence.{same_terms, same_row}
 use Rattle.proof_kernel.specs.Answers.{IsTold}
 use Rattle.proof_kernel.proofs.Sets.{both}
+use Rattle.proof_kernel.proofs.States.{and_true}
 
 pub all_at : {X : Type 0} (p : X → Bool) (xs : List X) (i : ℕ) (d : X) → i < length xs → list_all p xs ≡ true → p (get_or xs i d) ≡ true
 all_at p [] i d lt h = absurd (omega arith)
@@ -46,3 +52,32 @@ pub told-stop : {A B : Type 0} (o : Option A) (q : Option B) (e : LineRefused) �
 told-stop o q Memory t h = tt
 told-stop (Some a) q (Bad w) t h = absurd cc
 told-stop None q (Bad w) t h = lift_err t (h refl)
+
+-- equal rows
+same_terms-refl : (ts : List RowTerm) → same_terms ts ts ≡ true
+same_terms-refl [] = refl
+same_terms-refl (t ∷ ts) =
+    and_true (nat_eq t.place t.place) (int_eq t.coef t.coef && same_terms ts ts) ((Decides-eqb t.place t.place).1 refl)
+    (and_true (int_eq t.coef t.coef) (same_terms ts ts) ((Decides-int_eq t.coef t.coef).1 refl) (same_terms-refl ts))
+
+same_terms-is : (ts us : List RowTerm) → same_terms ts us ≡ true → ts ≡ us
+same_terms-is [] [] h = refl
+same_terms-is [] (u ∷ us) h = absurd cc
+same_terms-is (t ∷ ts) [] h = absurd cc
+same_terms-is (t ∷ ts) (u ∷ us) h =
+    let p = both (nat_eq t.place u.place) (int_eq t.coef u.coef && same_terms ts us) h in
+    let q = both (int_eq t.coef u.coef) (same_terms ts us) p.1 in
+    let e = (Decides-eqb t.place u.place).0 p.0 in
+    let f = (Decides-int_eq t.coef u.coef).0 q.0 in
+    let g = same_terms-is ts us q.1 in
+    λ i. record { place = e i; coef = f i } ∷ g i
+
+pub same_row-refl : (r : Row) → same_row r r ≡ true
+same_row-refl r = and_true (int_eq r.bound r.bound) (same_terms r.terms r.terms) ((Decides-int_eq r.bound r.bound).1 refl) (same_terms-refl r.terms)
+
+pub same_row-is : (r q : Row) → same_row r q ≡ true → r ≡ q
+same_row-is r q h =
+    let p = both (int_eq r.bound q.bound) (same_terms r.terms q.terms) h in
+    let e = (Decides-int_eq r.bound q.bound).0 p.0 in
+    let f = same_terms-is r.terms q.terms p.1 in
+    λ i. record { terms = f i; bound = e i }

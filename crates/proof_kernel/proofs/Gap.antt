@@ -1,5 +1,5 @@
 use Rattle.std.proofs.Common.{◌≡◌, ℕ, zero, suc, ◌+◌, ◌-◌, ◌*◌, ◌/◌, ◌%◌, ◌<◌, ◌≤◌, Bool, true, false, not, ◌&&◌, refl, sym, ◌∙◌, ap, arith}
-use Rattle.std.specs.Prelude.{◌^◌, IsTrue, nat_lt, nat_eq, ℤ, pos, negsuc, ◌+ℤ◌, ◌-ℤ◌, ◌*ℤ◌, ◌<ℤ◌, ◌≤ℤ◌, int_lt, unsigned_abs, neg_ℤ}
+use Rattle.std.specs.Prelude.{◌^◌, IsTrue, nat_lt, nat_le, nat_eq, ℤ, pos, negsuc, ◌+ℤ◌, ◌-ℤ◌, ◌*ℤ◌, ◌<ℤ◌, ◌≤ℤ◌, int_lt, unsigned_abs, neg_ℤ}
 use Rattle.std.proofs.lemmas.Int.{ints}
 use Rattle.std.proofs.Math.Nat.{div-add-mod', mod-lt, mul-le-mul_left, mul_comm}
 use Rattle.std.proofs.lemmas.Bool.Decides.{nat_tests}
@@ -224,3 +224,47 @@ gap_fits at more less b h g m l =
 pub gap_told : (t : Bool) (at more less : ℤ) (b : ℕ) → 0 < b → t ≡ is_in_gap at (more -ℤ less) (pos b) → IsTrue t → in_range more ≡ true → in_range less ≡ true → in_range at ≡ true
 gap_told true at more less b h e t = gap_fits at more less b h (sym e)
 gap_told false at more less b h e t = absurd cc
+
+-- a fraction above a limit
+le_is : (a b : ℕ) → nat_le a b ≡ true → a ≤ b
+le_is a b h = grind (arith, nat_tests)
+
+is_le : (a b : ℕ) → a ≤ b → nat_le a b ≡ true
+is_le a b h = grind (arith, nat_tests)
+
+over : (l g b : ℕ) → 0 < b → 0 < g → nat_le l ((g - 1) / b) ≡ nat_lt (l * b) g
+over l g b h p = test_eq (nat_le l ((g - 1) / b)) (nat_lt (l * b) g) there back
+  where
+    is : (g - 1) / b * b + (g - 1) % b ≡ g - 1
+    is = div-add-mod' (g - 1) b
+
+    small : (g - 1) % b < b
+    small = mod-lt (g - 1) h
+
+    there : nat_le l ((g - 1) / b) ≡ true → nat_lt (l * b) g ≡ true
+    there t =
+        let m : b * l ≤ b * ((g - 1) / b) = mul-le-mul_left b (le_is l ((g - 1) / b) t) in
+        let c = mul_comm b l in
+        let d = mul_comm b ((g - 1) / b) in
+        is_lt (l * b) g (omega (arith, m, c, d, is, p))
+
+    back : nat_lt (l * b) g ≡ true → nat_le l ((g - 1) / b) ≡ true
+    back t =
+        let u = lt_is (l * b) g t in
+        let not_below : ((g - 1) / b < l → ⊥) = λ (q : (g - 1) / b < l). (let m = times_up ((g - 1) / b) l b q in omega (arith, m, u, is, small)) in
+        is_le l ((g - 1) / b) (omega (arith, not_below))
+
+over_is : (l : ℕ) (n : ℤ) (b : ℕ) → 0 < b → pos 0 <ℤ n → nat_le l ((unsigned_abs n - 1) / b) ≡ int_lt (pos (l * b)) n
+over_is l (pos g) b h p = over l g b h (omega (arith, ints, p))
+over_is l (negsuc g) b h p = absurd (omega (arith, ints, p))
+
+pub over_so : (l : ℕ) (more less : ℤ) (b g : ℕ) → 0 < b → int_lt less more ≡ true → g ≡ unsigned_abs (more -ℤ less) → nat_le l ((g - 1) / b) ≡ int_lt (pos (l * b)) (more -ℤ less)
+over_so l more less b g h p e = ap (λ (n : ℕ). nat_le l ((n - 1) / b)) e ∙ over_is l (more -ℤ less) b h (above more less p)
+
+pub under_so : (l : ℕ) (more less : ℤ) (b : ℕ) → int_lt less more ≡ false → false ≡ int_lt (pos (l * b)) (more -ℤ less)
+under_so l more less b p = below (more -ℤ less) (not_above more less p)
+  where
+    below : (n : ℤ) → n ≤ℤ pos 0 → false ≡ int_lt (pos (l * b)) n
+    below (pos zero) q = sym (not_lt (l * b) 0 (omega arith))
+    below (pos (suc g)) q = absurd (omega (arith, ints, q))
+    below (negsuc g) q = refl

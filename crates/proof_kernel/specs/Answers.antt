@@ -18,10 +18,11 @@ abbrev pub IsTold : {A : Type 0} → LineRefused → Result A Why → Type 0
 IsTold (Bad w) given = given ≡ Err w
 IsTold Memory given = Unit {0}
 
--- a call answers what the rules give, or the first broken one
-abbrev pub Gives : {A B : Type 0} → (B → A) → Result B LineRefused → Result A Why → Type 0
-Gives seen (Ok b) given = given ≡ Ok (seen b)
-Gives seen (Err e) given = IsTold e given
+-- a refusal of a log names the first line that breaks a rule, with that rule
+abbrev pub IsRunTold : KernelRefused → Result State (ℕ × Why) → Type 0
+IsRunTold (BadLine k w) given = given ≡ Err (k, w)
+IsRunTold NoEmptyClause given = ⊥
+IsRunTold NoMemory given = Unit {0}
 
 -- an answer to a whole log: accepted where an empty clause stands, the first bad line, or no empty clause
 abbrev pub IsJudged : List Line → Result State (ℕ × Why) → Result Checked KernelRefused → Type 0

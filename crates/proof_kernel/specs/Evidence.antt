@@ -27,7 +27,7 @@ each_new earlier (c ∷ cs) = is_new earlier c && each_new (earlier ++ c ∷ [])
 
 -- no line dropped a clause, and the clause of each line is new among the problem's clauses and those of earlier lines
 abbrev pub is_fresh : State → Bool
-is_fresh s = list_all (λ o. is_some o) s.slots && each_new (take s.given (live_of s.slots)) (drop s.given (live_of s.slots))
+is_fresh s = list_all (λ o. is_some o) s.slots && each_new (live_of (take s.given s.slots)) (live_of (drop s.given s.slots))
 
 -- ROWS AND STEPS OF EVIDENCE.
 
@@ -38,8 +38,11 @@ cancels_at l r s place =
     (is_positive (coefficient_at l.terms place) && is_negative (coefficient_at r.terms place))
     && (int_eq s.first (first_factor l r place) && int_eq s.second (second_factor l r place))
 
+abbrev pub cancels_some : Row → Row → RowStep → Bool
+cancels_some l r s = list_any (λ t. cancels_at l r s t.place) l.terms
+
 abbrev pub cancels : List Row → RowStep → Bool
-cancels rows s = list_any (λ t. cancels_at (row_at rows s.left) (row_at rows s.right) s t.place) (row_at rows s.left).terms
+cancels rows s = (nat_lt s.left (length rows) && nat_lt s.right (length rows)) && cancels_some (row_at rows s.left) (row_at rows s.right) s
 
 -- each step cancels some place
 abbrev pub all_cancel : List Row → List RowStep → Bool
@@ -90,14 +93,16 @@ abbrev pub leaves_state : Row → ℕ → Option ℤ → Bool
 leaves_state r place (Some rest) = int_lt (pos (10 ^ 15) *ℤ size_at r place) (rest -ℤ r.bound)
 leaves_state r place None = false
 
+abbrev pub product_leaves : Row → Row → ℕ → Bool
+product_leaves l r place =
+    (is_positive (coefficient_at l.terms place) && is_negative (coefficient_at r.terms place)) && is_none (cancelled l r place)
+
 -- Product: the left row has a positive coefficient at the place and the right row a negative one, and the least sum that cancels
 -- it leaves the range of a row. Value: no product or partial sum leaves the range of a row, and the row allows no number in the
 -- range of a state. Sum: a product or partial sum leaves the range of a row
 abbrev pub is_beyond : List Row → RangeWhat → Bool
 is_beyond rows (Product left right place) =
-    (nat_lt left (length rows) && nat_lt right (length rows))
-    && ((is_positive (coefficient_at (row_at rows left).terms place) && is_negative (coefficient_at (row_at rows right).terms place))
-    && is_none (cancelled (row_at rows left) (row_at rows right) place))
+    (nat_lt left (length rows) && nat_lt right (length rows)) && product_leaves (row_at rows left) (row_at rows right) place
 is_beyond rows (Value i place values) = values_fit rows i place values && leaves_state (row_at rows i) place (rest_with (row_at rows i) place values)
 is_beyond rows (Sum i place values) = values_fit rows i place values && is_none (rest_with (row_at rows i) place values)
 

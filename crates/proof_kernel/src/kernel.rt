@@ -5,10 +5,12 @@ ghost use Rattle.lin_rows.specs.Rows.{is_row, places_below};
 ghost use Rattle.proof_kernel.specs.Clauses.{is_empty};
 ghost use Rattle.proof_kernel.specs.Problems.{Meaning, makes_true, atoms_below};
 ghost use Rattle.proof_kernel.specs.Rules.{State, StateFits, start, grown, live_of, live_clause, is_live, resolved, combined, split, split_after, named, dropped, are_different, cleared, stands_in, next, holds};
+ghost use Rattle.proof_kernel.specs.Evidence.{is_fresh, rows_hold, range_holds};
 ghost use Rattle.proof_kernel.specs.Answers.{IsTold};
 
-use crate::clause::{Clause, Lit};
-use crate::line::{Line, LineRefused, RowStep, Why};
+use crate::clause::{Clause, Lit, holds_both_ways};
+use crate::evidence::{all_cancel, all_different, each_new, is_beyond, none_dropped};
+use crate::line::{Line, LineRefused, RangeWhat, RowStep, Why};
 use crate::problem::{AtomKind, Problem, law_rows};
 use crate::splitting::{at_most, is_named, names_of_two, split_cause};
 use crate::steps::{ends_badly, line_rows};
@@ -182,6 +184,52 @@ impl Kernel {
         ensures sound { IsTrue result → (m : Meaning) → holds m self.now ≡ true → ⊥ }
     {
         self.empty
+    }
+
+    /// Whether the log is fresh: no line dropped a clause, and the clause of each line is new among those before it.
+    pub fn all_fresh(&self) -> bool
+        ensures { result ≡ is_fresh self.now }
+    {
+        none_dropped(self.slots.as_slice()) && each_new(self.slots.as_slice(), self.given as usize)
+    }
+
+    /// Whether the used literals and the steps give too many rows: 10,000 different ones, each step cancelling a place.
+    pub fn rows_hold(&self, used: &[Lit], steps: &[RowStep]) -> Result<bool, AllocError>
+        ensures { IfOk result (λ b. b ≡ rows_hold self.now used.now steps.now) }
+    {
+        if used.len() + steps.len() != 10_000 || holds_both_ways(used) {
+            return Ok(false);
+        }
+        match line_rows(self.alloc, self.atoms.as_slice(), used, steps) {
+            Ok(rows) => Ok(all_different(rows.as_slice()) && all_cancel(rows.as_slice(), steps)),
+            Err(LineRefused::Bad(_)) => Ok(false),
+            Err(LineRefused::Memory) => Err(AllocError),
+        }
+    }
+
+    /// Whether the used literals and the steps, each cancelling a place, give a number beyond the range where `what` says.
+    pub fn range_holds(
+        &self,
+        used: &[Lit],
+        steps: &[RowStep],
+        what: &RangeWhat,
+    ) -> Result<bool, AllocError>
+        ensures { IfOk result (λ b. b ≡ range_holds self.now used.now steps.now what.now) }
+    {
+        if holds_both_ways(used) {
+            return Ok(false);
+        }
+        match line_rows(self.alloc, self.atoms.as_slice(), used, steps) {
+            Ok(rows) => {
+                if all_cancel(rows.as_slice(), steps) {
+                    is_beyond(self.alloc, rows.as_slice(), what)
+                } else {
+                    Ok(false)
+                }
+            }
+            Err(LineRefused::Bad(_)) => Ok(false),
+            Err(LineRefused::Memory) => Err(AllocError),
+        }
     }
 
     fn is_live(&self, number: u32) -> bool

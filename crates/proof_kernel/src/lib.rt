@@ -11,8 +11,10 @@
 #![tactic(auto)]
 
 pub mod clause;
+pub mod evidence;
 pub mod kernel;
 pub mod line;
+pub mod log;
 pub mod problem;
 pub mod splitting;
 pub mod steps;
@@ -22,4 +24,5 @@ pub use kernel::Kernel;
 pub use line::{
     Checked, KernelRefused, Line, LineRefused, RangeEvidence, RangeWhat, RowStep, RowsEvidence, Why,
 };
+pub use log::{check_lines, check_log, check_range, check_rows};
 pub use problem::{AtomKind, Interpretation, Problem};
