@@ -14,3 +14,4 @@ pub mod Sizes
 pub mod Choices
 pub mod Starting
 pub mod Same
+pub mod StateText

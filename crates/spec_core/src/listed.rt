@@ -2,14 +2,16 @@
 //
 // Both are ordered maps, so a reading is a look-up, and going through them gives tuples and keys in rising order.
 
-ghost use Rattle.std.specs.Prelude.{◌≡◌, [], OnOk, OnErr, IfOk, List, ℕ, ◌||◌, cond, true, false, map};
+ghost use Rattle.std.specs.Prelude.{◌≡◌, [], OnOk, OnErr, IfOk, List, ℕ, ◌++◌, ◌||◌, cond, true, false, map};
 ghost use Rattle.std.specs.Str.{bytes_eq};
-ghost use Rattle.std.specs.List.{list_all};
+ghost use Rattle.std.specs.List.{list_all, flat_map};
 ghost use Rattle.spec_core.specs.State.{is_in, count_in, is_rising, listed_keys};
 ghost use Rattle.spec_core.specs.Truth.{int_eq};
+ghost use Rattle.spec_core.specs.StateText.{true_line, count_line};
 ghost use Rattle.spec_core.specs.Same.{agrees_at_keys};
 ghost use Rattle.spec_core.specs.Fits.{fits_places, in_state_range, is_counts};
 
+use crate::lines::{write_tuples, write_values};
 use crate::world::World;
 use std::alloc::{AllocError, Global};
 use std::collections::{BTreeMap, BTreeSet};
@@ -77,6 +79,13 @@ impl Tuples {
         ensures { result ≡ list_all (λ t. fits_places world.now places.now t) self.now }
     {
         all_tuples_fit(&self.keys, world, places)
+    }
+
+    /// Appends a line for each tuple.
+    pub fn write(&self, alloc: Global, name: &[u8], out: &mut Vec<u8>) -> Result<(), AllocError>
+        ensures { OnOk result (out.new.items ≡ out.old.items ++ flat_map (true_line name.now) self.now) }
+    {
+        write_tuples(alloc, name, &self.keys, out)
     }
 
     /// A fact for proofs: the tuples rise.
@@ -205,6 +214,13 @@ impl Counts {
         ensures { result ≡ list_all (λ e. fits_places world.now sorts.now e.0) self.now }
     {
         all_keys_fit(&self.entries, world, sorts)
+    }
+
+    /// Appends a line for each key whose value isn't 0.
+    pub fn write(&self, alloc: Global, name: &[u8], out: &mut Vec<u8>) -> Result<(), AllocError>
+        ensures { OnOk result (out.new.items ≡ out.old.items ++ flat_map (count_line name.now) self.now) }
+    {
+        write_values(alloc, name, &self.entries, out)
     }
 
     /// A fact for proofs: the keys rise, and the values are in range.

@@ -2,14 +2,15 @@
 //
 // A state has one list for each relation and each counter. What isn't listed reads false or 0.
 
-ghost use Rattle.std.specs.Prelude.{◌≡◌, ℕ, ◌<◌, ◌≤◌, ◌^◌, unsigned_abs, List, true, length, [], OnOk, OnErr, IfOk, IsTrue, ◌↔◌};
+ghost use Rattle.std.specs.Prelude.{◌≡◌, ℕ, ◌<◌, ◌≤◌, ◌^◌, unsigned_abs, List, true, length, ◌++◌, [], OnOk, OnErr, IfOk, IsTrue, ◌↔◌};
 ghost use Rattle.std.specs.Prelude.{replicate};
 ghost use Rattle.spec_core.specs.declared.world.World.{World};
 ghost use Rattle.spec_core.specs.Specification.{Specification, relation_places, counter_keys};
 ghost use Rattle.spec_core.specs.State.{reads, nothing, with_has, with_count};
+ghost use Rattle.spec_core.specs.StateText.{true_lines, count_lines, state_text};
 ghost use Rattle.spec_core.specs.Same.{lists_within, values_agree, same_listing};
 ghost use Rattle.spec_core.specs.Meaning.{initial};
-ghost use Rattle.spec_core.specs.Fits.{in_state_range, fits_places, lists_fit, values_fit, is_state, world_fits};
+ghost use Rattle.spec_core.specs.Fits.{in_state_range, fits_places, lists_fit, values_fit, is_state, is_listing, world_fits};
 
 use crate::initial::{first_counters, first_relations};
 use crate::listed::{Counts, Tuples};
@@ -129,6 +130,72 @@ fn counts_agree(lists: &[Counts], others: &[Counts], none: &Counts) -> bool
             [other, others @ ..] => list.agrees(other) && counts_agree(lists, others, none),
         },
     }
+}
+
+fn write_relations(
+    alloc: Global,
+    relations: &[Relation],
+    lists: &[Tuples],
+    out: &mut Vec<u8>,
+) -> Result<(), AllocError>
+    ensures { OnOk result (out.new.items ≡ out.old.items ++ true_lines relations.now lists.now) }
+{
+    match relations {
+        [] => Ok(()),
+        [relation, relations @ ..] => match lists {
+            [] => Ok(()),
+            [list, lists @ ..] => {
+                list.write(alloc, relation.name.bytes(), out)?;
+                write_relations(alloc, relations, lists, out)?;
+                Ok(())
+            }
+        },
+    }
+}
+
+fn write_counters(
+    alloc: Global,
+    counters: &[Counter],
+    lists: &[Counts],
+    out: &mut Vec<u8>,
+) -> Result<(), AllocError>
+    ensures { OnOk result (out.new.items ≡ out.old.items ++ count_lines counters.now lists.now) }
+{
+    match counters {
+        [] => Ok(()),
+        [counter, counters @ ..] => match lists {
+            [] => Ok(()),
+            [list, lists @ ..] => {
+                list.write(alloc, counter.name.bytes(), out)?;
+                write_counters(alloc, counters, lists, out)?;
+                Ok(())
+            }
+        },
+    }
+}
+
+/// Appends the `true` and `count` lines of a state: by relation and rising tuple, then by counter and rising key, without
+/// values of 0. A refusal appends nothing.
+pub fn write_state(
+    alloc: Global,
+    spec: &Spec,
+    state: &State,
+    out: &mut Vec<u8>,
+) -> Result<(), AllocError>
+    ensures ok { OnOk result (out.new.items ≡ out.old.items ++ state_text spec.now state.now) }
+    ensures rising { is_listing state.now ≡ true }
+    ensures err { OnErr result (out.new.items ≡ out.old.items) }
+{
+    let mut text = Vec::new(alloc);
+    write_relations(
+        alloc,
+        spec.relations.as_slice(),
+        &state.relations,
+        &mut text,
+    )?;
+    write_counters(alloc, spec.counters.as_slice(), &state.counters, &mut text)?;
+    out.extend_from_slice(&text)?;
+    Ok(())
 }
 
 impl State {
