@@ -1,0 +1,7 @@
+mod Flags
+mod Remaining
+mod Texts
+mod Specifications
+mod Verdicts
+mod Safety
+mod TypedSame

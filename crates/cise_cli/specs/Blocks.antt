@@ -1,0 +1,24 @@
+-- The report of a specification, where each verdict is the right one.
+use Rattle.std.specs.Prelude.{ℕ, Bool, true, false, List, ◌++◌, ◌∷◌, [], codes, map}
+use Rattle.spec_core.specs.declared.spec.Invariant.{Invariant}
+use Rattle.spec_core.specs.Specification.{Specification}
+use Rattle.cise_cli.specs.Report.{Verdict, proved, refuted, is_true_initially, line, verdict_lines, report}
+
+-- the right verdict
+abbrev pub verdict_of : Bool → Verdict
+verdict_of true = proved
+verdict_of false = refuted
+
+abbrev pub right_verdict : Specification → Invariant → Verdict
+right_verdict d i = verdict_of (is_true_initially d i)
+
+abbrev pub right_verdicts : Specification → List Invariant → List Verdict
+right_verdicts d is = map (right_verdict d) is
+
+-- the block of an invariant
+abbrev pub block : Specification → Invariant → List ℕ
+block d i = line (codes "init" ∷ i.name ∷ []) ++ verdict_lines d (right_verdict d i)
+
+-- the report with the right verdicts
+abbrev pub right_report : ℕ → Specification → List ℕ
+right_report budget d = report budget d (right_verdicts d d.invariants)

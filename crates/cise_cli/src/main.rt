@@ -1,0 +1,54 @@
+// The program: `check SPEC` reads a specification, and writes the report of its obligations.
+//
+// `run` is the program but for its edge, for any sources and any sink, and its clauses say what each status means. `words` has
+// the accepted words, `scope` and `typing` what the items of a specification declare, `report` the report's text, `answer` puts
+// them together. The definitions stand in specs/, in this order: Words (which words are accepted), Scope (which specifications
+// are of the first form), Report (verdicts and the text), Answer (which status and text belong to which bytes), Outcome (what
+// was written, and which fault may have stopped it).
+#![tactic(auto)]
+
+mod answer;
+mod report;
+mod run;
+mod scope;
+#[cfg(test)]
+mod tests;
+mod typing;
+mod words;
+
+use byte_ports::{FileSource, StdSink};
+use run::run;
+use std::alloc::{AllocError, Global};
+use std::env::Env;
+use std::process::ExitCode;
+use std::{env, io};
+
+/// The status where the words can't be had from the system.
+const NO_WORDS: u8 = 9;
+
+/// The words behind the program's name.
+fn words_of(rt: &(impl Env + AllocGlobal)) -> io::Result<Vec<String>> {
+    Ok(env::args(rt)?.skip(1).collect(rt.alloc())?)
+}
+
+/// A copy of the word at this place, empty where there is none.
+fn word_at(alloc: Global, words: &[String], place: usize) -> Result<String, AllocError> {
+    match words.get(place) {
+        Some(word) => word.clone(),
+        None => Ok(String::new(alloc)),
+    }
+}
+
+fn main(rt: HostRuntime) -> ExitCode {
+    let alloc = rt.alloc();
+    let Ok(words) = words_of(&rt) else {
+        return ExitCode::from(NO_WORDS);
+    };
+    let (Ok(spec), Ok(extra)) = (word_at(alloc, &words, 1), word_at(alloc, &words, 2)) else {
+        return ExitCode::from(NO_WORDS);
+    };
+    let mut spec = FileSource::new(&rt, spec);
+    let mut extra = FileSource::new(&rt, extra);
+    let mut out = StdSink::new(rt.stdout());
+    ExitCode::from(run(alloc, &words, &mut spec, &mut extra, &mut out))
+}
