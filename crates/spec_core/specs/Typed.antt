@@ -1,5 +1,5 @@
 use Rattle.std.specs.Prelude.{if◌then◌else◌, ℕ, ◌+◌, nat_lt, nat_le, max, count_by, Bool, true, false, not, ◌&&◌, ◌||◌, ◌==◌, List, [], ◌∷◌, ◌++◌, length, map, Option, None, Some, option_map, slice_get}
-use Rattle.std.specs.List.{list_all}
+use Rattle.std.specs.List.{list_all, zip}
 use Rattle.spec_core.specs.declared.formula.Elem.{Elem}
 use Rattle.spec_core.specs.declared.formula.Elem.TheVariants.{Const, Param, Var}
 use Rattle.spec_core.specs.declared.formula.Body.{Body}
@@ -146,13 +146,16 @@ is_kind d Int = true
 abbrev pub is_parameter : Specification → Parameter → Bool
 is_parameter d p = is_kind d p.kind
 
--- each spot is every element of its place, or of the place's sort
+-- a spot is every element of its place, or one of the place's sort
+abbrev pub spot_typed : Specification → List Parameter → ℕ → Spot → Bool
+spot_typed d params s Every = true
+spot_typed d params s (One e) = is_sort (sort_of d params [] e) s
+
 abbrev pub spots_typed : Specification → List Parameter → List ℕ → List Spot → Bool
 spots_typed d params [] [] = true
 spots_typed d params [] (x ∷ xs) = false
 spots_typed d params (s ∷ ss) [] = false
-spots_typed d params (s ∷ ss) (Every ∷ xs) = spots_typed d params ss xs
-spots_typed d params (s ∷ ss) (One e ∷ xs) = is_sort (sort_of d params [] e) s && spots_typed d params ss xs
+spots_typed d params (s ∷ ss) (x ∷ xs) = spot_typed d params s x && spots_typed d params ss xs
 
 -- relations are inserted into and removed from, counters added to and set
 abbrev pub change_typed : Specification → List Parameter → Thing → Change → Bool
@@ -192,11 +195,6 @@ is_counter d c = are_sorts d 2 c.keys && in_literal_range c.initial
 abbrev pub is_token : Specification → Token → Bool
 is_token d t = are_sorts d 3 t.places
 
--- a rule variable at each place, by the sort of the place
-abbrev pub places_of_vars : List ℕ → List ℕ → List (ℕ × ℕ)
-places_of_vars (v ∷ vs) (s ∷ ss) = (v, s) ∷ places_of_vars vs ss
-places_of_vars vs ss = []
-
 abbrev pub is_pattern : Specification → Pattern → Bool
 is_pattern d p = nat_lt p.token (length d.tokens) && (length p.vars == length (token_places d p.token))
 
@@ -204,18 +202,36 @@ is_pattern d p = nat_lt p.token (length d.tokens) && (length p.vars == length (t
 abbrev pub agree_on : List (ℕ × ℕ) → ℕ × ℕ → Bool
 agree_on xs x = list_all (λ y. not (x.0 == y.0) || (x.1 == y.1)) xs
 
+-- the variables of a rule, each with the sort of its place
+abbrev pub sorts_of_vars : Specification → Rule → List (ℕ × ℕ)
+sorts_of_vars d r = zip r.left.vars (token_places d r.left.token) ++ zip r.right.vars (token_places d r.right.token)
+
 abbrev pub is_rule : Specification → Rule → Bool
 is_rule d r = is_pattern d r.left && is_pattern d r.right
-    && (let xs = places_of_vars r.left.vars (token_places d r.left.token) ++ places_of_vars r.right.vars (token_places d r.right.token) in list_all (agree_on xs) xs)
+    && list_all (agree_on (sorts_of_vars d r)) (sorts_of_vars d r)
 
 -- an invariant's prefix is `forall` or missing
 abbrev pub is_invariant : Specification → Invariant → Bool
 is_invariant d i = not (is_exists i.line.prefix) && is_line d [] i.line
 
--- the names that are declared for the whole specification
+-- the names that are declared for the whole specification, those of each kind before those of the later kinds
+abbrev pub names_from_invariants : Specification → List (List ℕ)
+names_from_invariants d = map (λ i. i.name) d.invariants ++ map (λ o. o.name) d.operations
+
+abbrev pub names_from_tokens : Specification → List (List ℕ)
+names_from_tokens d = map (λ t. t.name) d.tokens ++ names_from_invariants d
+
+abbrev pub names_from_counters : Specification → List (List ℕ)
+names_from_counters d = map (λ c. c.name) d.counters ++ names_from_tokens d
+
+abbrev pub names_from_relations : Specification → List (List ℕ)
+names_from_relations d = map (λ r. r.name) d.relations ++ names_from_counters d
+
+abbrev pub names_from_consts : Specification → List (List ℕ)
+names_from_consts d = map (λ c. c.name) d.consts ++ names_from_relations d
+
 abbrev pub global_names : Specification → List (List ℕ)
-global_names d = d.sorts ++ map (λ c. c.name) d.consts ++ map (λ r. r.name) d.relations ++ map (λ c. c.name) d.counters
-    ++ map (λ t. t.name) d.tokens ++ map (λ i. i.name) d.invariants ++ map (λ o. o.name) d.operations
+global_names d = d.sorts ++ names_from_consts d
 
 abbrev pub all_distinct : List (List ℕ) → Bool
 all_distinct [] = true
