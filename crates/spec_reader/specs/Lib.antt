@@ -4,3 +4,5 @@ pub mod Trees
 pub mod Reading
 pub mod Bracket
 pub mod Place
+pub mod Layout
+pub mod Depth

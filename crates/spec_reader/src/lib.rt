@@ -9,14 +9,21 @@
 
 mod formulas;
 mod item;
+mod laws;
 mod lines;
 mod parsing;
+mod putting;
 mod sentences;
+mod spelling;
 mod terms;
+#[cfg(test)]
+mod tests;
 mod tree;
 mod words;
 
+pub use laws::{law_depth, law_spelled_is_read};
 pub use parsing::{SyntaxRefused, law_one_spelling, parse};
+pub use spelling::spell;
 pub use token_readers::Version;
 pub use tree::{
     Comparison, Connective, Figure, Formula, Item, Line, Mark, Mode, Param, ParamKind, Prefix,
