@@ -1,8 +1,13 @@
 // What a specification is and what it means: worlds, states, truth, initial states, calls and their preconditions.
 //
-// It stands on `items`. The definitions are in specs/, over plain data: `Specification` (what is declared), `State` (a state
-// as it is listed and as it is read), `World` (elements and tuples), `Truth`, `Meaning` (invariant, precondition, observation,
-// initial state), `Fits` (which worlds, calls, states and arguments fit) and `Typed` (which specifications are well formed).
+// It stands on `items`. The definitions are in specs/, over plain data, in this order: `Form`, `Line` and `UpdateLine` (a
+// formula, a line and an update, wherever they lie in memory), `Specification` (all that is declared), `State` (a state as it
+// is listed and as it is read), `World` (elements and tuples), `Truth`, `Meaning` (invariant, precondition, observation,
+// initial state), `Fits` (which worlds, calls, states and arguments fit), `Typed` (which specifications are well formed) and
+// `StateText` (the lines that show a state). `Code`, `Sizes`, `Choices`, `Starting` and `Same` serve the proofs alone.
+//
+// Truth is computed over whatever reads like a state, without memory, by `holds`, `line_holds` and `invariant_broken_at`. A
+// `State` holds ordered sets and maps, so that a reading is a look-up.
 #![tactic(auto)]
 
 mod fits;
