@@ -40,6 +40,7 @@ pub struct Summand {
     pub product: Product,
 }
 
+/// What stands before a summand behind the first one.
 #[derive(Clone, Copy, PartialEq, Eq, Debug)]
 pub enum Sign {
     Plus,
@@ -61,6 +62,7 @@ pub struct Term {
     pub more: Items<Signed>,
 }
 
+/// What stands between the sides of a comparison: `=`, `!=`, `<`, `<=`, `>` or `>=`.
 #[derive(Clone, Copy, PartialEq, Eq, Debug)]
 pub enum Comparison {
     Equal,
@@ -71,6 +73,7 @@ pub enum Comparison {
     AtLeast,
 }
 
+/// What joins two formulas in brackets.
 #[derive(Clone, Copy, PartialEq, Eq, Debug)]
 pub enum Connective {
     And,
@@ -96,6 +99,7 @@ pub struct Variable {
     pub sort: Mark,
 }
 
+/// Over what a quantified formula speaks: all elements of its sorts, or some.
 #[derive(Clone, Copy, PartialEq, Eq, Debug)]
 pub enum Quantifier {
     Forall,
@@ -132,6 +136,7 @@ pub enum ParamKind {
     Int,
 }
 
+/// A parameter of an operation with its kind.
 #[derive(Drop)]
 pub struct Param {
     pub name: Mark,
