@@ -1,9 +1,9 @@
 // Problems: clauses over plain atoms and over atoms that stand for rows.
-ghost use Rattle.std.specs.Prelude.{◌≡◌, true, IfOk, List};
+ghost use Rattle.std.specs.Prelude.{◌≡◌, ◌↔◌, true, IfOk, IfSome, IsSome, List};
 ghost use Rattle.std.specs.List.{list_all};
-ghost use Rattle.proof_kernel.specs.Problems.{fits, has_good_row};
+ghost use Rattle.proof_kernel.specs.Problems.{fits, has_good_row, names_below, atoms_below};
 
-use crate::clause::Clause;
+use crate::clause::{Clause, Lit};
 use items::Items;
 use lin_rows::row::Row;
 use std::alloc::{AllocError, Global};
@@ -23,6 +23,15 @@ impl AtomKind {
         match self {
             AtomKind::Plain => Ok(AtomKind::Plain),
             AtomKind::Row(row) => Ok(AtomKind::Row(row.copy(alloc)?)),
+        }
+    }
+
+    fn is_placed(&self, ints: u32) -> bool
+        ensures { result ≡ names_below ints self.now }
+    {
+        match self {
+            AtomKind::Plain => true,
+            AtomKind::Row(row) => row.is_within(ints),
         }
     }
 
@@ -69,6 +78,22 @@ pub fn law_rows(atoms: &[AtomKind])
 }
 
 impl Problem {
+    /// The problem of these parts; nothing where a literal names no atom or a place of a row isn't below `ints`.
+    pub fn new(atoms: Items<AtomKind>, ints: u32, clauses: Items<Clause>) -> Option<Problem>
+        ensures made { IfSome result (λ p. p ≡ record { atoms = atoms; ints = ints; clauses = clauses }) }
+        ensures fits { IsSome result ↔ (fits (record { atoms = atoms; ints = ints; clauses = clauses }) ≡ true) }
+    {
+        if all_placed(atoms.as_slice(), ints) && all_named(clauses.as_slice(), atoms.len()) {
+            Some(Problem {
+                atoms,
+                ints,
+                clauses,
+            })
+        } else {
+            None
+        }
+    }
+
     /// What the type keeps: literals name atoms of the problem, and the places of rows are below `ints`.
     pub fn law_fits(&self)
         ensures { fits self.now ≡ true }
@@ -88,6 +113,24 @@ impl Problem {
             clauses: Items::from_vec(clauses),
         })
     }
+}
+
+fn all_placed(atoms: &[AtomKind], ints: u32) -> bool
+    ensures { result ≡ list_all (names_below ints) atoms.now }
+{
+    atoms.iter().all(|atom| atom.is_placed(ints))
+}
+
+fn all_named(clauses: &[Clause], atoms: usize) -> bool
+    ensures { result ≡ list_all (atoms_below atoms) clauses.now }
+{
+    clauses.iter().all(|clause| are_named(clause.lits(), atoms))
+}
+
+fn are_named(lits: &[Lit], atoms: usize) -> bool
+    ensures { result ≡ atoms_below atoms lits.now }
+{
+    lits.iter().all(|lit| (lit.atom as usize) < atoms)
 }
 
 fn copy_atoms(alloc: Global, atoms: &[AtomKind]) -> Result<Vec<AtomKind>, AllocError>
