@@ -1,2 +1,4 @@
 pub mod Obligations
 pub mod Breaking
+pub mod Starting
+pub mod Refuting

@@ -4,8 +4,14 @@
 // and `Breaking` (when values break an obligation, when it holds, and when a specification is safe).
 #![tactic(auto)]
 
+mod breaking;
+mod initial;
+mod lines;
 mod listing;
 mod obligation;
+mod witness;
 
+pub use breaking::breaks;
 pub use listing::{law_obligations, list};
 pub use obligation::Obligation;
+pub use witness::Witness;

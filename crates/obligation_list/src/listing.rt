@@ -16,14 +16,14 @@ use std::alloc::{AllocError, Global};
 
 // How many members the lists of a specification have.
 #[derive(Clone, Copy)]
-struct Sizes {
-    relations: u8,
-    counters: u8,
-    invariants: u8,
-    operations: u8,
+pub struct Sizes {
+    pub relations: u8,
+    pub counters: u8,
+    pub invariants: u8,
+    pub operations: u8,
 }
 
-fn sizes_of(spec: &Spec) -> Sizes
+pub fn sizes_of(spec: &Spec) -> Sizes
     ensures relations { result.relations ≡ length spec.now.relations }
     ensures counters { result.counters ≡ length spec.now.counters }
     ensures invariants { result.invariants ≡ length spec.now.invariants }
