@@ -1,0 +1,3 @@
+pub mod Chosen
+pub mod Elimination
+pub mod Laws
