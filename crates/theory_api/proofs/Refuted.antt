@@ -1,4 +1,4 @@
-use Rattle.std.proofs.Common.{◌≡◌, ℕ, zero, suc, ◌<◌, ℤ, Bool, true, false, ◌&&◌, List, [], ◌∷◌, length, map, get_or, refl, sym, ◌∙◌, ap, subst, arith, Option, Some, None, Result, Ok, Err, nat_lt, slice_get}
+use Rattle.std.proofs.Common.{◌≡◌, ℕ, zero, suc, ◌<◌, ℤ, Bool, true, false, List, [], ◌∷◌, length, map, refl, sym, ◌∙◌, ap, arith, Some, Result, Ok, Err, nat_lt, slice_get}
 use Rattle.std.specs.List.{list_all}
 use Rattle.lin_rows.specs.Rows.{Row, is_row}
 use Rattle.proof_kernel.specs.declared.clause.Lit.{Lit}
@@ -8,12 +8,12 @@ use Rattle.proof_kernel.specs.declared.line.RowStep.{RowStep}
 use Rattle.proof_kernel.specs.declared.line.Why.{Why}
 use Rattle.proof_kernel.specs.Problems.{Meaning, has_good_row, row_true, atom_true, kind_true}
 use Rattle.proof_kernel.specs.Clauses.{lit_true, same_bool}
-use Rattle.proof_kernel.specs.Steps.{is_some_literal, lit_row, atom_row, row_of_kind, held_rows, refutes, refutes_so, ends_badly, row_at}
+use Rattle.proof_kernel.specs.Steps.{is_some_literal, row_of_kind, held_rows, refutes_so, row_at}
 use Rattle.proof_kernel.proofs.Sets.{both}
 use Rattle.proof_kernel.proofs.States.{and_true}
 use Rattle.proof_kernel.proofs.Gap.{lt_is}
 use Rattle.proof_kernel.proofs.Sound.{refuted-apart}
-use Rattle.theory_api.specs.Laws.{IsConflict, AreUnsatisfiable, all_satisfied, are_given, is_some_row, rows_at}
+use Rattle.theory_api.specs.Laws.{IsConflict, AreUnsatisfiable, all_satisfied, is_some_row, rows_at}
 use Rattle.theory_api.proofs.Standing.{Stand, stand-line}
 
 -- rows as atoms, and the used ones as literals

@@ -1,4 +1,4 @@
-use Rattle.std.proofs.Common.{◌≡◌, ℕ, zero, suc, ◌<◌, Bool, true, false, not, cond, ◌&&◌, List, [], ◌∷◌, ◌++◌, length, map, get_or, refl, sym, ◌∙◌, ap, subst, arith, Option, Some, None, Ok, Err, is_some, nat_lt}
+use Rattle.std.proofs.Common.{◌≡◌, ℕ, zero, suc, ◌<◌, Bool, true, false, cond, List, [], ◌∷◌, length, map, get_or, refl, arith, Option, Some, None, Err, is_some, nat_lt}
 use Rattle.std.specs.List.{list_all}
 use Rattle.std.specs.Option.{option_map, option_and_then}
 use Rattle.lin_rows.specs.Rows.{Row, negated}
@@ -7,7 +7,7 @@ use Rattle.proof_kernel.specs.declared.clause.Lit.{Lit}
 use Rattle.proof_kernel.specs.declared.problem.AtomKind.{AtomKind}
 use Rattle.proof_kernel.specs.declared.line.RowStep.{RowStep}
 use Rattle.proof_kernel.specs.declared.line.Why.TheVariants.{Place, Range}
-use Rattle.proof_kernel.specs.Steps.{then_, or_broken, atom_row, has_row, lit_row, lit_rows, with_row, is_some_literal, used_rows, with_steps, line_rows, held_rows, row_at}
+use Rattle.proof_kernel.specs.Steps.{then_, or_broken, atom_row, has_row, lit_row, lit_rows, with_row, is_some_literal, with_steps, line_rows, held_rows, row_at}
 use Rattle.proof_kernel.proofs.Sets.{both}
 use Rattle.proof_kernel.proofs.States.{and_true}
 use Rattle.proof_kernel.proofs.Gap.{lt_is}

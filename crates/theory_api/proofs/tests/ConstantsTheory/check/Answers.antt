@@ -1,4 +1,4 @@
-use Rattle.std.proofs.Common.{rules, ◌≡◌, ◌≤◌, true, false, not, length, ℕ, ℤ, pos, negsuc, Bool, ◌&&◌, List, [], ◌∷◌, take, refl, sym, subst, arith}
+use Rattle.std.proofs.Common.{rules, ◌≡◌, true, not, ℕ, ℤ, pos, negsuc, ◌&&◌, List, [], ◌∷◌, refl, subst, arith}
 use Rattle.std.specs.List.{list_all}
 use Rattle.std.specs.Prelude.{int_le, int_lt, nat_le}
 use Rattle.std.proofs.lemmas.Bool.Decides.{nat_tests}
@@ -8,7 +8,7 @@ use Rattle.lin_rows.specs.Rows.{Row, value_at, has_no_terms, is_contradiction, p
 use Rattle.proof_kernel.specs.Problems.{row_true}
 use Rattle.proof_kernel.proofs.Sets.{both}
 use Rattle.proof_kernel.proofs.States.{and_true}
-use Rattle.theory_api.specs.Laws.{IsModel, all_satisfied}
+use Rattle.theory_api.specs.Laws.{all_satisfied}
 use Rattle.theory_api.proofs.tests.ConstantsTheory.check.Goals as goal
 
 -- a row without names that is no contradiction is true at every point
