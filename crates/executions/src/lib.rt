@@ -10,10 +10,12 @@
 mod event;
 mod law;
 mod order;
+mod state;
 
 pub use event::Event;
 pub use law::law_converges;
 pub use order::is_order;
+pub use state::state_after;
 
 #[cfg(test)]
 mod tests;
