@@ -18,6 +18,8 @@ pub mod log;
 pub mod problem;
 pub mod splitting;
 pub mod steps;
+#[cfg(test)]
+mod tests;
 
 pub use clause::{Clause, Lit};
 pub use kernel::Kernel;
