@@ -1,6 +1,9 @@
 // The answers of the kernel on small problems.
 use crate::clause::{Clause, Lit};
-use crate::line::{Checked, KernelRefused, Line, RangeEvidence, RangeWhat, RowsEvidence, Why};
+use crate::kernel::Kernel;
+use crate::line::{
+    Checked, KernelRefused, Line, LineRefused, RangeEvidence, RangeWhat, RowsEvidence, Why,
+};
 use crate::log::{check_lines, check_log, check_range, check_rows};
 use crate::problem::{AtomKind, Problem};
 use items::Items;
@@ -83,5 +86,31 @@ fn undecided(rt: HostRuntime) -> Result<(), Fail> {
         check_range(alloc, &problem, &range),
         Err(bad(0, Why::Evidence))
     );
+    Ok(())
+}
+
+fn drop_line(alloc: Global, number: u32) -> Result<Line, Fail> {
+    let mut clauses = Items::new(alloc);
+    clauses.push(number)?;
+    Ok(Line::Drop { clauses })
+}
+
+#[test]
+fn dropped_clauses(rt: HostRuntime) -> Result<(), Fail> {
+    let alloc = rt.alloc();
+    let problem = plain(alloc, &[lit(0, true)], &[lit(0, false)])?;
+    let mut kernel = Kernel::new(alloc, problem)?;
+    let drop = drop_line(alloc, 1)?;
+    assert_eq!(rt; kernel.add(&drop), Ok(()));
+    assert_eq!(rt; kernel.add(&drop), Err(LineRefused::Bad(Why::Dropped)));
+    let absent = drop_line(alloc, 2)?;
+    assert_eq!(rt; kernel.add(&absent), Err(LineRefused::Bad(Why::Place)));
+    assert_eq!(rt;
+        kernel.add(&resolve(0, 1, 0)),
+        Err(LineRefused::Bad(Why::Dropped))
+    );
+    assert_eq!(rt; kernel.clause_count(), 2);
+    assert_eq!(rt; kernel.live_count(), 1);
+    assert!(rt; !kernel.all_fresh());
     Ok(())
 }
