@@ -1,5 +1,5 @@
 // The answer to the words and to the bytes of the specification.
-ghost use Rattle.std.specs.Prelude.{◌≡◌, ℕ, ◌≤◌, length, map, string_bytes, Some, IfOk, IsErrOf};
+ghost use Rattle.std.specs.Prelude.{◌≡◌, ℕ, ◌≤◌, length, map, string_bytes, Some, IsNone, IfOk, IsErrOf};
 ghost use Rattle.byte_ports.specs.Faults.{IsFault};
 ghost use Rattle.cise_cli.specs.Words.{job_of};
 ghost use Rattle.cise_cli.specs.Answer.{IsAnswer, IsAnswerTo, IsCheckOf};
@@ -116,6 +116,7 @@ pub fn answer_words<S: Source>(
     spec: &mut S,
 ) -> Result<Answer, Stopped>
     ensures ok { IfOk result (λ answer. IsAnswer (map string_bytes words.now) (S.left spec.old) (status_of_answer answer) (text_of_answer answer)) }
+    ensures unread { IsNone (job_of (map string_bytes words.now)) → spec.new ≡ spec.old }
     ensures fault { IsErrOf result Stopped.Fault → (extra_old extra_new : ℕ) → IsInputFault (job_of (map string_bytes words.now)) (S.faults spec.old) (S.faults spec.new) extra_old extra_new }
 {
     match job_asked(words) {

@@ -1,5 +1,5 @@
 // The program but for its edge: from words, sources and a sink to a status.
-ghost use Rattle.std.specs.Prelude.{◌≡◌, ◌<◌, map, string_bytes, IfSome};
+ghost use Rattle.std.specs.Prelude.{◌≡◌, ◌<◌, map, string_bytes, IsNone, IfSome};
 ghost use Rattle.byte_ports.specs.Faults.{IsFault};
 ghost use Rattle.cise_cli.specs.Words.{job_of};
 ghost use Rattle.cise_cli.specs.Answer.{IsSafe};
@@ -30,8 +30,9 @@ pub fn run<S: Source, E: Source, K: Sink>(
     // The headline: a specification whose check ends with status 0 is safe.
     ensures safe { result ≡ 0 → IfSome (S.left spec.old) IsSafe }
 
-    // No job reads the second input yet.
-    ensures unread { extra.new ≡ extra.old }
+    // Without accepted words no input is read, and no job reads the second one yet.
+    ensures unread { IsNone (job_of (map string_bytes words.now)) → spec.new ≡ spec.old }
+    ensures unread_extra { extra.new ≡ extra.old }
 {
     let _ = extra;
     match answer_words(alloc, words, spec) {
