@@ -20,7 +20,7 @@ use Rattle.spec_core.specs.World.{tuples}
 use Rattle.spec_core.specs.Truth.{truth, is_exists, line_true, lines_true, int_eq}
 use Rattle.spec_core.specs.Meaning.{inv, pre, initial, invariant_line}
 use Rattle.spec_core.specs.Fits.{fits_places, is_world, is_call, is_state, are_arguments}
-use Rattle.spec_core.proofs.Tuples.{all_tuples}
+use Rattle.spec_core.proofs.Choosing.{all_tuples}
 use Rattle.effectors.specs.Effect.{after_call, after}
 use Rattle.token_rules.specs.Conflict.{matched, conflicts}
 use Rattle.obligation_list.specs.declared.obligation.Obligation.{Obligation}
