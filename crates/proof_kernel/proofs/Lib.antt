@@ -5,3 +5,5 @@ pub mod Certificates
 pub mod Gap
 pub mod Points
 pub mod Lines
+pub mod Index
+pub mod Pairs

@@ -152,6 +152,14 @@ different-stop ns i j e lt h = rw (drop-cons ns i 0) (by_case (stands_in (drop (
     by_case true e = refl
     by_case false e = absurd cc
 
+pub different-drop : (ns : List ℕ) (i : ℕ) → are_different (drop i ns) ≡ false → are_different ns ≡ false
+different-drop ns zero h = h
+different-drop [] (suc i) h = h
+different-drop (n ∷ ns) (suc i) h = and_false (not (stands_in ns n)) (are_different ns) (different-drop ns i h)
+  where
+    and_false : (a b : Bool) → b ≡ false → (a && b) ≡ false
+    and_false a b h = grind arith
+
 -- how many clauses are live among some slots and the next one
 pub live_of-more : (slots : List (Option (List Lit))) (i : ℕ) (d : Option (List Lit)) (b : Bool) → i < length slots → d ≡ get_or slots i d → is_some d ≡ b
     → length (live_of (take (suc i) slots)) ≡ length (live_of (take i slots)) + cond b 1 0
@@ -226,7 +234,7 @@ pub negations-below : (atoms : List AtomKind) (used : List Lit) (steps : List Ro
 negations-below atoms used steps rows h = all-join (λ l. nat_lt l.atom (length atoms)) [] (map flip used) refl (rows_there atoms used (used-have_rows atoms used steps rows h))
 
 -- the clauses among some slots and the next one
-live_of-next : (slots : List (Option (List Lit))) (i : ℕ) (d : Option (List Lit)) → i < length slots → live_of (take (suc i) slots) ≡ live_of (take i slots) ++ live_of (get_or slots i d ∷ [])
+pub live_of-next : (slots : List (Option (List Lit))) (i : ℕ) (d : Option (List Lit)) → i < length slots → live_of (take (suc i) slots) ≡ live_of (take i slots) ++ live_of (get_or slots i d ∷ [])
 live_of-next [] i d lt = absurd (omega arith)
 live_of-next (x ∷ slots) zero d lt = refl
 live_of-next (Some c ∷ slots) (suc i) d lt = ap (λ (z : List (List Lit)). c ∷ z) (live_of-next slots i d (omega arith))

@@ -4,4 +4,6 @@ pub mod Forced
 pub mod Steps
 pub mod Rules
 pub mod Evidence
+pub mod Index
+pub mod Atoms
 pub mod Answers

@@ -1,61 +1,15 @@
-// The evidence of undecided verdicts, as far as a reader of a report can check it: fresh logs, too many rows, and numbers
-// beyond the range.
-ghost use Rattle.std.specs.Prelude.{◌≡◌, ◌<◌, ◌≤◌, ◌^◌, drop, ◌*ℤ◌, ◌-ℤ◌, pos, int_lt, nat_le, Bool, true, false, IfOk, MatchOption, ◌&&◌, Some, is_none, [], ◌∷◌, length, take, is_some};
+// The evidence of undecided verdicts, as far as a reader of a report can check it: too many rows, and numbers beyond the range.
+ghost use Rattle.std.specs.Prelude.{◌≡◌, ◌<◌, ◌^◌, ◌*ℤ◌, ◌-ℤ◌, pos, int_lt, nat_le, Bool, true, false, IfOk, MatchOption, ◌&&◌, Some, is_none, [], ◌∷◌};
 ghost use Rattle.std.specs.List.{list_all, list_any};
 ghost use Rattle.lin_rows.specs.Numbers.{is_zero};
 ghost use Rattle.lin_rows.specs.Rows.{coefficient_at};
-ghost use Rattle.proof_kernel.specs.Clauses.{sub};
 ghost use Rattle.proof_kernel.specs.Steps.{row_at, other_names, size_at};
-ghost use Rattle.proof_kernel.specs.Rules.{live_of};
-ghost use Rattle.proof_kernel.specs.Evidence.{is_new, each_new, cancels_at, cancels_some, cancels, all_cancel, same_row, all_different, in_state, values_fit, rest_with, product_leaves, leaves_state, is_beyond};
+ghost use Rattle.proof_kernel.specs.Evidence.{cancels_at, cancels_some, cancels, all_cancel, same_row, all_different, in_state, values_fit, rest_with, product_leaves, leaves_state, is_beyond};
 
-use crate::clause::{Clause, Lit, holds_both_ways, is_within};
 use crate::line::{RangeWhat, RowStep};
 use crate::splitting::{distance, is_above, is_negative, is_positive, names_of_one, rest_at};
 use lin_rows::{Row, RowRefused, combine, least_factors};
 use std::alloc::{AllocError, Global};
-
-fn holds_one_within(earlier: &[Option<Clause>], lits: &[Lit]) -> bool
-    ensures { result ≡ list_any (λ d. sub d lits.now) (live_of earlier.now) }
-{
-    for slot in earlier {
-        if let Some(clause) = slot {
-            if is_within(clause.lits(), lits) {
-                return true;
-            }
-        }
-    }
-    false
-}
-
-/// Whether a clause contains none of the earlier ones, holds no atom both ways and isn't empty.
-pub fn is_new(earlier: &[Option<Clause>], lits: &[Lit]) -> bool
-    ensures { result ≡ is_new (live_of earlier.now) lits.now }
-{
-    !holds_one_within(earlier, lits) && !holds_both_ways(lits) && !lits.is_empty()
-}
-
-/// Whether each clause from a number on is new among those before it.
-pub fn each_new(slots: &[Option<Clause>], given: usize) -> bool
-    requires { given ≤ length slots.now }
-    ensures { result ≡ each_new (live_of (take given slots.now)) (live_of (drop given slots.now)) }
-{
-    for i in given..slots.len() {
-        if let Some(clause) = &slots[i] {
-            if !is_new(&slots[..i], clause.lits()) {
-                return false;
-            }
-        }
-    }
-    true
-}
-
-/// Whether no clause was dropped.
-pub fn none_dropped(slots: &[Option<Clause>]) -> bool
-    ensures { result ≡ list_all (λ o. is_some o) slots.now }
-{
-    slots.iter().all(|slot| slot.is_some())
-}
 
 // Whether a step cancels a place by the least multipliers.
 fn cancels_at(left: &Row, right: &Row, step: &RowStep, place: u32) -> bool

@@ -4,26 +4,28 @@ ghost use Rattle.std.specs.List.{list_all, list_any};
 ghost use Rattle.lin_rows.specs.Rows.{is_row, places_below};
 ghost use Rattle.proof_kernel.specs.Clauses.{is_empty};
 ghost use Rattle.proof_kernel.specs.Problems.{Meaning, makes_true, atoms_below};
-ghost use Rattle.proof_kernel.specs.Rules.{State, StateFits, start, grown, live_of, live_clause, is_live, resolved, combined, split, split_after, named, dropped, are_different, cleared, stands_in, next, holds};
+ghost use Rattle.proof_kernel.specs.Rules.{State, StateFits, start, grown, live_of, live_clause, is_live, resolved, combined, split, split_after, named, dropped, are_different, cleared, next, holds};
 ghost use Rattle.proof_kernel.specs.Evidence.{is_fresh, rows_hold, range_holds};
 ghost use Rattle.proof_kernel.specs.Answers.{IsTold};
 
+use crate::atoms::Atoms;
 use crate::clause::{Clause, Lit, holds_both_ways};
-use crate::evidence::{all_cancel, all_different, each_new, is_beyond, none_dropped};
+use crate::evidence::{all_cancel, all_different, is_beyond};
+use crate::freshness::{each_new, none_dropped};
 use crate::line::{Line, LineRefused, RangeWhat, RowStep, Why};
 use crate::problem::{AtomKind, Problem, law_rows};
-use crate::splitting::{at_most, is_named, names_of_two, split_cause};
+use crate::splitting::{at_most, names_of_two, split_cause};
 use crate::steps::{ends_badly, line_rows};
-use items::Items;
 use lin_rows::Row;
 use std::alloc::{AllocError, Global};
+use std::collections::HashSet;
 use std::marker::Model;
 
 /// The atoms and clauses that stand after some lines. Contracts see them as a `State`; the literals of dropped clauses aren't
 /// kept.
 #[derive(Drop)]
 pub struct Kernel {
-    atoms: Items<AtomKind>,
+    atoms: Atoms,
     ints: u32,
     given: u32,
     slots: Vec<Option<Clause>>,
@@ -62,6 +64,7 @@ impl Kernel {
             return Err(AllocError);
         }
         law_rows(atoms.as_slice());
+        let atoms = Atoms::of(alloc, atoms)?;
         let given = clauses.len() as u32;
         let empty = holds_empty(clauses.as_slice());
         let slots = slots_of(alloc, clauses.into_vec())?;
@@ -190,7 +193,13 @@ impl Kernel {
     pub fn all_fresh(&self) -> bool
         ensures { result ≡ is_fresh self.now }
     {
-        none_dropped(self.slots.as_slice()) && each_new(self.slots.as_slice(), self.given as usize)
+        none_dropped(self.slots.as_slice())
+            && each_new(
+                self.alloc,
+                self.atoms.len(),
+                self.slots.as_slice(),
+                self.given as usize,
+            )
     }
 
     /// Whether the used literals and the steps give too many rows: 10,000 different ones, each step cancelling a place.
@@ -353,7 +362,7 @@ impl Kernel {
         if values.len() != names.len() {
             return Err(LineRefused::Bad(Why::Place));
         }
-        if is_named(place, at, self.atoms.as_slice()) {
+        if self.atoms.has_at_most(place, at) {
             return Err(LineRefused::Bad(Why::SplitAgain));
         }
         if let Err(why) = split_cause(place, at, low, high, names.as_slice(), values) {
@@ -378,7 +387,7 @@ impl Kernel {
         if self.atoms.len() >= u32::MAX as usize {
             return Err(AllocError);
         }
-        self.atoms.push(AtomKind::Row(row))?;
+        self.atoms.push(row)?;
         Ok(())
     }
 
@@ -389,7 +398,10 @@ impl Kernel {
         if numbers.is_empty() || !all_below(numbers, self.clause_count()) {
             return Err(LineRefused::Bad(Why::Place));
         }
-        if !are_different(numbers) || !self.all_live(numbers) {
+        let Ok(different) = are_different(self.alloc, numbers) else {
+            return Err(LineRefused::Memory);
+        };
+        if !different || !self.all_live(numbers) {
             return Err(LineRefused::Bad(Why::Dropped));
         }
         clear(&mut self.slots, numbers);
@@ -442,20 +454,19 @@ fn clear(slots: &mut Vec<Option<Clause>>, numbers: &[u32])
     }
 }
 
-fn stands_in(numbers: &[u32], number: u32) -> bool
-    ensures { result ≡ stands_in numbers.now number }
+// Whether no number stands in a list twice. It goes from the end, with the numbers behind in a set.
+fn are_different(alloc: Global, numbers: &[u32]) -> Result<bool, AllocError>
+    ensures { IfOk result (λ b. b ≡ are_different numbers.now) }
 {
-    numbers.iter().any(|other| *other == number)
-}
-
-// Whether no number stands in a list twice.
-fn are_different(numbers: &[u32]) -> bool
-    ensures { result ≡ are_different numbers.now }
-{
-    for (i, number) in numbers.iter().enumerate() {
-        if stands_in(&numbers[i + 1..], *number) {
-            return false;
+    let mut seen: HashSet<u32> = HashSet::new(alloc);
+    let mut i = numbers.len();
+    while i > 0 {
+        i -= 1;
+        match seen.insert(numbers[i]) {
+            Ok(true) => {}
+            Ok(false) => return Ok(false),
+            Err(_) => return Err(AllocError),
         }
     }
-    true
+    Ok(true)
 }

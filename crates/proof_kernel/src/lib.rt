@@ -7,19 +7,20 @@
 // Definitions, in the order in which a reader needs them: specs/Clauses (literals and clauses), specs/Problems (problems and
 // what makes them true), specs/Steps (the rows of a line, the causes of a Farkas and of a Split line), specs/Rules (what stands
 // after a line, or the first rule that it breaks), specs/Evidence (fresh logs, the evidence of undecided verdicts),
-// specs/Answers (the answers of the calls).
+// specs/Answers (the answers of the calls). Two private indexes make the kernel fast, and no clause of a call names them:
+// src/atoms.rt (the rows among the atoms, specs/Atoms) and src/freshness.rt (the literals of earlier clauses, specs/Index).
 #![tactic(auto)]
 
+mod atoms;
 pub mod clause;
 pub mod evidence;
+mod freshness;
 pub mod kernel;
 pub mod line;
 pub mod log;
 pub mod problem;
 pub mod splitting;
 pub mod steps;
-#[cfg(test)]
-mod tests;
 
 pub use clause::{Clause, Lit};
 pub use kernel::Kernel;

@@ -1,13 +1,17 @@
-use Rattle.std.proofs.Common.{◌≡◌, ◌-◌, ◌+◌, sym, ◌∙◌, arith, true, get_or, drop, take, length, subst, List, ℕ, length-drop}
-use Rattle.std.proofs.lemmas.List.{take_all}
-use Rattle.proof_kernel.specs.Rules.{stands_in}
-use Rattle.proof_kernel.proofs.States.{different-stop}
+use Rattle.std.proofs.Common.{◌≡◌, ℕ, ◌-◌, refl, sym, ◌∙◌, arith, true, false, not, get_or, Bool}
+use Rattle.std.specs.Prelude.{nat_eq}
+use Rattle.std.specs.HashSet.{contains}
+use Rattle.proof_kernel.proofs.States.{different-stop, different-drop}
 use Rattle.proof_kernel.proofs.kernel.are_different.Goals as goal
 
-pub returns-then-stands_in : goal.returns-then-stands_in
-returns-then-stands_in c =
+pub returns-in-Ok-false : goal.returns-in-Ok-false
+returns-in-Ok-false c =
     let ns = c.args.numbers.now in
     let i = c.loop-i.i in
-    let all : take (length ns - (i + 1)) (drop (i + 1) ns) ≡ drop (i + 1) ns = take_all (length ns - (i + 1)) (drop (i + 1) ns) (let l = length-drop (i + 1) ns in omega (arith, l)) in
-    let h = subst (λ (z : List ℕ). true ≡ stands_in z (get_or ns i 0)) all c.if-stands_in.ensures in
-    sym (c.loop-i.invariant ∙ different-stop ns i (i + 1) (omega arith) c.loop-i-test.true (sym h))
+    let n : ℕ = get_or ns (i - 1) 0 in
+    let there : contains nat_eq c.loop-i.seen n ≡ true = not_false (contains nat_eq c.loop-i.seen n) (sym c.in-Ok-false.ensures.added ∙ c.in-Ok-false.field-0-test) in
+    sym (different-drop ns (i - 1) (different-stop ns (i - 1) i (omega (arith, c.loop-i-test.true)) (omega (arith, c.loop-i-test.true, c.loop-i.invariant.within)) (sym (c.loop-i.invariant.seen n) ∙ there)))
+  where
+    not_false : (b : Bool) → not b ≡ false → b ≡ true
+    not_false true h = refl
+    not_false false h = absurd cc

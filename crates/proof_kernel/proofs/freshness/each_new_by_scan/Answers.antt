@@ -3,8 +3,8 @@ use Rattle.proof_kernel.specs.declared.clause.Lit.{Lit}
 use Rattle.proof_kernel.specs.Rules.{live_of}
 use Rattle.proof_kernel.specs.Evidence.{is_new}
 use Rattle.proof_kernel.proofs.States.{each_new-some, each_new-none}
-use Rattle.proof_kernel.proofs.evidence.each_new.Goals as goal
-use Rattle.proof_kernel.proofs.evidence.each_new.Goals.{in-Some+else-not-is_new, in_default}
+use Rattle.proof_kernel.proofs.freshness.each_new_by_scan.Goals as goal
+use Rattle.proof_kernel.proofs.freshness.each_new_by_scan.Goals.{in-Some+else-not-is_new, in_default}
 
 pub loop-i-preserved : goal.loop-i-preserved
 loop-i-preserved c =

@@ -1,0 +1,206 @@
+use Rattle.std.proofs.Common.{◌≡◌, ℕ, zero, suc, ◌<◌, Bool, true, false, cond, ◌&&◌, ◌||◌, ◌==◌, inl, inr, List, [], ◌∷◌, ◌++◌, length, map, set, get_or, refl, sym, ◌∙◌, ap, subst, arith, Option, Some, None, take, drop, drop-cons, append-nil}
+use Rattle.std.specs.Prelude.{slice_index_or}
+use Rattle.std.specs.List.{list_any}
+use Rattle.std.proofs.lemmas.Bool.Decides.{nat_tests}
+use Rattle.std.proofs.lemmas.List.Folds.{list_any-append}
+use Rattle.std.proofs.lemmas.List.{length-set, get_or_default}
+use Rattle.std.proofs.lemmas.Nat.{mod_below}
+use Rattle.proof_kernel.specs.declared.clause.Lit.{Lit}
+use Rattle.proof_kernel.specs.declared.freshness.Entry.{Entry}
+use Rattle.proof_kernel.specs.Clauses.{has, sub}
+use Rattle.proof_kernel.specs.Rules.{stands_in, live_of}
+use Rattle.proof_kernel.specs.Evidence.{is_new, each_new}
+use Rattle.proof_kernel.specs.Index.{spot, spots, HasNoEntry, slot_new, slot_within, entry_within, finds, IsIndex, PutsOne, with_marks, marked, finds_marked, HasNoMark}
+use Rattle.proof_kernel.proofs.Sets.{both, or_left, or_right, has-cases, same_nat, same_nat-refl}
+use Rattle.proof_kernel.proofs.States.{live_of-next}
+
+zero-suc : (k : ℕ) → (0 == suc k) ≡ false
+zero-suc k = grind (arith, nat_tests)
+
+suc-zero : (k : ℕ) → (suc k == 0) ≡ false
+suc-zero k = grind (arith, nat_tests)
+
+suc-suc : (j k : ℕ) → (suc j == suc k) ≡ (j == k)
+suc-suc j k = grind (arith, nat_tests)
+
+any-or : (a b : ℕ → Bool) (ks : List ℕ) → list_any (λ k. a k || b k) ks ≡ (list_any a ks || list_any b ks)
+any-or a b [] = refl
+any-or a b (k ∷ ks) = ap (λ z. (a k || b k) || z) (any-or a b ks) ∙ swap (a k) (b k) (list_any a ks) (list_any b ks)
+  where
+    swap : (p q r s : Bool) → ((p || q) || (r || s)) ≡ ((p || r) || (q || s))
+    swap p q r s = grind arith
+
+any-one : (s : ℕ) (b : Bool) (ks : List ℕ) → list_any (λ k. (k == s) && b) ks ≡ (stands_in ks s && b)
+any-one s b [] = refl
+any-one s b (k ∷ ks) = ap (λ z. ((k == s) && b) || z) (any-one s b ks) ∙ spread (k == s) (stands_in ks s) b
+  where
+    spread : (p q r : Bool) → ((p && r) || (q && r)) ≡ ((p || q) && r)
+    spread p q r = grind arith
+
+-- the spots of a clause that lies within another are spots of that one
+has-spot : (m : ℕ) (c : List Lit) (l : Lit) → has c l ≡ true → stands_in (map (spot m) c) (spot m l) ≡ true
+has-spot m [] l h = absurd cc
+has-spot m (x ∷ c) l h = elim (has-cases x c l h) [
+  | inl e ↦ or_left (spot m x == spot m l) (stands_in (map (spot m) c) (spot m l)) (subst (λ (z : Lit). (spot m x == spot m z) ≡ true) e (same_nat-refl (spot m x)))
+  | inr e ↦ or_right (spot m x == spot m l) (stands_in (map (spot m) c) (spot m l)) (has-spot m c l e)
+]
+
+sub-spots : (m : ℕ) (d c : List Lit) (k : ℕ) → sub d c ≡ true → stands_in (map (spot m) d) k ≡ true → stands_in (map (spot m) c) k ≡ true
+sub-spots m [] c k h s = absurd cc
+sub-spots m (x ∷ d) c k h s = by_case (sub-spots m d c k (both (has c x) (sub d c) h).1) (spot m x == k) refl s
+  where
+    by_case : (stands_in (map (spot m) d) k ≡ true → stands_in (map (spot m) c) k ≡ true) → (b : Bool) → (spot m x == k) ≡ b → (b || stands_in (map (spot m) d) k) ≡ true → stands_in (map (spot m) c) k ≡ true
+    by_case ih true e s = subst (λ (z : ℕ). stands_in (map (spot m) c) z ≡ true) (same_nat (spot m x) k e) (has-spot m c x (both (has c x) (sub d c) h).0)
+    by_case ih false e s = ih s
+
+sub-all_spots : (m : ℕ) (d c : List Lit) (k : ℕ) → sub d c ≡ true → stands_in (spots m d) k ≡ true → stands_in (spots m c) k ≡ true
+sub-all_spots m d c k h s = by_case (0 == k) s
+  where
+    by_case : (b : Bool) → (b || stands_in (map (spot m) d) k) ≡ true → (b || stands_in (map (spot m) c) k) ≡ true
+    by_case true s = refl
+    by_case false s = sub-spots m d c k h s
+
+or_none : (a b e : Bool) → b ≡ false → a ≡ (a || (b && e))
+or_none a b e h = grind arith
+
+-- a list with one entry more finds what it found, or that entry
+any-put : (p : Entry → Bool) (lists : List (List Entry)) (at k : ℕ) (e : Entry) → at < length lists
+    → list_any p (slice_index_or (set lists at (slice_index_or lists at [] ++ e ∷ [])) k []) ≡ (list_any p (slice_index_or lists k []) || ((k == at) && p e))
+any-put p [] at k e lt = absurd (omega arith)
+any-put p (x ∷ lists) zero zero e lt = list_any-append p x (e ∷ []) ∙ last_one (list_any p x) (p e)
+  where
+    last_one : (a b : Bool) → (a || (b || false)) ≡ (a || b)
+    last_one a b = grind arith
+any-put p (x ∷ lists) zero (suc k) e lt = or_none (list_any p (slice_index_or lists k [])) (suc k == 0) (p e) (suc-zero k)
+any-put p (x ∷ lists) (suc at) zero e lt = or_none (list_any p x) (0 == suc at) (p e) (zero-suc at)
+any-put p (x ∷ lists) (suc at) (suc k) e lt = any-put p lists at k e (omega arith) ∙ ap (λ b. list_any p (slice_index_or lists k []) || (b && p e)) (sym (suc-suc k at))
+
+-- the index finds exactly what is earlier, with one clause more
+pub index-put : (m : ℕ) (slots : List (Option (List Lit))) (old new : List (List Entry)) (earlier : List (List Lit)) (number : ℕ) (d : List Lit)
+    → IsIndex m slots old earlier → slice_index_or slots number None ≡ Some d → PutsOne m d number old new → IsIndex m slots new (earlier ++ d ∷ [])
+index-put m slots old new earlier number d h is p c =
+    let e : Entry = record { number = number; other = p.other } in
+    let q : Entry → Bool = entry_within m slots c in
+    let one : finds m slots new c ≡ list_any (λ k. list_any q (slice_index_or old k []) || ((k == p.at) && q e)) (spots m c) =
+    ap (λ (z : List (List Entry)). finds m slots z c) p.lists ∙ (λ i. list_any (λ k. any-put q old p.at k e p.within i) (spots m c)) in
+    one ∙ any-or (λ k. list_any q (slice_index_or old k [])) (λ k. (k == p.at) && q e) (spots m c)
+    ∙ (λ i. h c i || any-one p.at (q e) (spots m c) i)
+    ∙ ap (λ b. list_any (λ x. sub x c) earlier || b) (last (sub d c) refl)
+    ∙ sym (list_any-append (λ x. sub x c) earlier (d ∷ []))
+  where
+    within : (o : Option (List Lit)) → o ≡ Some d → slot_within c o ≡ sub d c
+    within o e = ap (slot_within c) e
+
+    last : (b : Bool) → sub d c ≡ b → (stands_in (spots m c) p.at && (stands_in (spots m c) p.other && slot_within c (slice_index_or slots number None))) ≡ (b || false)
+    last true e =
+        let s = sub-all_spots m d c p.at e p.at_spot in
+        let t = sub-all_spots m d c p.other e p.other_spot in
+        let w = within (slice_index_or slots number None) is ∙ e in
+        all_true _ _ _ s t w
+      where
+        all_true : (x y z : Bool) → x ≡ true → y ≡ true → z ≡ true → (x && (y && z)) ≡ true
+        all_true x y z s t w = grind arith
+    last false e = let w = within (slice_index_or slots number None) is ∙ e in one_false _ _ _ w
+      where
+        one_false : (x y z : Bool) → z ≡ false → (x && (y && z)) ≡ false
+        one_false x y z w = grind arith
+
+-- marks on the spots of some literals
+spot-below : (m : ℕ) (l : Lit) → 0 < m → spot m l < m
+spot-below m l some = mod_below _ m some
+
+set-at : (marks : List Bool) (at k : ℕ) (b : Bool) → at < length marks → slice_index_or (set marks at b) k false ≡ cond (at == k) b (slice_index_or marks k false)
+set-at [] at k b lt = absurd (omega arith)
+set-at (x ∷ marks) zero zero b lt = refl
+set-at (x ∷ marks) zero (suc k) b lt = ap (λ z. cond z b (slice_index_or marks k false)) (sym (zero-suc k))
+set-at (x ∷ marks) (suc at) zero b lt = ap (λ z. cond z b x) (sym (suc-zero at))
+set-at (x ∷ marks) (suc at) (suc k) b lt = set-at marks at k b (omega arith) ∙ ap (λ z. cond z b (slice_index_or marks k false)) (sym (suc-suc at k))
+
+merge : (p q b x : Bool) → cond p b (cond q b x) ≡ cond (q || p) b x
+merge true true b x = refl
+merge true false b x = refl
+merge false true b x = refl
+merge false false b x = refl
+
+marks-at : (m : ℕ) (c : List Lit) (marks : List Bool) (b : Bool) (k : ℕ) → 0 < m → length marks ≡ m
+    → slice_index_or (with_marks m marks c b) k false ≡ cond (stands_in (map (spot m) c) k) b (slice_index_or marks k false)
+marks-at m [] marks b k some sized = refl
+marks-at m (l ∷ c) marks b k some sized =
+    let lt : spot m l < length marks = subst (λ (z : ℕ). spot m l < z) (sym sized) (spot-below m l some) in
+    marks-at m c (set marks (spot m l) b) b k some (length-set marks (spot m l) b ∙ sized)
+    ∙ ap (cond (stands_in (map (spot m) c) k) b) (set-at marks (spot m l) k b lt)
+    ∙ merge (stands_in (map (spot m) c) k) (spot m l == k) b (slice_index_or marks k false)
+
+marks-set : (m : ℕ) (c : List Lit) (marks : List Bool) (k : ℕ) → 0 < m → length marks ≡ m → HasNoMark marks → slice_index_or (with_marks m marks c true) k false ≡ stands_in (map (spot m) c) k
+marks-set m c marks k some sized clear = marks-at m c marks true k some sized ∙ ap (cond (stands_in (map (spot m) c) k) true) (clear k) ∙ itself (stands_in (map (spot m) c) k)
+  where
+    itself : (b : Bool) → cond b true false ≡ b
+    itself true = refl
+    itself false = refl
+
+pub finds-marked : (m : ℕ) (marks : List Bool) (slots : List (Option (List Lit))) (lists : List (List Entry)) (c : List Lit) → 0 < m → length marks ≡ m → HasNoMark marks
+    → finds_marked m (with_marks m marks c true) slots lists c ≡ finds m slots lists c
+finds-marked m marks slots lists c some sized clear =
+    λ i. list_any (λ k. list_any (λ (e : Entry). (same e.other i) && slot_within c (slice_index_or slots e.number None)) (slice_index_or lists k [])) (spots m c)
+  where
+    same : (k : ℕ) → marked (with_marks m marks c true) k ≡ stands_in (spots m c) k
+    same k = ap (λ b. (0 == k) || b) (marks-set m c marks k some sized clear)
+
+pub marks-taken : (m : ℕ) (marks set_so left : List Bool) (c : List Lit) → 0 < m → length marks ≡ m → HasNoMark marks → set_so ≡ with_marks m marks c true → length set_so ≡ m → left ≡ with_marks m set_so c false → HasNoMark left
+marks-taken m marks set_so left c some sized clear is so end k =
+    let before : slice_index_or set_so k false ≡ stands_in (map (spot m) c) k = ap (λ (z : List Bool). slice_index_or z k false) is ∙ marks-set m c marks k some sized clear in
+    ap (λ (z : List Bool). slice_index_or z k false) end ∙ marks-at m c set_so false k some so ∙ ap (cond (stands_in (map (spot m) c) k) false) before ∙ none (stands_in (map (spot m) c) k)
+  where
+    none : (b : Bool) → cond b false b ≡ false
+    none true = refl
+    none false = refl
+
+-- the spot of one of the literals
+pub spot-among : (m : ℕ) (c : List Lit) (i : ℕ) (d : Lit) → i < length c → stands_in (spots m c) (spot m (get_or c i d)) ≡ true
+spot-among m c i d lt = or_right (0 == spot m (get_or c i d)) (stands_in (map (spot m) c) (spot m (get_or c i d))) (among c i lt)
+  where
+    among : (c : List Lit) (i : ℕ) → i < length c → stands_in (map (spot m) c) (spot m (get_or c i d)) ≡ true
+    among [] i lt = absurd (omega arith)
+    among (x ∷ c) zero lt = or_left (spot m x == spot m x) (stands_in (map (spot m) c) (spot m x)) (same_nat-refl (spot m x))
+    among (x ∷ c) (suc i) lt = or_right (spot m x == spot m (get_or c i d)) (stands_in (map (spot m) c) (spot m (get_or c i d))) (among c i (omega arith))
+
+-- the index before a number, and before the next one
+pub index-none : (m : ℕ) (slots : List (Option (List Lit))) (lists : List (List Entry)) → HasNoEntry lists → IsIndex m slots lists []
+index-none m slots lists empty c = (λ i. list_any (λ k. list_any (entry_within m slots c) (empty k i)) (spots m c)) ∙ nowhere (spots m c)
+  where
+    nowhere : (ks : List ℕ) → list_any (λ k. false) ks ≡ false
+    nowhere [] = refl
+    nowhere (k ∷ ks) = nowhere ks
+
+before-some : (slots : List (Option (List Lit))) (i j : ℕ) (d : Option (List Lit)) (c : List Lit) → j ≡ suc i → i < length slots → get_or slots i d ≡ Some c → live_of (take j slots) ≡ live_of (take i slots) ++ c ∷ []
+before-some slots i j d c e lt g = ap (λ (k : ℕ). live_of (take k slots)) e ∙ live_of-next slots i d lt ∙ ap (λ (z : Option (List Lit)). live_of (take i slots) ++ live_of (z ∷ [])) g
+
+before-none : (slots : List (Option (List Lit))) (i j : ℕ) (d : Option (List Lit)) → j ≡ suc i → i < length slots → get_or slots i d ≡ None → live_of (take j slots) ≡ live_of (take i slots)
+before-none slots i j d e lt g = ap (λ (k : ℕ). live_of (take k slots)) e ∙ live_of-next slots i d lt ∙ ap (λ (z : Option (List Lit)). live_of (take i slots) ++ live_of (z ∷ [])) g ∙ append-nil (live_of (take i slots))
+
+pub index-some : (m : ℕ) (slots : List (Option (List Lit))) (old new : List (List Entry)) (i j : ℕ) (d : Option (List Lit)) (c : List Lit) → j ≡ suc i → i < length slots → get_or slots i d ≡ Some c
+    → PutsOne m c i old new → IsIndex m slots old (live_of (take i slots)) → IsIndex m slots new (live_of (take j slots))
+index-some m slots old new i j d c e lt g p h =
+    subst (λ (z : List (List Lit)). IsIndex m slots new z) (sym (before-some slots i j d c e lt g))
+    (index-put m slots old new (live_of (take i slots)) i c h (get_or_default slots i None d lt ∙ g) p)
+
+pub index-dropped : (m : ℕ) (slots : List (Option (List Lit))) (lists : List (List Entry)) (i j : ℕ) (d : Option (List Lit)) → j ≡ suc i → i < length slots → get_or slots i d ≡ None
+    → IsIndex m slots lists (live_of (take i slots)) → IsIndex m slots lists (live_of (take j slots))
+index-dropped m slots lists i j d e lt g h = subst (λ (z : List (List Lit)). IsIndex m slots lists z) (sym (before-none slots i j d e lt g)) h
+
+-- each clause from a number on is new, by the slot of the number
+pub each_new-slot : (slots : List (Option (List Lit))) (i j : ℕ) → j ≡ suc i → i < length slots
+    → each_new (live_of (take i slots)) (live_of (drop i slots)) ≡ (slot_new (live_of (take i slots)) (slice_index_or slots i None) && each_new (live_of (take j slots)) (live_of (drop j slots)))
+each_new-slot slots i j e lt = by_case (slice_index_or slots i None) refl
+  where
+    here : live_of (drop i slots) ≡ live_of (slice_index_or slots i None ∷ drop j slots)
+    here = ap live_of (drop-cons slots i None lt) ∙ (λ t. live_of (slice_index_or slots i None ∷ drop (sym e t) slots))
+
+    by_case : (o : Option (List Lit)) → slice_index_or slots i None ≡ o
+        → each_new (live_of (take i slots)) (live_of (drop i slots)) ≡ (slot_new (live_of (take i slots)) o && each_new (live_of (take j slots)) (live_of (drop j slots)))
+    by_case (Some c) g =
+        ap (each_new (live_of (take i slots))) (here ∙ ap (λ (z : Option (List Lit)). live_of (z ∷ drop j slots)) g)
+        ∙ ap (λ (z : List (List Lit)). is_new (live_of (take i slots)) c && each_new z (live_of (drop j slots))) (sym (before-some slots i j None c e lt g))
+    by_case None g =
+        ap (each_new (live_of (take i slots))) (here ∙ ap (λ (z : Option (List Lit)). live_of (z ∷ drop j slots)) g)
+        ∙ ap (λ (z : List (List Lit)). each_new z (live_of (drop j slots))) (sym (before-none slots i j None e lt g))

@@ -1,0 +1,71 @@
+use Rattle.std.specs.Prelude.{◌≡◌, ℕ, ◌+◌, ◌*◌, ◌%◌, ◌<◌, ◌==◌, Bool, true, false, ◌&&◌, ◌||◌, List, [], ◌∷◌, ◌++◌, length, map, slice_index_or, slice_set, Option, Some, None}
+use Rattle.std.specs.List.{list_any, fold}
+use Rattle.proof_kernel.specs.declared.clause.Lit.{Lit}
+use Rattle.proof_kernel.specs.declared.freshness.Entry.{Entry}
+use Rattle.proof_kernel.specs.Clauses.{sub}
+use Rattle.proof_kernel.specs.Rules.{stands_in}
+use Rattle.proof_kernel.specs.Evidence.{is_new}
+
+-- THE INDEX by which fresh logs are checked. No clause of a call outside src/freshness.rt names it.
+
+abbrev pub sign_number : Bool → ℕ
+sign_number true = 2
+sign_number false = 1
+
+-- the spot of a literal, of so many spots
+abbrev pub spot : ℕ → Lit → ℕ
+spot m l = (2 * l.atom + sign_number l.positive) % m
+
+-- the spots of a clause: 0, where clauses without literals stand, and those of its literals
+abbrev pub spots : ℕ → List Lit → List ℕ
+spots m c = 0 ∷ map (spot m) c
+
+-- the clause of a slot lies within another one
+abbrev pub slot_within : List Lit → Option (List Lit) → Bool
+slot_within c (Some d) = sub d c
+slot_within c None = false
+
+-- the second spot of an entry is a spot of a clause, within which the clause of its number lies
+abbrev pub entry_within : ℕ → List (Option (List Lit)) → List Lit → Entry → Bool
+entry_within m slots c e = stands_in (spots m c) e.other && slot_within c (slice_index_or slots e.number None)
+
+-- one such entry stands in a list of the clause's spots
+abbrev pub finds : ℕ → List (Option (List Lit)) → List (List Entry) → List Lit → Bool
+finds m slots lists c = list_any (λ k. list_any (entry_within m slots c) (slice_index_or lists k [])) (spots m c)
+
+-- the lists find a clause within another one exactly where one of the earlier clauses is
+abbrev pub IsIndex : ℕ → List (Option (List Lit)) → List (List Entry) → List (List Lit) → Type 0
+IsIndex m slots lists earlier = (c : List Lit) → finds m slots lists c ≡ list_any (λ d. sub d c) earlier
+
+-- the lists have one entry more, for the clause of a number, in the list of one of its spots
+pub record PutsOne (m : ℕ) (c : List Lit) (number : ℕ) (old new : List (List Entry)) : Type 0 where
+  pub at : ℕ
+  pub other : ℕ
+  pub within : at < length old
+  pub at_spot : stands_in (spots m c) at ≡ true
+  pub other_spot : stands_in (spots m c) other ≡ true
+  pub lists : new ≡ slice_set old at (slice_index_or old at [] ++ record { number = number; other = other } ∷ [])
+
+-- marks on the spots of some literals, set or taken away
+abbrev pub with_marks : ℕ → List Bool → List Lit → Bool → List Bool
+with_marks m marks c b = fold (λ ms l. slice_set ms (spot m l) b) marks c
+
+abbrev pub marked : List Bool → ℕ → Bool
+marked marks k = (0 == k) || slice_index_or marks k false
+
+abbrev pub marked_within : List Bool → List (Option (List Lit)) → List Lit → Entry → Bool
+marked_within marks slots c e = marked marks e.other && slot_within c (slice_index_or slots e.number None)
+
+abbrev pub finds_marked : ℕ → List Bool → List (Option (List Lit)) → List (List Entry) → List Lit → Bool
+finds_marked m marks slots lists c = list_any (λ k. list_any (marked_within marks slots c) (slice_index_or lists k [])) (spots m c)
+
+abbrev pub HasNoMark : List Bool → Type 0
+HasNoMark marks = (k : ℕ) → slice_index_or marks k false ≡ false
+
+abbrev pub HasNoEntry : List (List Entry) → Type 0
+HasNoEntry lists = (k : ℕ) → slice_index_or lists k [] ≡ []
+
+-- a slot has no clause, or one that is new among earlier ones
+abbrev pub slot_new : List (List Lit) → Option (List Lit) → Bool
+slot_new earlier (Some c) = is_new earlier c
+slot_new earlier None = true

@@ -1,0 +1,331 @@
+// Fresh logs: no line drops a clause, and the clause of each line contains no earlier one, holds no atom both ways and isn't
+// empty.
+//
+// An index finds the earlier clauses that lie within a clause. A literal has a spot, and each earlier clause stands in the list
+// of the spot of one of its literals: the shortest of those lists. A clause that lies within another shares that literal with
+// it, so it stands in a list of the other's spots. Its entry has the spot of a second literal too, so that a look at a mark
+// passes over most entries. Clauses without literals stand in the list of spot 0, which is always looked through. Where there is
+// no memory for the index, each clause is compared with each earlier one.
+ghost use Rattle.std.specs.Prelude.{◌≡◌, ◌+◌, ◌*◌, ◌^◌, ◌<◌, ◌≤◌, ◌++◌, ◌∷◌, true, cond, IfOk, OnOk, drop, take, length, is_some, map, slice_index_or, slice_set, Some, None, []};
+ghost use Rattle.std.specs.List.{list_all, list_any};
+ghost use Rattle.proof_kernel.specs.Clauses.{sub};
+ghost use Rattle.proof_kernel.specs.Rules.{live_of, stands_in};
+ghost use Rattle.proof_kernel.specs.Evidence.{is_new, each_new};
+ghost use Rattle.proof_kernel.specs.Index.{HasNoEntry, HasNoMark, slot_new, IsIndex, PutsOne, finds, finds_marked, marked, marked_within, slot_within, sign_number, spot, spots, with_marks};
+
+use crate::clause::{Clause, Lit, holds_both_ways, is_within};
+use items::Items;
+use std::alloc::{AllocError, Global};
+
+/// An earlier clause in a list of the index: its number, and the spot of one of its literals.
+#[derive(Clone, Copy)]
+pub struct Entry {
+    number: usize,
+    other: usize,
+}
+
+fn sign_number(positive: bool) -> usize
+    ensures is { result ≡ sign_number positive }
+    ensures few { result ≤ 2 }
+{
+    if positive { 2 } else { 1 }
+}
+
+// The spot of a literal, of so many spots.
+fn spot(count: usize, lit: Lit) -> usize
+    requires { 0 < count }
+    ensures is { result ≡ spot count lit }
+    ensures below { result < count }
+{
+    (2 * lit.atom as usize + sign_number(lit.positive)) % count
+}
+
+fn slot_within(slots: &[Option<Clause>], number: usize, lits: &[Lit]) -> bool
+    ensures { result ≡ slot_within lits.now (slice_index_or slots.now number None) }
+{
+    match slots.get(number) {
+        Some(Some(clause)) => is_within(clause.lits(), lits),
+        _ => false,
+    }
+}
+
+fn is_marked(marks: &[bool], at: usize) -> bool
+    ensures { result ≡ marked marks.now at }
+{
+    at == 0 || (at < marks.len() && marks[at])
+}
+
+// Sets marks on the spots of literals, or takes them away.
+fn mark(marks: &mut Vec<bool>, count: usize, lits: &[Lit], value: bool)
+    requires some { 0 < count }
+    requires sized { length marks.old.items ≡ count }
+    ensures is { marks.new.items ≡ with_marks count marks.old.items lits.now value }
+    ensures sized { length marks.new.items ≡ count }
+{
+    for lit in lits {
+        marks[spot(count, *lit)] = value;
+    }
+}
+
+fn list_at(lists: &[Items<Entry>], at: usize) -> &[Entry]
+    ensures { result.now ≡ slice_index_or lists.now at [] }
+{
+    match lists.get(at) {
+        Some(list) => list.as_slice(),
+        None => &[],
+    }
+}
+
+fn any_within(marks: &[bool], slots: &[Option<Clause>], lits: &[Lit], entries: &[Entry]) -> bool
+    ensures { result ≡ list_any (marked_within marks.now slots.now lits.now) entries.now }
+{
+    entries.iter().any(|entry| is_marked(marks, entry.other)
+        && slot_within(slots, entry.number, lits))
+}
+
+// Whether a marked entry of a list of a clause's spots names a clause that lies within it.
+fn finds_marked(
+    count: usize,
+    marks: &[bool],
+    slots: &[Option<Clause>],
+    lists: &[Items<Entry>],
+    lits: &[Lit],
+) -> bool
+    requires { 0 < count }
+    ensures { result ≡ finds_marked count marks.now slots.now lists.now lits.now }
+{
+    any_within(marks, slots, lits, list_at(lists, 0))
+        || finds_at_literals(count, marks, slots, lists, lits)
+}
+
+fn finds_at_literals(
+    count: usize,
+    marks: &[bool],
+    slots: &[Option<Clause>],
+    lists: &[Items<Entry>],
+    lits: &[Lit],
+) -> bool
+    requires { 0 < count }
+    ensures { result ≡ list_any (λ k. list_any (marked_within marks.now slots.now lits.now) (slice_index_or lists.now k [])) (map (spot count) lits.now) }
+{
+    for lit in lits {
+        if any_within(marks, slots, lits, list_at(lists, spot(count, *lit))) {
+            return true;
+        }
+    }
+    false
+}
+
+// Whether one of the earlier clauses lies within a clause.
+fn finds(
+    count: usize,
+    marks: &mut Vec<bool>,
+    slots: &[Option<Clause>],
+    lists: &[Items<Entry>],
+    lits: &[Lit],
+) -> bool
+    requires some { 0 < count }
+    requires sized { length marks.old.items ≡ count }
+    requires clear { HasNoMark marks.old.items }
+    ensures is { result ≡ finds count slots.now lists.now lits.now }
+    ensures sized { length marks.new.items ≡ count }
+    ensures clear { HasNoMark marks.new.items }
+{
+    mark(marks, count, lits, true);
+    let found = finds_marked(count, marks.as_slice(), slots, lists, lits);
+    mark(marks, count, lits, false);
+    found
+}
+
+// Of the spots of a clause but one, that with the shortest list; 0 where there is none.
+fn rarest(count: usize, lists: &[Items<Entry>], lits: &[Lit], but: usize) -> usize
+    requires { 0 < count }
+    ensures below { result < count }
+    ensures among { stands_in (spots count lits.now) result ≡ true }
+{
+    let mut best = 0;
+    let mut fewest = usize::MAX;
+    for lit in lits {
+        let at = spot(count, *lit);
+        let length = list_at(lists, at).len();
+        if at != but && length < fewest {
+            best = at;
+            fewest = length;
+        }
+    }
+    best
+}
+
+fn put_at(lists: &mut Vec<Items<Entry>>, at: usize, entry: Entry) -> Result<(), AllocError>
+    requires { at < length lists.old.items }
+    ensures { OnOk result (lists.new.items ≡ slice_set lists.old.items at (slice_index_or lists.old.items at [] ++ entry ∷ [])) }
+{
+    lists[at].push(entry)?;
+    Ok(())
+}
+
+// Puts a clause into the shortest list of its spots.
+fn put(
+    count: usize,
+    lists: &mut Vec<Items<Entry>>,
+    number: usize,
+    lits: &[Lit],
+) -> Result<(), AllocError>
+    requires some { 0 < count }
+    requires listed { length lists.old.items ≡ count }
+    ensures { OnOk result (PutsOne count lits.now number lists.old.items lists.new.items) }
+{
+    let at = rarest(count, lists.as_slice(), lits, 0);
+    let other = rarest(count, lists.as_slice(), lits, at);
+    put_at(lists, at, Entry { number, other })
+}
+
+// Puts the clause of a number into the index, unless it was dropped.
+fn put_slot(
+    count: usize,
+    slots: &[Option<Clause>],
+    lists: &mut Vec<Items<Entry>>,
+    number: usize,
+) -> Result<(), AllocError>
+    requires some { 0 < count }
+    requires listed { length lists.old.items ≡ count }
+    requires there { number < length slots.now }
+    ensures listed { OnOk result (length lists.new.items ≡ count) }
+    ensures next { OnOk result (IsIndex count slots.now lists.old.items (live_of (take number slots.now)) → IsIndex count slots.now lists.new.items (live_of (take (number + 1) slots.now))) }
+{
+    match &slots[number] {
+        Some(clause) => put(count, lists, number, clause.lits()),
+        None => Ok(()),
+    }
+}
+
+fn empty_lists(alloc: Global, count: usize) -> Result<Vec<Items<Entry>>, AllocError>
+    ensures sized { IfOk result (λ lists. length lists.items ≡ count) }
+    ensures empty { IfOk result (λ lists. HasNoEntry lists.items) }
+{
+    let mut lists = Vec::new(alloc);
+    for i in 0..count {
+        lists.push(Items::new(alloc))?;
+    }
+    Ok(lists)
+}
+
+// The index of the clauses before a number.
+fn index_before(
+    alloc: Global,
+    count: usize,
+    slots: &[Option<Clause>],
+    number: usize,
+) -> Result<Vec<Items<Entry>>, AllocError>
+    requires some { 0 < count }
+    requires there { number ≤ length slots.now }
+    ensures sized { IfOk result (λ lists. length lists.items ≡ count) }
+    ensures is { IfOk result (λ lists. IsIndex count slots.now lists.items (live_of (take number slots.now))) }
+{
+    let mut lists = empty_lists(alloc, count)?;
+    for i in 0..number {
+        put_slot(count, slots, &mut lists, i)?;
+    }
+    Ok(lists)
+}
+
+// Whether the clause of a number, if it wasn't dropped, is new among those before it.
+fn is_slot_new(
+    count: usize,
+    marks: &mut Vec<bool>,
+    slots: &[Option<Clause>],
+    lists: &[Items<Entry>],
+    number: usize,
+) -> bool
+    requires some { 0 < count }
+    requires sized { length marks.old.items ≡ count }
+    requires clear { HasNoMark marks.old.items }
+    requires there { number < length slots.now }
+    requires before { IsIndex count slots.now lists.now (live_of (take number slots.now)) }
+    ensures is { result ≡ slot_new (live_of (take number slots.now)) (slice_index_or slots.now number None) }
+    ensures sized { length marks.new.items ≡ count }
+    ensures clear { HasNoMark marks.new.items }
+{
+    match &slots[number] {
+        Some(clause) => {
+            let found = finds(count, marks, slots, lists, clause.lits());
+            !found && !holds_both_ways(clause.lits()) && !clause.is_empty()
+        }
+        None => true,
+    }
+}
+
+fn each_new_by_index(
+    alloc: Global,
+    count: usize,
+    slots: &[Option<Clause>],
+    given: usize,
+) -> Result<bool, AllocError>
+    requires some { 0 < count }
+    requires there { given ≤ length slots.now }
+    ensures { IfOk result (λ b. b ≡ each_new (live_of (take given slots.now)) (live_of (drop given slots.now))) }
+{
+    let mut marks = vec![in alloc; false; count]?;
+    let mut lists = index_before(alloc, count, slots, given)?;
+    for i in given..slots.len() {
+        if !is_slot_new(count, &mut marks, slots, lists.as_slice(), i) {
+            return Ok(false);
+        }
+        put_slot(count, slots, &mut lists, i)?;
+    }
+    Ok(true)
+}
+
+fn holds_one_within(earlier: &[Option<Clause>], lits: &[Lit]) -> bool
+    ensures { result ≡ list_any (λ d. sub d lits.now) (live_of earlier.now) }
+{
+    for slot in earlier {
+        if let Some(clause) = slot {
+            if is_within(clause.lits(), lits) {
+                return true;
+            }
+        }
+    }
+    false
+}
+
+// Whether a clause contains none of the earlier ones, holds no atom both ways and isn't empty.
+fn is_new(earlier: &[Option<Clause>], lits: &[Lit]) -> bool
+    ensures { result ≡ is_new (live_of earlier.now) lits.now }
+{
+    !holds_one_within(earlier, lits) && !holds_both_ways(lits) && !lits.is_empty()
+}
+
+fn each_new_by_scan(slots: &[Option<Clause>], given: usize) -> bool
+    requires { given ≤ length slots.now }
+    ensures { result ≡ each_new (live_of (take given slots.now)) (live_of (drop given slots.now)) }
+{
+    for i in given..slots.len() {
+        if let Some(clause) = &slots[i] {
+            if !is_new(&slots[..i], clause.lits()) {
+                return false;
+            }
+        }
+    }
+    true
+}
+
+/// Whether each clause from a number on is new among those before it. `atoms` is the number of atoms; with another number the
+/// answer is the same and takes longer.
+pub fn each_new(alloc: Global, atoms: usize, slots: &[Option<Clause>], given: usize) -> bool
+    requires few { atoms < 2 ^ 32 }
+    requires there { given ≤ length slots.now }
+    ensures { result ≡ each_new (live_of (take given slots.now)) (live_of (drop given slots.now)) }
+{
+    match each_new_by_index(alloc, 2 * atoms + 1, slots, given) {
+        Ok(new) => new,
+        Err(_) => each_new_by_scan(slots, given),
+    }
+}
+
+/// Whether no clause was dropped.
+pub fn none_dropped(slots: &[Option<Clause>]) -> bool
+    ensures { result ≡ list_all (λ o. is_some o) slots.now }
+{
+    slots.iter().all(|slot| slot.is_some())
+}
