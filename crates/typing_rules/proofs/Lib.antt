@@ -1,0 +1,11 @@
+pub mod Basics
+pub mod Extending
+pub mod Elements
+pub mod Formulas
+pub mod Lines
+pub mod Distinct
+pub mod Conflicts
+pub mod Knowing
+pub mod Declaring
+pub mod Starting
+pub mod Whole

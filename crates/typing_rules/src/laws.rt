@@ -1,0 +1,12 @@
+//! The law of typing.
+
+ghost use Rattle.std.specs.Prelude.{◌≡◌, true, Ok};
+ghost use Rattle.spec_core.specs.Specification.{Specification};
+ghost use Rattle.spec_core.specs.Typed.{is_specification};
+ghost use Rattle.spec_reader.specs.Form.{TreeForm};
+ghost use Rattle.typing_rules.specs.Items.{typing};
+
+/// What a tree without faults declares is a well-formed specification.
+pub fn law_typed_is_well_formed()
+    ensures { (t : TreeForm) (d : Specification) → typing t ≡ Ok d → is_specification d ≡ true }
+{}
