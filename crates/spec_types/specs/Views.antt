@@ -1,0 +1,8 @@
+-- What is known behind some items, as a program holds it.
+use Rattle.typing_rules.specs.Items.{Known}
+use Rattle.type_faults.specs.Names.{meaning_in}
+use Rattle.spec_types.specs.declared.known.Known.{Known as Held}
+
+-- what is known behind some items
+abbrev pub known_of : Held → Known
+known_of k = record { design = k.draft; names = meaning_in k.names; stated = meaning_in k.stated }

@@ -1,0 +1,236 @@
+// The items that declare sorts, constants, relations, counters and tokens.
+
+ghost use Rattle.std.specs.Prelude.{◌≡◌, ◌<◌, length, count_by, ◌==◌, OnOk};
+ghost use Rattle.spec_reader.specs.Form.{sort_form, const_form, relation_form, counter_form, token_form};
+ghost use Rattle.typing_rules.specs.Items.{few_consts_fault as few_consts_fault_of, const_fault as const_fault_of, place_number as place_number_of, with_sort, with_const, with_relation, with_counter, with_token, typed_item};
+ghost use Rattle.spec_types.specs.Refusals.{Makes};
+ghost use Rattle.type_faults.specs.Views.{faulted};
+ghost use Rattle.spec_types.specs.Views.{known_of};
+
+use crate::known::{Known, heading_fault, scope_in, sort_numbers, sorts_fault};
+use crate::refusal::Stop;
+use spec_core::{Const, Counter, Name, Relation, Token};
+use spec_draft::Draft;
+use spec_reader::Mark;
+use std::alloc::{AllocError, Global};
+use type_faults::{Fault, declared_fault, limit_at, sort_fault, sort_number};
+use typing_rules::{Meaning, Which};
+
+// ---- sorts
+
+fn add_sort(alloc: Global, known: &mut Known, mark: &Mark) -> Result<(), AllocError>
+    requires { length known.old.draft.sorts < 256 }
+    ensures { OnOk result (known_of known.new ≡ with_sort (known_of known.old) mark.now) }
+{
+    let name = mark.text.bytes();
+    let place = known.draft.sorts.len() as u8;
+    known.draft.sorts.push(Name::new(alloc, name)?)?;
+    known.names.add(name, Meaning::Sort(place))?;
+    Ok(())
+}
+
+pub fn type_sort<'t>(
+    alloc: Global,
+    known: &mut Known,
+    word: u32,
+    mark: &'t Mark,
+) -> Result<(), Stop<'t>>
+    ensures { Makes (typed_item (known_of known.old) (sort_form word mark.now)) (known_of known.new) result }
+{
+    let count = known.draft.sorts.len();
+    if let Some(fault) = heading_fault(known, Which::Sorts, 8, count, mark) {
+        return Err(Stop::Fault(fault));
+    }
+    add_sort(alloc, known, mark)?;
+    Ok(())
+}
+
+// ---- constants
+
+fn count_of_sort(consts: &[Const], sort: u8) -> usize
+    ensures { result ≡ count_by (λ c. c.sort == sort) consts.now }
+{
+    consts.iter().filter(|found| found.sort == sort).count()
+}
+
+fn few_consts_fault<'t>(draft: &Draft, mark: &'t Mark, sort: Option<u8>) -> Option<Fault<'t>>
+    ensures { faulted result ≡ few_consts_fault_of draft.now mark.now sort }
+{
+    match sort {
+        Some(sort) => {
+            let count = count_of_sort(draft.consts.as_slice(), sort);
+            limit_at(Which::Constants, 4, count, mark.word)
+        }
+        None => None,
+    }
+}
+
+fn const_fault<'t>(known: &Known, mark: &'t Mark, sort: &'t Mark) -> Option<Fault<'t>>
+    ensures { faulted result ≡ const_fault_of (known_of known.now) mark.now sort.now }
+{
+    let scope = scope_in(known);
+    if let Some(fault) = declared_fault(&scope, mark) {
+        return Some(fault);
+    }
+    let found = known.names.sort(sort.text.bytes());
+    if let Some(fault) = few_consts_fault(&known.draft, mark, found) {
+        return Some(fault);
+    }
+    sort_fault(&scope, mark.text.bytes(), sort)
+}
+
+fn place_number(count: usize) -> u8
+    ensures { result ≡ place_number_of count }
+{
+    if count < 256 { count as u8 } else { 0 }
+}
+
+fn add_const(alloc: Global, known: &mut Known, mark: &Mark, sort: &Mark) -> Result<(), AllocError>
+    ensures { OnOk result (known_of known.new ≡ with_const (known_of known.old) mark.now sort.now) }
+{
+    let place = place_number(known.draft.consts.len());
+    let name = Name::new(alloc, mark.text.bytes())?;
+    let sort = sort_number(&known.names, sort);
+    known.draft.consts.push(Const { name, sort })?;
+    known.names.add(mark.text.bytes(), Meaning::Const(place))?;
+    Ok(())
+}
+
+pub fn type_const<'t>(
+    alloc: Global,
+    known: &mut Known,
+    word: u32,
+    mark: &'t Mark,
+    sort: &'t Mark,
+) -> Result<(), Stop<'t>>
+    ensures { Makes (typed_item (known_of known.old) (const_form word mark.now sort.now)) (known_of known.new) result }
+{
+    if let Some(fault) = const_fault(known, mark, sort) {
+        return Err(Stop::Fault(fault));
+    }
+    add_const(alloc, known, mark, sort)?;
+    Ok(())
+}
+
+// ---- relations, counters and tokens
+
+fn add_relation(
+    alloc: Global,
+    known: &mut Known,
+    mark: &Mark,
+    marks: &[Mark],
+) -> Result<(), AllocError>
+    requires { length known.old.draft.relations < 256 }
+    ensures { OnOk result (known_of known.new ≡ with_relation (known_of known.old) mark.now marks.now) }
+{
+    let place = known.draft.relations.len() as u8;
+    let made = Relation {
+        name: Name::new(alloc, mark.text.bytes())?,
+        places: sort_numbers(alloc, &known.names, marks)?,
+        initial: false,
+    };
+    known.draft.relations.push(made)?;
+    known
+        .names
+        .add(mark.text.bytes(), Meaning::Relation(place))?;
+    Ok(())
+}
+
+pub fn type_relation<'t>(
+    alloc: Global,
+    known: &mut Known,
+    word: u32,
+    mark: &'t Mark,
+    marks: &'t [Mark],
+) -> Result<(), Stop<'t>>
+    ensures { Makes (typed_item (known_of known.old) (relation_form word mark.now marks.now)) (known_of known.new) result }
+{
+    let count = known.draft.relations.len();
+    if let Some(fault) = heading_fault(known, Which::Relations, 16, count, mark) {
+        return Err(Stop::Fault(fault));
+    }
+    if let Some(fault) = sorts_fault(&scope_in(known), mark.text.bytes(), 3, marks) {
+        return Err(Stop::Fault(fault));
+    }
+    add_relation(alloc, known, mark, marks)?;
+    Ok(())
+}
+
+fn add_counter(
+    alloc: Global,
+    known: &mut Known,
+    mark: &Mark,
+    marks: &[Mark],
+) -> Result<(), AllocError>
+    requires { length known.old.draft.counters < 256 }
+    ensures { OnOk result (known_of known.new ≡ with_counter (known_of known.old) mark.now marks.now) }
+{
+    let place = known.draft.counters.len() as u8;
+    let made = Counter {
+        name: Name::new(alloc, mark.text.bytes())?,
+        keys: sort_numbers(alloc, &known.names, marks)?,
+        initial: 0,
+    };
+    known.draft.counters.push(made)?;
+    known.names.add(mark.text.bytes(), Meaning::Counter(place))?;
+    Ok(())
+}
+
+pub fn type_counter<'t>(
+    alloc: Global,
+    known: &mut Known,
+    word: u32,
+    mark: &'t Mark,
+    marks: &'t [Mark],
+) -> Result<(), Stop<'t>>
+    ensures { Makes (typed_item (known_of known.old) (counter_form word mark.now marks.now)) (known_of known.new) result }
+{
+    let count = known.draft.counters.len();
+    if let Some(fault) = heading_fault(known, Which::Counters, 8, count, mark) {
+        return Err(Stop::Fault(fault));
+    }
+    if let Some(fault) = sorts_fault(&scope_in(known), mark.text.bytes(), 2, marks) {
+        return Err(Stop::Fault(fault));
+    }
+    add_counter(alloc, known, mark, marks)?;
+    Ok(())
+}
+
+fn add_token(
+    alloc: Global,
+    known: &mut Known,
+    mark: &Mark,
+    marks: &[Mark],
+) -> Result<(), AllocError>
+    requires { length known.old.draft.tokens < 256 }
+    ensures { OnOk result (known_of known.new ≡ with_token (known_of known.old) mark.now marks.now) }
+{
+    let place = known.draft.tokens.len() as u8;
+    let made = Token {
+        name: Name::new(alloc, mark.text.bytes())?,
+        places: sort_numbers(alloc, &known.names, marks)?,
+    };
+    known.draft.tokens.push(made)?;
+    known.names.add(mark.text.bytes(), Meaning::Token(place))?;
+    Ok(())
+}
+
+pub fn type_token<'t>(
+    alloc: Global,
+    known: &mut Known,
+    word: u32,
+    mark: &'t Mark,
+    marks: &'t [Mark],
+) -> Result<(), Stop<'t>>
+    ensures { Makes (typed_item (known_of known.old) (token_form word mark.now marks.now)) (known_of known.new) result }
+{
+    let count = known.draft.tokens.len();
+    if let Some(fault) = heading_fault(known, Which::Tokens, 16, count, mark) {
+        return Err(Stop::Fault(fault));
+    }
+    if let Some(fault) = sorts_fault(&scope_in(known), mark.text.bytes(), 3, marks) {
+        return Err(Stop::Fault(fault));
+    }
+    add_token(alloc, known, mark, marks)?;
+    Ok(())
+}
