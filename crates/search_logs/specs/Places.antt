@@ -1,0 +1,31 @@
+use Rattle.std.specs.Prelude.{◌≡◌, ℕ, nat_lt, nat_le, Bool, true, false, cond, List, [], ◌∷◌, length, slice_index_or, Option, Some, None}
+use Rattle.std.specs.Option.{option_or}
+use Rattle.proof_kernel.specs.declared.clause.Lit.{Lit}
+use Rattle.proof_kernel.specs.Clauses.{same_lit, lit_of}
+use Rattle.search_logs.specs.declared.trail.Entry.{Entry}
+
+-- WHERE THE LITERALS OF A TRAIL STAND. Places are counted from the oldest entry on.
+
+-- the place of the oldest entry with a literal
+abbrev pub place_of : List Entry → Lit → Option ℕ
+place_of [] l = None
+place_of (e ∷ t) l = option_or (place_of t l) (cond (same_lit e.lit l) (Some (length t)) None)
+
+-- there is a place, and it lies before a number
+abbrev pub lies_before : ℕ → Option ℕ → Bool
+lies_before n (Some i) = nat_lt i n
+lies_before n None = false
+
+-- there is a place, and it doesn't lie before a number
+abbrev pub lies_from : ℕ → Option ℕ → Bool
+lies_from n (Some i) = nat_le n i
+lies_from n None = false
+
+-- the places of the literals with one sign, by their atoms
+abbrev pub ArePlaces : List (Option ℕ) → Bool → List Entry → Type 0
+ArePlaces places sign t = (a : ℕ) → slice_index_or places a None ≡ place_of t (lit_of a sign)
+
+-- the places of all literals
+pub record IsIndexed (positive negative : List (Option ℕ)) (t : List Entry) : Type 0 where
+  pub positive_places : ArePlaces positive true t
+  pub negative_places : ArePlaces negative false t

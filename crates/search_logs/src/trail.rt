@@ -1,0 +1,203 @@
+// Trails: the literals that a search takes to be true, in the order in which it came to them.
+ghost use Rattle.std.specs.Prelude.{◌≡◌, ◌<◌, ◌≤◌, ◌+◌, true, OnOk, OnErr, IfSome, IfNone, MatchOption, false, [], ◌∷◌, length, reverse, take};
+ghost use Rattle.proof_kernel.specs.Clauses.{has, flip};
+ghost use Rattle.search_logs.specs.Trails.{in_trail, negated, named, is_false, is_unit, open_in, before_last, has_decision, is_done, lone};
+ghost use Rattle.search_logs.specs.Places.{place_of};
+
+use crate::places::{enter, leave, lies_before, place_at};
+use proof_kernel::Lit;
+use proof_kernel::clause::holds;
+use std::alloc::{AllocError, Global};
+use std::marker::Model;
+
+/// A literal of a trail, with the number of the clause that forced it. Without a reason it is a decision.
+#[derive(Clone, Copy, PartialEq, Eq, Debug)]
+pub struct Entry {
+    pub lit: Lit,
+    pub reason: Option<u32>,
+}
+
+/// The literals that a search takes to be true. Contracts see the newest first. A question about one literal takes the same time
+/// however many there are.
+#[derive(Drop)]
+pub struct Trail {
+    entries: Vec<Entry>,
+    positive: Vec<Option<usize>>,
+    negative: Vec<Option<usize>>,
+}
+
+impl Model for Trail {
+    ghost use Rattle.std.specs.Prelude.{List, reverse};
+    ghost use Rattle.std.specs.Coded.{coded_list};
+    ghost use Rattle.search_logs.specs.declared.trail.Entry.{Entry};
+    ghost use Rattle.search_logs.specs.Codes.{entry_code};
+    ghost use Rattle.search_logs.specs.Places.{IsIndexed};
+
+    ghost Value = { List Entry };
+
+    ghost coded = { coded_list entry_code };
+
+    ghost view = { λ a. reverse a.entries.items };
+
+    ghost invariant = { λ a. IsIndexed a.positive.items a.negative.items (reverse a.entries.items) };
+}
+
+fn decides(entries: &[Entry]) -> bool
+    ensures { result ≡ has_decision (reverse entries.now) }
+{
+    entries.iter().rev().any(|entry| entry.reason.is_none())
+}
+
+// How many entries stand before the last decision, or 0 where there is none.
+fn kept(entries: &[Entry]) -> usize
+    ensures within { result ≤ length entries.now }
+    ensures before { before_last (reverse entries.now) ≡ reverse (take result entries.now) }
+{
+    let mut i = entries.len();
+    while i > 0 {
+        i -= 1;
+        if entries[i].reason.is_none() {
+            return i;
+        }
+    }
+    0
+}
+
+impl Trail {
+    /// The trail without literals.
+    pub fn new(alloc: Global) -> Trail
+        ensures { result ≡ [] }
+    {
+        Trail {
+            entries: Vec::new(alloc),
+            positive: Vec::new(alloc),
+            negative: Vec::new(alloc),
+        }
+    }
+
+    /// Adds an entry, which is the newest then. A refused one leaves the trail as it was.
+    pub fn push(&mut self, entry: Entry) -> Result<(), AllocError>
+        ensures ok { OnOk result (self.new ≡ entry ∷ self.old) }
+        ensures err { OnErr result (self.new ≡ self.old) }
+    {
+        if self.holds(entry.lit) {
+            self.entries.push(entry)?;
+            return Ok(());
+        }
+        if entry.lit.positive {
+            enter(&mut self.entries, &mut self.positive, entry)
+        } else {
+            enter(&mut self.entries, &mut self.negative, entry)
+        }
+    }
+
+    /// Takes the newest entry away.
+    pub fn pop(&mut self) -> Option<Entry>
+        ensures { MatchOption result ((self.old ≡ []) × (self.new ≡ [])) (λ e. self.old ≡ e ∷ self.new) }
+    {
+        let entry = self.entries.pop()?;
+        if entry.lit.positive {
+            leave(&mut self.positive, self.entries.as_slice(), entry);
+        } else {
+            leave(&mut self.negative, self.entries.as_slice(), entry);
+        }
+        Some(entry)
+    }
+
+    /// Takes the last decision away, and what stands after it; all entries, where nothing was decided.
+    pub fn cut(&mut self)
+        ensures { self.new ≡ before_last self.old }
+    {
+        while let Some(entry) = self.pop() {
+            if entry.reason.is_none() {
+                return;
+            }
+        }
+    }
+
+    // Where a literal stands, if it is there.
+    fn place(&self, lit: Lit) -> Option<usize>
+        ensures { result ≡ place_of self.now lit }
+    {
+        if lit.positive {
+            place_at(self.positive.as_slice(), lit.atom)
+        } else {
+            place_at(self.negative.as_slice(), lit.atom)
+        }
+    }
+
+    /// Whether the literal is in the trail.
+    pub fn holds(&self, lit: Lit) -> bool
+        ensures { result ≡ in_trail self.now lit }
+    {
+        self.place(lit).is_some()
+    }
+
+    /// Whether the literal's negation is in the trail.
+    pub fn negates(&self, lit: Lit) -> bool
+        ensures { result ≡ negated self.now lit }
+    {
+        self.holds(lit.opposite())
+    }
+
+    /// Whether the trail has a literal of the atom.
+    pub fn names(&self, atom: u32) -> bool
+        ensures { result ≡ named self.now atom }
+    {
+        self.holds(Lit {
+            atom,
+            positive: true,
+        }) || self.holds(Lit {
+            atom,
+            positive: false,
+        })
+    }
+
+    /// Whether a literal was decided.
+    pub fn decides(&self) -> bool
+        ensures { result ≡ has_decision self.now }
+    {
+        decides(self.entries.as_slice())
+    }
+
+    /// How many literals of a clause don't have their negations before the last decision.
+    pub fn count_open_before(&self, lits: &[Lit]) -> usize
+        ensures { result ≡ open_in (before_last self.now) lits.now }
+    {
+        let end = kept(self.entries.as_slice());
+        lits.iter()
+            .filter(|lit| !lies_before(end, self.place(lit.opposite())))
+            .count()
+    }
+
+    /// Whether all literals of a clause have their negations in the trail.
+    pub fn is_false(&self, lits: &[Lit]) -> bool
+        ensures { result ≡ is_false self.now lits.now }
+    {
+        lits.iter().all(|lit| self.negates(*lit))
+    }
+
+    fn is_lone(&self, lits: &[Lit], lit: Lit) -> bool
+        ensures { result ≡ lone self.now lits.now lit }
+    {
+        lits.iter().all(|x| x.same(lit) || self.negates(*x))
+    }
+
+    /// Whether a clause is unit with this remaining literal.
+    pub fn is_unit(&self, lits: &[Lit], lit: Lit) -> bool
+        ensures { result ≡ is_unit self.now lits.now lit }
+    {
+        holds(lits, lit) && (self.is_lone(lits, lit) && !self.names(lit.atom))
+    }
+
+    /// Whether a chain is done with a clause.
+    pub fn is_done(&self, lits: &[Lit]) -> bool
+        ensures { result ≡ is_done self.now lits.now }
+    {
+        if self.decides() {
+            self.count_open_before(lits) <= 1
+        } else {
+            lits.len() <= 0
+        }
+    }
+}
