@@ -1,0 +1,133 @@
+use Rattle.std.proofs.Common.{◌≡◌, ◌≢◌, ℕ, zero, suc, ◌+◌, ◌<◌, ◌≤◌, Bool, true, false, cond, ◌⊎◌, inl, inr, List, [], ◌∷◌, length, get_or, refl, sym, ◌∙◌, ap, subst, arith, Ok}
+use Rattle.std.specs.Prelude.{nat_le}
+use Rattle.std.specs.List.{list_any}
+use Rattle.std.proofs.lemmas.Bool.Decides.{nat_tests}
+use Rattle.proof_kernel.specs.declared.clause.Lit.{Lit}
+use Rattle.proof_kernel.specs.declared.line.Line.{Line}
+use Rattle.proof_kernel.specs.Clauses.{is_empty}
+use Rattle.proof_kernel.specs.Problems.{PlainProblem}
+use Rattle.proof_kernel.specs.Rules.{run, start}
+use Rattle.proof_kernel.proofs.Sets.{or_left, or_right}
+use Rattle.search_logs.specs.declared.trail.Entry.{Entry}
+use Rattle.search_logs.specs.Trails.{is_false, open_in, before_last, has_decision, older, is_done, Settled, NoneFalse}
+use Rattle.search_logs.specs.Forcing.{AreRefuted}
+use Rattle.search_logs.specs.SearchLogs.{Phase, between, within, SearchLog, standing, IsSearched, splits}
+use Rattle.search_logs.proofs.Forcing.{refuted_none, empty_unsat}
+use Rattle.search_logs.proofs.Shown.{standing-fresh, lines_judged-so}
+use Rattle.sat_core.specs.Answers.{IsEasy, IsRefuted, IsSpent, IsShort}
+use Rattle.sat_core.specs.Searching.{Aim, Keeps, InSearch, InChain}
+use Rattle.sat_core.proofs.Keeping.{short_of}
+
+-- How a search ends.
+
+at_empty : (cs : List (List Lit)) (k : ℕ) → k < length cs → is_empty (get_or cs k []) ≡ true → list_any is_empty cs ≡ true
+at_empty [] k l h = absurd (omega arith)
+at_empty (c ∷ cs) zero l h = or_left (is_empty c) (list_any is_empty cs) h
+at_empty (c ∷ cs) (suc k) l h = or_right (is_empty c) (list_any is_empty cs) (at_empty cs k (omega arith) h)
+
+-- a chain that is done where nothing was decided has reached the empty clause
+pub chain_refutes : (a : Aim) (budget before : ℕ) (q : PlainProblem) (t : List Entry) (ls : List Line) (i : ℕ) → InChain a budget before q t ls i → is_done t (get_or q.clauses i []) ≡ true → has_decision t ≡ false → IsRefuted a.split a.problem budget ls
+chain_refutes a budget before q t ls i x d h = record {
+  state = standing (length a.problem.clauses) q;
+  runs = x.keeps.runs;
+  empty = at_empty q.clauses i x.ex.there (nothing (get_or q.clauses i []) (ap (λ b. cond b (nat_le (open_in (before_last t) (get_or q.clauses i [])) 1) (nat_le (length (get_or q.clauses i [])) 0)) (sym h) ∙ d));
+  within = x.keeps.room;
+  short = short_of a budget q ls x.keeps;
+  uneasy = x.uneasy;
+}
+  where
+    nothing : (c : List Lit) → nat_le (length c) 0 ≡ true → is_empty c ≡ true
+    nothing [] h = refl
+    nothing (l ∷ c) h = absurd (longer_than (length c) h)
+      where
+        longer_than : (m : ℕ) → nat_le (suc m) 0 ≡ true → ⊥
+        longer_than m h = absurd (grind (arith, nat_tests))
+
+-- a clause that isn't false isn't empty
+full : (t : List Entry) (c : List Lit) → is_false t c ≡ false → is_empty c ≡ false
+full t [] h = absurd cc
+full t (l ∷ c) h = refl
+
+-- a clause that a chain isn't done with isn't empty
+undone-full : (t : List Entry) (c : List Lit) → is_done t c ≡ false → is_empty c ≡ false
+undone-full t [] h = absurd (by_case (has_decision t) h)
+  where
+    by_case : (b : Bool) → cond b (nat_le 0 1) (nat_le 0 0) ≡ false → ⊥
+    by_case true h = absurd (grind (arith, nat_tests))
+    by_case false h = absurd (grind (arith, nat_tests))
+undone-full t (l ∷ c) h = refl
+
+same_or_not : (a b : ℕ) → (a ≡ b) ⊎ (a ≢ b)
+same_or_not a b = grind arith
+
+-- a log with what is known of it is a fresh search log
+pub searched-so : (a : Aim) (budget : ℕ) (q : PlainProblem) (ls : List Line) (phase : Phase) → Keeps a budget q ls → SearchLog a.problem ls q phase → ((k : ℕ) → k < length q.clauses → is_empty (get_or q.clauses k []) ≡ false) → IsSearched a.problem ls q
+searched-so a budget q ls phase k s n = record {
+  runs = k.runs;
+  fresh = standing-fresh (length a.problem.clauses) q k.first.long k.fresh (λ i l m. n i m);
+  phase = phase;
+  search = s;
+}
+
+pub spent-so : (a : Aim) (budget : ℕ) (q : PlainProblem) (ls : List Line) (phase : Phase) → Keeps a budget q ls → SearchLog a.problem ls q phase → ((k : ℕ) → k < length q.clauses → is_empty (get_or q.clauses k []) ≡ false) → budget ≤ length ls
+    → (IsEasy a.problem → ⊥) → (AreRefuted a.problem.clauses → length a.problem.atoms ≤ budget → ⊥) → IsSpent a.split a.problem budget ls
+spent-so a budget q ls phase k s n b u f =
+    let r = k.room in
+    let whole : length ls ≡ budget = omega arith in
+    let searched = searched-so a budget q ls phase k s n in
+    record {
+      judged = lines_judged-so a.problem ls budget (standing (length a.problem.clauses) q) k.runs whole searched.fresh;
+      whole = whole;
+      makes = q;
+      searched = searched;
+      short = short_of a budget q ls k;
+      uneasy = u;
+      hard = f;
+    }
+
+-- a chain that isn't done, with no line left
+pub chain_spends : (a : Aim) (budget before : ℕ) (q : PlainProblem) (t : List Entry) (ls : List Line) (i : ℕ) → InChain a budget before q t ls i → is_done t (get_or q.clauses i []) ≡ false → budget ≤ length ls → IsSpent a.split a.problem budget ls
+chain_spends a budget before q t ls i x n b = spent-so a budget q ls (within x.start x.from (get_or q.clauses i [])) x.keeps x.search none b x.uneasy hard
+  where
+    none : (k : ℕ) → k < length q.clauses → is_empty (get_or q.clauses k []) ≡ false
+    none k l = by_case (same_or_not k i)
+      where
+        by_case : (k ≡ i) ⊎ (k ≢ i) → is_empty (get_or q.clauses k []) ≡ false
+        by_case (inl e) = subst (λ (j : ℕ). is_empty (get_or q.clauses j []) ≡ false) (sym e) (undone-full t (get_or q.clauses i []) n)
+        by_case (inr e) = full (older t) (get_or q.clauses k []) (x.ex.others k l e)
+
+    some_left : (t : List Entry) → is_false t (get_or q.clauses i []) ≡ true → 1 ≤ length t
+    some_left [] f = absurd (let u = undone-full t (get_or q.clauses i []) n in let v = empty_false (get_or q.clauses i []) f in cc)
+      where
+        empty_false : (c : List Lit) → is_false [] c ≡ true → is_empty c ≡ true
+        empty_false [] f = refl
+        empty_false (l ∷ c) f = absurd cc
+    some_left (e ∷ t) f = omega arith
+
+    hard : AreRefuted a.problem.clauses → length a.problem.atoms ≤ budget → ⊥
+    hard r m = absurd (let y = (x.early r).1 in let s = some_left t x.ex.false_now in omega (arith, y, s))
+
+-- forced literals refute no clause where a trail is settled
+pub settled_unrefuted : (a : Aim) (budget : ℕ) (q : PlainProblem) (t : List Entry) (ls : List Line) → InSearch a budget q t ls → Settled t q.clauses → NoneFalse t q.clauses → AreRefuted a.problem.clauses → ⊥
+settled_unrefuted a budget q t ls x w n r =
+    let y = x.early r in
+    refuted_none a.problem.clauses t r (subst (λ (z : List (List Lit)). Settled t z) y.2 w) (subst (λ (z : List (List Lit)). NoneFalse t z) y.2 n)
+
+-- a settled trail leaves no clause empty
+pub settled_full : (t : List Entry) (cs : List (List Lit)) → NoneFalse t cs → (k : ℕ) → k < length cs → is_empty (get_or cs k []) ≡ false
+settled_full t cs n k l = full t (get_or cs k []) (n k l)
+
+-- a settled trail where a line is wanted and none is left
+pub search_spends : (a : Aim) (budget : ℕ) (q : PlainProblem) (t : List Entry) (ls : List Line) → InSearch a budget q t ls → Settled t q.clauses → NoneFalse t q.clauses → budget ≤ length ls → (IsEasy a.problem → ⊥) → IsSpent a.split a.problem budget ls
+search_spends a budget q t ls x w n b u = spent-so a budget q ls between x.keeps x.search (settled_full t q.clauses n) b u (λ r m. settled_unrefuted a budget q t ls x w n r)
+
+-- an empty clause is there from the start
+pub at_once : (split : Bool) (p : PlainProblem) (budget : ℕ) (log : List Line) → log ≡ [] → list_any is_empty p.clauses ≡ true → IsRefuted split p budget log
+at_once split p budget log e h = subst (λ (z : List Line). IsRefuted split p budget z) (sym e) (record {
+  state = start p;
+  runs = refl;
+  empty = h;
+  within = omega arith;
+  short = record { unsplit = λ _. refl; plain = λ _. refl; few = omega arith };
+  uneasy = λ u. empty_unsat p.clauses h u.1;
+})

@@ -1,0 +1,60 @@
+use Rattle.std.proofs.Common.{◌≡◌, Bool, true, false, not, ◌&&◌, ◌||◌, List, refl, sym, subst, arith, ℕ, zero, suc, ◌<◌, length, get_or, [], ◌∷◌, ◌≤◌, take, ap}
+use Rattle.std.specs.List.{list_any}
+use Rattle.proof_kernel.specs.declared.clause.Lit.{Lit}
+use Rattle.proof_kernel.specs.Clauses.{has, same_lit, flip}
+use Rattle.proof_kernel.proofs.Sets.{both, same_lit-is, same_lit-refl, or_left, or_right}
+use Rattle.search_logs.specs.declared.trail.Entry.{Entry}
+use Rattle.search_logs.specs.Trails.{negated, named, is_false, lone, is_unit}
+use Rattle.search_logs.proofs.Trails.{any_has, all_has, in_named}
+
+-- Which literal may make a clause unit.
+
+off : (b : Bool) → (b ≡ true → ⊥) → b ≡ false
+off true f = absurd (f refl)
+off false f = refl
+
+-- a literal that makes a clause unit isn't negated
+unit-open : (t : List Entry) (c : List Lit) (l : Lit) → is_unit t c l ≡ true → negated t l ≡ true → ⊥
+unit-open t c l u n = absurd (
+    let p = both (has c l) (lone t c l && not (named t l.atom)) u in
+    let q = both (lone t c l) (not (named t l.atom)) p.1 in
+    let m = in_named t (flip l) n in
+    let k = not_true (named t l.atom) q.1 in cc)
+  where
+    not_true : (b : Bool) → not b ≡ true → b ≡ false
+    not_true true h = absurd cc
+    not_true false h = refl
+
+none_open : (t : List Entry) (c : List Lit) → is_false t c ≡ true → list_any (is_unit t c) c ≡ false
+none_open t c f = off (list_any (is_unit t c) c) (λ h. (let r = any_has (is_unit t c) c h in unit-open t c r.0 r.2 (all_has (negated t) c r.0 f r.1)))
+
+first_open : (t : List Entry) (c : List Lit) (l : Lit) → has c l ≡ true → negated t l ≡ false → is_unit t c l ≡ false → list_any (is_unit t c) c ≡ false
+first_open t c l h n u = off (list_any (is_unit t c) c) (λ k. (let r = any_has (is_unit t c) c k in by_case r.0 r.2 (same_lit l r.0) refl))
+  where
+    or_last : (a b : Bool) → (a || b) ≡ true → a ≡ false → b ≡ true
+    or_last a b p q = grind arith
+
+    by_case : (x : Lit) → is_unit t c x ≡ true → (b : Bool) → same_lit l x ≡ b → ⊥
+    by_case x v true e = absurd (let w : is_unit t c l ≡ true = subst (λ (z : Lit). is_unit t c z ≡ true) (sym (same_lit-is l x e)) v in cc)
+    by_case x v false e = absurd (
+        let p = both (has c x) (lone t c x && not (named t x.atom)) v in
+        let q = both (lone t c x) (not (named t x.atom)) p.1 in
+        let s = all_has (λ y. same_lit y x || negated t y) c l q.0 h in
+        let m = or_last (same_lit l x) (negated t l) s e in cc)
+
+has-at : (c : List Lit) (i : ℕ) (d : Lit) → i < length c → has c (get_or c i d) ≡ true
+has-at [] i d h = absurd (omega arith)
+has-at (l ∷ c) zero d h = or_left (same_lit l l) (has c l) (same_lit-refl l)
+has-at (l ∷ c) (suc i) d h = or_right (same_lit l (get_or c i d)) (has c (get_or c i d)) (has-at c i d (omega arith))
+
+pub first_open-at : (t : List Entry) (c : List Lit) (i : ℕ) (d : Lit) → i < length c → negated t (get_or c i d) ≡ false → is_unit t c (get_or c i d) ≡ false → list_any (is_unit t c) c ≡ false
+first_open-at t c i d h n u = first_open t c (get_or c i d) (has-at c i d h) n u
+
+take-past : (c : List Lit) (i : ℕ) → length c ≤ i → take i c ≡ c
+take-past [] zero h = refl
+take-past [] (suc i) h = refl
+take-past (l ∷ c) zero h = absurd (omega arith)
+take-past (l ∷ c) (suc i) h = ap (λ (z : List Lit). l ∷ z) (take-past c i (omega arith))
+
+pub none_open-at : (t : List Entry) (c : List Lit) (i : ℕ) → length c ≤ i → is_false t (take i c) ≡ true → list_any (is_unit t c) c ≡ false
+none_open-at t c i h f = none_open t c (subst (λ (z : List Lit). is_false t z ≡ true) (take-past c i h) f)

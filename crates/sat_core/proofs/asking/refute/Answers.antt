@@ -1,0 +1,32 @@
+use Rattle.std.proofs.Common.{◌≡◌, ◌≤◌, ◌<◌, length, arith}
+use Rattle.proof_kernel.specs.Clauses.{negations}
+use Rattle.search_logs.proofs.Shown.{false-negations, false-below}
+use Rattle.sat_core.proofs.Ends.{search_spends}
+use Rattle.sat_core.proofs.Asked.{none_false, refute_chain, learned-so}
+use Rattle.sat_core.proofs.asking.refute.Goals as goal
+
+pub returns-then-len-budget : goal.returns-then-len-budget
+returns-then-len-budget c a y =
+    let b : c.args.budget ≤ length c.args.log.now = omega (arith, c.len.ensures, c.if-len-budget.true) in
+    search_spends a c.args.budget c.args.grown.now c.args.trail.now c.args.log.now y c.requires.settled (none_false c.args.grown.now.clauses c.args.trail.now c.requires.settled) b (c.requires.uneasy a y)
+
+pub learn-requires : goal.learn-requires
+learn-requires c = false-below (length c.args.grown.now.atoms) c.args.trail.now (negations c.args.used) (false-negations c.args.trail.now c.args.used c.requires.in_it) c.requires.search.below
+
+pub explain-requires : goal.explain-requires
+explain-requires c =
+    let room : length c.args.log.now < c.args.budget = omega (arith, c.len.ensures, c.if-len-budget.false) in
+    record {
+      aim = c.requires.aim;
+      before = length c.args.log.now;
+      chain = refute_chain c.requires.aim c.args.budget c.args.grown.now c.args.trail.now c.args.log.now c.args.used c.args.steps c.learn.new.problem c.learn.new.trail c.learn.new.log c.in-Ok.start
+          c.requires.search c.requires.settled c.requires.in_it c.requires.taken (c.requires.uneasy c.requires.aim c.requires.search) room c.in-Ok.ensures;
+    }
+
+pub returns : goal.returns
+returns c =
+    let room : length c.args.log.now < c.args.budget = omega (arith, c.len.ensures, c.if-len-budget.false) in
+    learned-so c.explain.result c.args.budget c.args.grown.now c.args.trail.now c.args.log.now c.learn.new.problem c.learn.new.trail c.learn.new.log c.in-Ok.start c.explain.new.problem c.explain.new.trail c.explain.new.log
+    (λ a y. refute_chain a c.args.budget c.args.grown.now c.args.trail.now c.args.log.now c.args.used c.args.steps c.learn.new.problem c.learn.new.trail c.learn.new.log c.in-Ok.start
+    y c.requires.settled c.requires.in_it c.requires.taken (c.requires.uneasy a y) room c.in-Ok.ensures)
+    c.explain.ensures

@@ -1,0 +1,38 @@
+use Rattle.std.proofs.Common.{◌≡◌, ℕ, ◌<◌, true, length, Some, None, sym, subst}
+use Rattle.proof_kernel.specs.Clauses.{lit_of}
+use Rattle.sat_core.specs.declared.asking.Outcome.{Outcome}
+use Rattle.sat_core.specs.Outcomes.{IsOutcome}
+use Rattle.sat_core.proofs.Resolving.{chain_begins}
+use Rattle.sat_core.proofs.Outcomes.{aim_of, explained-outcome, pushed-outcome, forced-step}
+use Rattle.sat_core.proofs.plain.advance.Goals as goal
+
+pub explain-requires : goal.explain-requires
+explain-requires g c =
+    let h = c.in-Conflict.ensures in
+    record {
+      aim = aim_of c.args.problem.now g.T.Theory.MAY_SPLIT;
+      before = length c.args.log.now;
+      chain = chain_begins (aim_of c.args.problem.now g.T.Theory.MAY_SPLIT) c.args.budget c.args.grown.now c.args.trail.now c.args.log.now c.in-Conflict.start c.requires.search h.0 h.1 h.2;
+    }
+
+pub returns-in-Conflict : goal.returns-in-Conflict
+returns-in-Conflict g c =
+    let h = c.in-Conflict.ensures in
+    subst (λ (z : Outcome). IsOutcome z g.T.Theory.MAY_SPLIT g.T.Theory.MAY_STOP c.args.problem.now c.args.budget c.args.grown.now c.args.trail.now c.args.log.now c.explain.new.problem c.explain.new.trail c.explain.new.log) (sym c.outcome.ensures)
+    (explained-outcome c.explain.result g.T.Theory.MAY_SPLIT g.T.Theory.MAY_STOP c.args.problem.now c.args.budget c.args.grown.now c.args.trail.now c.args.log.now c.in-Conflict.start c.explain.new.problem c.explain.new.trail c.explain.new.log
+    (chain_begins (aim_of c.args.problem.now g.T.Theory.MAY_SPLIT) c.args.budget c.args.grown.now c.args.trail.now c.args.log.now c.in-Conflict.start c.requires.search h.0 h.1 h.2) c.explain.ensures)
+
+pub returns-in-Forced : goal.returns-in-Forced
+returns-in-Forced g c =
+    let h = c.in-Forced.ensures in
+    let f = forced-step (aim_of c.args.problem.now g.T.Theory.MAY_SPLIT) c.args.budget c.args.grown.now c.args.trail.now c.args.log.now c.in-Forced.reason c.in-Forced.lit c.requires.search h in
+    pushed-outcome c.push.result g.T.Theory.MAY_SPLIT g.T.Theory.MAY_STOP c.args.problem.now c.args.budget c.args.grown.now c.args.trail.now c.args.log.now c.in-Forced.lit (Some c.in-Forced.reason) c.push.new.trail
+    c.requires.search h.2 f.0 f.1 (h.0, h.1) c.push.ensures
+
+pub returns-in-Some : goal.returns-in-Some
+returns-in-Some g c =
+    let h = c.in-Nothing.ensures in
+    let u = c.in-Some.ensures in
+    let b : c.in-Some.atom < length c.args.grown.now.atoms = subst (λ (n : ℕ). c.in-Some.atom < n) c.atom_count.ensures u.0 in
+    pushed-outcome c.push-in-Some.result g.T.Theory.MAY_SPLIT g.T.Theory.MAY_STOP c.args.problem.now c.args.budget c.args.grown.now c.args.trail.now c.args.log.now (lit_of c.in-Some.atom true) None c.push-in-Some.new.trail
+    c.requires.search h.1 u.1 b h.0 c.push-in-Some.ensures

@@ -1,0 +1,140 @@
+use Rattle.std.specs.Prelude.{◌≡◌, ℕ, ◌+◌, ◌-◌, ◌*◌, ◌^◌, ◌<◌, ◌≤◌, Bool, true, false, List, [], length, slice_index_or, slice_get, Some, Ok, ◌==◌}
+use Rattle.std.specs.List.{list_all, list_any}
+use Rattle.proof_kernel.specs.declared.clause.Lit.{Lit}
+use Rattle.proof_kernel.specs.declared.line.Line.{Line}
+use Rattle.lin_rows.specs.Rows.{Row}
+use Rattle.proof_kernel.specs.declared.problem.AtomKind.{AtomKind}
+use Rattle.proof_kernel.specs.declared.problem.AtomKind.TheVariants.{Row as OfRow}
+use Rattle.proof_kernel.specs.declared.line.RowStep.{RowStep}
+use Rattle.proof_kernel.specs.declared.line.Line.TheVariants.{Farkas}
+use Rattle.proof_kernel.specs.Clauses.{negations, distinct}
+use Rattle.proof_kernel.specs.Forced.{Forced}
+use Rattle.proof_kernel.specs.Problems.{PlainProblem, fits}
+use Rattle.proof_kernel.specs.Rules.{run, next}
+use Rattle.search_logs.specs.declared.trail.Entry.{Entry}
+use Rattle.search_logs.specs.Trails.{in_trail, has_decision, named, is_false, is_unit, is_done, Settled, NoneFalse, IsTrail, IsCalm, free}
+use Rattle.search_logs.specs.Fresh.{IsFresh}
+use Rattle.search_logs.specs.Chains.{Grows, Explaining, Begins}
+use Rattle.search_logs.specs.SearchLogs.{between, within, SearchLog, standing, splits, with_clause}
+use Rattle.search_logs.specs.Forcing.{AreRefuted, AreSatisfied, are_plain}
+use Rattle.sat_core.specs.declared.finding.Found.{Found}
+use Rattle.sat_core.specs.declared.finding.Found.TheVariants.{Conflict, Forced as OfForced, Nothing}
+use Rattle.sat_core.specs.declared.explaining.Chained.{Chained}
+use Rattle.sat_core.specs.declared.explaining.Chained.TheVariants.{Done, Spent, Memory}
+use Rattle.sat_core.specs.declared.explaining.Explained.{Explained}
+use Rattle.sat_core.specs.declared.explaining.Explained.TheVariants.{Empty, Cut, Spent as SpentThere, Memory as NoMemory}
+use Rattle.sat_core.specs.Answers.{AreRowsOf, IsEasy, IsRefuted, IsSpent}
+
+-- WHERE A SEARCH STANDS. These words are the search's own: its private functions hand them on.
+
+-- what stands in the way of a decision
+abbrev pub IsFound : Found → List (List Lit) → List Entry → Type 0
+IsFound (Conflict i) cs t = (i < length cs) × (is_false t (slice_index_or cs i []) ≡ true) × (distinct (slice_index_or cs i []) ≡ true)
+IsFound (OfForced i l) cs t = (i < length cs) × (is_unit t (slice_index_or cs i []) l ≡ true) × NoneFalse t cs
+IsFound Nothing cs t = Settled t cs × NoneFalse t cs
+
+-- what a search is for: its problem, and whether its solver of rows may split
+pub record Aim : Type 0 where
+  pub problem : PlainProblem
+  pub split : Bool
+
+-- the lines so far make `q` of the problem
+pub record Keeps (a : Aim) (budget : ℕ) (q : PlainProblem) (ls : List Line) : Type 0 where
+  pub room : length ls ≤ budget
+  pub runs : run a.problem ls ≡ Ok (standing (length a.problem.clauses) q)
+  pub fresh : IsFresh (length a.problem.clauses) q.clauses
+  pub first : Grows a.problem.clauses q.clauses
+  pub atoms : (i : ℕ) → i < length a.problem.atoms → slice_get q.atoms i ≡ slice_get a.problem.atoms i
+  pub atom_count : length q.atoms ≡ length a.problem.atoms + splits ls
+  pub ints : q.ints ≡ a.problem.ints
+  pub clause_count : length q.clauses + splits ls ≡ length a.problem.clauses + length ls
+  pub unsplit : a.split ≡ false → q.atoms ≡ a.problem.atoms
+  pub plain : are_plain a.problem.atoms ≡ true → q.atoms ≡ a.problem.atoms
+  pub fits : fits q ≡ true
+  pub few_clauses : length q.clauses < 2 ^ 32
+  pub few_atoms : length q.atoms < 2 ^ 32
+
+-- between chains: the trail is one for all clauses, no clause is false before its newest literal, and while forced literals
+-- alone decide, nothing else was done
+pub record InSearch (a : Aim) (budget : ℕ) (q : PlainProblem) (t : List Entry) (ls : List Line) : Type 0 where
+  pub keeps : Keeps a budget q ls
+  pub trail : IsTrail q.clauses t
+  pub calm : IsCalm q.clauses t
+  pub below : (x : ℕ) → named t x ≡ true → x < length q.atoms
+  pub search : SearchLog a.problem ls q between
+  pub early : AreRefuted a.problem.clauses → (has_decision t ≡ false) × (ls ≡ []) × (q.clauses ≡ a.problem.clauses)
+  pub easy : IsEasy a.problem → (ls ≡ []) × (q.clauses ≡ a.problem.clauses) × (has_decision t ≡ false → (l : Lit) → in_trail t l ≡ true → Forced a.problem.clauses l)
+
+-- in a chain, which has reached the clause with number i; the log had `before` lines when the clause was met with which it began
+pub record InChain (a : Aim) (budget before : ℕ) (q : PlainProblem) (t : List Entry) (ls : List Line) (i : ℕ) : Type 0 where
+  pub keeps : Keeps a budget q ls
+  pub start : List (List Lit)
+  pub from : List Entry
+  pub ex : Explaining start from q.clauses t i
+  pub below : (x : ℕ) → named t x ≡ true → x < length q.atoms
+  pub search : SearchLog a.problem ls q (within start from (slice_index_or q.clauses i []))
+  pub since : before ≤ length ls
+  pub grew : is_done from (slice_index_or q.clauses i []) ≡ true → before < length ls
+  pub early : AreRefuted a.problem.clauses → (has_decision t ≡ false) × (length ls + length t ≤ length a.problem.atoms)
+  pub uneasy : IsEasy a.problem → ⊥
+
+-- a chain on its way, whatever search it belongs to
+pub record IsChain (budget : ℕ) (q : PlainProblem) (t : List Entry) (ls : List Line) (i : ℕ) : Type 0 where
+  pub aim : Aim
+  pub before : ℕ
+  pub chain : InChain aim budget before q t ls i
+
+-- whatever search a chain belongs to, its going on belongs to it too
+abbrev pub GoesOn : ℕ → PlainProblem → List Entry → List Line → ℕ → PlainProblem → List Entry → List Line → ℕ → Type 0
+GoesOn budget q t ls i r u ms j = (a : Aim) (before : ℕ) → InChain a budget before q t ls i → InChain a budget before r u ms j
+
+-- how the resolving of a chain ended
+abbrev pub IsChained : Chained → ℕ → PlainProblem → List Entry → List Line → ℕ → PlainProblem → List Entry → List Line → Type 0
+IsChained (Done j) budget q t ls i r u ms = GoesOn budget q t ls i r u ms j × (is_done u (slice_index_or r.clauses j []) ≡ true)
+IsChained (Spent j) budget q t ls i r u ms = GoesOn budget q t ls i r u ms j × (is_done u (slice_index_or r.clauses j []) ≡ false) × (budget ≤ length ms)
+IsChained Memory budget q t ls i r u ms = Unit {0}
+
+-- the trail is cut back after a chain, whatever search it belongs to
+abbrev pub IsCutBack : PlainProblem → List Entry → ℕ → List Entry → Type 0
+IsCutBack q t i u = (a : Aim) (budget before : ℕ) (ls : List Line) → InChain a budget before q t ls i → is_done t (slice_index_or q.clauses i []) ≡ true → has_decision t ≡ true → InSearch a budget q u ls × (before < length ls)
+
+-- the trail is cut back to where the chain of a false clause may begin
+abbrev pub IsLevel : List Entry → List Entry → List Lit → Type 0
+IsLevel t u c = (cs : List (List Lit)) → IsTrail cs t → Settled t cs → is_false t c ≡ true → Begins cs u c × ((x : ℕ) → named u x ≡ true → named t x ≡ true)
+
+-- how a chain ended, whatever search it belongs to
+abbrev pub IsExplained : Explained → ℕ → PlainProblem → List Entry → List Line → ℕ → PlainProblem → List Entry → List Line → Type 0
+IsExplained Empty budget q t ls i r u ms = (a : Aim) (before : ℕ) → InChain a budget before q t ls i → IsRefuted a.split a.problem budget ms
+IsExplained Cut budget q t ls i r u ms = (a : Aim) (before : ℕ) → InChain a budget before q t ls i → InSearch a budget r u ms × (before < length ms)
+IsExplained SpentThere budget q t ls i r u ms = (a : Aim) (before : ℕ) → InChain a budget before q t ls i → IsSpent a.split a.problem budget ms
+IsExplained NoMemory budget q t ls i r u ms = Unit {0}
+
+-- what is left to do: lines, and then atoms. There are never more atoms than the problem's and one for each line
+abbrev pub work : Aim → ℕ → PlainProblem → List Entry → List Line → ℕ
+work a budget q t ls = (budget - length ls) * (length a.problem.atoms + budget + 1) + free (length q.atoms) t
+
+-- the literals with some numbers
+abbrev pub lit_at : List Lit → ℕ → Lit
+lit_at lits u = slice_index_or lits u (record { atom = 0; positive = true })
+
+-- the literals of a trail over the first atoms that stand for rows, and their rows
+pub record IsDrawn (atoms : List AtomKind) (t : List Entry) (first : ℕ) (lits : List Lit) (rows : List Row) : Type 0 where
+  pub stand : AreRowsOf atoms lits rows
+  pub in_it : list_all (in_trail t) lits ≡ true
+  pub covers : (x : ℕ) (r : Row) → x < first → slice_get atoms x ≡ Some (OfRow r) → list_any (λ l. l.atom == x) lits ≡ true
+
+-- a Farkas line over literals of a settled trail keeps its rule, in whatever search
+pub record IsRefutation (budget : ℕ) (q : PlainProblem) (t : List Entry) (ls : List Line) (used : List Lit) (steps : List RowStep) : Type 0 where
+  pub aim : Aim
+  pub search : InSearch aim budget q t ls
+  pub settled : Settled t q.clauses
+  pub in_it : list_all (in_trail t) used ≡ true
+  pub taken : (given : ℕ) → next (standing given q) (Farkas used steps) ≡ Ok (standing given (with_clause q (negations used)))
+  pub uneasy : (a : Aim) → InSearch a budget q t ls → IsEasy a.problem → ⊥
+
+-- how the learning from rows in conflict ended, whatever search it belongs to
+abbrev pub IsLearned : Explained → ℕ → PlainProblem → List Entry → List Line → PlainProblem → List Entry → List Line → Type 0
+IsLearned Empty budget q t ls r u ms = (a : Aim) → InSearch a budget q t ls → IsRefuted a.split a.problem budget ms
+IsLearned Cut budget q t ls r u ms = (a : Aim) → InSearch a budget q t ls → InSearch a budget r u ms × (length ls < length ms)
+IsLearned SpentThere budget q t ls r u ms = (a : Aim) → InSearch a budget q t ls → IsSpent a.split a.problem budget ms
+IsLearned NoMemory budget q t ls r u ms = Unit {0}

@@ -1,0 +1,44 @@
+// A clause search joined with any solver of rows: it finds an interpretation that makes all clauses of a problem true, or a log
+// that shows that there is none, or it says why it gave up, with evidence.
+//
+// The search keeps a trail of literals that it takes to be true and goes round in single steps. A false clause is a conflict,
+// and it is explained at once. Else a unit clause forces its remaining literal. Else an atom without a value is decided. Where all
+// atoms have values, the solver is asked about the rows of the trail's literals. If numbers satisfy them, they and the trail are
+// the interpretation. If they contradict each other, a Farkas line gives the clause of the opposites of their literals, which is
+// false under the trail, and so a conflict. If they leave a gap for a name, a Split line gives a new atom, which is decided next.
+// Its row is no atom's so far: every atom with a row is named by the trail, so its row or the opposite was among those that the
+// solver was given, and a solver proposes neither.
+//
+// Why the log is fresh. Whenever a chain begins, no clause is unit or false under the trail before a decision, since propagation is
+// complete before it, and no clause is false before the newest literal, since a conflict is met at once. A chain takes the trail back
+// literal by literal and resolves the false clause with the reason of each literal whose negation it holds. The clause that it reaches
+// is false under what is left of the trail, and no older clause is; so it contains no older clause, and it holds no atom both ways,
+// since a trail doesn't. The chain stops at the first clause that holds one literal of the last level. Then whole levels are cut off,
+// as long as that clause stays unit, and both properties hold again. A clause that a Farkas line gives is false under a trail that is
+// settled, so levels can be cut off first until it is false for the last one alone, and its chain goes like any other.
+//
+// Why the search ends. Each line but a Split line gives a new clause without an atom both ways, and over m atoms there are 3^m
+// such clauses; so the log has at most 3^(n+s) + s lines, for n atoms of the problem and s Split lines. The proof counts what is
+// left to do by lines first, of which the budget leaves only so many, and then by atoms without a value: a step that writes no
+// line gives one of those a value.
+//
+// What follows by forced literals alone is found before anything is decided and before the solver is asked. A clause that they make
+// false is resolved with the clauses that forced its literals, each once, the newest first; so a log of as many lines as there are
+// atoms ends with the empty clause.
+//
+// The layer stands on `proof_kernel`, `theory_api` and `search_logs`. What is promised of a solver of rows are the trait's laws, and
+// nothing else is used. Definitions, in the order in which a reader needs them: search_logs has trails and the logs of a search,
+// specs/Answers what each answer promises; specs/Searching and specs/Outcomes are the search's own, and say where it stands between its
+// private functions.
+#![tactic(auto)]
+
+pub mod answer;
+mod asking;
+mod drawing;
+mod explaining;
+mod finding;
+mod growing;
+pub mod plain;
+
+pub use answer::Answer;
+pub use plain::solve_plain;

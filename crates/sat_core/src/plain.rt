@@ -1,0 +1,116 @@
+// The plain search: it looks through all clauses for a false or a unit one.
+ghost use Rattle.std.specs.Prelude.{◌≡◌, ◌<◌, ◌≤◌, ℕ, List, true, false, length};
+ghost use Rattle.std.specs.List.{list_any};
+ghost use Rattle.lin_rows.specs.Rows.{Row as PlainRow};
+ghost use Rattle.proof_kernel.specs.declared.clause.Lit.{Lit as PlainLit};
+ghost use Rattle.proof_kernel.specs.Clauses.{is_empty};
+ghost use Rattle.sat_core.specs.Answers.{AreRowsOf, IsAnswer};
+ghost use Rattle.sat_core.specs.Searching.{InSearch};
+ghost use Rattle.sat_core.specs.Outcomes.{IsOutcome, IsPushed};
+
+use crate::answer::Answer;
+use crate::asking::{Outcome, ask};
+use crate::explaining::explain;
+use crate::finding::{Found, find, unnamed};
+use crate::growing::atom_count;
+use items::Items;
+use proof_kernel::{Line, Lit, Problem, RangeEvidence, RowsEvidence};
+use search_logs::{Entry, Trail};
+use std::alloc::Global;
+use theory_api::Theory;
+
+fn push(trail: &mut Trail, lit: Lit, reason: Option<u32>) -> Outcome
+    ensures { IsPushed result trail.old lit reason trail.new }
+{
+    match trail.push(Entry { lit, reason }) {
+        Ok(()) => Outcome::Goes,
+        Err(_) => Outcome::Memory,
+    }
+}
+
+// One step: a conflict is explained at once; then what is forced is taken to be true; then an atom is decided; and where all
+// atoms have values, the solver of rows is asked.
+fn advance<T: Theory>(
+    alloc: Global,
+    theory: &mut T,
+    problem: &Problem,
+    grown: &mut Problem,
+    trail: &mut Trail,
+    log: &mut Items<Line>,
+    budget: u32,
+) -> Outcome
+    requires search { InSearch (record { problem = problem.now; split = T.MAY_SPLIT }) budget grown.old trail.old log.old }
+    requires taken { T.MAY_SPLIT ≡ false → (lits : List PlainLit) (rows : List PlainRow) → AreRowsOf problem.now.atoms lits rows → T.takes rows problem.now.ints }
+    ensures { IsOutcome result T.MAY_SPLIT T.MAY_STOP problem.now budget grown.old trail.old log.old grown.new trail.new log.new }
+{
+    match find(grown, trail) {
+        Found::Conflict(start) => explain(alloc, grown, trail, log, start, budget).outcome(),
+        Found::Forced(reason, lit) => push(trail, lit, Some(reason)),
+        Found::Nothing => match unnamed(trail, atom_count(grown)) {
+            Some(atom) => push(
+                trail,
+                Lit {
+                    atom,
+                    positive: true,
+                },
+                None,
+            ),
+            None => match ask(alloc, theory, problem, grown, trail, log, budget) {
+                Ok(outcome) => outcome,
+                Err(_) => Outcome::Memory,
+            },
+        },
+    }
+}
+
+fn holds_empty(problem: &Problem) -> bool
+    ensures { result ≡ list_any is_empty problem.now.clauses }
+{
+    problem.clauses.iter().any(|clause| clause.is_empty())
+}
+
+/// Searches for an interpretation that makes all clauses of a problem true, or for a log of at most `budget` lines that shows
+/// that there is none. A row of the problem with the bound 2^127 - 1 has no negation, and may be answered as want of memory.
+pub fn solve_plain<T: Theory>(
+    alloc: Global,
+    problem: &Problem,
+    theory: &mut T,
+    budget: u32,
+) -> Answer
+    requires taken { T.MAY_SPLIT ≡ false → (lits : List PlainLit) (rows : List PlainRow) → AreRowsOf problem.now.atoms lits rows → T.takes rows problem.now.ints }
+    ensures { IsAnswer T.MAY_SPLIT T.MAY_STOP problem.now budget result }
+{
+    let Ok(mut grown) = problem.copy(alloc) else {
+        return Answer::Memory;
+    };
+    if grown.clauses.len() > u32::MAX as usize || grown.atoms.len() > u32::MAX as usize {
+        return Answer::Memory;
+    }
+    let mut log = Items::new(alloc);
+    if holds_empty(problem) {
+        return Answer::Unsat(log);
+    }
+    let mut trail = Trail::new(alloc);
+    'search: loop {
+        match advance(
+            alloc, theory, problem, &mut grown, &mut trail, &mut log, budget,
+        ) {
+            Outcome::Goes => {}
+            Outcome::Refuted => return Answer::Unsat(log),
+            Outcome::Found(interpretation) => return Answer::Sat(interpretation),
+            Outcome::Spent => return Answer::Lines(log),
+            Outcome::Rows { used, steps } => {
+                return Answer::Rows(RowsEvidence { log, used, steps });
+            }
+            Outcome::Range { used, steps, what } => {
+                return Answer::Range(RangeEvidence {
+                    log,
+                    used,
+                    steps,
+                    what,
+                });
+            }
+            Outcome::Memory => return Answer::Memory,
+        }
+    }
+}
