@@ -1,0 +1,127 @@
+// Specifications with worlds and states that fit them. What doesn't fit, and what lacks memory, ends the test.
+
+ghost use Rattle.std.specs.Prelude.{◌≡◌, true};
+ghost use Rattle.spec_core.specs.Fits.{world_fits, is_state};
+
+use crate::building::{items, spec};
+use crate::outline::SpecOutline;
+use items::Items;
+use spec_core::{Call, Spec, State, World, invariant_broken_at, is_in_state_range};
+use std::alloc::Global;
+use std::process::Abort;
+
+/// A specification, a world of it without constants, and a state in that world.
+#[derive(Drop)]
+pub struct Setting {
+    pub spec: Spec,
+    pub world: World,
+    pub state: State,
+    ghost world_fits: { world_fits spec world ≡ true },
+    ghost state_fits: { is_state spec world state ≡ true },
+}
+
+/// The specification of an outline, a world with so many elements of each sort, and the initial state.
+pub fn first_setting(
+    rt: &impl Abort,
+    alloc: Global,
+    outline: &SpecOutline,
+    sizes: &[u32],
+) -> Setting {
+    let spec = spec(rt, alloc, outline);
+    let world = World {
+        sizes: items(rt, alloc, sizes),
+        consts: Items::new(alloc),
+    };
+    assert!(rt; world.fits(&spec));
+    let state = State::initial(alloc, &spec, &world).expect(rt, "memory");
+    Setting { spec, world, state }
+}
+
+/// A call, which may not fit.
+pub fn call(rt: &impl Abort, alloc: Global, op: u8, args: &[i64]) -> Call {
+    Call {
+        op,
+        args: items(rt, alloc, args),
+    }
+}
+
+fn set_count(
+    rt: &impl Abort,
+    spec: &Spec,
+    world: &World,
+    state: &mut State,
+    counter: u8,
+    key: &[u32],
+    value: i64,
+)
+    requires { is_state spec.now world.now state.old ≡ true }
+    ensures { is_state spec.now world.now state.new ≡ true }
+{
+    let it = spec.counters.get(counter as usize).expect(rt, "a counter");
+    assert!(rt; world.has_tuple(it.keys.as_slice(), key));
+    assert!(rt; is_in_state_range(value));
+    state.set_count(counter, key, value).expect(rt, "memory");
+}
+
+fn set_has(
+    rt: &impl Abort,
+    spec: &Spec,
+    world: &World,
+    state: &mut State,
+    relation: u8,
+    tuple: &[u32],
+    value: bool,
+)
+    requires { is_state spec.now world.now state.old ≡ true }
+    ensures { is_state spec.now world.now state.new ≡ true }
+{
+    let it = spec
+        .relations
+        .get(relation as usize)
+        .expect(rt, "a relation");
+    assert!(rt; world.has_tuple(it.places.as_slice(), tuple));
+    state.set_has(relation, tuple, value).expect(rt, "memory");
+}
+
+impl Setting {
+    /// Sets the value of a counter at a key.
+    pub fn set_count(&mut self, rt: &impl Abort, counter: u8, key: &[u32], value: i64) {
+        set_count(
+            rt,
+            &self.spec,
+            &self.world,
+            &mut self.state,
+            counter,
+            key,
+            value,
+        );
+    }
+
+    /// Puts a tuple into a relation, or takes it out.
+    pub fn set_has(&mut self, rt: &impl Abort, relation: u8, tuple: &[u32], value: bool) {
+        set_has(
+            rt,
+            &self.spec,
+            &self.world,
+            &mut self.state,
+            relation,
+            tuple,
+            value,
+        );
+    }
+
+    /// The value of a counter at a key.
+    pub fn count(&self, counter: u8, key: &[u32]) -> i128 {
+        self.state.count(counter, key)
+    }
+
+    /// Whether a tuple is in a relation.
+    pub fn has(&self, relation: u8, tuple: &[u32]) -> bool {
+        self.state.has(relation, tuple)
+    }
+
+    /// The first invariant that is false.
+    pub fn broken(&self) -> Option<usize> {
+        invariant_broken_at(&self.spec, &self.world, &self.state)
+    }
+}
