@@ -1,7 +1,6 @@
 mod Flags
 mod Remaining
-mod Texts
-mod Specifications
 mod Verdicts
+mod ReportParts
 mod Safety
-mod TypedSame
+mod Specifications

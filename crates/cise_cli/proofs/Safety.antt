@@ -1,8 +1,9 @@
 -- A specification of the first form whose verdicts are all proved is safe.
-use Rattle.std.proofs.Common.{◌≡◌, ℕ, zero, suc, ◌+◌, ◌<◌, Bool, true, false, cond, List, [], ◌∷◌, length, count_by, get_or, map, refl, sym, subst, ap, ◌∙◌, arith}
+use Rattle.std.proofs.Common.{◌≡◌, ℕ, zero, suc, ◌+◌, ◌<◌, Bool, true, false, cond, ◌==◌, ◌&&◌, List, [], ◌∷◌, length, count_by, get_or, map, refl, sym, subst, ap, ◌∙◌, arith}
 use borrow.Author.Tests.{ltb-false}
 use Rattle.std.proofs.lemmas.List.Sums.{sum_by-cons}
 use Rattle.std.specs.Prelude.{nat_lt, if◌then◌else◌}
+use Rattle.std.specs.List.{list_all}
 use Rattle.spec_core.specs.declared.world.World.{World}
 use Rattle.spec_core.specs.declared.spec.Invariant.{Invariant}
 use Rattle.spec_core.specs.Specification.{Specification, no_invariant}
@@ -10,11 +11,9 @@ use Rattle.spec_core.specs.State.{Reads, reads}
 use Rattle.spec_core.specs.Meaning.{initial}
 use Rattle.obligation_list.specs.declared.obligation.Obligation.TheVariants.{Init, Safety, Commute, Stable}
 use Rattle.obligation_list.specs.Breaking.{Holds, Safe, line_at}
-use Rattle.cise_cli.specs.declared.scope.Scope.{Scope}
-use Rattle.cise_cli.specs.declared.scope.Claim.{Claim}
-use Rattle.cise_cli.specs.Scope.{invariant_of, specification_of}
+use Rattle.cise_cli.specs.FirstForm.{is_flag, claims_flag, has_few_parts, is_first_form}
 use Rattle.cise_cli.specs.Report.{Verdict, proved, refuted, is_refuted, AreGood, is_true_initially, status_of}
-use Rattle.cise_cli.proofs.Flags.{is_in-initial, is_true_initially-claim}
+use Rattle.cise_cli.proofs.Flags.{first_of, second_of, line_at-flag}
 
 -- no verdict is refuted where the status is 0
 pub status_false : (b : Bool) → ◌≡◌ {A = ℕ} (if b then 1 else 0) 0 → b ≡ false
@@ -24,40 +23,58 @@ status_false false e = refl
 pub none_refuted : (n : ℕ) → ◌≡◌ {A = ℕ} (if nat_lt 0 n then 1 else 0) 0 → n ≡ 0
 none_refuted n e = let h = status_false (nat_lt 0 n) e in omega (arith, ltb-false, h)
 
--- an invariant of a list of good verdicts, none of them refuted
+-- an invariant that names a relation, and is true initially
 pub record IsTrueClaim (d : Specification) (i : Invariant) : Type 0 where
-  pub claim : Claim
-  pub is : i ≡ invariant_of claim
-  pub holds : is_true_initially d (invariant_of claim) ≡ true
+  pub claims : claims_flag i ≡ true
+  pub holds : is_true_initially d i ≡ true
 
-pub each_true : (d : Specification) (claims : List Claim) (vs : List Verdict) → AreGood d (map invariant_of claims) vs → count_by is_refuted vs ≡ 0
-    → (i : ℕ) → i < length (map invariant_of claims) → IsTrueClaim d (get_or (map invariant_of claims) i no_invariant)
-each_true d [] vs good none i below = absurd (omega arith)
-each_true d (c ∷ claims) [] good none i below = absurd good
-each_true d (c ∷ claims) (proved ∷ vs) good none zero below = record { claim = c; is = refl; holds = good.0 }
-each_true d (c ∷ claims) (proved ∷ vs) good none (suc i) below = each_true d claims vs good.1 none i (omega arith)
-each_true d (c ∷ claims) (refuted ∷ vs) good none i below =
+-- so is each of a list with good verdicts, none of them refuted
+pub each_true : (d : Specification) (is : List Invariant) (vs : List Verdict) → list_all claims_flag is ≡ true → AreGood d is vs → count_by is_refuted vs ≡ 0
+    → (i : ℕ) → i < length is → IsTrueClaim d (get_or is i no_invariant)
+each_true d [] vs flags good none i below = absurd (omega arith)
+each_true d (c ∷ is) [] flags good none i below = absurd good
+each_true d (c ∷ is) (proved ∷ vs) flags good none zero below = record { claims = first_of (claims_flag c) (list_all claims_flag is) flags; holds = good.0 }
+each_true d (c ∷ is) (proved ∷ vs) flags good none (suc i) below = each_true d is vs (second_of (claims_flag c) (list_all claims_flag is) flags) good.1 none i (omega arith)
+each_true d (c ∷ is) (refuted ∷ vs) flags good none i below =
     let counted : count_by is_refuted (refuted ∷ vs) ≡ 1 + count_by is_refuted vs = sum_by-cons (λ v. cond (is_refuted v) 1 0) refuted vs in
     absurd (omega (arith, none, counted))
 
--- what a claim reads in the initial state of any world
-pub line_at-claim : (s : Scope) (c : Claim) (w : World) (r : Reads) (es : List ℕ) → r ≡ reads (initial (specification_of s) w)
-    → line_at w r [] (invariant_of c).line es ≡ is_true_initially (specification_of s) (invariant_of c)
-line_at-claim s c w r es e =
-    ap (λ x. x.has c.relation []) e ∙ is_in-initial w s.stated s.relations c.relation ∙ sym (is_true_initially-claim s c)
+-- what a first form has
+pub record FirstForm (d : Specification) : Type 0 where
+  pub no_operations : length d.operations ≡ 0
+  pub flags : list_all is_flag d.relations ≡ true
+  pub claims : list_all claims_flag d.invariants ≡ true
 
-pub Holds-init : (s : Scope) (i : ℕ) → IsTrueClaim (specification_of s) (get_or (specification_of s).invariants i no_invariant) → Holds (specification_of s) (Init i)
-Holds-init s i t w state cs es b =
-    let d = specification_of s in
-    let fails : line_at w (reads state) [] (invariant_of t.claim).line es ≡ false =
-    subst (λ (inv : Invariant). line_at w (reads state) [] inv.line es ≡ false) t.is b.fails in
-    let holds : line_at w (reads state) [] (invariant_of t.claim).line es ≡ true = line_at-claim s t.claim w (reads state) es b.entry ∙ t.holds in
+pub no_more : (n : ℕ) → (n == 0) ≡ true → n ≡ 0
+no_more zero e = refl
+no_more (suc n) e = grind arith
+
+pub FirstForm-is : (d : Specification) → is_first_form d ≡ true → FirstForm d
+FirstForm-is d e =
+    let flags = list_all is_flag d.relations in
+    let claims = list_all claims_flag d.invariants in
+    let left = first_of ((d.version == 1) && has_few_parts d && flags) claims e in
+    let few = second_of (d.version == 1) (has_few_parts d) (first_of ((d.version == 1) && has_few_parts d) flags left) in
+    let before = (length d.sorts == 0) && (length d.consts == 0) && (length d.counters == 0) && (length d.tokens == 0) && (length d.rules == 0) in
+    record {
+      no_operations = no_more (length d.operations) (second_of before (length d.operations == 0) few);
+      flags = second_of ((d.version == 1) && has_few_parts d) flags left;
+      claims = second_of ((d.version == 1) && has_few_parts d && flags) claims e;
+    }
+
+pub Holds-init : (d : Specification) (i : ℕ) → FirstForm d → IsTrueClaim d (get_or d.invariants i no_invariant) → Holds d (Init i)
+Holds-init d i form t w state cs es b =
+    let claim = get_or d.invariants i no_invariant in
+    let fails : line_at w (reads state) [] claim.line es ≡ false = b.fails in
+    let there : line_at w (reads state) [] claim.line es ≡ line_at w (reads (initial d w)) [] claim.line es = ap (λ r. line_at w r [] claim.line es) b.entry in
+    let holds : line_at w (reads state) [] claim.line es ≡ true = there ∙ line_at-flag d w claim es form.flags t.claims ∙ t.holds in
     absurd (cc (fails, holds))
 
 -- with good verdicts that come to status 0 every obligation holds
-pub Safe-good : (s : Scope) (vs : List Verdict) → AreGood (specification_of s) (specification_of s).invariants vs → status_of vs ≡ 0 → Safe (specification_of s)
-Safe-good s vs good zero_status (Init i) member =
-    Holds-init s i (each_true (specification_of s) s.claims vs good (none_refuted (count_by is_refuted vs) zero_status) i member)
-Safe-good s vs good zero_status (Safety o i) member = absurd (omega (arith, member.0))
-Safe-good s vs good zero_status (Commute o p x) member = absurd (omega (arith, member.1))
-Safe-good s vs good zero_status (Stable o l p) member = absurd (omega (arith, member.0))
+pub Safe-good : (d : Specification) (vs : List Verdict) → is_first_form d ≡ true → AreGood d d.invariants vs → status_of vs ≡ 0 → Safe d
+Safe-good d vs first good zero_status (Init i) member =
+    let form = FirstForm-is d first in
+    Holds-init d i form (each_true d d.invariants vs form.claims good (none_refuted (count_by is_refuted vs) zero_status) i member)
+Safe-good d vs first good zero_status (Safety o i) member = let form = FirstForm-is d first in let none = form.no_operations in absurd (omega (arith, member.0, none))
+Safe-good d vs first good zero_status (Commute o p x) member = let form = FirstForm-is d first in let none = form.no_operations in absurd (omega (arith, member.1, none))
+Safe-good d vs first good zero_status (Stable o l p) member = let form = FirstForm-is d first in let none = form.no_operations in absurd (omega (arith, member.0, none))

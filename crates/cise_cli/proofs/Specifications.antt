@@ -1,99 +1,68 @@
--- Which specification some bytes are, and that there is none.
-use Rattle.std.proofs.Common.{◌≡◌, ◌≢◌, ℕ, suc, zero, ◌<◌, ◌≤◌, List, [], ◌∷◌, length, Option, Some, None, IfSome, refl, sym, subst, ap, ◌∙◌, inl, inr, arith}
-use Rattle.std.specs.Prelude.{Result, Ok, Err, IfOk}
+-- Which specification some bytes are, and what the answers to them say.
+use Rattle.std.proofs.Common.{◌≡◌, ℕ, suc, zero, ◌<◌, ◌≤◌, true, false, List, [], ◌∷◌, length, Option, Some, None, IfSome, refl, sym, subst, ap, ◌∙◌, inl, inr, arith}
+use Rattle.std.specs.Prelude.{Ok, Err}
 use Rattle.word_cut.specs.declared.word.Word.{Word}
-use Rattle.word_cut.specs.declared.cutting.CutRefused.{CutRefused}
-use Rattle.word_cut.specs.declared.cutting.CutRefused.TheVariants.{Memory}
-use Rattle.word_cut.specs.Words.{IsCut, IsRefused}
-use Rattle.word_cut.proofs.Unique.{cut_unique, refused_uncut}
+use Rattle.word_cut.specs.Words.{IsCut}
 use Rattle.spec_reader.specs.Form.{TreeForm}
+use Rattle.spec_reader.specs.Place.{IsRead, IsReadUnlessMemory}
 use Rattle.spec_reader.specs.declared.parsing.SyntaxRefused.{SyntaxRefused}
 use Rattle.spec_reader.specs.declared.parsing.SyntaxRefused.TheVariants.{Syntax}
 use Rattle.spec_reader.specs.declared.tree.Tree.{Tree}
-use Rattle.spec_reader.specs.Place.{IsRead, IsReadUnlessMemory}
-use Rattle.spec_reader.proofs.Bytes.{one_spelling}
 use Rattle.spec_core.specs.Specification.{Specification}
-use Rattle.cise_cli.specs.declared.scope.Scope.{Scope}
-use Rattle.cise_cli.specs.declared.words.Job.{Job}
-use Rattle.cise_cli.specs.declared.words.Job.TheVariants.{Check}
-use Rattle.cise_cli.specs.Scope.{typed, specification_of}
-use Rattle.cise_cli.specs.Answer.{IsSpecificationOf, IsAnswerTo, IsSafe, unbuilt_text}
 use Rattle.obligation_list.specs.Breaking.{Safe}
-use Rattle.cise_cli.specs.Report.{AreGood}
+use Rattle.typing_rules.specs.Fault.{Fault}
+use Rattle.typing_rules.specs.Items.{typing}
+use Rattle.one_reading.proofs.Reading.{one_tree}
+use Rattle.cise_cli.specs.declared.words.Job.{Job}
+use Rattle.cise_cli.specs.declared.words.Job.TheVariants.{Check, Spell}
+use Rattle.cise_cli.specs.Words.{is_check}
+use Rattle.cise_cli.specs.FirstForm.{is_first_form}
+use Rattle.cise_cli.specs.Refusal.{IsTreeOf, IsSpecificationOf, Refusal, faulty, IsRefusal, refusal_text}
+use Rattle.cise_cli.specs.Answer.{IsAnswerFor, IsAnswerTo, IsSafe}
 use Rattle.cise_cli.proofs.Safety.{Safe-good}
-use Rattle.cise_cli.proofs.TypedSame.{typed_same}
-use Rattle.cise_cli.specs.Outcome.{IsScopeOf}
-
--- what holds of each good result holds of a result
-pub IfOk-each : {A E : Type 0} (r : Result A E) (P Q : A → Type 0) → ((x : A) → P x → Q x) → IfOk r P → IfOk r Q
-IfOk-each (Ok x) P Q f p = f x p
-IfOk-each (Err e) P Q f p = tt
-
--- bytes that can't be cut
-pub none-uncut : (bytes : List ℕ) (why : CutRefused) → IsRefused bytes why → why ≢ Memory → (d : Specification) → IsSpecificationOf bytes d → ⊥
-none-uncut bytes why r n d s = refused_uncut bytes why s.words r n s.cut
-
--- a refusal of words that are no spelling says that they are none
-pub unread-syntax : (e : SyntaxRefused) (n : ℕ) → e ≡ Syntax n → IsReadUnlessMemory {X = Tree} (Err e) → ⊥
-unread-syntax e n p h = subst (λ x. IsReadUnlessMemory {X = Tree} (Err x)) p h
-
--- bytes whose words are no spelling
-pub none-unread : (bytes : List ℕ) (words : List Word) → IsCut bytes words → ((t : TreeForm) → IsRead bytes words t → ⊥)
-    → (d : Specification) → IsSpecificationOf bytes d → ⊥
-none-unread bytes words cut unread d s =
-    unread s.tree (subst (λ ws. IsRead bytes ws s.tree) (cut_unique bytes s.words words s.cut cut) s.read)
-
--- the trees that some words are read as declare the same
-pub typed-read : (bytes : List ℕ) (words : List Word) (t u : TreeForm) → IsRead bytes words t → IsRead bytes words u → typed t ≡ typed u
-typed-read bytes words t u p q = typed_same t u (one_spelling t u p.0 q.0 (p.1 ∙ sym q.1))
-
--- what a tree declares is what the bytes do
-pub IsScopeOf-typed : (bytes : List ℕ) (words : List Word) (tree : TreeForm) → length bytes ≤ 65536 → IsCut bytes words → IsRead bytes words tree
-    → (scope : Option Scope) → scope ≡ typed tree → IsScopeOf bytes scope
-IsScopeOf-typed bytes words tree within cut read (Some scope) e =
-    record { within = within; words = words; cut = cut; tree = tree; read = read; scope = scope; declares = sym e; same = refl }
-IsScopeOf-typed bytes words tree within cut read None e =
-    λ d s.
-    let mine : IsRead bytes words s.tree = subst (λ ws. IsRead bytes ws s.tree) (cut_unique bytes s.words words s.cut cut) s.read in
-    let same : typed s.tree ≡ typed tree = typed-read bytes words s.tree tree mine read in
-    let declares : typed s.tree ≡ Some s.scope = s.declares in
-    absurd (cc (e, same, declares))
 
 -- some bytes that are more than so many
 pub more_than : (n : ℕ) → (bytes : List ℕ) × (n < length bytes)
 more_than zero = (0 ∷ [], omega arith)
 more_than (suc n) = let some = more_than n in (0 ∷ some.0, omega (arith, some.1))
 
-pub none-long : (bytes : List ℕ) → 65536 < length bytes → (d : Specification) → IsSpecificationOf bytes d → ⊥
-none-long bytes long d s = omega (arith, long, s.within)
+-- the answer where there are too many bytes
+pub IsAnswerTo-long : (job : Job) (told : Option (List ℕ)) (status : ℕ) (text : List ℕ) → IfSome told (λ bytes. 65536 < length bytes)
+    → ((bytes : List ℕ) → 65536 < length bytes → IsAnswerFor job bytes status text) → IsAnswerTo (Some job) told status text
+IsAnswerTo-long job None status text h f = let some = more_than 65536 in (some.0, tt, f some.0 some.1)
+IsAnswerTo-long job (Some bytes) status text h f = (bytes, refl, f bytes h)
 
--- the answer where too many bytes came
-pub IsAnswerTo-long : (job : Job) (told : Option (List ℕ)) → IfSome told (λ bytes. 65536 < length bytes) → IsAnswerTo (Some job) told 3 unbuilt_text
-IsAnswerTo-long (Check budget) None h =
-    let some = more_than 65536 in
-    (some.0, tt, inr (record { none = none-long some.0 some.1; status_is = refl; text_is = refl }))
-IsAnswerTo-long (Check budget) (Some bytes) h =
-    (bytes, refl, inr (record { none = none-long bytes h; status_is = refl; text_is = refl }))
+-- a refusal of words that are no spelling says that they are none
+pub unread-syntax : (e : SyntaxRefused) (n : ℕ) → e ≡ Syntax n → IsReadUnlessMemory {X = Tree} (Err e) → ⊥
+unread-syntax e n p h = subst (λ x. IsReadUnlessMemory {X = Tree} (Err x)) p h
 
--- bytes are one specification at most
+-- the bytes of a tree with a fault
+pub faulty_refusal : (bytes : List ℕ) (words : List Word) (t : TreeForm) (text : List ℕ) → length bytes ≤ 65536 → IsCut bytes words → IsRead bytes words t
+    → (f : Fault) × (typing t ≡ Err f) × (text ≡ refusal_text (faulty f)) → (why : Refusal) × IsRefusal bytes why × (text ≡ refusal_text why)
+faulty_refusal bytes words t text within cut read (f, is, said) =
+    (faulty f, (t, record { within = within; words = words; cut = cut; read = read }, is), said)
+
+-- bytes are one tree at most, and one specification
+pub tree_unique : (bytes : List ℕ) (t u : TreeForm) → IsTreeOf bytes t → IsTreeOf bytes u → t ≡ u
+tree_unique bytes t u p q = one_tree bytes p.words q.words t u p.cut q.cut p.read q.read
+
 pub specification_unique : (bytes : List ℕ) (d e : Specification) → IsSpecificationOf bytes d → IsSpecificationOf bytes e → d ≡ e
 specification_unique bytes d e p q =
-    let read : IsRead bytes p.words q.tree = subst (λ ws. IsRead bytes ws q.tree) (cut_unique bytes q.words p.words q.cut p.cut) q.read in
-    let same : typed q.tree ≡ typed p.tree = typed-read bytes p.words q.tree p.tree read p.read in
-    let left : typed p.tree ≡ Some p.scope = p.declares in
-    let right : typed q.tree ≡ Some q.scope = q.declares in
-    let scope : p.scope ≡ q.scope = cc (left, right, same) in
-    p.same ∙ ap specification_of scope ∙ sym q.same
+    let same : p.tree ≡ q.tree = tree_unique bytes p.tree q.tree p.is_tree q.is_tree in
+    let left : typing p.tree ≡ Ok d = p.typed in
+    let right : typing q.tree ≡ Ok e = q.typed in
+    let moved : typing p.tree ≡ typing q.tree = ap typing same in
+    cc (left, right, moved)
 
--- status 0 answers a safe specification
-pub IsSafe-zero : (job : Option Job) (told : Option (List ℕ)) (text : List ℕ) → IsAnswerTo job told 0 text → IfSome told IsSafe
-IsSafe-zero job None text a = tt
-IsSafe-zero None (Some bytes) text a = absurd (omega (arith, a.0))
-IsSafe-zero (Some (Check budget)) (Some bytes) text (given, told, inl checked) = λ d s.
+-- status 0 answers a check of a safe specification
+pub IsSafe-zero : (job : Option Job) (told : Option (List ℕ)) (text : List ℕ) → is_check job ≡ true → IsAnswerTo job told 0 text → IfSome told IsSafe
+IsSafe-zero job None text c a = tt
+IsSafe-zero None (Some bytes) text c a = absurd (omega (arith, a.0))
+IsSafe-zero (Some Spell) (Some bytes) text c a = grind arith
+IsSafe-zero (Some (Check budget)) (Some bytes) text c (given, told, inl checked) = λ d s.
     let mine = subst (λ b. IsSpecificationOf b d) told s in
     let one : d ≡ checked.specification = specification_unique given d checked.specification mine checked.read in
-    let scope : checked.specification ≡ specification_of checked.read.scope = checked.read.same in
-    let good = subst (λ e. AreGood e e.invariants checked.verdicts) scope checked.good in
-    let safe : Safe (specification_of checked.read.scope) = Safe-good checked.read.scope checked.verdicts good (sym checked.status_is) in
-    subst Safe (sym (one ∙ scope)) safe
-IsSafe-zero (Some (Check budget)) (Some bytes) text (given, told, inr unbuilt) = absurd (omega (arith, unbuilt.status_is))
+    let safe : Safe checked.specification = Safe-good checked.specification checked.verdicts checked.first_form checked.good (sym checked.status_is) in
+    subst Safe (sym one) safe
+IsSafe-zero (Some (Check budget)) (Some bytes) text c (given, told, inr (inl unbuilt)) = absurd (omega (arith, unbuilt.status_is))
+IsSafe-zero (Some (Check budget)) (Some bytes) text c (given, told, inr (inr refused)) = absurd (omega (arith, refused.status_is))

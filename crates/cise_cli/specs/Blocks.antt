@@ -1,8 +1,20 @@
 -- The report of a specification, where each verdict is the right one.
-use Rattle.std.specs.Prelude.{ℕ, Bool, true, false, List, ◌++◌, ◌∷◌, [], codes, map}
+use Rattle.std.specs.Prelude.{ℕ, Bool, true, false, List, ◌++◌, ◌∷◌, [], codes, map, slice_get, Option, Some, None}
+use Rattle.spec_core.specs.declared.spec.Relation.{Relation}
 use Rattle.spec_core.specs.declared.spec.Invariant.{Invariant}
+use Rattle.spec_core.specs.Form.{Form, has_form}
 use Rattle.spec_core.specs.Specification.{Specification}
 use Rattle.cise_cli.specs.Report.{Verdict, proved, refuted, is_true_initially, line, verdict_lines, report}
+
+-- what a relation that is there initially is, and false where there is none
+abbrev pub initially : Option Relation → Bool
+initially None = false
+initially (Some r) = r.initial
+
+-- what a formula that names a relation says of the initial state
+abbrev pub says : List Relation → Form → Bool
+says rs (has_form k es) = initially (slice_get rs k)
+says rs _ = false
 
 -- the right verdict
 abbrev pub verdict_of : Bool → Verdict

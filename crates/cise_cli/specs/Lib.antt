@@ -1,6 +1,7 @@
 pub mod Words
-pub mod Scope
+pub mod FirstForm
 pub mod Report
-pub mod Blocks
+pub mod Refusal
 pub mod Answer
 pub mod Outcome
+pub mod Blocks

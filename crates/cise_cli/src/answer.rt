@@ -1,26 +1,32 @@
 // The answer to the words and to the bytes of the specification.
-ghost use Rattle.std.specs.Prelude.{◌≡◌, ℕ, ◌≤◌, length, map, string_bytes, Some, IsNone, IfOk, IsErrOf};
+ghost use Rattle.std.specs.Prelude.{◌≡◌, ℕ, ◌≤◌, ◌<◌, List, length, map, string_bytes, Some, IsNone, IfOk, IsErrOf};
 ghost use Rattle.byte_ports.specs.Faults.{IsFault};
 ghost use Rattle.cise_cli.specs.Words.{job_of};
-ghost use Rattle.cise_cli.specs.Answer.{IsAnswer, IsAnswerTo, IsCheckOf};
-ghost use Rattle.cise_cli.specs.Outcome.{IsScopeOf, IsInputFault, status_of_answer, text_of_answer};
+ghost use Rattle.cise_cli.specs.Refusal.{IsSpecificationOf};
+ghost use Rattle.cise_cli.specs.Answer.{IsAnswer, IsAnswerTo, IsAnswerFor, IsCheckOf, IsSpellOf};
+ghost use Rattle.cise_cli.specs.declared.words.Job.{Job};
+ghost use Rattle.cise_cli.specs.Outcome.{IsReadingOf, IsInputFault, status_of_answer, text_of_answer};
 
+use crate::first_form::is_first_form;
+use crate::reading::{Reading, TOO_LONG, read_bytes};
 use crate::report::{Report, report_of};
-use crate::scope::Scope;
-use crate::typing::scope_of;
 use crate::words::{Job, job_asked};
 use byte_ports::{ReadRefused, Source, read_up_to};
-use spec_reader::{SyntaxRefused, parse};
+use spec_core::Spec;
+use spec_reader::spell;
 use std::alloc::{AllocError, Global};
-use word_cut::{CutRefused, cut};
 
 /// What is answered.
 #[derive(Drop)]
 pub enum Answer {
     /// The words aren't accepted.
     Words,
-    /// The specification isn't one that can be checked yet.
+    /// The specification can't be checked yet: it isn't of the first form.
     Unbuilt,
+    /// The bytes are no specification: the text says why.
+    Refused(Vec<u8>),
+    /// The specification was spelled.
+    Spelled(Vec<u8>),
     /// The specification was checked.
     Checked(Report),
 }
@@ -32,7 +38,8 @@ impl Answer {
     {
         match self {
             Answer::Words => 2,
-            Answer::Unbuilt => 3,
+            Answer::Unbuilt | Answer::Refused(_) => 3,
+            Answer::Spelled(_) => 0,
             Answer::Checked(report) if report.rejected => 1,
             Answer::Checked(_) => 0,
         }
@@ -45,40 +52,59 @@ impl Answer {
         match self {
             Answer::Words => b"refused words\n",
             Answer::Unbuilt => b"refused specification unbuilt\n",
+            Answer::Refused(text) | Answer::Spelled(text) => text.as_slice(),
             Answer::Checked(report) => report.text.as_slice(),
         }
     }
 }
 
-/// What the bytes of a specification declare, where it is of the first form.
-fn scope_in(alloc: Global, bytes: &[u8]) -> Result<Option<Scope>, AllocError>
-    requires { length bytes.now ≤ 65536 }
-    ensures { IfOk result (λ scope. IsScopeOf bytes.now scope) }
+/// The answer to `check` for a specification.
+fn check_one(alloc: Global, spec: &Spec, budget: usize) -> Result<Answer, AllocError>
+    ensures { (bytes : List ℕ) → IsSpecificationOf bytes spec.now → IfOk result (λ answer. IsCheckOf budget bytes (status_of_answer answer) (text_of_answer answer)) }
 {
-    let words = match cut(alloc, bytes) {
-        Ok(words) => words,
-        Err(CutRefused::Letter { .. }) => return Ok(None),
-        Err(CutRefused::TooLongName { .. }) => return Ok(None),
-        Err(CutRefused::TooLongNumber { .. }) => return Ok(None),
-        Err(CutRefused::Memory) => return Err(AllocError),
-    };
-    let tree = match parse(alloc, bytes, words.as_slice()) {
-        Ok(tree) => tree,
-        Err(SyntaxRefused::Syntax { .. }) => return Ok(None),
-        Err(SyntaxRefused::Memory) => return Err(AllocError),
-    };
-    scope_of(alloc, &tree)
+    if !is_first_form(spec) {
+        return Ok(Answer::Unbuilt);
+    }
+    Ok(Answer::Checked(report_of(alloc, spec, budget)?))
 }
 
-/// The answer to `check` for these bytes.
-fn check(alloc: Global, bytes: &[u8], budget: usize) -> Result<Answer, AllocError>
-    requires { length bytes.now ≤ 65536 }
-    ensures { IfOk result (λ answer. IsCheckOf budget bytes.now (status_of_answer answer) (text_of_answer answer)) }
+/// The answer to `check` for what some bytes are.
+fn check(alloc: Global, reading: Reading, budget: usize) -> Result<Answer, AllocError>
+    ensures { (bytes : List ℕ) → IsReadingOf bytes reading → IfOk result (λ answer. IsCheckOf budget bytes (status_of_answer answer) (text_of_answer answer)) }
 {
-    match scope_in(alloc, bytes)? {
-        Some(scope) => Ok(Answer::Checked(report_of(alloc, &scope, budget)?)),
-        None => Ok(Answer::Unbuilt),
+    match reading {
+        Reading::Specified(_, spec) => check_one(alloc, &spec, budget),
+        Reading::Refused(text) => Ok(Answer::Refused(text)),
     }
+}
+
+/// The answer to `spell` for what some bytes are.
+fn spelled(alloc: Global, reading: Reading) -> Result<Answer, AllocError>
+    ensures { (bytes : List ℕ) → IsReadingOf bytes reading → IfOk result (λ answer. IsSpellOf bytes (status_of_answer answer) (text_of_answer answer)) }
+{
+    match reading {
+        Reading::Specified(tree, _) => Ok(Answer::Spelled(spell(alloc, &tree)?)),
+        Reading::Refused(text) => Ok(Answer::Refused(text)),
+    }
+}
+
+/// The answer to a job, for the bytes of the specification.
+fn answer_for(alloc: Global, job: Job, bytes: &[u8]) -> Result<Answer, AllocError>
+    requires { length bytes.now ≤ 65536 }
+    ensures { IfOk result (λ answer. IsAnswerFor job bytes.now (status_of_answer answer) (text_of_answer answer)) }
+{
+    let reading = read_bytes(alloc, bytes)?;
+    match job {
+        Job::Check(budget) => check(alloc, reading, budget),
+        Job::Spell => spelled(alloc, reading),
+    }
+}
+
+/// The answer where there are too many bytes.
+fn too_long(alloc: Global) -> Result<Answer, AllocError>
+    ensures { (job : Job) (bytes : List ℕ) → 65536 < length bytes → IfOk result (λ answer. IsAnswerFor job bytes (status_of_answer answer) (text_of_answer answer)) }
+{
+    Ok(Answer::Refused(Vec::from_slice(alloc, TOO_LONG)?))
 }
 
 /// Why there is no answer.
@@ -97,13 +123,15 @@ fn answer_to<S: Source>(alloc: Global, job: Job, spec: &mut S) -> Result<Answer,
     ensures ok { IfOk result (λ answer. IsAnswerTo (Some job) (S.left spec.old) (status_of_answer answer) (text_of_answer answer)) }
     ensures fault { IsErrOf result Stopped.Fault → IsFault (S.faults spec.old) (S.faults spec.new) }
 {
-    let Job::Check(budget) = job;
     match read_up_to(alloc, spec, SPECIFICATION_LIMIT) {
-        Ok(bytes) => match check(alloc, bytes.as_slice(), budget) {
+        Ok(bytes) => match answer_for(alloc, job, bytes.as_slice()) {
             Ok(answer) => Ok(answer),
             Err(_) => Err(Stopped::Memory),
         },
-        Err(ReadRefused::TooLong) => Ok(Answer::Unbuilt),
+        Err(ReadRefused::TooLong) => match too_long(alloc) {
+            Ok(answer) => Ok(answer),
+            Err(_) => Err(Stopped::Memory),
+        },
         Err(ReadRefused::Fault) => Err(Stopped::Fault),
         Err(ReadRefused::Memory) => Err(Stopped::Memory),
     }

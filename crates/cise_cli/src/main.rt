@@ -1,19 +1,23 @@
-// The program: `check SPEC` reads a specification, and writes the report of its obligations.
+// The program: `check SPEC` reads a specification and writes the report of its obligations, `spell SPEC` writes its words in the
+// layout of the language.
 //
 // `run` is the program but for its edge, for any sources and any sink, and its clauses say what each status means. `words` has
-// the accepted words, `scope` and `typing` what the items of a specification declare, `report` the report's text, `answer` puts
-// them together. The definitions stand in specs/, in this order: Words (which words are accepted), Scope (which specifications
-// are of the first form), Report (verdicts and the text), Answer (which status and text belong to which bytes), Outcome (what
-// was written, and which fault may have stopped it).
+// the accepted words, `reading` goes from bytes to a specification or to the text of the refusal, `first_form` tells which
+// specifications can be checked yet, `report` makes the report's text, `texts` its lines, `answer` puts them together. The
+// definitions stand in specs/, in this order: Words (which words are accepted), FirstForm (which specifications can be checked
+// yet), Report (verdicts and the text), Refusal (why bytes are no specification), Answer (which status and text belong to which
+// bytes), Outcome (what was written, and which fault may have stopped it).
 #![tactic(auto)]
 
 mod answer;
+mod faults;
+mod first_form;
+mod reading;
 mod report;
 mod run;
-mod scope;
 #[cfg(test)]
 mod tests;
-mod typing;
+mod texts;
 mod words;
 
 use byte_ports::{FileSource, StdSink};

@@ -2,13 +2,15 @@
 //
 // Each obligation is that an invariant is true in the initial state, and the invariant names one relation without places: so it
 // is decided by what that relation initially is.
-ghost use Rattle.std.specs.Prelude.{◌≡◌, ◌++◌, ◌+◌, ◌<◌, ◌^◌, length, count_by, if◌then◌else◌, IfOk, OnOk, codes, decimal, [], ◌∷◌};
-ghost use Rattle.cise_cli.specs.Scope.{specification_of, invariant_of};
-ghost use Rattle.cise_cli.specs.Report.{is_proved, is_refuted, is_true_initially, line, witness_lines, header, blocks, counts_line, last_line, summary, status_of};
-ghost use Rattle.cise_cli.specs.Blocks.{block, right_verdicts, right_report};
+ghost use Rattle.std.specs.Prelude.{◌≡◌, true, ◌++◌, ◌+◌, ◌<◌, ◌^◌, length, count_by, slice_get, if◌then◌else◌, IfOk, OnOk, codes, decimal, [], ◌∷◌};
+ghost use Rattle.cise_cli.specs.FirstForm.{is_first_form, is_flag, claims_flag};
+ghost use Rattle.std.specs.List.{list_all};
+ghost use Rattle.spec_core.specs.Form.{form_of};
+ghost use Rattle.cise_cli.specs.Report.{is_proved, is_refuted, is_true_initially, line, flag_line, witness_lines, header, blocks, counts_line, last_line, summary, status_of};
+ghost use Rattle.cise_cli.specs.Blocks.{initially, says, block, right_verdicts, right_report};
 
-use crate::scope::{Claim, Scope, initial_value};
-use items::Items;
+use crate::texts::{push, push_numbered, push_pair};
+use spec_core::{Formula, Invariant, Relation, Spec};
 use std::alloc::{AllocError, Global};
 
 /// A report, and whether a verdict in it is refuted.
@@ -18,70 +20,76 @@ pub struct Report {
     pub text: Vec<u8>,
 }
 
-/// Adds bytes to a text.
-fn push(text: &mut Vec<u8>, bytes: &[u8]) -> Result<(), AllocError>
-    ensures { OnOk result (text.new.items ≡ text.old.items ++ bytes.now) }
+/// Whether the relation at a place is initially true.
+fn is_initially_true(relations: &[Relation], place: u8) -> bool
+    ensures { result ≡ initially (slice_get relations.now place) }
 {
-    text.extend_from_slice(bytes)
-}
-
-/// Adds the line of a word and a name.
-fn push_named(text: &mut Vec<u8>, word: &[u8], name: &[u8]) -> Result<(), AllocError>
-    ensures { OnOk result (text.new.items ≡ text.old.items ++ line (word.now ∷ name.now ∷ [])) }
-{
-    push(text, word)?;
-    push(text, b" ")?;
-    push(text, name)?;
-    push(text, b"\n")
-}
-
-/// Adds the line of a word and a number.
-fn push_numbered(
-    alloc: Global,
-    text: &mut Vec<u8>,
-    word: &[u8],
-    number: usize,
-) -> Result<(), AllocError>
-    ensures { OnOk result (text.new.items ≡ text.old.items ++ line (word.now ∷ decimal number ∷ [])) }
-{
-    let digits = number.to_string(alloc)?;
-    push_named(text, word, digits.as_bytes())
-}
-
-/// Whether an invariant is true in the initial state.
-fn is_true(scope: &Scope, claim: &Claim) -> bool
-    ensures { result ≡ is_true_initially (specification_of scope.now) (invariant_of claim.now) }
-{
-    match scope.relations.get(claim.relation) {
-        Some(name) => initial_value(scope.stated.as_slice(), name.as_slice()),
+    match relations.get(place as usize) {
+        Some(relation) => relation.initial,
         None => false,
     }
 }
 
-/// Adds the initial state as a witness.
-fn push_witness(text: &mut Vec<u8>, scope: &Scope) -> Result<(), AllocError>
-    ensures { OnOk result (text.new.items ≡ text.old.items ++ witness_lines (specification_of scope.now)) }
+/// Whether a formula names a relation that is initially true.
+fn says(relations: &[Relation], formula: &Formula) -> bool
+    ensures { result ≡ says relations.now (form_of formula.now) }
 {
-    for name in scope.relations.as_slice() {
-        if initial_value(scope.stated.as_slice(), name.as_slice()) {
-            push_named(text, b"true", name.as_slice())?;
-        }
+    match formula {
+        Formula::Has(relation, _) => is_initially_true(relations, *relation),
+        _ => false,
+    }
+}
+
+/// Whether an invariant names a relation that is initially true.
+fn claims(relations: &[Relation], invariant: &Invariant) -> bool
+    ensures { result ≡ says relations.now invariant.now.line.body }
+{
+    says(relations, &invariant.line.body)
+}
+
+/// Whether an invariant is true in the initial state.
+fn is_true(spec: &Spec, invariant: &Invariant) -> bool
+    requires flags { list_all is_flag spec.now.relations ≡ true }
+    requires claims { claims_flag invariant.now ≡ true }
+    ensures { result ≡ is_true_initially spec.now invariant.now }
+{
+    claims(spec.relations.as_slice(), invariant)
+}
+
+/// Adds the line of a relation without places, where it is true.
+fn push_flag(text: &mut Vec<u8>, relation: &Relation) -> Result<(), AllocError>
+    ensures { OnOk result (text.new.items ≡ text.old.items ++ flag_line relation.now) }
+{
+    if relation.initial {
+        push_pair(text, b"true", relation.name.bytes())?;
+    }
+    Ok(())
+}
+
+/// Adds the initial state as a witness.
+fn push_witness(text: &mut Vec<u8>, spec: &Spec) -> Result<(), AllocError>
+    ensures { OnOk result (text.new.items ≡ text.old.items ++ witness_lines spec.now) }
+{
+    for relation in spec.relations.as_slice() {
+        push_flag(text, relation)?;
     }
     push(text, b"at\n")
 }
 
 /// Adds the block of an invariant, and says whether it is true.
-fn push_block(text: &mut Vec<u8>, scope: &Scope, claim: &Claim) -> Result<bool, AllocError>
-    ensures truth { IfOk result (λ proved. proved ≡ is_true_initially (specification_of scope.now) (invariant_of claim.now)) }
-    ensures text { OnOk result (text.new.items ≡ text.old.items ++ block (specification_of scope.now) (invariant_of claim.now)) }
+fn push_block(text: &mut Vec<u8>, spec: &Spec, invariant: &Invariant) -> Result<bool, AllocError>
+    requires flags { list_all is_flag spec.now.relations ≡ true }
+    requires claims { claims_flag invariant.now ≡ true }
+    ensures truth { IfOk result (λ proved. proved ≡ is_true_initially spec.now invariant.now) }
+    ensures text { OnOk result (text.new.items ≡ text.old.items ++ block spec.now invariant.now) }
 {
-    push_named(text, b"init", claim.name.as_slice())?;
-    let proved = is_true(scope, claim);
+    push_pair(text, b"init", invariant.name.bytes())?;
+    let proved = is_true(spec, invariant);
     if proved {
         push(text, b"proved 0\n")?;
     } else {
         push(text, b"refuted\n")?;
-        push_witness(text, scope)?;
+        push_witness(text, spec)?;
     }
     Ok(proved)
 }
@@ -94,18 +102,20 @@ struct Counts {
 }
 
 /// Adds the blocks of all invariants, and counts their verdicts.
-fn push_blocks(text: &mut Vec<u8>, scope: &Scope) -> Result<Counts, AllocError>
-    ensures text { let d = specification_of scope.now in
+fn push_blocks(text: &mut Vec<u8>, spec: &Spec) -> Result<Counts, AllocError>
+    requires flags { list_all is_flag spec.now.relations ≡ true }
+    requires claims { list_all claims_flag spec.now.invariants ≡ true }
+    ensures text { let d = spec.now in
         OnOk result (text.new.items ≡ text.old.items ++ blocks d d.invariants (right_verdicts d d.invariants)) }
-    ensures proved { let d = specification_of scope.now in
+    ensures proved { let d = spec.now in
         IfOk result (λ counts. counts.proved ≡ count_by is_proved (right_verdicts d d.invariants)) }
-    ensures refuted { let d = specification_of scope.now in
+    ensures refuted { let d = spec.now in
         IfOk result (λ counts. counts.refuted ≡ count_by is_refuted (right_verdicts d d.invariants)) }
 {
     let mut proved = 0;
     let mut refuted = 0;
-    for claim in scope.claims.as_slice() {
-        if push_block(text, scope, claim)? {
+    for invariant in spec.invariants.as_slice() {
+        if push_block(text, spec, invariant)? {
             proved += 1;
         } else {
             refuted += 1;
@@ -170,15 +180,16 @@ fn push_header(
     push_numbered(alloc, text, b"obligations", obligations)
 }
 
-/// The report, of a budget, of what a scope declares.
-pub fn report_of(alloc: Global, scope: &Scope, budget: usize) -> Result<Report, AllocError>
-    ensures text { IfOk result (λ r. r.text.items ≡ right_report budget (specification_of scope.now)) }
-    ensures rejected { let d = specification_of scope.now in
+/// The report, of a budget, of a specification of the first form.
+pub fn report_of(alloc: Global, spec: &Spec, budget: usize) -> Result<Report, AllocError>
+    requires { is_first_form spec.now ≡ true }
+    ensures text { IfOk result (λ r. r.text.items ≡ right_report budget spec.now) }
+    ensures rejected { let d = spec.now in
         IfOk result (λ r. (if r.rejected then 1 else 0) ≡ status_of (right_verdicts d d.invariants)) }
 {
     let mut text = Vec::new(alloc);
-    push_header(alloc, &mut text, budget, scope.claims.len())?;
-    let counts = push_blocks(&mut text, scope)?;
+    push_header(alloc, &mut text, budget, spec.invariants.len())?;
+    let counts = push_blocks(&mut text, spec)?;
     push_summary(alloc, &mut text, counts)?;
     Ok(Report {
         rejected: 0 < counts.refuted,

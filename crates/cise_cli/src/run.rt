@@ -1,7 +1,7 @@
 // The program but for its edge: from words, sources and a sink to a status.
-ghost use Rattle.std.specs.Prelude.{◌≡◌, ◌<◌, map, string_bytes, IsNone, IfSome};
+ghost use Rattle.std.specs.Prelude.{◌≡◌, ◌<◌, true, map, string_bytes, IsNone, IfSome};
 ghost use Rattle.byte_ports.specs.Faults.{IsFault};
-ghost use Rattle.cise_cli.specs.Words.{job_of};
+ghost use Rattle.cise_cli.specs.Words.{job_of, is_check};
 ghost use Rattle.cise_cli.specs.Answer.{IsSafe};
 ghost use Rattle.cise_cli.specs.Outcome.{IsAnswered, IsBroken, IsInputFault};
 
@@ -11,8 +11,8 @@ use std::alloc::Global;
 
 /// Answers the words, those behind the program's name, from the bytes of the two inputs, and writes the answer's text.
 ///
-/// The statuses: 0, all obligations are proved; 1, one is refuted; 2, the words aren't accepted; 3, the bytes aren't a
-/// specification that can be checked; 6, the source that the job reads has failed; 7, the sink has failed; 8, out of memory.
+/// The statuses: 0, all obligations are proved, or the specification was spelled; 1, one is refuted; 2, the words aren't accepted;
+/// 3, the bytes are no specification, or one that can't be checked yet; 6, the source that the job reads has failed; 7, the sink has failed; 8, out of memory.
 pub fn run<S: Source, E: Source, K: Sink>(
     alloc: Global,
     words: &[String],
@@ -28,7 +28,7 @@ pub fn run<S: Source, E: Source, K: Sink>(
     ensures known { result < 9 }
 
     // The headline: a specification whose check ends with status 0 is safe.
-    ensures safe { result ≡ 0 → IfSome (S.left spec.old) IsSafe }
+    ensures safe { result ≡ 0 → is_check (job_of (map string_bytes words.now)) ≡ true → IfSome (S.left spec.old) IsSafe }
 
     // Without accepted words no input is read, and no job reads the second one yet.
     ensures unread { IsNone (job_of (map string_bytes words.now)) → spec.new ≡ spec.old }

@@ -7,6 +7,8 @@ ghost use Rattle.cise_cli.specs.Words.{job_of};
 pub enum Job {
     /// To check the specification, with a budget of log lines.
     Check(usize),
+    /// To write the specification's words in the layout of the language.
+    Spell,
 }
 
 /// The budget where the words name none.
@@ -18,6 +20,7 @@ pub fn job_asked(words: &[String]) -> Option<Job>
 {
     match words {
         [command, _] if command.as_str() == "check" => Some(Job::Check(DEFAULT_BUDGET)),
+        [command, _] if command.as_str() == "spell" => Some(Job::Spell),
         _ => None,
     }
 }

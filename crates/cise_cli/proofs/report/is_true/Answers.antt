@@ -1,16 +1,12 @@
-use Rattle.std.proofs.Common.{◌≡◌, ap, sym, ◌∙◌}
-use Rattle.cise_cli.specs.Scope.{initial_of}
-use Rattle.cise_cli.proofs.Flags.{or_false, is_true_initially-claim}
+use Rattle.std.proofs.Common.{◌≡◌, sym, subst, ap, ◌∙◌}
+use Rattle.spec_core.specs.Specification.{Specification}
+use Rattle.cise_cli.specs.Blocks.{says}
+use Rattle.cise_cli.proofs.Flags.{is_true_initially-flag}
 use Rattle.cise_cli.proofs.report.is_true.Goals as goal
 
-pub returns-in-Some : goal.returns-in-Some
-returns-in-Some c =
-    let s = c.args.scope.now in
-    let passed : initial_of c.as_slice.result.now c.as_slice-in-Some.result.now ≡ initial_of s.stated c.in-Some.name.now =
-    ap (λ t. initial_of t c.as_slice-in-Some.result.now) c.as_slice.ensures ∙ ap (initial_of s.stated) c.as_slice-in-Some.ensures in
-    c.initial_value.ensures ∙ passed ∙ ap (or_false (initial_of s.stated)) c.in-Some.ensures ∙ sym (is_true_initially-claim s c.args.claim.now)
-
-pub returns-in-None : goal.returns-in-None
-returns-in-None c =
-    let s = c.args.scope.now in
-    ap (or_false (initial_of s.stated)) c.in-None.ensures ∙ sym (is_true_initially-claim s c.args.claim.now)
+pub returns : goal.returns
+returns c =
+    let relations : c.as_slice.result.now ≡ c.args.spec.now.relations =
+    subst (λ (d : Specification). c.as_slice.result.now ≡ d.relations) c.spec.view_is c.as_slice.ensures in
+    c.claims.ensures ∙ ap (λ rs. says rs c.args.invariant.now.line.body) relations
+    ∙ sym (is_true_initially-flag c.args.spec.now c.args.invariant.now c.requires.flags c.requires.claims)

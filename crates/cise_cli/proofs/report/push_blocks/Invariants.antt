@@ -1,9 +1,8 @@
-use Rattle.std.proofs.Common.{drop, map}
-use Rattle.cise_cli.specs.Scope.{invariant_of, specification_of}
+use Rattle.std.proofs.Common.{drop}
 use Rattle.cise_cli.proofs.Remaining.{Remaining}
 use Rattle.cise_cli.proofs.report.push_blocks.Given as goal
 
-abbrev pub invariant-loop-claim : goal.invariant-loop-claim
-invariant-loop-claim l =
-    Remaining (specification_of l.scope) l.fn.text.items l.text.items l.proved l.refuted (map invariant_of l.scope.claims)
-    (map invariant_of (drop l.claim-index l.scope.claims)) l.claim-index
+abbrev pub invariant-loop-invariant : goal.invariant-loop-invariant
+invariant-loop-invariant l =
+    Remaining l.spec l.fn.text.items l.text.items l.proved l.refuted l.invariant-items
+    (drop l.invariant-index l.invariant-items) l.invariant-index
