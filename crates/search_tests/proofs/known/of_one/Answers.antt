@@ -4,7 +4,7 @@ use Rattle.lin_rows.specs.Divisors.{common_divisor}
 use Rattle.proof_kernel.specs.declared.line.RowStep.{RowStep}
 use Rattle.proof_kernel.specs.declared.line.RangeWhat.TheVariants.{Value}
 use Rattle.theory_api.specs.Laws.{IsConflict, IsBeyond}
-use Rattle.search_tests.proofs.rows.of_one.Goals as goal
+use Rattle.search_tests.proofs.known.of_one.Goals as goal
 
 one_row : (rows : List Row) (r : Row) → 1 ≤ length rows → length rows < 2 → r ≡ get_or rows 0 r → rows ≡ r ∷ []
 one_row [] r a b e = absurd (omega arith)

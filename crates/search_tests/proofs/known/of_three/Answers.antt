@@ -5,7 +5,7 @@ use Rattle.lin_rows.specs.Divisors.{common_divisor}
 use Rattle.theory_api.specs.declared.answer.TheoryAnswer.{TheoryAnswer}
 use Rattle.theory_api.specs.declared.answer.TheoryAnswer.TheVariants.{Split}
 use Rattle.theory_api.specs.Laws.{IsAnswer, IsSplit}
-use Rattle.search_tests.proofs.rows.of_three.Goals as goal
+use Rattle.search_tests.proofs.known.of_three.Goals as goal
 
 three_rows : (rows : List Row) (p q r : Row) → 3 ≤ length rows → length rows < 4 → p ≡ get_or rows 0 p → q ≡ get_or rows 1 q → r ≡ get_or rows 2 r → rows ≡ p ∷ q ∷ r ∷ []
 three_rows [] p q r a b e f g = absurd (omega arith)

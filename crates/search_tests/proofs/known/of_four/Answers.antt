@@ -1,7 +1,7 @@
 use Rattle.std.proofs.Common.{rules, ◌≡◌, ◌<◌, ◌≤◌, ℕ, ℤ, pos, negsuc, true, List, [], ◌∷◌, ◌++◌, length, get_or, refl, sym, ◌∙◌, ap, subst, arith}
 use Rattle.lin_rows.specs.Rows.{Row}
 use Rattle.theory_api.specs.Laws.{IsModel}
-use Rattle.search_tests.proofs.rows.of_four.Goals as goal
+use Rattle.search_tests.proofs.known.of_four.Goals as goal
 
 four_rows : (rows : List Row) (p q r s : Row) → 4 ≤ length rows → length rows < 5 → p ≡ get_or rows 0 p → q ≡ get_or rows 1 q → r ≡ get_or rows 2 r → s ≡ get_or rows 3 s → rows ≡ p ∷ q ∷ r ∷ s ∷ []
 four_rows [] p q r s a b e f g h = absurd (omega arith)

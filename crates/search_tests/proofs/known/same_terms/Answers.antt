@@ -5,7 +5,7 @@ use Rattle.std.proofs.lemmas.Slice.Eq.{slice_eq-Decides}
 use Rattle.lin_rows.specs.declared.term.RowTerm.{RowTerm}
 use Rattle.proof_kernel.proofs.Sets.{both}
 use Rattle.proof_kernel.proofs.States.{and_true}
-use Rattle.search_tests.proofs.rows.same_terms.Goals as goal
+use Rattle.search_tests.proofs.known.same_terms.Goals as goal
 
 term_Decides : (a b : RowTerm) → Decides (nat_eq a.place b.place && int_eq a.coef b.coef) (a ≡ b)
 term_Decides a b = (yes, no_)
