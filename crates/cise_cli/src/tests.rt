@@ -435,7 +435,9 @@ fn spells_in_the_layout(rt: HostRuntime) {
         text.as_slice(),
         b"cise 1\nrelation up\ninitially up true\n".as_slice()
     );
-    let cases: [&[u8]; 7] = [
+    let cases: [&[u8]; 9] = [
+        b"cise 1\nrelation up\ninitially up true\ninvariant alive up\n",
+        b"cise 1\nrelation up\ninitially up true\ninvariant alive up\noperation odd ( x : int , y : int )\n  requires ( 2 * x - 2 * y = 1 )\n  remove up\nend\n",
         b"cise 1\nsort Account\ncounter balance ( Account )\ninvariant solvent forall a : Account . ( balance ( a ) >= 0 )\noperation deposit ( a : Account , n : int )\n  requires ( n >= 0 )\n  add balance ( a ) n\nend\n",
         b"cise 1\nsort Account\ncounter balance ( Account )\ninvariant solvent forall a : Account . ( balance ( a ) >= 0 )\noperation deposit ( a : Account , n : int )\n  requires ( n >= 0 )\n  add balance ( a ) n\nend\noperation withdraw ( a : Account , n : int )\n  requires ( n >= 0 )\n  requires ( balance ( a ) >= n )\n  add balance ( a ) - n\nend\n",
         b"cise 1\nsort Account\ncounter balance ( Account )\ntoken purse ( Account )\nconflict purse ( x ) purse ( x )\ninvariant solvent forall a : Account . ( balance ( a ) >= 0 )\noperation deposit ( a : Account , n : int )\n  requires ( n >= 0 )\n  add balance ( a ) n\nend\noperation withdraw ( a : Account , n : int )\n  requires ( n >= 0 )\n  requires ( balance ( a ) >= n )\n  add balance ( a ) - n\n  takes purse ( a )\nend\n",
