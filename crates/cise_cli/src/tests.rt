@@ -384,6 +384,14 @@ fn keeps_the_limits(rt: HostRuntime) {
             most: 15,
             reason: b"limit summands 17 word 38",
         },
+        Limit {
+            front: b"cise 1 sort A token t ( A",
+            piece: b", A #",
+            after: b"\n",
+            behind: b")",
+            most: 2,
+            reason: b"limit places 4 word 13",
+        },
     ];
     for limit in &limits {
         let kept = is_limited(rt.alloc(), limit).expect(&rt, "memory");
@@ -407,6 +415,7 @@ fn nested(alloc: Global, before: &[u8], after: &[u8], count: u32) -> Result<Vec<
 #[test]
 fn keeps_formulas_small(rt: HostRuntime) {
     let alloc = rt.alloc();
+    // 200 nodes, 200 deep
     let deep = nested(alloc, b"not ", b"", 199).expect(&rt, "memory");
     assert!(rt; is_spelled(alloc, &deep).expect(&rt, "memory"));
     let deeper = nested(alloc, b"not ", b"", 200).expect(&rt, "memory");
@@ -415,6 +424,19 @@ fn keeps_formulas_small(rt: HostRuntime) {
     assert!(rt; is_spelled(alloc, &large).expect(&rt, "memory"));
     let larger = nested(alloc, b"( true and ", b" )", 100).expect(&rt, "memory");
     assert!(rt; refuses(alloc, &larger, b"limit nodes 201 word 4").expect(&rt, "memory"));
+}
+
+#[test]
+fn takes_the_largest(rt: HostRuntime) {
+    let alloc = rt.alloc();
+    let cases: [&[u8]; 3] = [
+        b"cise 1 counter c initially c 1000000000",
+        b"cise 1 counter c initially c - 1000000000",
+        b"cise 1 sort aaaaaaaaaaaaaaaaaaaaaaaaaaaaaaaa",
+    ];
+    for bytes in cases {
+        assert!(rt; is_spelled(alloc, bytes).expect(&rt, "memory"));
+    }
 }
 
 /// The text that `spell` writes for these bytes, if that is spelled as itself.
