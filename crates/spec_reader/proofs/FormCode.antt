@@ -4,10 +4,13 @@ use Rattle.token_readers.specs.declared.token.Key.TheVariants as keys
 use Rattle.token_readers.specs.declared.token.Token.{Token}
 use Rattle.token_readers.specs.declared.token.Version.{Version}
 use Rattle.spec_reader.specs.declared.tree.Reading.{Reading}
+use Rattle.spec_reader.specs.declared.tree.Term.{Term}
+use Rattle.spec_reader.specs.declared.tree.Comparison.{Comparison}
+use Rattle.spec_reader.specs.declared.tree.Connective.{Connective}
 use Rattle.spec_reader.specs.Form.{Form, not_form}
 use Rattle.token_readers.specs.Words.{next, seen, is_key, is_name}
 use Rattle.token_readers.specs.Read.{Read, ◌>>=◌, mapped, both, key_at}
-use Rattle.spec_reader.specs.Reading.{atom_at, to_form, form_at, plain_at, compared_at, After, after_at, to_inside, inside_at, inner_at, named_at, negation_at, starts_term}
+use Rattle.spec_reader.specs.Reading.{term_at, comparison_at, connective_at, connected_at, to_compared, to_connected, atom_at, to_form, form_at, plain_at, compared_at, After, after_at, to_inside, inside_at, inner_at, named_at, negation_at, starts_term}
 
 bare : {A : Type 0} → A → List Token → Read A
 bare a ws = Ok (a, ws)
@@ -64,3 +67,29 @@ read_twice (Ok a) f = by (f a.1)
 pub inside_at-named : (v : Version) (r : List Token → Read Form) (ws : List Token) → starts_term (next (seen ws)) ≡ false → is_name v (next (seen ws)) ≡ true → inside_at v r ws ≡ named_at v r ws
 unfolding inside_at
 inside_at-named v r ws h k = rw (h, k) (read_twice (atom_at v ws) (after_at v r))
+
+compare_twice : (x : Read Term) (f : List Token → Read (Comparison × Term)) → mapped to_inside (mapped inl (both (λ ws. x) f)) [] ≡ mapped to_compared (both (λ ws. x) f) []
+unfolding bare
+compare_twice (Err n) f = refl
+compare_twice (Ok a) f = by (f a.1)
+  where
+    by : (y : Read (Comparison × Term)) → mapped to_inside (mapped inl (λ ws. y >>= λ b. bare (a.0, b.0) b.1)) [] ≡ mapped to_compared (λ ws. y >>= λ b. bare (a.0, b.0) b.1) []
+    by (Ok b) = refl
+    by (Err n) = refl
+
+pub inside_at-term : (v : Version) (r : List Token → Read Form) (ws : List Token) → starts_term (next (seen ws)) ≡ true → inside_at v r ws ≡ compared_at v ws
+unfolding inside_at compared_at
+inside_at-term v r ws h = rw h (compare_twice (term_at v ws) (both comparison_at (term_at v)))
+
+connect_twice : (x : Read Form) (f : List Token → Read (Connective × Form)) → mapped to_inside (mapped inr (mapped inr (both (λ ws. x) f))) [] ≡ mapped to_connected (both (λ ws. x) f) []
+unfolding bare
+connect_twice (Err n) f = refl
+connect_twice (Ok a) f = by (f a.1)
+  where
+    by : (y : Read (Connective × Form)) → mapped to_inside (mapped inr (mapped inr (λ ws. y >>= λ b. bare (a.0, b.0) b.1))) [] ≡ mapped to_connected (λ ws. y >>= λ b. bare (a.0, b.0) b.1) []
+    by (Ok b) = refl
+    by (Err n) = refl
+
+pub inside_at-connected : (v : Version) (r : List Token → Read Form) (ws : List Token) → starts_term (next (seen ws)) ≡ false → is_name v (next (seen ws)) ≡ false → inside_at v r ws ≡ connected_at r ws
+unfolding inside_at
+inside_at-connected v r ws h k = rw (h, k) (connect_twice (r ws) (both connective_at r))

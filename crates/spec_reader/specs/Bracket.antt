@@ -5,5 +5,5 @@ use Rattle.spec_reader.specs.Form.{form_of}
 use Rattle.spec_reader.specs.Reading.{Inside, compared, connected}
 
 abbrev pub bracket_of : Bracket → Inside
-bracket_of (bracket.Compared s c t) = compared s c t
-bracket_of (bracket.Connected f c g) = connected (form_of f) c (form_of g)
+bracket_of (bracket.Compared s c t) = compared s.value c t.value
+bracket_of (bracket.Connected f c g) = connected (form_of f.value) c (form_of g.value)

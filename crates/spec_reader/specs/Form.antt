@@ -66,7 +66,7 @@ form_of (False w) = false_form w
 form_of (Not' w l f) = not_form w (form_of f)
 form_of (Connect' w l f c m g) = connect_form w (form_of f) c (form_of g)
 form_of (Has w r) = has_form w r
-form_of (Compare w s c t) = compare_form w s c t
+form_of (Compare w s c t) = compare_form w s.value c t.value
 
 abbrev pub guard_of : Option Formula → Option Form
 guard_of None = None

@@ -428,3 +428,77 @@ tree_by d ws = sign_at keys.Cise ws >>= λ a. version_at a.1 >>= λ v. items_at 
 
 abbrev pub whole_by : ℕ → List Token → Result TreeForm ℕ
 whole_by d ws = tree_by d ws >>= λ x. if (length x.1 == 0) then Ok x.0 else Err (length x.1)
+
+-- ---- formulas, as the code reads them
+
+abbrev pub true_at : List Token → Read Form
+true_at = mapped true_form (key_at keys.True)
+
+abbrev pub false_at : List Token → Read Form
+false_at = mapped false_form (key_at keys.False)
+
+abbrev pub has_at : Version → List Token → Read Form
+has_at v = mapped (λ (r : ℕ × Reading). has_form r.0 r.1) (atom_at v)
+
+abbrev pub compared_with_at : Version → List Token → Read (Comparison × Term)
+compared_with_at v = both comparison_at (term_at v)
+
+abbrev pub connected_with_at : (List Token → Read Form) → List Token → Read (Connective × Form)
+connected_with_at r = both connective_at r
+
+abbrev pub to_connected : Form × (Connective × Form) → Inside
+to_connected x = connected x.0 x.1.0 x.1.1
+
+abbrev pub connected_at : (List Token → Read Form) → List Token → Read Inside
+connected_at r = mapped to_connected (both r (connected_with_at r))
+
+abbrev pub closed_by : ℕ → Inside → Form
+closed_by w (compared s c t) = compare_form w s c t
+closed_by w (connected f c g) = connect_form w f c g
+
+-- ---- lines and items, as the code reads them
+
+abbrev pub requires_line_at : Version → ℕ → List Token → Read LineForm
+requires_line_at v d = mapped (λ (x : ℕ × Sentence). requires_form x.0 x.1) (requires_at v d)
+
+abbrev pub insert_at : Version → ℕ → List Token → Read LineForm
+insert_at v d = mapped (λ (x : Change). insert_form x.0 x.1.0 x.1.1.0 x.1.1.1) (change_at keys.Insert v d)
+
+abbrev pub remove_at : Version → ℕ → List Token → Read LineForm
+remove_at v d = mapped (λ (x : Change). remove_form x.0 x.1.0 x.1.1.0 x.1.1.1) (change_at keys.Remove v d)
+
+abbrev pub add_at : Version → ℕ → List Token → Read LineForm
+add_at v d = mapped (λ (x : Amount). add_form x.0 x.1.0 x.1.1.0 x.1.1.1.0 x.1.1.1.1) (amount_at keys.Add v d)
+
+abbrev pub set_at : Version → ℕ → List Token → Read LineForm
+set_at v d = mapped (λ (x : Amount). set_form x.0 x.1.0 x.1.1.0 x.1.1.1.0 x.1.1.1.1) (amount_at keys.Set v d)
+
+abbrev pub takes_line_at : Version → List Token → Read LineForm
+takes_line_at v = mapped (λ (x : ℕ × (Reading × Mode)). takes_form x.0 x.1.0 x.1.1) (takes_at v)
+
+abbrev pub sort_item_at : Version → List Token → Read ItemForm
+sort_item_at v = mapped (λ (x : ℕ × Mark). sort_form x.0 x.1) (sort_at v)
+
+abbrev pub const_item_at : Version → List Token → Read ItemForm
+const_item_at v = mapped (λ (x : ℕ × (Mark × (Unit {0} × Mark))). const_form x.0 x.1.0 x.1.1.1) (const_at v)
+
+abbrev pub relation_item_at : Version → List Token → Read ItemForm
+relation_item_at v = mapped (λ (x : Places). relation_form x.0 x.1.0 x.1.1) (places_at keys.Relation v)
+
+abbrev pub counter_item_at : Version → List Token → Read ItemForm
+counter_item_at v = mapped (λ (x : Places). counter_form x.0 x.1.0 x.1.1) (places_at keys.Counter v)
+
+abbrev pub initially_item_at : Version → List Token → Read ItemForm
+initially_item_at v = mapped (λ (x : ℕ × (Mark × Value)). initially_form x.0 x.1.0 x.1.1) (initially_at v)
+
+abbrev pub token_item_at : Version → List Token → Read ItemForm
+token_item_at v = mapped (λ (x : Places). token_form x.0 x.1.0 x.1.1) (places_at keys.Token v)
+
+abbrev pub conflict_item_at : Version → List Token → Read ItemForm
+conflict_item_at v = mapped (λ (x : ℕ × (Reading × Reading)). conflict_form x.0 x.1.0 x.1.1) (conflict_at v)
+
+abbrev pub invariant_item_at : Version → ℕ → List Token → Read ItemForm
+invariant_item_at v d = mapped (λ (x : ℕ × (Mark × Sentence)). invariant_form x.0 x.1.0 x.1.1) (invariant_at v d)
+
+abbrev pub operation_item_at : Version → ℕ → List Token → Read ItemForm
+operation_item_at v d = mapped (λ (x : ℕ × (Mark × (List Param × (List LineForm × Unit {0})))). operation_form x.0 x.1.0 x.1.1.0 x.1.1.1.0) (operation_at v d)

@@ -5,7 +5,7 @@ ghost use Rattle.std.specs.Prelude.{◌≡◌, ◌<◌, ◌-◌, length};
 ghost use Rattle.token_readers.specs.Gives.{Gives};
 ghost use Rattle.spec_reader.specs.Form.{form_of};
 ghost use Rattle.spec_reader.specs.Bracket.{bracket_of};
-ghost use Rattle.spec_reader.specs.Reading.{compared_at, behind_at, named_at, negation_at, inside_at, inner_at, plain_at, form_at, starts_term as term_test};
+ghost use Rattle.spec_reader.specs.Reading.{true_at, false_at, has_at, closed_by, compared_with_at, compared_at, connected_with_at, connected_at, behind_at, named_at, negation_at, inside_at, inner_at, plain_at, form_at, starts_term as term_test};
 
 use crate::terms::{atom, more, term};
 use crate::tree::{Comparison, Connective, Formula, Product, Reading, Summand, Term};
@@ -15,11 +15,24 @@ use token_readers::{
     Key, Kind, ReadError, Token, Version, is_key, is_name, is_number, key, next_kind, sign,
 };
 
-/// What stands in brackets.
+/// What stands in brackets. Its parts are in boxes, so that a level of brackets takes little stack.
 #[derive(Drop)]
 pub enum Bracket {
-    Compared(Term, Comparison, Term),
-    Connected(Formula, Connective, Formula),
+    Compared(Box<Term>, Comparison, Box<Term>),
+    Connected(Box<Formula>, Connective, Box<Formula>),
+}
+
+/// A comparison and its right side.
+fn compared_with(
+    alloc: Global,
+    version: Version,
+    tokens: &[Token],
+) -> Result<(Comparison, Box<Term>, &[Token]), ReadError>
+    ensures { Gives (λ x. ((x.0, x.1.value), x.2.now)) result (compared_with_at version tokens.now) }
+{
+    let (sign, rest) = comparison(tokens)?;
+    let (right, rest) = term(alloc, version, rest)?;
+    Ok((sign, Box::new(alloc, right)?, rest))
 }
 
 #[tactic(auto, unfolding(crate::specs::Reading::compared_at))]
@@ -31,9 +44,24 @@ fn compared(
     ensures { Gives (λ x. (bracket_of x.0, x.1.now)) result (compared_at version tokens.now) }
 {
     let (left, rest) = term(alloc, version, tokens)?;
-    let (sign, rest) = comparison(rest)?;
-    let (right, rest) = term(alloc, version, rest)?;
+    let left = Box::new(alloc, left)?;
+    let (sign, right, rest) = or_drop!(compared_with(alloc, version, rest); left);
     Ok((Bracket::Compared(left, sign, right), rest))
+}
+
+/// A connective and its right side.
+#[cycle(formula)]
+fn connected_with(
+    alloc: Global,
+    version: Version,
+    depth: u32,
+    tokens: &[Token],
+) -> Result<(Connective, Box<Formula>, &[Token]), ReadError>
+    ensures { Gives (λ x. ((x.0, form_of x.1.value), x.2.now)) result (connected_with_at (form_at version depth) tokens.now) }
+{
+    let (sign, rest) = connective(tokens)?;
+    let (right, rest) = formula(alloc, version, depth, rest)?;
+    Ok((sign, Box::new(alloc, right)?, rest))
 }
 
 /// What follows a reading behind a bracket.
@@ -49,24 +77,16 @@ fn after(
     ensures { Gives (λ x. (bracket_of x.0, x.1.now)) result (behind_at version (form_at version depth) (word, reading) tokens.now) }
 {
     if is_connective(next_kind(tokens)) {
-        let (sign, rest) = connective(tokens)?;
-        let (right, rest) = formula(alloc, version, depth, rest)?;
-        return Ok((
-            Bracket::Connected(Formula::Has(word, reading), sign, right),
-            rest,
-        ));
+        let left = Box::new(alloc, Formula::Has(word, reading))?;
+        let (sign, right, rest) = or_drop!(connected_with(alloc, version, depth, tokens); left);
+        return Ok((Bracket::Connected(left, sign, right), rest));
     }
-    let (more, rest) = more(alloc, version, tokens)?;
-    let (sign, rest) = comparison(rest)?;
-    let (right, rest) = term(alloc, version, rest)?;
-    let left = Term {
-        minus: false,
-        first: Summand {
-            word,
-            product: Product::Reading(reading),
-        },
-        more,
-    };
+    let (more, rest) = or_drop!(more(alloc, version, tokens); reading);
+    let product = Product::Reading(reading);
+    let first = Summand { word, product };
+    let minus = false;
+    let left = Box::new(alloc, Term { minus, first, more })?;
+    let (sign, right, rest) = or_drop!(compared_with(alloc, version, rest); left);
     Ok((Bracket::Compared(left, sign, right), rest))
 }
 
@@ -89,6 +109,22 @@ fn starts_term(kind: Kind) -> bool
     is_number(kind) || is_key(kind, Key::Minus)
 }
 
+/// Two formulas with a connective between.
+#[cycle(formula)]
+fn connected(
+    alloc: Global,
+    version: Version,
+    depth: u32,
+    tokens: &[Token],
+) -> Result<(Bracket, &[Token]), ReadError>
+    ensures { Gives (λ x. (bracket_of x.0, x.1.now)) result (connected_at (form_at version depth) tokens.now) }
+{
+    let (left, rest) = formula(alloc, version, depth, tokens)?;
+    let left = Box::new(alloc, left)?;
+    let (sign, right, rest) = or_drop!(connected_with(alloc, version, depth, rest); left);
+    Ok((Bracket::Connected(left, sign, right), rest))
+}
+
 #[cycle(formula)]
 #[tactic(auto, unfolding(crate::specs::Reading::inside_at))]
 fn inside(
@@ -101,18 +137,12 @@ fn inside(
 {
     let kind = next_kind(tokens);
     if starts_term(kind) {
-        let (left, rest) = term(alloc, version, tokens)?;
-        let (sign, rest) = comparison(rest)?;
-        let (right, rest) = term(alloc, version, rest)?;
-        return Ok((Bracket::Compared(left, sign, right), rest));
+        return compared(alloc, version, tokens);
     }
     if is_name(version, kind) {
         return named(alloc, version, depth, tokens);
     }
-    let (left, rest) = formula(alloc, version, depth, tokens)?;
-    let (sign, rest) = connective(rest)?;
-    let (right, rest) = formula(alloc, version, depth, rest)?;
-    Ok((Bracket::Connected(left, sign, right), rest))
+    connected(alloc, version, depth, tokens)
 }
 
 #[cycle(formula)]
@@ -130,6 +160,38 @@ fn inner(
     inside(alloc, version, depth - 1, tokens)
 }
 
+fn true_formula(tokens: &[Token]) -> Result<(Formula, &[Token]), ReadError>
+    ensures { Gives (λ x. (form_of x.0, x.1.now)) result (true_at tokens.now) }
+{
+    let (word, rest) = key(tokens, Key::True)?;
+    Ok((Formula::True(word), rest))
+}
+
+fn false_formula(tokens: &[Token]) -> Result<(Formula, &[Token]), ReadError>
+    ensures { Gives (λ x. (form_of x.0, x.1.now)) result (false_at tokens.now) }
+{
+    let (word, rest) = key(tokens, Key::False)?;
+    Ok((Formula::False(word), rest))
+}
+
+/// A reading, as a formula.
+fn has(alloc: Global, version: Version, tokens: &[Token]) -> Result<(Formula, &[Token]), ReadError>
+    ensures { Gives (λ x. (form_of x.0, x.1.now)) result (has_at version tokens.now) }
+{
+    let (word, reading, rest) = atom(alloc, version, tokens)?;
+    Ok((Formula::Has(word, reading), rest))
+}
+
+/// The formula that what stands in brackets is, where `word` is the place of the first bracket.
+fn closed(word: u32, bracket: Bracket) -> Formula
+    ensures { form_of result ≡ closed_by word (bracket_of bracket) }
+{
+    match bracket {
+        Bracket::Compared(left, sign, right) => Formula::Compare(word, left, sign, right),
+        Bracket::Connected(left, sign, right) => Formula::Connect(word, left, sign, right),
+    }
+}
+
 #[cycle(formula)]
 fn plain(
     alloc: Global,
@@ -141,30 +203,18 @@ fn plain(
 {
     let kind = next_kind(tokens);
     if is_key(kind, Key::True) {
-        let (word, rest) = key(tokens, Key::True)?;
-        return Ok((Formula::True(word), rest));
+        return true_formula(tokens);
     }
     if is_key(kind, Key::False) {
-        let (word, rest) = key(tokens, Key::False)?;
-        return Ok((Formula::False(word), rest));
+        return false_formula(tokens);
     }
     if !is_key(kind, Key::Open) {
-        let (word, reading, rest) = atom(alloc, version, tokens)?;
-        return Ok((Formula::Has(word, reading), rest));
+        return has(alloc, version, tokens);
     }
     let (word, rest) = key(tokens, Key::Open)?;
     let (bracket, rest) = inner(alloc, version, depth, rest)?;
-    let rest = sign(rest, Key::Close)?;
-    match bracket {
-        Bracket::Compared(left, sign, right) => Ok((
-            Formula::Compare(word, left, sign, right),
-            rest,
-        )),
-        Bracket::Connected(left, sign, right) => Ok((
-            Formula::Connect(word, Box::new(alloc, left)?, sign, Box::new(alloc, right)?),
-            rest,
-        )),
-    }
+    let rest = or_drop!(sign(rest, Key::Close); bracket);
+    Ok((closed(word, bracket), rest))
 }
 
 /// A formula, with at most `depth` levels below its uppermost.

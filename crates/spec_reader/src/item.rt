@@ -3,13 +3,13 @@
 ghost use Rattle.std.specs.Prelude.{◌≡◌, length, map};
 ghost use Rattle.token_readers.specs.Gives.{Gives};
 ghost use Rattle.token_readers.specs.Read.{one_more, listed_at};
-ghost use Rattle.spec_reader.specs.Form.{sentence_of, line_of, item_of};
-ghost use Rattle.spec_reader.specs.Reading.{value_at, param_kind_at, param_at, params_at, sort_at, const_at, places_at, initially_at, conflict_at, invariant_at, operation_at, item_at, items_at, starts_item as item_test};
+ghost use Rattle.spec_reader.specs.Form.{item_of};
+ghost use Rattle.spec_reader.specs.Reading.{value_at, param_kind_at, param_at, params_at, places_at, sort_item_at, const_item_at, relation_item_at, counter_item_at, initially_item_at, token_item_at, conflict_item_at, invariant_item_at, operation_item_at, item_at, items_at, starts_item as item_test};
 
 use crate::lines::lines;
 use crate::sentences::sentence;
 use crate::terms::{args, minus, reading};
-use crate::tree::{Item, Line, Mark, Param, ParamKind, Prefixed, Reading, Value};
+use crate::tree::{Item, Mark, Param, ParamKind, Value};
 use crate::words::{figure, name};
 use items::Items;
 use std::alloc::Global;
@@ -54,8 +54,8 @@ fn param(alloc: Global, version: Version, tokens: &[Token]) -> Result<(Param, &[
     ensures { Gives (λ x. (x.0, x.1.now)) result (param_at version tokens.now) }
 {
     let (name, rest) = name(alloc, version, tokens)?;
-    let rest = sign(rest, Key::Colon)?;
-    let (kind, rest) = param_kind(alloc, version, rest)?;
+    let rest = or_drop!(sign(rest, Key::Colon); name);
+    let (kind, rest) = or_drop!(param_kind(alloc, version, rest); name);
     Ok((Param { name, kind }, rest))
 }
 
@@ -104,21 +104,17 @@ fn params(
     }
     let rest = sign(tokens, Key::Open)?;
     let (list, rest) = param_list(alloc, version, rest)?;
-    let rest = sign(rest, Key::Close)?;
+    let rest = or_drop!(sign(rest, Key::Close); list);
     Ok((list, rest))
 }
 
 #[tactic(auto, unfolding(crate::specs::Reading::sort_at))]
-fn sort(
-    alloc: Global,
-    version: Version,
-    tokens: &[Token],
-) -> Result<(u32, Mark, &[Token]), ReadError>
-    ensures { Gives (λ x. ((x.0, x.1), x.2.now)) result (sort_at version tokens.now) }
+fn sort(alloc: Global, version: Version, tokens: &[Token]) -> Result<(Item, &[Token]), ReadError>
+    ensures { Gives (λ x. (item_of x.0, x.1.now)) result (sort_item_at version tokens.now) }
 {
     let (word, rest) = key(tokens, Key::Sort)?;
     let (name, rest) = name(alloc, version, rest)?;
-    Ok((word, name, rest))
+    Ok((Item::Sort(word, name), rest))
 }
 
 #[tactic(auto, unfolding(crate::specs::Reading::const_at))]
@@ -126,14 +122,14 @@ fn constant(
     alloc: Global,
     version: Version,
     tokens: &[Token],
-) -> Result<(u32, Mark, Mark, &[Token]), ReadError>
-    ensures { Gives (λ x. ((x.0, (x.1, (tt, x.2))), x.3.now)) result (const_at version tokens.now) }
+) -> Result<(Item, &[Token]), ReadError>
+    ensures { Gives (λ x. (item_of x.0, x.1.now)) result (const_item_at version tokens.now) }
 {
     let (word, rest) = key(tokens, Key::Const)?;
     let (name_mark, rest) = name(alloc, version, rest)?;
-    let rest = sign(rest, Key::Colon)?;
-    let (sort, rest) = name(alloc, version, rest)?;
-    Ok((word, name_mark, sort, rest))
+    let rest = or_drop!(sign(rest, Key::Colon); name_mark);
+    let (sort, rest) = or_drop!(name(alloc, version, rest); name_mark);
+    Ok((Item::Const(word, name_mark, sort), rest))
 }
 
 /// A name with the sorts of its places, behind a reserved name.
@@ -148,8 +144,33 @@ fn places(
 {
     let (word, rest) = key(tokens, kind)?;
     let (name, rest) = name(alloc, version, rest)?;
-    let (places, rest) = args(alloc, version, rest)?;
+    let (places, rest) = or_drop!(args(alloc, version, rest); name);
     Ok((word, name, places, rest))
+}
+
+fn relation(
+    alloc: Global,
+    version: Version,
+    tokens: &[Token],
+) -> Result<(Item, &[Token]), ReadError>
+    ensures { Gives (λ x. (item_of x.0, x.1.now)) result (relation_item_at version tokens.now) }
+{
+    let (word, name, places, rest) = places(alloc, Key::Relation, version, tokens)?;
+    Ok((Item::Relation(word, name, places), rest))
+}
+
+fn counter(alloc: Global, version: Version, tokens: &[Token]) -> Result<(Item, &[Token]), ReadError>
+    ensures { Gives (λ x. (item_of x.0, x.1.now)) result (counter_item_at version tokens.now) }
+{
+    let (word, name, places, rest) = places(alloc, Key::Counter, version, tokens)?;
+    Ok((Item::Counter(word, name, places), rest))
+}
+
+fn token(alloc: Global, version: Version, tokens: &[Token]) -> Result<(Item, &[Token]), ReadError>
+    ensures { Gives (λ x. (item_of x.0, x.1.now)) result (token_item_at version tokens.now) }
+{
+    let (word, name, places, rest) = places(alloc, Key::Token, version, tokens)?;
+    Ok((Item::Token(word, name, places), rest))
 }
 
 #[tactic(auto, unfolding(crate::specs::Reading::initially_at))]
@@ -157,13 +178,13 @@ fn initially(
     alloc: Global,
     version: Version,
     tokens: &[Token],
-) -> Result<(u32, Mark, Value, &[Token]), ReadError>
-    ensures { Gives (λ x. ((x.0, (x.1, x.2)), x.3.now)) result (initially_at version tokens.now) }
+) -> Result<(Item, &[Token]), ReadError>
+    ensures { Gives (λ x. (item_of x.0, x.1.now)) result (initially_item_at version tokens.now) }
 {
     let (word, rest) = key(tokens, Key::Initially)?;
     let (name, rest) = name(alloc, version, rest)?;
-    let (value, rest) = value(rest)?;
-    Ok((word, name, value, rest))
+    let (value, rest) = or_drop!(value(rest); name);
+    Ok((Item::Initially(word, name, value), rest))
 }
 
 #[tactic(auto, unfolding(crate::specs::Reading::conflict_at))]
@@ -171,61 +192,45 @@ fn conflict(
     alloc: Global,
     version: Version,
     tokens: &[Token],
-) -> Result<(u32, Reading, Reading, &[Token]), ReadError>
-    ensures { Gives (λ x. ((x.0, (x.1, x.2)), x.3.now)) result (conflict_at version tokens.now) }
+) -> Result<(Item, &[Token]), ReadError>
+    ensures { Gives (λ x. (item_of x.0, x.1.now)) result (conflict_item_at version tokens.now) }
 {
     let (word, rest) = key(tokens, Key::Conflict)?;
     let (left, rest) = reading(alloc, version, rest)?;
-    let (right, rest) = reading(alloc, version, rest)?;
-    Ok((word, left, right, rest))
+    let (right, rest) = or_drop!(reading(alloc, version, rest); left);
+    Ok((Item::Conflict(word, left, right), rest))
 }
 
 #[tactic(auto, unfolding(crate::specs::Reading::invariant_at))]
-fn named_sentence(
+fn invariant(
     alloc: Global,
     version: Version,
     depth: u32,
     tokens: &[Token],
-) -> Result<(u32, Mark, Prefixed, &[Token]), ReadError>
-    ensures { Gives (λ x. ((x.0, (x.1, sentence_of x.2)), x.3.now)) result (invariant_at version depth tokens.now) }
+) -> Result<(Item, &[Token]), ReadError>
+    ensures { Gives (λ x. (item_of x.0, x.1.now)) result (invariant_item_at version depth tokens.now) }
 {
     let (word, rest) = key(tokens, Key::Invariant)?;
     let (name, rest) = name(alloc, version, rest)?;
-    let (sentence, rest) = sentence(alloc, version, depth, rest)?;
-    Ok((word, name, sentence, rest))
-}
-
-#[derive(Drop)]
-struct Operation {
-    word: u32,
-    name: Mark,
-    params: Items<Param>,
-    lines: Items<Line>,
+    let (sentence, rest) = or_drop!(sentence(alloc, version, depth, rest); name);
+    Ok((Item::Invariant(word, name, sentence), rest))
 }
 
 #[tactic(auto, unfolding(crate::specs::Reading::operation_at))]
-fn operation_item(
+fn operation(
     alloc: Global,
     version: Version,
     depth: u32,
     tokens: &[Token],
-) -> Result<(Operation, &[Token]), ReadError>
-    ensures { Gives (λ x. ((x.0.word, (x.0.name, (x.0.params, (map line_of x.0.lines, tt)))), x.1.now)) result (operation_at version depth tokens.now) }
+) -> Result<(Item, &[Token]), ReadError>
+    ensures { Gives (λ x. (item_of x.0, x.1.now)) result (operation_item_at version depth tokens.now) }
 {
     let (word, rest) = key(tokens, Key::Operation)?;
     let (name, rest) = name(alloc, version, rest)?;
-    let (params, rest) = params(alloc, version, rest)?;
-    let (lines, rest) = lines(alloc, version, depth, rest)?;
-    let rest = sign(rest, Key::End)?;
-    Ok((
-        Operation {
-            word,
-            name,
-            params,
-            lines,
-        },
-        rest,
-    ))
+    let (params, rest) = or_drop!(params(alloc, version, rest); name);
+    let (lines, rest) = or_drop!(lines(alloc, version, depth, rest); name, params);
+    let rest = or_drop!(sign(rest, Key::End); name, params, lines);
+    Ok((Item::Operation(word, name, params, lines), rest))
 }
 
 #[tactic(auto, unfolding(crate::specs::Reading::item_at))]
@@ -239,39 +244,30 @@ fn item(
 {
     let kind = next_kind(tokens);
     if is_key(kind, Key::Sort) {
-        let (word, name, rest) = sort(alloc, version, tokens)?;
-        return Ok((Item::Sort(word, name), rest));
+        return sort(alloc, version, tokens);
     }
     if is_key(kind, Key::Const) {
-        let (word, name, sort, rest) = constant(alloc, version, tokens)?;
-        return Ok((Item::Const(word, name, sort), rest));
+        return constant(alloc, version, tokens);
     }
     if is_key(kind, Key::Relation) {
-        let (word, name, places, rest) = places(alloc, Key::Relation, version, tokens)?;
-        return Ok((Item::Relation(word, name, places), rest));
+        return relation(alloc, version, tokens);
     }
     if is_key(kind, Key::Counter) {
-        let (word, name, places, rest) = places(alloc, Key::Counter, version, tokens)?;
-        return Ok((Item::Counter(word, name, places), rest));
+        return counter(alloc, version, tokens);
     }
     if is_key(kind, Key::Initially) {
-        let (word, name, value, rest) = initially(alloc, version, tokens)?;
-        return Ok((Item::Initially(word, name, value), rest));
+        return initially(alloc, version, tokens);
     }
     if is_key(kind, Key::Token) {
-        let (word, name, places, rest) = places(alloc, Key::Token, version, tokens)?;
-        return Ok((Item::Token(word, name, places), rest));
+        return token(alloc, version, tokens);
     }
     if is_key(kind, Key::Conflict) {
-        let (word, left, right, rest) = conflict(alloc, version, tokens)?;
-        return Ok((Item::Conflict(word, left, right), rest));
+        return conflict(alloc, version, tokens);
     }
     if is_key(kind, Key::Invariant) {
-        let (word, name, sentence, rest) = named_sentence(alloc, version, depth, tokens)?;
-        return Ok((Item::Invariant(word, name, sentence), rest));
+        return invariant(alloc, version, depth, tokens);
     }
-    let (o, rest) = operation_item(alloc, version, depth, tokens)?;
-    Ok((Item::Operation(o.word, o.name, o.params, o.lines), rest))
+    operation(alloc, version, depth, tokens)
 }
 
 fn starts_item(kind: Kind) -> bool

@@ -4,7 +4,7 @@ ghost use Rattle.std.specs.Prelude.{◌≡◌, length, map};
 ghost use Rattle.token_readers.specs.Gives.{Gives};
 ghost use Rattle.token_readers.specs.Read.{one_more, listed_at};
 ghost use Rattle.spec_reader.specs.Form.{guard_of, sentence_of, line_of};
-ghost use Rattle.spec_reader.specs.Reading.{spot_at, spots_at, guard_at, mode_at, change_at, amount_at, takes_at, requires_at, old_line_at, is_observes as observes_test, observes_at, line_at, starts_old_line as old_line_test, starts_line as line_test, lines_at};
+ghost use Rattle.spec_reader.specs.Reading.{spot_at, spots_at, guard_at, mode_at, change_at, amount_at, old_line_at, insert_at, remove_at, add_at, set_at, takes_line_at, requires_line_at, is_observes as observes_test, observes_at, line_at, starts_old_line as old_line_test, starts_line as line_test, lines_at};
 
 use crate::formulas::formula;
 use crate::sentences::sentence;
@@ -74,7 +74,7 @@ fn spots(
     }
     let rest = sign(tokens, Key::Open)?;
     let (list, rest) = spot_list(alloc, version, rest)?;
-    let rest = sign(rest, Key::Close)?;
+    let rest = or_drop!(sign(rest, Key::Close); list);
     Ok((list, rest))
 }
 
@@ -134,8 +134,8 @@ fn change_line(
 {
     let (word, rest) = key(tokens, kind)?;
     let (name, rest) = name(alloc, version, rest)?;
-    let (spots, rest) = spots(alloc, version, rest)?;
-    let (guard, rest) = guard(alloc, version, depth, rest)?;
+    let (spots, rest) = or_drop!(spots(alloc, version, rest); name);
+    let (guard, rest) = or_drop!(guard(alloc, version, depth, rest); name, spots);
     Ok((
         Change {
             word,
@@ -145,6 +145,30 @@ fn change_line(
         },
         rest,
     ))
+}
+
+fn insertion(
+    alloc: Global,
+    version: Version,
+    depth: u32,
+    tokens: &[Token],
+) -> Result<(Line, &[Token]), ReadError>
+    ensures { Gives (λ x. (line_of x.0, x.1.now)) result (insert_at version depth tokens.now) }
+{
+    let (c, rest) = change_line(alloc, Key::Insert, version, depth, tokens)?;
+    Ok((Line::Insert(c.word, c.name, c.spots, c.guard), rest))
+}
+
+fn removal(
+    alloc: Global,
+    version: Version,
+    depth: u32,
+    tokens: &[Token],
+) -> Result<(Line, &[Token]), ReadError>
+    ensures { Gives (λ x. (line_of x.0, x.1.now)) result (remove_at version depth tokens.now) }
+{
+    let (c, rest) = change_line(alloc, Key::Remove, version, depth, tokens)?;
+    Ok((Line::Remove(c.word, c.name, c.spots, c.guard), rest))
 }
 
 /// What `add` and `set` say.
@@ -169,9 +193,9 @@ fn amount_line(
 {
     let (word, rest) = key(tokens, kind)?;
     let (name, rest) = name(alloc, version, rest)?;
-    let (spots, rest) = spots(alloc, version, rest)?;
-    let (amount, rest) = term(alloc, version, rest)?;
-    let (guard, rest) = guard(alloc, version, depth, rest)?;
+    let (spots, rest) = or_drop!(spots(alloc, version, rest); name);
+    let (amount, rest) = or_drop!(term(alloc, version, rest); name, spots);
+    let (guard, rest) = or_drop!(guard(alloc, version, depth, rest); name, spots, amount);
     Ok((
         Amount {
             word,
@@ -184,18 +208,38 @@ fn amount_line(
     ))
 }
 
-#[tactic(auto, unfolding(crate::specs::Reading::takes_at))]
-fn takes(
+fn addition(
     alloc: Global,
     version: Version,
+    depth: u32,
     tokens: &[Token],
-) -> Result<(u32, Reading, Mode, &[Token]), ReadError>
-    ensures { Gives (λ x. ((x.0, (x.1, x.2)), x.3.now)) result (takes_at version tokens.now) }
+) -> Result<(Line, &[Token]), ReadError>
+    ensures { Gives (λ x. (line_of x.0, x.1.now)) result (add_at version depth tokens.now) }
+{
+    let (a, rest) = amount_line(alloc, Key::Add, version, depth, tokens)?;
+    Ok((Line::Add(a.word, a.name, a.spots, a.amount, a.guard), rest))
+}
+
+fn setting(
+    alloc: Global,
+    version: Version,
+    depth: u32,
+    tokens: &[Token],
+) -> Result<(Line, &[Token]), ReadError>
+    ensures { Gives (λ x. (line_of x.0, x.1.now)) result (set_at version depth tokens.now) }
+{
+    let (a, rest) = amount_line(alloc, Key::Set, version, depth, tokens)?;
+    Ok((Line::Set(a.word, a.name, a.spots, a.amount, a.guard), rest))
+}
+
+#[tactic(auto, unfolding(crate::specs::Reading::takes_at))]
+fn takes(alloc: Global, version: Version, tokens: &[Token]) -> Result<(Line, &[Token]), ReadError>
+    ensures { Gives (λ x. (line_of x.0, x.1.now)) result (takes_line_at version tokens.now) }
 {
     let (word, rest) = key(tokens, Key::Takes)?;
     let (reading, rest) = reading(alloc, version, rest)?;
-    let (mode, rest) = mode(version, rest)?;
-    Ok((word, reading, mode, rest))
+    let (mode, rest) = or_drop!(mode(version, rest); reading);
+    Ok((Line::Takes(word, reading, mode), rest))
 }
 
 #[tactic(auto, unfolding(crate::specs::Reading::requires_at))]
@@ -204,12 +248,12 @@ fn precondition(
     version: Version,
     depth: u32,
     tokens: &[Token],
-) -> Result<(u32, Prefixed, &[Token]), ReadError>
-    ensures { Gives (λ x. ((x.0, sentence_of x.1), x.2.now)) result (requires_at version depth tokens.now) }
+) -> Result<(Line, &[Token]), ReadError>
+    ensures { Gives (λ x. (line_of x.0, x.1.now)) result (requires_line_at version depth tokens.now) }
 {
     let (word, rest) = key(tokens, Key::Requires)?;
     let (sentence, rest) = sentence(alloc, version, depth, rest)?;
-    Ok((word, sentence, rest))
+    Ok((Line::Requires(word, sentence), rest))
 }
 
 /// A line that both versions have.
@@ -224,27 +268,21 @@ fn old_line(
 {
     let kind = next_kind(tokens);
     if is_key(kind, Key::Requires) {
-        let (word, sentence, rest) = precondition(alloc, version, depth, tokens)?;
-        return Ok((Line::Requires(word, sentence), rest));
+        return precondition(alloc, version, depth, tokens);
     }
     if is_key(kind, Key::Insert) {
-        let (c, rest) = change_line(alloc, Key::Insert, version, depth, tokens)?;
-        return Ok((Line::Insert(c.word, c.name, c.spots, c.guard), rest));
+        return insertion(alloc, version, depth, tokens);
     }
     if is_key(kind, Key::Remove) {
-        let (c, rest) = change_line(alloc, Key::Remove, version, depth, tokens)?;
-        return Ok((Line::Remove(c.word, c.name, c.spots, c.guard), rest));
+        return removal(alloc, version, depth, tokens);
     }
     if is_key(kind, Key::Add) {
-        let (a, rest) = amount_line(alloc, Key::Add, version, depth, tokens)?;
-        return Ok((Line::Add(a.word, a.name, a.spots, a.amount, a.guard), rest));
+        return addition(alloc, version, depth, tokens);
     }
     if is_key(kind, Key::Set) {
-        let (a, rest) = amount_line(alloc, Key::Set, version, depth, tokens)?;
-        return Ok((Line::Set(a.word, a.name, a.spots, a.amount, a.guard), rest));
+        return setting(alloc, version, depth, tokens);
     }
-    let (word, reading, mode, rest) = takes(alloc, version, tokens)?;
-    Ok((Line::Takes(word, reading, mode), rest))
+    takes(alloc, version, tokens)
 }
 
 fn is_observes(kind: Kind) -> bool

@@ -22,8 +22,8 @@ fn variable(
     ensures { Gives (λ x. (x.0, x.1.now)) result (variable_at version tokens.now) }
 {
     let (name_mark, rest) = name(alloc, version, tokens)?;
-    let rest = sign(rest, Key::Colon)?;
-    let (sort, rest) = name(alloc, version, rest)?;
+    let rest = or_drop!(sign(rest, Key::Colon); name_mark);
+    let (sort, rest) = or_drop!(name(alloc, version, rest); name_mark);
     Ok((
         Variable {
             name: name_mark,
@@ -75,7 +75,7 @@ fn prefix(
 {
     let (quantifier, word, rest) = quantifier(tokens)?;
     let (vars, rest) = variables(alloc, version, rest)?;
-    let rest = sign(rest, Key::Dot)?;
+    let rest = or_drop!(sign(rest, Key::Dot); vars);
     Ok((
         Prefix {
             word,
@@ -101,7 +101,7 @@ pub fn sentence(
         return Ok((Prefixed { prefix: None, body }, rest));
     }
     let (prefix, rest) = prefix(alloc, version, tokens)?;
-    let (body, rest) = formula(alloc, version, depth, rest)?;
+    let (body, rest) = or_drop!(formula(alloc, version, depth, rest); prefix);
     Ok((
         Prefixed {
             prefix: Some(prefix),

@@ -67,7 +67,7 @@ pub fn args(
     }
     let rest = sign(tokens, Key::Open)?;
     let (args, rest) = names(alloc, version, rest)?;
-    let rest = sign(rest, Key::Close)?;
+    let rest = or_drop!(sign(rest, Key::Close); args);
     Ok((args, rest))
 }
 
@@ -81,7 +81,7 @@ pub fn reading(
     ensures { Gives (λ x. (x.0, x.1.now)) result (reading_at version tokens.now) }
 {
     let (name, rest) = name(alloc, version, tokens)?;
-    let (args, rest) = args(alloc, version, rest)?;
+    let (args, rest) = or_drop!(args(alloc, version, rest); name);
     Ok((Reading { name, args }, rest))
 }
 
@@ -186,6 +186,6 @@ pub fn term(
 {
     let (minus, rest) = minus(tokens)?;
     let (first, rest) = summand(alloc, version, rest)?;
-    let (more, rest) = more(alloc, version, rest)?;
+    let (more, rest) = or_drop!(more(alloc, version, rest); first);
     Ok((Term { minus, first, more }, rest))
 }

@@ -89,7 +89,7 @@ pub enum Formula {
     Not(u32, Box<Formula>),
     Connect(u32, Box<Formula>, Connective, Box<Formula>),
     Has(u32, Reading),
-    Compare(u32, Term, Comparison, Term),
+    Compare(u32, Box<Term>, Comparison, Box<Term>),
 }
 
 /// A variable with its sort.

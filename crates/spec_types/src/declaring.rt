@@ -124,9 +124,11 @@ fn add_relation(
     ensures { OnOk result (known_of known.new ≡ with_relation (known_of known.old) mark.now marks.now) }
 {
     let place = known.draft.relations.len() as u8;
+    let name = Name::new(alloc, mark.text.bytes())?;
+    let places = or_drop!(sort_numbers(alloc, &known.names, marks); name);
     let made = Relation {
-        name: Name::new(alloc, mark.text.bytes())?,
-        places: sort_numbers(alloc, &known.names, marks)?,
+        name,
+        places,
         initial: false,
     };
     known.draft.relations.push(made)?;
@@ -166,9 +168,11 @@ fn add_counter(
     ensures { OnOk result (known_of known.new ≡ with_counter (known_of known.old) mark.now marks.now) }
 {
     let place = known.draft.counters.len() as u8;
+    let name = Name::new(alloc, mark.text.bytes())?;
+    let keys = or_drop!(sort_numbers(alloc, &known.names, marks); name);
     let made = Counter {
-        name: Name::new(alloc, mark.text.bytes())?,
-        keys: sort_numbers(alloc, &known.names, marks)?,
+        name,
+        keys,
         initial: 0,
     };
     known.draft.counters.push(made)?;
@@ -206,10 +210,9 @@ fn add_token(
     ensures { OnOk result (known_of known.new ≡ with_token (known_of known.old) mark.now marks.now) }
 {
     let place = known.draft.tokens.len() as u8;
-    let made = Token {
-        name: Name::new(alloc, mark.text.bytes())?,
-        places: sort_numbers(alloc, &known.names, marks)?,
-    };
+    let name = Name::new(alloc, mark.text.bytes())?;
+    let places = or_drop!(sort_numbers(alloc, &known.names, marks); name);
+    let made = Token { name, places };
     known.draft.tokens.push(made)?;
     known.names.add(mark.text.bytes(), Meaning::Token(place))?;
     Ok(())

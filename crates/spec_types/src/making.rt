@@ -196,7 +196,7 @@ fn terms_of(
     ensures { IfOk result (λ made. core_form_of made ≡ core_compare_form (term_of_tree (scope_of scope.now) left.now) (cmp_of_comparison comparison) (term_of_tree (scope_of scope.now) right.now)) }
 {
     let left = term_of(alloc, scope, left)?;
-    let right = term_of(alloc, scope, right)?;
+    let right = or_drop!(term_of(alloc, scope, right); left);
     Ok(spec_core::Formula::Compare(left, cmp_of(comparison), right))
 }
 
@@ -267,7 +267,7 @@ pub fn formula_of(
         }
         tree::Formula::Connect(_, left, connective, right) => {
             let left = formula_of(alloc, scope, left)?;
-            let right = formula_of(alloc, scope, right)?;
+            let right = or_drop!(formula_of(alloc, scope, right); left);
             connected(alloc, left, *connective, right)
         }
         tree::Formula::Has(_, reading) => atom_of(alloc, scope, reading),
@@ -317,7 +317,7 @@ pub fn sentence_of(
 {
     let bound = vars_of(&sentence.prefix);
     let vars = var_sorts(alloc, scope.names, bound)?;
-    let body = formula_of(alloc, &with_vars(scope, bound), &sentence.body)?;
+    let body = or_drop!(formula_of(alloc, &with_vars(scope, bound), &sentence.body); vars);
     Ok(Prefixed {
         prefix: prefix_of(&sentence.prefix),
         vars,

@@ -1,7 +1,7 @@
 // The lines of an operation, which lines of a tree without a fault are.
 
 ghost use Rattle.std.specs.Prelude.{◌≡◌, IfOk, OnOk};
-ghost use Rattle.spec_reader.specs.Form.{guard_of as guard_form, line_of};
+ghost use Rattle.spec_reader.specs.Form.{guard_of as guard_form, line_of, sentence_of as sentence_form, requires_form, takes_form, observes_form};
 ghost use Rattle.typing_rules.specs.Lines.{spot_of as spot_of_tree, spots_of as spots_of_tree, relation_target as relation_target_of, counter_target as counter_target_of, update_of as update_of_tree, is_shared as is_shared_mode, take_of as take_of_tree, with_update, with_line};
 ghost use Rattle.type_faults.specs.Views.{scope_of};
 
@@ -60,8 +60,8 @@ fn update_of(
 ) -> Result<Update, AllocError>
     ensures { IfOk result (λ update. update ≡ update_of_tree (scope_of scope.now) thing spots.now change (guard_form guard.now)) }
 {
-    let at = spots_of(alloc, scope, spots)?;
-    let guard = guard_of(alloc, scope, guard)?;
+    let at = or_drop!(spots_of(alloc, scope, spots); change);
+    let guard = or_drop!(guard_of(alloc, scope, guard); change, at);
     Ok(Update {
         thing,
         at,
@@ -110,8 +110,44 @@ fn add_update(
     ensures { OnOk result (operation.new ≡ with_update operation.old (update_of_tree (scope_of scope.now) thing spots.now change (guard_form guard.now))) }
 {
     let update = update_of(alloc, scope, thing, spots, change, guard)?;
-    operation.updates.push(update)?;
-    Ok(())
+    operation.updates.push(update)
+}
+
+fn add_requirement(
+    alloc: Global,
+    scope: &Scope<'_, '_>,
+    operation: &mut Operation,
+    sentence: &tree::Prefixed,
+) -> Result<(), AllocError>
+    ensures { OnOk result (operation.new ≡ with_line (scope_of scope.now) operation.old (requires_form 0 (sentence_form sentence.now))) }
+{
+    let made = sentence_of(alloc, scope, sentence)?;
+    operation.requires_.push(made)
+}
+
+fn add_take(
+    alloc: Global,
+    scope: &Scope<'_, '_>,
+    operation: &mut Operation,
+    reading: &Reading,
+    mode: Mode,
+) -> Result<(), AllocError>
+    ensures { OnOk result (operation.new ≡ with_line (scope_of scope.now) operation.old (takes_form 0 reading.now mode)) }
+{
+    let made = take_of(alloc, scope, reading, mode)?;
+    operation.takes.push(made)
+}
+
+fn add_observation(
+    alloc: Global,
+    scope: &Scope<'_, '_>,
+    operation: &mut Operation,
+    sentence: &tree::Prefixed,
+) -> Result<(), AllocError>
+    ensures { OnOk result (operation.new ≡ with_line (scope_of scope.now) operation.old (observes_form 0 (sentence_form sentence.now))) }
+{
+    let made = sentence_of(alloc, scope, sentence)?;
+    operation.observes.push(made)
 }
 
 /// Adds a line to an operation.
@@ -124,70 +160,26 @@ pub fn add_line(
     ensures { OnOk result (operation.new ≡ with_line (scope_of scope.now) operation.old (line_of line.now)) }
 {
     match line {
-        Line::Requires(_, sentence) => {
-            let made = sentence_of(alloc, scope, sentence)?;
-            operation.requires_.push(made)?;
-        }
+        Line::Requires(_, sentence) => add_requirement(alloc, scope, operation, sentence),
         Line::Insert(_, mark, spots, guard) => {
-            let thing = relation_target(scope, mark);
-            let change = Change::Insert;
-            add_update(
-                alloc,
-                scope,
-                operation,
-                thing,
-                spots.as_slice(),
-                change,
-                guard,
-            )?;
+            let (thing, spots) = (relation_target(scope, mark), spots.as_slice());
+            add_update(alloc, scope, operation, thing, spots, Change::Insert, guard)
         }
         Line::Remove(_, mark, spots, guard) => {
-            let thing = relation_target(scope, mark);
-            let change = Change::Remove;
-            add_update(
-                alloc,
-                scope,
-                operation,
-                thing,
-                spots.as_slice(),
-                change,
-                guard,
-            )?;
+            let (thing, spots) = (relation_target(scope, mark), spots.as_slice());
+            add_update(alloc, scope, operation, thing, spots, Change::Remove, guard)
         }
         Line::Add(_, mark, spots, amount, guard) => {
-            let thing = counter_target(scope, mark);
+            let (thing, spots) = (counter_target(scope, mark), spots.as_slice());
             let change = Change::Add(term_of(alloc, scope, amount)?);
-            add_update(
-                alloc,
-                scope,
-                operation,
-                thing,
-                spots.as_slice(),
-                change,
-                guard,
-            )?;
+            add_update(alloc, scope, operation, thing, spots, change, guard)
         }
         Line::Set(_, mark, spots, amount, guard) => {
-            let thing = counter_target(scope, mark);
+            let (thing, spots) = (counter_target(scope, mark), spots.as_slice());
             let change = Change::Set(term_of(alloc, scope, amount)?);
-            add_update(
-                alloc,
-                scope,
-                operation,
-                thing,
-                spots.as_slice(),
-                change,
-                guard,
-            )?;
+            add_update(alloc, scope, operation, thing, spots, change, guard)
         }
-        Line::Takes(_, reading, mode) => {
-            let made = take_of(alloc, scope, reading, *mode)?;
-            operation.takes.push(made)?;
-        }
-        Line::Observes(_, sentence) => {
-            let made = sentence_of(alloc, scope, sentence)?;
-            operation.observes.push(made)?;
-        }
+        Line::Takes(_, reading, mode) => add_take(alloc, scope, operation, reading, *mode),
+        Line::Observes(_, sentence) => add_observation(alloc, scope, operation, sentence),
     }
-    Ok(())
 }

@@ -57,12 +57,9 @@ fn add_invariant(
 ) -> Result<(), AllocError>
     ensures { OnOk result (known_of known.new ≡ with_invariant (known_of known.old) mark.now (sentence_of sentence.now)) }
 {
-    let made = Invariant {
-        name: Name::new(alloc, mark.text.bytes())?,
-        line: sentence_of(alloc, &scope_in(known), sentence)?,
-    };
-    known.draft.invariants.push(made)?;
-    Ok(())
+    let name = Name::new(alloc, mark.text.bytes())?;
+    let line = or_drop!(sentence_of(alloc, &scope_in(known), sentence); name);
+    known.draft.invariants.push(Invariant { name, line })
 }
 
 fn type_claim<'t>(
@@ -186,9 +183,11 @@ fn without_lines(
 ) -> Result<Operation, AllocError>
     ensures { IfOk result (λ made. made ≡ without_lines_of (known_of known.now) mark.now params.now) }
 {
+    let name = Name::new(alloc, mark.text.bytes())?;
+    let params = or_drop!(params_of(alloc, &known.names, params); name);
     Ok(Operation {
-        name: Name::new(alloc, mark.text.bytes())?,
-        params: params_of(alloc, &known.names, params)?,
+        name,
+        params,
         requires_: Items::new(alloc),
         updates: Items::new(alloc),
         takes: Items::new(alloc),
@@ -224,7 +223,7 @@ fn operation_of<'t>(
 {
     let mut operation = without_lines(alloc, known, mark, params)?;
     let scope = with_params(&scope_in(known), params);
-    type_lines(alloc, &scope, &mut operation, lines)?;
+    or_drop!(type_lines(alloc, &scope, &mut operation, lines); operation);
     Ok(operation)
 }
 

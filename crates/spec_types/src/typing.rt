@@ -1,6 +1,7 @@
 // The typing of a whole tree.
 
-ghost use Rattle.std.specs.Prelude.{◌≡◌, map, Ok, IfOk, IfErr};
+ghost use Rattle.std.specs.Prelude.{◌≡◌, map, false, Ok, IfOk, IfErr, MatchOption};
+ghost use Rattle.spec_core.specs.Typed.{is_specification};
 ghost use Rattle.spec_reader.specs.Form.{item_of, tree_of};
 ghost use Rattle.typing_rules.specs.Items.{typed_item, typed_items, typing};
 ghost use Rattle.spec_types.specs.Refusals.{IsTypeRefusal, Makes};
@@ -51,6 +52,13 @@ fn type_items<'t>(alloc: Global, known: &mut Known, items: &'t [Item]) -> Result
     Ok(())
 }
 
+/// The specification that is known; none where it isn't well formed.
+fn finished(known: Known) -> Option<Spec>
+    ensures { MatchOption result (is_specification known.draft ≡ false) (λ spec. spec ≡ known.draft) }
+{
+    known.draft.into_spec()
+}
+
 /// The specification that a tree is, or the first thing that is wrong with it: the fault with the least word, and at one word
 /// the first in the order of the variants of `TypeRefused`.
 pub fn type_tree(alloc: Global, tree: &Tree) -> Result<Spec, TypeRefused>
@@ -60,11 +68,17 @@ pub fn type_tree(alloc: Global, tree: &Tree) -> Result<Spec, TypeRefused>
     let mut known = nothing_known(alloc, tree.version);
     match type_items(alloc, &mut known, tree.items.as_slice()) {
         Ok(()) => {}
-        Err(Stop::Fault(fault)) => return Err(refused(alloc, fault)),
-        Err(Stop::Memory) => return Err(TypeRefused::Memory),
+        Err(Stop::Fault(fault)) => {
+            drop(known);
+            return Err(refused(alloc, fault));
+        }
+        Err(Stop::Memory) => {
+            drop(known);
+            return Err(TypeRefused::Memory);
+        }
     }
     law_typed_is_well_formed();
-    match known.draft.into_spec() {
+    match finished(known) {
         Some(spec) => Ok(spec),
         None => unreachable!(),
     }
