@@ -4,7 +4,7 @@
 // values compares contents and never the memory that holds them. It stands on std alone.
 #![tactic(auto)]
 
-ghost use Rattle.std.specs.Prelude.{◌≡◌, [], ◌∷◌, ◌++◌, ◌==◌, length, OnOk, OnErr, IfOk, slice_get, option_copied};
+ghost use Rattle.std.specs.Prelude.{◌≡◌, [], ◌∷◌, ◌++◌, ◌==◌, ◌<◌, ◌^◌, length, OnOk, OnErr, IfOk, IfSome, IfNone, slice_get, option_copied};
 ghost use Rattle.std.specs.Slice.Iter.{iter_rest};
 ghost use Rattle.std.specs.Iterator.Adapters.{IterYieldsInOrder};
 
@@ -93,6 +93,22 @@ impl<T: Drop> Items<T> {
         self.vec.push(item)?;
         Ok(())
     }
+
+    /// Takes the last element out.
+    pub fn pop(&mut self) -> Option<T>
+        ensures last { IfSome result (λ item. self.old ≡ self.new ++ item ∷ []) }
+        ensures none { IfNone result (self.old ≡ []) }
+        ensures none_left { IfNone result (self.new ≡ []) }
+    {
+        self.vec.pop()
+    }
+
+    /// Takes all elements out. The memory stays.
+    pub fn clear(&mut self)
+        ensures { self.new ≡ [] }
+    {
+        self.vec.clear();
+    }
 }
 
 impl<T: Copy> Items<T> {
@@ -102,5 +118,25 @@ impl<T: Copy> Items<T> {
     {
         let vec = Vec::from_slice(alloc, items)?;
         Ok(Items { vec })
+    }
+
+    /// Adds copies of a slice's elements at the end. A refused call leaves the list as it was.
+    pub fn extend_from_slice(&mut self, items: &[T]) -> Result<(), AllocError>
+        ensures ok { OnOk result (self.new ≡ self.old ++ items.now) }
+        ensures err { OnErr result (self.new ≡ self.old) }
+    {
+        self.vec.extend_from_slice(items)
+    }
+}
+
+impl<'a, T> IntoIterator for &'a Items<T> {
+    type Item = &'a T;
+
+    type IntoIter = Iter<'a, T>;
+
+    ghost into_iter_gives = { λ list it. (iter_rest it ≡ list.now) × (length (iter_rest it) < 2 ^ 64) × IterYieldsInOrder T };
+
+    fn into_iter(self) -> Iter<'a, T> {
+        self.iter()
     }
 }
