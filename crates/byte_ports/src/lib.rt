@@ -17,8 +17,6 @@ pub mod memory;
 pub mod outside;
 pub mod sink;
 pub mod source;
-#[cfg(test)]
-mod tests;
 
 pub use endless::EndlessSource;
 pub use memory::{MemSink, MemSource};
