@@ -13,6 +13,7 @@ use Rattle.spec_core.specs.declared.operation.Kind.TheVariants.{Sort, Int}
 use Rattle.spec_core.specs.declared.operation.Param.{Param as Parameter}
 use Rattle.spec_core.specs.declared.spec.Const.{Const as Constant}
 use Rattle.spec_core.specs.declared.world.World.{World}
+use Rattle.spec_core.specs.Limits.{most_summands, most_nodes, most_depth, most_variables}
 use Rattle.spec_core.specs.Form.{Form, true_form, false_form, not_form, and_form, or_form, implies_form, has_form, same_form, differ_form, compare_form}
 use Rattle.spec_core.specs.Line.{Line}
 use Rattle.spec_core.specs.Specification.{Specification, relation_places, counter_keys}
@@ -116,7 +117,7 @@ module _ (d : Specification) (w : World) (world : is_world d w ≡ true) (params
 
   pub term_fits_typed : (vars vs : List ℕ) → fits_places w vars vs ≡ true → (t : Term) → term_typed d params vars t ≡ true → term_fits d w args vs t ≡ true
   term_fits_typed vars vs h t k =
-      let p = both (nat_le (length t.summands) 16) (list_all (summand_typed d params vars) t.summands) k in
+      let p = both (nat_le (length t.summands) most_summands) (list_all (summand_typed d params vars) t.summands) k in
       and_true _ _ p.0 (summands_fit vars vs h t.summands p.1)
 
   pub form_fits_typed : (vars vs : List ℕ) → fits_places w vars vs ≡ true → (f : Form) → form_typed d params vars f ≡ true → form_fits d w args vs f ≡ true
@@ -134,12 +135,12 @@ module _ (d : Specification) (w : World) (world : is_world d w ≡ true) (params
   form_fits_typed vars vs h (compare_form t c u) k = let p = both (term_typed d params vars t) (term_typed d params vars u) k in and_true _ _ (term_fits_typed vars vs h t p.0) (term_fits_typed vars vs h u p.1)
 
   pub formula_fits : (vars vs : List ℕ) → fits_places w vars vs ≡ true → (f : Form) → is_formula d params vars f ≡ true → form_fits d w args vs f ≡ true
-  formula_fits vars vs h f k = form_fits_typed vars vs h f (both (nat_le (nodes f) 200 && nat_le (depth f) 200) (form_typed d params vars f) k).1
+  formula_fits vars vs h f k = form_fits_typed vars vs h f (both (nat_le (nodes f) most_nodes && nat_le (depth f) most_depth) (form_typed d params vars f) k).1
 
   -- a line of the specification fits at arguments of its operation
   pub line_fits_typed : (l : Line) → is_line d params l ≡ true → line_fits d w args l ≡ true
   line_fits_typed l k =
-      let p = both (are_sorts d (cond (is_plain l.prefix) 0 3) l.vars) (is_formula d params l.vars l.body) k in
+      let p = both (are_sorts d (cond (is_plain l.prefix) 0 most_variables) l.vars) (is_formula d params l.vars l.body) k in
       let e : length w.sizes ≡ length d.sorts = let q = (both (length w.sizes == length d.sorts) (fits_places w (map (λ c. c.sort) d.consts) w.consts) world).0 in grind (arith, nat_tests) in
-      and_true _ _ (subst (λ n. (nat_le (length l.vars) (cond (is_plain l.prefix) 0 3) && list_all (λ s. nat_lt s n) l.vars) ≡ true) (sym e) p.0)
+      and_true _ _ (subst (λ n. (nat_le (length l.vars) (cond (is_plain l.prefix) 0 most_variables) && list_all (λ s. nat_lt s n) l.vars) ≡ true) (sym e) p.0)
       (all_tuples w l.vars (λ vars. form_fits d w args vars l.body) (λ vs h. formula_fits l.vars vs h l.body p.1))

@@ -1,4 +1,5 @@
 pub mod Lists
+pub mod Positions
 pub mod Parts
 pub mod Places
 pub mod Choosing

@@ -2,6 +2,8 @@ use Rattle.std.proofs.Common.{◌≡◌, ℕ, ℤ, ◌≤◌, true, ◌||◌, �
 use Rattle.std.proofs.lemmas.Bool.Decides.{nat_tests}
 use Rattle.std.specs.List.{list_all}
 use Rattle.spec_core.specs.declared.spec.Counter.{Counter}
+use Rattle.spec_core.specs.Limits.{most_sorts, most_relations, most_places, most_counters, most_keys, most_tokens, most_rules, most_invariants, most_operations}
+use Rattle.spec_core.specs.Name.{is_word_name}
 use Rattle.spec_core.specs.Fits.{in_literal_range, in_state_range}
 use Rattle.spec_core.specs.Specification.{Specification, no_relation, no_counter, no_token, relation_places, counter_keys, token_places}
 use Rattle.spec_core.specs.Typed.{are_sorts, consts_typed, is_relation, is_counter, is_token, is_rule, is_invariant, is_operation, all_distinct, global_names, is_specification}
@@ -10,58 +12,60 @@ use Rattle.spec_core.proofs.Lists.{both, and_true, list_all-get_or}
 -- what a well-formed specification keeps
 pub record Parts (d : Specification) : Type 0 where
   pub version : ((d.version == 1) || (d.version == 2)) ≡ true
-  pub sorts : nat_le (length d.sorts) 8 ≡ true
+  pub sorts : nat_le (length d.sorts) most_sorts ≡ true
   pub consts : consts_typed d ≡ true
-  pub few_relations : nat_le (length d.relations) 16 ≡ true
+  pub few_relations : nat_le (length d.relations) most_relations ≡ true
   pub relations : list_all (is_relation d) d.relations ≡ true
-  pub few_counters : nat_le (length d.counters) 8 ≡ true
+  pub few_counters : nat_le (length d.counters) most_counters ≡ true
   pub counters : list_all (is_counter d) d.counters ≡ true
-  pub few_tokens : nat_le (length d.tokens) 16 ≡ true
+  pub few_tokens : nat_le (length d.tokens) most_tokens ≡ true
   pub tokens : list_all (is_token d) d.tokens ≡ true
-  pub few_rules : nat_le (length d.rules) 32 ≡ true
+  pub few_rules : nat_le (length d.rules) most_rules ≡ true
   pub rules : list_all (is_rule d) d.rules ≡ true
-  pub few_invariants : nat_le (length d.invariants) 16 ≡ true
+  pub few_invariants : nat_le (length d.invariants) most_invariants ≡ true
   pub invariants : list_all (is_invariant d) d.invariants ≡ true
-  pub few_operations : nat_le (length d.operations) 24 ≡ true
+  pub few_operations : nat_le (length d.operations) most_operations ≡ true
   pub operations : list_all (is_operation d) d.operations ≡ true
+  pub words : list_all is_word_name (global_names d) ≡ true
   pub distinct : all_distinct (global_names d) ≡ true
 
 pub parts_of : (d : Specification) → is_specification d ≡ true → Parts d
 parts_of d h =
     let a = both _ _ h in let b = both _ _ a.0 in let c = both _ _ b.0 in let e = both _ _ c.0 in let f = both _ _ e.0 in
     let g = both _ _ f.0 in let i = both _ _ g.0 in let j = both _ _ i.0 in let k = both _ _ j.0 in let l = both _ _ k.0 in
-    let m = both _ _ l.0 in let n = both _ _ m.0 in let o = both _ _ n.0 in let p = both _ _ o.0 in let q = both _ _ p.0 in
+    let m = both _ _ l.0 in let n = both _ _ m.0 in let o = both _ _ n.0 in let p = both _ _ o.0 in let q = both _ _ p.0 in let r = both _ _ q.0 in
     record {
-      version = q.0;
-      sorts = q.1;
-      consts = p.1;
-      few_relations = o.1;
-      relations = n.1;
-      few_counters = m.1;
-      counters = l.1;
-      few_tokens = k.1;
-      tokens = j.1;
-      few_rules = i.1;
-      rules = g.1;
-      few_invariants = f.1;
-      invariants = e.1;
-      few_operations = c.1;
-      operations = b.1;
+      version = r.0;
+      sorts = r.1;
+      consts = q.1;
+      few_relations = p.1;
+      relations = o.1;
+      few_counters = n.1;
+      counters = m.1;
+      few_tokens = l.1;
+      tokens = k.1;
+      few_rules = j.1;
+      rules = i.1;
+      few_invariants = g.1;
+      invariants = f.1;
+      few_operations = e.1;
+      operations = c.1;
+      words = b.1;
       distinct = a.1;
     }
 
 at_most : (most : ℕ) (d : Specification) (ss : List ℕ) → are_sorts d most ss ≡ true → length ss ≤ most
 at_most most d ss h = let p = (both (nat_le (length ss) most) (list_all (λ s. nat_lt s (length d.sorts)) ss) h).0 in grind (arith, nat_tests)
 
--- a relation has at most three places, a counter two keys, a token three places
-pub few_places : (d : Specification) → is_specification d ≡ true → (k : ℕ) → length (relation_places d k) ≤ 3
-few_places d h k = at_most 3 d (relation_places d k) (list_all-get_or (is_relation d) d.relations (parts_of d h).relations k no_relation refl)
+-- a relation has few places, a counter few keys, a token few places
+pub few_places : (d : Specification) → is_specification d ≡ true → (k : ℕ) → length (relation_places d k) ≤ most_places
+few_places d h k = at_most most_places d (relation_places d k) (list_all-get_or (is_relation d) d.relations (parts_of d h).relations k no_relation refl)
 
-pub few_keys : (d : Specification) → is_specification d ≡ true → (k : ℕ) → length (counter_keys d k) ≤ 2
-few_keys d h k = at_most 2 d (counter_keys d k) (both _ _ (list_all-get_or (is_counter d) d.counters (parts_of d h).counters k no_counter refl)).0
+pub few_keys : (d : Specification) → is_specification d ≡ true → (k : ℕ) → length (counter_keys d k) ≤ most_keys
+few_keys d h k = at_most most_keys d (counter_keys d k) (both _ _ (list_all-get_or (is_counter d) d.counters (parts_of d h).counters k no_counter refl)).0
 
-pub few_token_places : (d : Specification) → is_specification d ≡ true → (k : ℕ) → length (token_places d k) ≤ 3
-few_token_places d h k = at_most 3 d (token_places d k) (list_all-get_or (is_token d) d.tokens (parts_of d h).tokens k no_token refl)
+pub few_token_places : (d : Specification) → is_specification d ≡ true → (k : ℕ) → length (token_places d k) ≤ most_places
+few_token_places d h k = at_most most_places d (token_places d k) (list_all-get_or (is_token d) d.tokens (parts_of d h).tokens k no_token refl)
 
 -- a counter begins in the range of a state
 pub counters_in_range : (d : Specification) → is_specification d ≡ true → list_all (λ (c : Counter). in_state_range c.initial) d.counters ≡ true
@@ -74,4 +78,4 @@ counters_in_range d h = each d.counters (parts_of d h).counters
     each [] h = refl
     each (c ∷ cs) h =
         let p = both (is_counter d c) (list_all (is_counter d) cs) h in
-        and_true (in_state_range c.initial) (list_all (λ (c : Counter). in_state_range c.initial) cs) (one c.initial (both (are_sorts d 2 c.keys) (in_literal_range c.initial) p.0).1) (each cs p.1)
+        and_true (in_state_range c.initial) (list_all (λ (c : Counter). in_state_range c.initial) cs) (one c.initial (both (are_sorts d most_keys c.keys) (in_literal_range c.initial) p.0).1) (each cs p.1)

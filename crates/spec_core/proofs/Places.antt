@@ -3,6 +3,7 @@ use Rattle.std.proofs.lemmas.Bool.Decides.{nat_tests}
 use Rattle.std.specs.List.{list_all}
 use Rattle.spec_core.specs.declared.formula.Elem.{Elem}
 use Rattle.spec_core.specs.declared.world.World.{World}
+use Rattle.spec_core.specs.Limits.{most_elements}
 use Rattle.spec_core.specs.Specification.{Specification}
 use Rattle.spec_core.specs.World.{size_of}
 use Rattle.spec_core.specs.Truth.{elems_of}
@@ -16,11 +17,11 @@ length-fits_places w [] (e ∷ es) h = absurd cc
 length-fits_places w (s ∷ ss) [] h = absurd cc
 length-fits_places w (s ∷ ss) (e ∷ es) h = let p = length-fits_places w ss es (both _ _ h).1 in omega arith
 
--- a sort has at most 100 elements
-pub size_at_most : (d : Specification) (w : World) → world_fits d w ≡ true → (s : ℕ) → size_of w s ≤ 100
-size_at_most d w h s = let p = list_all-get_or (λ n. nat_le n 100) w.sizes (both _ _ h).1 s 0 refl in grind (arith, nat_tests)
+-- a sort has few elements
+pub size_at_most : (d : Specification) (w : World) → world_fits d w ≡ true → (s : ℕ) → size_of w s ≤ most_elements
+size_at_most d w h s = let p = list_all-get_or (λ n. nat_le n most_elements) w.sizes (both _ _ h).1 s 0 refl in grind (arith, nat_tests)
 
-below_small : (e n : ℕ) → nat_lt e n ≡ true → n ≤ 100 → nat_lt e (2 ^ 32) ≡ true
+below_small : (e n : ℕ) → nat_lt e n ≡ true → n ≤ most_elements → nat_lt e (2 ^ 32) ≡ true
 below_small e n h le = grind (arith, nat_tests)
 
 pub small-fits_places : (d : Specification) (w : World) → world_fits d w ≡ true → (args : List ℤ) (vars : List ℕ) (ss : List ℕ) (es : List Elem) → fits_places w ss (elems_of w args vars es) ≡ true → list_all (is_small w args vars) es ≡ true

@@ -1,4 +1,4 @@
-use Rattle.std.proofs.Common.{◌≡◌, ℕ, zero, suc, ◌≤◌, ◌^◌, ℤ, pos, unsigned_abs, Bool, true, false, cond, ◌&&◌, ◌||◌, List, [], ◌∷◌, length, map, get_or, set, replicate, refl, sym, ◌∙◌, ap, arith}
+use Rattle.std.proofs.Common.{◌≡◌, ℕ, zero, suc, ◌≤◌, ℤ, pos, unsigned_abs, Bool, true, false, cond, ◌&&◌, ◌||◌, List, [], ◌∷◌, length, map, get_or, set, replicate, refl, sym, ◌∙◌, ap, arith}
 use Rattle.std.proofs.lemmas.Bool.Decides.{nat_tests}
 use Rattle.std.proofs.lemmas.Slice.Eq.{bytes_eq-Decides}
 use Rattle.std.specs.Str.{bytes_eq}
@@ -6,6 +6,7 @@ use Rattle.std.specs.List.{AllZip, list_all}
 use Rattle.spec_core.specs.declared.spec.Relation.{Relation}
 use Rattle.spec_core.specs.declared.spec.Counter.{Counter}
 use Rattle.spec_core.specs.declared.world.World.{World}
+use Rattle.spec_core.specs.Limits.{greatest_value}
 use Rattle.spec_core.specs.Specification.{Specification, no_relation, no_counter, relation_places, counter_keys}
 use Rattle.spec_core.specs.State.{Listing, reads, nothing, is_in, count_in, listed_keys, is_rising}
 use Rattle.spec_core.specs.World.{tuples}
@@ -49,7 +50,7 @@ count_in_range (e ∷ es) q h = let a = both _ _ h in at (bytes_eq q e.0) a.0 (c
     at true x y = x
     at false x y = y
 
-pub reading_in_range : (s : Listing) → is_listing s ≡ true → (k : ℕ) (t : List ℕ) → unsigned_abs ((reads s).count k t) ≤ 10 ^ 15
+pub reading_in_range : (s : Listing) → is_listing s ≡ true → (k : ℕ) (t : List ℕ) → unsigned_abs ((reads s).count k t) ≤ greatest_value
 reading_in_range s h k t =
     let a = list_all-get_or is_counts s.counters (both _ _ h).1 k [] refl in
     let b = count_in_range (get_or s.counters k []) t (both _ _ a).1 in

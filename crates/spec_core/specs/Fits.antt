@@ -1,4 +1,5 @@
-use Rattle.std.specs.Prelude.{if◌then◌else◌, ℕ, ◌^◌, ℤ, pos, int_le, nat_lt, nat_le, unsigned_abs, Bool, true, false, ◌&&◌, ◌==◌, List, [], ◌∷◌, length, map}
+-- Which worlds, calls and states fit a specification, and which arguments and variables fit a formula, a line, an update and a taking.
+use Rattle.std.specs.Prelude.{if◌then◌else◌, ℕ, ℤ, pos, int_le, nat_lt, nat_le, unsigned_abs, Bool, true, false, ◌&&◌, ◌==◌, List, [], ◌∷◌, length, map}
 use Rattle.std.specs.List.{list_all}
 use Rattle.spec_core.specs.declared.formula.Elem.{Elem}
 use Rattle.spec_core.specs.declared.formula.Elem.TheVariants.{Const, Param, Var}
@@ -22,6 +23,7 @@ use Rattle.spec_core.specs.declared.spec.Relation.{Relation}
 use Rattle.spec_core.specs.declared.spec.Counter.{Counter}
 use Rattle.spec_core.specs.declared.world.World.{World}
 use Rattle.spec_core.specs.declared.world.Call.{Call}
+use Rattle.spec_core.specs.Limits.{greatest_value, greatest_literal, most_elements, most_summands, most_variables}
 use Rattle.spec_core.specs.Form.{Form, true_form, false_form, not_form, and_form, or_form, implies_form, has_form, same_form, differ_form, compare_form}
 use Rattle.spec_core.specs.Line.{Line}
 use Rattle.spec_core.specs.UpdateLine.{UpdateLine}
@@ -78,7 +80,7 @@ is_state d w s = lists_fit w d.relations s.relations && values_fit w d.counters 
 
 -- the range of a state: -10^15 to 10^15
 abbrev pub in_state_range : ℤ → Bool
-in_state_range n = nat_le (unsigned_abs n) (10 ^ 15)
+in_state_range n = nat_le (unsigned_abs n) greatest_value
 
 -- keys in rising order, with values in the range of a state
 abbrev pub is_counts : List (List ℕ × ℤ) → Bool
@@ -90,7 +92,7 @@ is_listing s = list_all is_rising s.relations && list_all is_counts s.counters
 
 -- a world whose sorts have at most 100 elements
 abbrev pub world_fits : Specification → World → Bool
-world_fits d w = is_world d w && list_all (λ n. nat_le n 100) w.sizes
+world_fits d w = is_world d w && list_all (λ n. nat_le n most_elements) w.sizes
 
 -- a call whose whole numbers are in the range of a state
 abbrev pub call_fits : Specification → World → Call → Bool
@@ -100,7 +102,7 @@ call_fits d w c = is_call d w c && list_all in_state_range c.args
 
 -- literals and coefficients
 abbrev pub in_literal_range : ℤ → Bool
-in_literal_range n = nat_le (unsigned_abs n) (10 ^ 9)
+in_literal_range n = nat_le (unsigned_abs n) greatest_literal
 
 abbrev pub elem_exists : World → List ℤ → List ℕ → Elem → Bool
 elem_exists w args vars (Const n) = nat_lt n (length w.consts)
@@ -120,7 +122,7 @@ abbrev pub summand_fits : Specification → World → List ℤ → List ℕ → 
 summand_fits d w args vars s = in_literal_range s.coef && body_fits d w args vars s.body
 
 abbrev pub term_fits : Specification → World → List ℤ → List ℕ → Term → Bool
-term_fits d w args vars t = nat_le (length t.summands) 16 && list_all (summand_fits d w args vars) t.summands
+term_fits d w args vars t = nat_le (length t.summands) most_summands && list_all (summand_fits d w args vars) t.summands
 
 -- Arguments and variables fit a formula: all that it names exists, each reading has its places or keys, what stands there
 -- is an element of the sort, and terms are within the limits.
@@ -143,7 +145,7 @@ is_plain Exists = false
 
 -- a plain line has no variables, and no line more than three, of sorts that exist
 abbrev pub vars_fit : World → Line → Bool
-vars_fit w l = nat_le (length l.vars) (if is_plain l.prefix then 0 else 3) && list_all (λ s. nat_lt s (length w.sizes)) l.vars
+vars_fit w l = nat_le (length l.vars) (if is_plain l.prefix then 0 else most_variables) && list_all (λ s. nat_lt s (length w.sizes)) l.vars
 
 -- Arguments fit a line: with each choice of elements for its variables they fit its body.
 abbrev pub line_fits : Specification → World → List ℤ → Line → Bool

@@ -1,3 +1,4 @@
+-- Which specifications are well formed.
 use Rattle.std.specs.Prelude.{if◌then◌else◌, ℕ, ◌+◌, nat_lt, nat_le, max, count_by, Bool, true, false, not, ◌&&◌, ◌||◌, ◌==◌, List, [], ◌∷◌, ◌++◌, length, map, Option, None, Some, option_map, slice_get}
 use Rattle.std.specs.List.{list_all, zip}
 use Rattle.spec_core.specs.declared.formula.Elem.{Elem}
@@ -23,6 +24,8 @@ use Rattle.spec_core.specs.declared.spec.Token.{Token}
 use Rattle.spec_core.specs.declared.spec.Pattern.{Pattern}
 use Rattle.spec_core.specs.declared.spec.Rule.{Rule}
 use Rattle.spec_core.specs.declared.spec.Invariant.{Invariant}
+use Rattle.spec_core.specs.Limits.{most_sorts, most_constants, most_relations, most_places, most_counters, most_keys, most_tokens, most_rules, most_invariants, most_operations, most_parameters, most_requires, most_updates, most_takes, most_observes, most_variables, most_summands, most_nodes, most_depth}
+use Rattle.spec_core.specs.Name.{is_word_name}
 use Rattle.spec_core.specs.Form.{Form, true_form, false_form, not_form, and_form, or_form, implies_form, has_form, same_form, differ_form, compare_form}
 use Rattle.spec_core.specs.Line.{Line}
 use Rattle.spec_core.specs.UpdateLine.{UpdateLine}
@@ -83,9 +86,9 @@ body_typed d params vars (body.Count k es) = nat_lt k (length d.counters) && ele
 abbrev pub summand_typed : Specification → List Parameter → List ℕ → Summand → Bool
 summand_typed d params vars s = in_literal_range s.coef && body_typed d params vars s.body
 
--- at most 16 summands
+-- few summands, each typed
 abbrev pub term_typed : Specification → List Parameter → List ℕ → Term → Bool
-term_typed d params vars t = nat_le (length t.summands) 16 && list_all (summand_typed d params vars) t.summands
+term_typed d params vars t = nat_le (length t.summands) most_summands && list_all (summand_typed d params vars) t.summands
 
 abbrev pub form_typed : Specification → List Parameter → List ℕ → Form → Bool
 form_typed d params vars true_form = true
@@ -125,17 +128,17 @@ depth (same_form a b) = 1
 depth (differ_form a b) = 1
 depth (compare_form t c u) = 1
 
--- a formula of at most 200 parts, at most 200 deep
+-- a formula with few parts that doesn't nest too deep
 abbrev pub is_formula : Specification → List Parameter → List ℕ → Form → Bool
-is_formula d params vars f = nat_le (nodes f) 200 && nat_le (depth f) 200 && form_typed d params vars f
+is_formula d params vars f = nat_le (nodes f) most_nodes && nat_le (depth f) most_depth && form_typed d params vars f
 
 -- sorts that exist, at most so many
 abbrev pub are_sorts : Specification → ℕ → List ℕ → Bool
 are_sorts d most ss = nat_le (length ss) most && list_all (λ s. nat_lt s (length d.sorts)) ss
 
--- a line with at most three variables, and none where it is plain
+-- a line with few variables, and none where it is plain
 abbrev pub is_line : Specification → List Parameter → Line → Bool
-is_line d params l = are_sorts d (if is_plain l.prefix then 0 else 3) l.vars && is_formula d params l.vars l.body
+is_line d params l = are_sorts d (if is_plain l.prefix then 0 else most_variables) l.vars && is_formula d params l.vars l.body
 
 -- ---- operations
 
@@ -143,8 +146,17 @@ abbrev pub is_kind : Specification → Kind → Bool
 is_kind d (Sort s) = nat_lt s (length d.sorts)
 is_kind d Int = true
 
+-- a parameter of a sort that exists or a number, whose name is a word
 abbrev pub is_parameter : Specification → Parameter → Bool
-is_parameter d p = is_kind d p.kind
+is_parameter d p = is_kind d p.kind && is_word_name p.name
+
+abbrev pub parameter_names : List Parameter → List (List ℕ)
+parameter_names ps = map (λ p. p.name) ps
+
+-- no name stands twice
+abbrev pub all_distinct : List (List ℕ) → Bool
+all_distinct [] = true
+all_distinct (n ∷ ns) = not (is_in n ns) && all_distinct ns
 
 -- a spot is every element of its place, or one of the place's sort
 abbrev pub spot_typed : Specification → List Parameter → ℕ → Spot → Bool
@@ -175,25 +187,26 @@ is_update d params u = change_typed d params u.thing u.change && spots_typed d p
 abbrev pub is_take : Specification → List Parameter → Take → Bool
 is_take d params t = nat_lt t.token (length d.tokens) && elems_typed d params [] (token_places d t.token) t.args && (not t.shared || (d.version == 2))
 
--- at most 6 parameters, 8 requires lines, 16 updates, 4 takings and, in version 2 alone, 8 observes lines
+-- parameters with distinct names, requires lines, updates, takings and, in version 2 alone, observes lines, within the limits
 abbrev pub is_operation : Specification → Operation → Bool
 is_operation d o =
-    nat_le (length o.params) 6 && list_all (is_parameter d) o.params
-    && nat_le (length o.requires_) 8 && list_all (is_line d o.params) o.requires_
-    && nat_le (length o.updates) 16 && list_all (is_update d o.params) o.updates
-    && nat_le (length o.takes) 4 && list_all (is_take d o.params) o.takes
-    && nat_le (length o.observes) (if d.version == 2 then 8 else 0) && list_all (is_line d o.params) o.observes
+    nat_le (length o.params) most_parameters && list_all (is_parameter d) o.params
+    && all_distinct (parameter_names o.params)
+    && nat_le (length o.requires_) most_requires && list_all (is_line d o.params) o.requires_
+    && nat_le (length o.updates) most_updates && list_all (is_update d o.params) o.updates
+    && nat_le (length o.takes) most_takes && list_all (is_take d o.params) o.takes
+    && nat_le (length o.observes) (if d.version == 2 then most_observes else 0) && list_all (is_line d o.params) o.observes
 
 -- ---- the other parts
 
 abbrev pub is_relation : Specification → Relation → Bool
-is_relation d r = are_sorts d 3 r.places
+is_relation d r = are_sorts d most_places r.places
 
 abbrev pub is_counter : Specification → Counter → Bool
-is_counter d c = are_sorts d 2 c.keys && in_literal_range c.initial
+is_counter d c = are_sorts d most_keys c.keys && in_literal_range c.initial
 
 abbrev pub is_token : Specification → Token → Bool
-is_token d t = are_sorts d 3 t.places
+is_token d t = are_sorts d most_places t.places
 
 abbrev pub is_pattern : Specification → Pattern → Bool
 is_pattern d p = nat_lt p.token (length d.tokens) && (length p.vars == length (token_places d p.token))
@@ -233,26 +246,21 @@ names_from_consts d = map (λ c. c.name) d.consts ++ names_from_relations d
 abbrev pub global_names : Specification → List (List ℕ)
 global_names d = d.sorts ++ names_from_consts d
 
-abbrev pub all_distinct : List (List ℕ) → Bool
-all_distinct [] = true
-all_distinct (n ∷ ns) = not (is_in n ns) && all_distinct ns
-
--- at most four constants of each sort
+-- constants of sorts that exist, few of each
 abbrev pub consts_typed : Specification → Bool
 consts_typed d = list_all (λ c. nat_lt c.sort (length d.sorts)) d.consts
-    && list_all (λ s. nat_le (count_by (λ c. c.sort == s) d.consts) 4) (below (length d.sorts))
+    && list_all (λ s. nat_le (count_by (λ c. c.sort == s) d.consts) most_constants) (below (length d.sorts))
 
--- A specification is well formed: all that it names exists and is of the sort that its place needs, its names are distinct,
--- and it is within the limits of the language: 8 sorts, 16 relations, 8 counters, 16 tokens, 32 rules, 16 invariants and
--- 24 operations.
+-- A specification is well formed: all that it names exists and is of the sort that its place needs, its names are words and
+-- distinct, and it is within the limits of the language.
 abbrev pub is_specification : Specification → Bool
 is_specification d =
     ((d.version == 1) || (d.version == 2))
-    && nat_le (length d.sorts) 8 && consts_typed d
-    && nat_le (length d.relations) 16 && list_all (is_relation d) d.relations
-    && nat_le (length d.counters) 8 && list_all (is_counter d) d.counters
-    && nat_le (length d.tokens) 16 && list_all (is_token d) d.tokens
-    && nat_le (length d.rules) 32 && list_all (is_rule d) d.rules
-    && nat_le (length d.invariants) 16 && list_all (is_invariant d) d.invariants
-    && nat_le (length d.operations) 24 && list_all (is_operation d) d.operations
-    && all_distinct (global_names d)
+    && nat_le (length d.sorts) most_sorts && consts_typed d
+    && nat_le (length d.relations) most_relations && list_all (is_relation d) d.relations
+    && nat_le (length d.counters) most_counters && list_all (is_counter d) d.counters
+    && nat_le (length d.tokens) most_tokens && list_all (is_token d) d.tokens
+    && nat_le (length d.rules) most_rules && list_all (is_rule d) d.rules
+    && nat_le (length d.invariants) most_invariants && list_all (is_invariant d) d.invariants
+    && nat_le (length d.operations) most_operations && list_all (is_operation d) d.operations
+    && list_all is_word_name (global_names d) && all_distinct (global_names d)

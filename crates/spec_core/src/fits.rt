@@ -2,21 +2,19 @@
 
 ghost use Rattle.std.specs.Prelude.{◌≡◌, map, nat_le};
 ghost use Rattle.std.specs.List.{list_all};
+ghost use Rattle.spec_core.specs.Limits.{most_elements};
 ghost use Rattle.spec_core.specs.Fits.{fits_places, is_argument, are_arguments, in_state_range, world_fits, call_fits};
 
+use crate::limits::{GREATEST_VALUE, MOST_ELEMENTS};
 use crate::operation::{Kind, Param};
 use crate::spec::{Const, Spec};
 use crate::world::{Call, World};
-
-const MOST_ELEMENTS: u32 = 100;
-
-const MOST_VALUE: u64 = 1_000_000_000_000_000;
 
 /// Whether a whole number is in the range of a state, -10^15 to 10^15.
 pub fn is_in_state_range(value: i64) -> bool
     ensures { result ≡ in_state_range value }
 {
-    value.unsigned_abs() <= MOST_VALUE
+    value.unsigned_abs() <= GREATEST_VALUE
 }
 
 fn argument_fits(world: &World, kind: Kind, value: i64) -> bool
@@ -42,7 +40,7 @@ fn arguments_fit(world: &World, params: &[Param], values: &[i64]) -> bool
 }
 
 fn all_small(sizes: &[u32]) -> bool
-    ensures { result ≡ list_all (λ n. nat_le n 100) sizes.now }
+    ensures { result ≡ list_all (λ n. nat_le n most_elements) sizes.now }
 {
     sizes.iter().all(|size| *size <= MOST_ELEMENTS)
 }

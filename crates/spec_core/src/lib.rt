@@ -13,6 +13,7 @@
 mod fits;
 mod formula;
 mod initial;
+pub mod limits;
 mod line;
 mod lines;
 mod listed;
@@ -29,7 +30,7 @@ mod world;
 pub use fits::is_in_state_range;
 pub use formula::{Body, Cmp, Elem, Formula, Summand, Term};
 pub use line::{Prefix, Prefixed};
-pub use name::Name;
+pub use name::{Name, is_word_name};
 pub use operation::{Kind, Operation, Param, Take};
 pub use quantified::{invariant_broken_at, line_holds};
 pub use spec::{Const, Counter, Invariant, Pattern, Relation, Rule, Spec, Token};

@@ -5,6 +5,7 @@
 
 ghost use Rattle.std.specs.Prelude.{◌≡◌, ℕ, ◌≤◌, true, not, [], ◌∷◌, ◌++◌, length};
 ghost use Rattle.std.specs.List.{list_all};
+ghost use Rattle.spec_core.specs.Limits.{most_variables};
 ghost use Rattle.spec_core.specs.Form.{form_of};
 ghost use Rattle.spec_core.specs.World.{tuples};
 ghost use Rattle.spec_core.specs.Truth.{truth, line_true};
@@ -175,7 +176,7 @@ fn all_agree<R: Readings>(
 ) -> bool
     requires world { world_fits spec.now world.now ≡ true }
     requires args { list_all in_state_range args.now ≡ true }
-    requires few { length sorts.now ≤ 3 }
+    requires few { length sorts.now ≤ most_variables }
     requires fits { list_all (λ vars. form_fits spec.now world.now args.now vars (form_of body.now)) (tuples world.now sorts.now) ≡ true }
     ensures { result ≡ list_all (λ vars. agrees wanted (truth world.now (R.reads at.now) args.now vars (form_of body.now))) (tuples world.now sorts.now) }
 {

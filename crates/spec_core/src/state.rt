@@ -2,9 +2,10 @@
 //
 // A state has one list for each relation and each counter. What isn't listed reads false or 0.
 
-ghost use Rattle.std.specs.Prelude.{◌≡◌, ℕ, ◌<◌, ◌≤◌, ◌^◌, unsigned_abs, List, true, length, ◌++◌, [], OnOk, OnErr, IfOk, IsTrue, ◌↔◌};
+ghost use Rattle.std.specs.Prelude.{◌≡◌, ℕ, ◌<◌, ◌≤◌, unsigned_abs, List, true, length, ◌++◌, [], OnOk, OnErr, IfOk, IsTrue, ◌↔◌};
 ghost use Rattle.std.specs.Prelude.{replicate};
 ghost use Rattle.spec_core.specs.declared.world.World.{World};
+ghost use Rattle.spec_core.specs.Limits.{greatest_value};
 ghost use Rattle.spec_core.specs.Specification.{Specification, relation_places, counter_keys};
 ghost use Rattle.spec_core.specs.State.{reads, nothing, with_has, with_count};
 ghost use Rattle.spec_core.specs.StateText.{true_lines, count_lines, state_text};
@@ -291,7 +292,7 @@ impl State {
 
     /// A fact for proofs: all values are in the range of a state.
     pub fn stays_in_range(&self)
-        ensures { (k : ℕ) (t : List ℕ) → unsigned_abs ((reads self.now).count k t) ≤ 10 ^ 15 }
+        ensures { (k : ℕ) (t : List ℕ) → unsigned_abs ((reads self.now).count k t) ≤ greatest_value }
     {
         let _counters = &self.counters;
     }

@@ -5,6 +5,7 @@
 
 ghost use Rattle.std.specs.Prelude.{◌≡◌, ℕ, ◌≤◌, ◌*◌, ◌<◌, ◌^◌, ◌*ℤ◌, unsigned_abs, nat_lt, true, length};
 ghost use Rattle.std.specs.List.{list_all};
+ghost use Rattle.spec_core.specs.Limits.{most_places, most_keys, most_summands, greatest_literal};
 ghost use Rattle.spec_core.specs.Form.{form_of};
 ghost use Rattle.spec_core.specs.State.{Reads};
 ghost use Rattle.spec_core.specs.Truth.{elem_of, elems_of, body_of, sum_of, term_of, compare_of, truth};
@@ -62,7 +63,7 @@ pub fn has_at<R: Readings>(
     relation: u8,
     elems: &[Elem],
 ) -> bool
-    requires few { length elems.now ≤ 3 }
+    requires few { length elems.now ≤ most_places }
     requires small { list_all (is_small world.now args.now vars.now) elems.now ≡ true }
     ensures { result ≡ (R.reads at.now).has relation (elems_of world.now args.now vars.now elems.now) }
 {
@@ -96,7 +97,7 @@ pub fn count_at<R: Readings>(
     counter: u8,
     elems: &[Elem],
 ) -> i128
-    requires few { length elems.now ≤ 2 }
+    requires few { length elems.now ≤ most_keys }
     requires small { list_all (is_small world.now args.now vars.now) elems.now ≡ true }
     ensures value { result ≡ (R.reads at.now).count counter (elems_of world.now args.now vars.now elems.now) }
     ensures small { unsigned_abs result ≤ 3 * 10 ^ 26 }
@@ -128,7 +129,7 @@ fn compare(cmp: Cmp, a: i128, b: i128) -> bool
 }
 
 fn scaled(coef: i64, value: i128) -> i128
-    requires coef { unsigned_abs coef ≤ 10 ^ 9 }
+    requires coef { unsigned_abs coef ≤ greatest_literal }
     requires value { unsigned_abs value ≤ 3 * 10 ^ 26 }
     ensures value { result ≡ coef *ℤ value }
     ensures small { unsigned_abs result ≤ 3 * 10 ^ 35 }
@@ -190,7 +191,7 @@ fn sum_value<R: Readings>(
 ) -> i128
     requires world { world_fits spec.now world.now ≡ true }
     requires args { list_all in_state_range args.now ≡ true }
-    requires few { length summands.now ≤ 16 }
+    requires few { length summands.now ≤ most_summands }
     requires fits { list_all (summand_fits spec.now world.now args.now vars.now) summands.now ≡ true }
     ensures value { result ≡ sum_of world.now (R.reads at.now) args.now vars.now summands.now }
     ensures small { unsigned_abs result ≤ 16 * (3 * 10 ^ 35) }

@@ -146,6 +146,20 @@ distinct_onward names n name h e so_far = so_far ∙ distinct_at names n name h 
 pub distinct_all : (names : List (List ℕ)) (n : ℕ) → None ≡ slice_get names n → all_distinct names ≡ all_distinct (drop n names) → true ≡ all_distinct names
 distinct_all names n h so_far = sym (so_far ∙ ap all_distinct (drop_none names n (sym h)))
 
+-- ---- a test of all names
+
+each_at : (p : List ℕ → Bool) (names : List (List ℕ)) (n : ℕ) (name : List ℕ) → Some name ≡ slice_get names n → list_all p (drop n names) ≡ (p name && list_all p (drop (n + 1) names))
+each_at p names n name h = ap (list_all p) (drop_at names n name (sym h))
+
+pub each_fails : (p : List ℕ → Bool) (names : List (List ℕ)) (n : ℕ) (name : List ℕ) → Some name ≡ slice_get names n → p name ≡ false → list_all p names ≡ list_all p (drop n names) → false ≡ list_all p names
+each_fails p names n name h e so_far = sym (so_far ∙ each_at p names n name h ∙ ap (λ (b : Bool). b && list_all p (drop (n + 1) names)) e)
+
+pub each_onward : (p : List ℕ → Bool) (names : List (List ℕ)) (n : ℕ) (name : List ℕ) → Some name ≡ slice_get names n → p name ≡ true → list_all p names ≡ list_all p (drop n names) → list_all p names ≡ list_all p (drop (n + 1) names)
+each_onward p names n name h e so_far = so_far ∙ each_at p names n name h ∙ ap (λ (b : Bool). b && list_all p (drop (n + 1) names)) e
+
+pub each_passes : (p : List ℕ → Bool) (names : List (List ℕ)) (n : ℕ) → None ≡ slice_get names n → list_all p names ≡ list_all p (drop n names) → true ≡ list_all p names
+each_passes p names n h so_far = sym (so_far ∙ ap (list_all p) (drop_none names n (sym h)))
+
 -- ---- numbers below a count
 
 pub below_more : (p : ℕ → Bool) (n : ℕ) → list_all p (below n) ≡ true → p n ≡ true → list_all p (below (n + 1)) ≡ true

@@ -4,17 +4,21 @@ ghost use Rattle.std.specs.Prelude.{◌≡◌, ◌++◌, nat_lt, nat_le, count_b
 ghost use Rattle.std.specs.List.{list_all, zip};
 ghost use Rattle.spec_core.specs.Specification.{token_places as token_places_of, places_of};
 ghost use Rattle.spec_core.specs.Truth.{is_exists as is_exists_of};
+ghost use Rattle.spec_core.specs.State.{is_in};
 ghost use Rattle.spec_core.specs.World.{below};
-ghost use Rattle.spec_core.specs.Typed.{is_kind as is_kind_of, is_parameter, spot_typed as spot_typed_of, spots_typed as spots_typed_of, change_typed as change_typed_of, is_update as is_update_of, is_take as is_take_of, is_line as is_line_of, is_operation as is_operation_of, is_relation as is_relation_of, is_counter as is_counter_of, is_token as is_token_of, is_pattern as is_pattern_of, agree_on, sorts_of_vars, is_rule as is_rule_of, is_invariant as is_invariant_of, consts_typed as consts_typed_of};
+ghost use Rattle.spec_core.specs.Typed.{is_kind as is_kind_of, is_parameter as is_parameter_of, parameter_names, all_distinct, spot_typed as spot_typed_of, spots_typed as spots_typed_of, change_typed as change_typed_of, is_update as is_update_of, is_take as is_take_of, is_line as is_line_of, is_operation as is_operation_of, is_relation as is_relation_of, is_counter as is_counter_of, is_token as is_token_of, is_pattern as is_pattern_of, agree_on, sorts_of_vars, is_rule as is_rule_of, is_invariant as is_invariant_of, consts_typed as consts_typed_of};
 
 use crate::draft::Draft;
 use crate::typed::{
     are_sorts, at_most, counter_keys, elems_typed, in_literal_range, is_formula, is_line,
     is_of_sort, relation_places, sort_of, term_typed,
 };
+use spec_core::limits::{
+    MOST_KEYS, MOST_OBSERVES, MOST_PARAMETERS, MOST_PLACES, MOST_REQUIRES, MOST_TAKES, MOST_UPDATES,
+};
 use spec_core::{
     Change, Const, Counter, Elem, Invariant, Kind, Operation, Param, Pattern, Prefix, Prefixed,
-    Relation, Rule, Spot, Take, Thing, Token, Update,
+    Relation, Rule, Spot, Take, Thing, Token, Update, is_word_name,
 };
 
 // ---- operations
@@ -28,10 +32,35 @@ fn is_kind(draft: &Draft, kind: Kind) -> bool
     }
 }
 
-fn all_parameters(draft: &Draft, params: &[Param]) -> bool
-    ensures { result ≡ list_all (is_parameter draft.now) params.now }
+fn is_parameter(draft: &Draft, param: &Param) -> bool
+    ensures { result ≡ is_parameter_of draft.now param.now }
 {
-    params.iter().all(|param| is_kind(draft, param.kind))
+    is_kind(draft, param.kind) && is_word_name(param.name.bytes())
+}
+
+fn all_parameters(draft: &Draft, params: &[Param]) -> bool
+    ensures { result ≡ list_all (is_parameter_of draft.now) params.now }
+{
+    params.iter().all(|param| is_parameter(draft, param))
+}
+
+fn is_named(params: &[Param], name: &[u8]) -> bool
+    ensures { result ≡ is_in name.now (parameter_names params.now) }
+{
+    match params {
+        [] => false,
+        [param, params @ ..] => name == param.name.bytes() || is_named(params, name),
+    }
+}
+
+/// Whether no two parameters have one name.
+fn names_distinct(params: &[Param]) -> bool
+    ensures { result ≡ all_distinct (parameter_names params.now) }
+{
+    match params {
+        [] => true,
+        [param, params @ ..] => !is_named(params, param.name.bytes()) && names_distinct(params),
+    }
 }
 
 fn spot_typed(draft: &Draft, params: &[Param], sort: u8, spot: Spot) -> bool
@@ -149,14 +178,15 @@ fn is_operation(draft: &Draft, operation: &Operation) -> bool
     ensures { result ≡ is_operation_of draft.now operation.now }
 {
     let params = operation.params.as_slice();
-    let observed = if draft.version == 2 { 8 } else { 0 };
-    at_most(params.len(), 6)
+    let observed = if draft.version == 2 { MOST_OBSERVES } else { 0 };
+    at_most(params.len(), MOST_PARAMETERS)
         && all_parameters(draft, params)
-        && at_most(operation.requires_.len(), 8)
+        && names_distinct(params)
+        && at_most(operation.requires_.len(), MOST_REQUIRES)
         && all_lines(draft, params, operation.requires_.as_slice())
-        && at_most(operation.updates.len(), 16)
+        && at_most(operation.updates.len(), MOST_UPDATES)
         && all_updates(draft, params, operation.updates.as_slice())
-        && at_most(operation.takes.len(), 4)
+        && at_most(operation.takes.len(), MOST_TAKES)
         && all_takes(draft, params, operation.takes.as_slice())
         && at_most(operation.observes.len(), observed)
         && all_lines(draft, params, operation.observes.as_slice())
@@ -175,7 +205,7 @@ pub fn all_operations(draft: &Draft, operations: &[Operation]) -> bool
 fn is_relation(draft: &Draft, relation: &Relation) -> bool
     ensures { result ≡ is_relation_of draft.now relation.now }
 {
-    are_sorts(draft, 3, relation.places.as_slice())
+    are_sorts(draft, MOST_PLACES, relation.places.as_slice())
 }
 
 pub fn all_relations(draft: &Draft, relations: &[Relation]) -> bool
@@ -189,7 +219,7 @@ pub fn all_relations(draft: &Draft, relations: &[Relation]) -> bool
 fn is_counter(draft: &Draft, counter: &Counter) -> bool
     ensures { result ≡ is_counter_of draft.now counter.now }
 {
-    are_sorts(draft, 2, counter.keys.as_slice()) && in_literal_range(counter.initial)
+    are_sorts(draft, MOST_KEYS, counter.keys.as_slice()) && in_literal_range(counter.initial)
 }
 
 pub fn all_counters(draft: &Draft, counters: &[Counter]) -> bool
@@ -201,7 +231,7 @@ pub fn all_counters(draft: &Draft, counters: &[Counter]) -> bool
 fn is_token(draft: &Draft, token: &Token) -> bool
     ensures { result ≡ is_token_of draft.now token.now }
 {
-    are_sorts(draft, 3, token.places.as_slice())
+    are_sorts(draft, MOST_PLACES, token.places.as_slice())
 }
 
 pub fn all_tokens(draft: &Draft, tokens: &[Token]) -> bool

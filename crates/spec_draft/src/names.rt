@@ -1,9 +1,11 @@
-// Whether the names that a draft declares are distinct, its constants few enough, and so the whole draft a specification.
+// Whether the names that a draft declares are words and distinct, its constants few enough, and so the whole draft a specification.
 //
 // The names are gone through by one number, from those of the sorts to those of the operations, so that no list of them is made.
 
 ghost use Rattle.std.specs.Prelude.{◌≡◌, ◌+◌, ◌<◌, nat_lt, nat_le, count_by, ◌==◌, ◌&&◌, ◌||◌, length, map, drop, slice_get, option_map, MatchOption, false};
 ghost use Rattle.std.specs.List.{list_all};
+ghost use Rattle.spec_core.specs.Limits.{most_sorts, most_constants, most_relations, most_counters};
+ghost use Rattle.spec_core.specs.Name.{is_word_name as is_word_name_of};
 ghost use Rattle.spec_core.specs.State.{is_in};
 ghost use Rattle.spec_core.specs.World.{below};
 ghost use Rattle.spec_core.specs.Typed.{names_from_invariants, names_from_tokens, names_from_counters, names_from_relations, names_from_consts, global_names, all_distinct, is_relation, is_counter, consts_typed as consts_typed_of, is_specification as is_specification_of};
@@ -13,7 +15,11 @@ use crate::members::{
     all_counters, all_invariants, all_operations, all_relations, all_rules, all_tokens,
 };
 use crate::typed::at_most;
-use spec_core::{Const, Spec};
+use spec_core::limits::{
+    MOST_CONSTANTS, MOST_COUNTERS, MOST_INVARIANTS, MOST_OPERATIONS, MOST_RELATIONS, MOST_RULES,
+    MOST_SORTS, MOST_TOKENS,
+};
+use spec_core::{Const, Spec, is_word_name};
 
 #[tactic(auto, using(crate::proofs::Typing::get_mapped, crate::proofs::Typing::get_none))]
 fn name_of_operation<'a>(draft: &'a Draft, n: u128) -> Option<&'a [u8]>
@@ -153,6 +159,23 @@ fn names_distinct(draft: &Draft) -> bool
     true
 }
 
+/// Whether all names are words of the language.
+fn names_are_words(draft: &Draft) -> bool
+    ensures { result ≡ list_all is_word_name_of (global_names draft.now) }
+{
+    for n in 0..name_count(draft) {
+        match name_at(draft, n) {
+            Some(name) => {
+                if !is_word_name(name) {
+                    return false;
+                }
+            }
+            None => return true,
+        }
+    }
+    true
+}
+
 // ---- constants
 
 fn all_consts_sorted(draft: &Draft, consts: &[Const]) -> bool
@@ -174,14 +197,14 @@ fn consts_of(consts: &[Const], sort: usize) -> usize
 }
 
 fn has_few_consts(draft: &Draft, sort: usize) -> bool
-    ensures { result ≡ nat_le (count_by (λ c. c.sort == sort) draft.now.consts) 4 }
+    ensures { result ≡ nat_le (count_by (λ c. c.sort == sort) draft.now.consts) most_constants }
 {
-    at_most(consts_of(draft.consts.as_slice(), sort), 4)
+    at_most(consts_of(draft.consts.as_slice(), sort), MOST_CONSTANTS)
 }
 
-/// Whether each sort has at most four constants.
+/// Whether each sort has few constants.
 fn few_consts(draft: &Draft) -> bool
-    ensures { result ≡ list_all (λ s. nat_le (count_by (λ c. c.sort == s) draft.now.consts) 4) (below (length draft.now.sorts)) }
+    ensures { result ≡ list_all (λ s. nat_le (count_by (λ c. c.sort == s) draft.now.consts) most_constants) (below (length draft.now.sorts)) }
 {
     for sort in 0..draft.sorts.len() {
         if !has_few_consts(draft, sort) {
@@ -201,14 +224,14 @@ fn consts_typed(draft: &Draft) -> bool
 
 /// Whether the version is known, and sorts, constants, relations and counters are well formed.
 fn is_begun(draft: &Draft) -> bool
-    ensures { result ≡ (((draft.now.version == 1) || (draft.now.version == 2)) && nat_le (length draft.now.sorts) 8 && consts_typed_of draft.now && nat_le (length draft.now.relations) 16 && list_all (is_relation draft.now) draft.now.relations && nat_le (length draft.now.counters) 8 && list_all (is_counter draft.now) draft.now.counters) }
+    ensures { result ≡ (((draft.now.version == 1) || (draft.now.version == 2)) && nat_le (length draft.now.sorts) most_sorts && consts_typed_of draft.now && nat_le (length draft.now.relations) most_relations && list_all (is_relation draft.now) draft.now.relations && nat_le (length draft.now.counters) most_counters && list_all (is_counter draft.now) draft.now.counters) }
 {
     (draft.version == 1 || draft.version == 2)
-        && at_most(draft.sorts.len(), 8)
+        && at_most(draft.sorts.len(), MOST_SORTS)
         && consts_typed(draft)
-        && at_most(draft.relations.len(), 16)
+        && at_most(draft.relations.len(), MOST_RELATIONS)
         && all_relations(draft, draft.relations.as_slice())
-        && at_most(draft.counters.len(), 8)
+        && at_most(draft.counters.len(), MOST_COUNTERS)
         && all_counters(draft, draft.counters.as_slice())
 }
 
@@ -216,14 +239,15 @@ fn is_specification(draft: &Draft) -> bool
     ensures { result ≡ is_specification_of draft.now }
 {
     is_begun(draft)
-        && at_most(draft.tokens.len(), 16)
+        && at_most(draft.tokens.len(), MOST_TOKENS)
         && all_tokens(draft, draft.tokens.as_slice())
-        && at_most(draft.rules.len(), 32)
+        && at_most(draft.rules.len(), MOST_RULES)
         && all_rules(draft, draft.rules.as_slice())
-        && at_most(draft.invariants.len(), 16)
+        && at_most(draft.invariants.len(), MOST_INVARIANTS)
         && all_invariants(draft, draft.invariants.as_slice())
-        && at_most(draft.operations.len(), 24)
+        && at_most(draft.operations.len(), MOST_OPERATIONS)
         && all_operations(draft, draft.operations.as_slice())
+        && names_are_words(draft)
         && names_distinct(draft)
 }
 

@@ -1,13 +1,15 @@
 // Whether elements, terms, formulas and lines of a draft name what exists and are of the sorts that their places need.
 
-ghost use Rattle.std.specs.Prelude.{◌≡◌, nat_lt, nat_le, min, length, slice_get};
+ghost use Rattle.std.specs.Prelude.{◌≡◌, ◌+◌, nat_lt, nat_le, min, length, slice_get};
 ghost use Rattle.std.specs.List.{list_all};
+ghost use Rattle.spec_core.specs.Limits.{most_nodes, most_depth};
 ghost use Rattle.spec_core.specs.Specification.{relation_places, counter_keys};
 ghost use Rattle.spec_core.specs.Form.{form_of};
 ghost use Rattle.spec_core.specs.Typed.{sort_of_kind, sort_of, is_sort, same_sort, elems_typed as elems_typed_of, is_int, is_number as is_number_of, body_typed as body_typed_of, summand_typed as summand_typed_of, term_typed as term_typed_of, form_typed as form_typed_of, nodes, depth, is_formula as is_formula_of, are_sorts as are_sorts_of, is_line as is_line_of};
 ghost use Rattle.spec_core.specs.Fits.{in_literal_range as in_literal_range_of, is_plain as is_plain_of};
 
 use crate::draft::Draft;
+use spec_core::limits::{GREATEST_LITERAL, MOST_DEPTH, MOST_NODES, MOST_SUMMANDS, MOST_VARIABLES};
 use spec_core::{Body, Elem, Formula, Kind, Param, Prefix, Prefixed, Summand, Term};
 
 /// Whether there are at most so many.
@@ -128,11 +130,11 @@ fn body_typed(draft: &Draft, params: &[Param], vars: &[u8], body: &Body) -> bool
     }
 }
 
-/// A literal or a coefficient: at most 10^9 in size.
+/// Whether a literal or a coefficient isn't too large.
 pub fn in_literal_range(n: i64) -> bool
     ensures { result ≡ in_literal_range_of n }
 {
-    n.unsigned_abs() <= 1_000_000_000
+    n.unsigned_abs() <= GREATEST_LITERAL
 }
 
 fn summand_typed(draft: &Draft, params: &[Param], vars: &[u8], summand: &Summand) -> bool
@@ -149,11 +151,11 @@ fn all_summands_typed(draft: &Draft, params: &[Param], vars: &[u8], summands: &[
         .all(|summand| summand_typed(draft, params, vars, summand))
 }
 
-/// Whether a term has at most 16 summands, each of them typed.
+/// Whether a term has few summands, each of them typed.
 pub fn term_typed(draft: &Draft, params: &[Param], vars: &[u8], term: &Term) -> bool
     ensures { result ≡ term_typed_of draft.now params.now vars.now term.now }
 {
-    at_most(term.summands.len(), 16)
+    at_most(term.summands.len(), MOST_SUMMANDS)
         && all_summands_typed(draft, params, vars, term.summands.as_slice())
 }
 
@@ -201,38 +203,50 @@ fn form_typed(draft: &Draft, params: &[Param], vars: &[u8], formula: &Formula) -
     }
 }
 
-/// How many parts a formula has; all counts above 200 are told as 201.
+/// How many parts a formula has; all counts above the limit are told as one more than it.
 fn nodes_up_to(formula: &Formula) -> u32
-    ensures { result ≡ min (nodes (form_of formula.now)) 201 }
+    ensures { result ≡ min (nodes (form_of formula.now)) (most_nodes + 1) }
 {
     match formula {
-        Formula::Not(part) => (1 + nodes_up_to(part)).min(201),
-        Formula::And(left, right) => (1 + nodes_up_to(left) + nodes_up_to(right)).min(201),
-        Formula::Or(left, right) => (1 + nodes_up_to(left) + nodes_up_to(right)).min(201),
-        Formula::Implies(left, right) => (1 + nodes_up_to(left) + nodes_up_to(right)).min(201),
+        Formula::Not(part) => (1 + nodes_up_to(part)).min(MOST_NODES + 1),
+        Formula::And(left, right) => (1 + nodes_up_to(left) + nodes_up_to(right)).min(
+            MOST_NODES + 1,
+        ),
+        Formula::Or(left, right) => (1 + nodes_up_to(left) + nodes_up_to(right)).min(
+            MOST_NODES + 1,
+        ),
+        Formula::Implies(left, right) => (1 + nodes_up_to(left) + nodes_up_to(right)).min(
+            MOST_NODES + 1,
+        ),
         _ => 1,
     }
 }
 
-/// How deep a formula nests; all depths above 200 are told as 201.
+/// How deep a formula nests; all depths above the limit are told as one more than it.
 fn depth_up_to(formula: &Formula) -> u32
-    ensures { result ≡ min (depth (form_of formula.now)) 201 }
+    ensures { result ≡ min (depth (form_of formula.now)) (most_depth + 1) }
 {
     match formula {
-        Formula::Not(part) => (1 + depth_up_to(part)).min(201),
-        Formula::And(left, right) => (1 + depth_up_to(left).max(depth_up_to(right))).min(201),
-        Formula::Or(left, right) => (1 + depth_up_to(left).max(depth_up_to(right))).min(201),
-        Formula::Implies(left, right) => (1 + depth_up_to(left).max(depth_up_to(right))).min(201),
+        Formula::Not(part) => (1 + depth_up_to(part)).min(MOST_DEPTH + 1),
+        Formula::And(left, right) => (1 + depth_up_to(left).max(depth_up_to(right))).min(
+            MOST_DEPTH + 1,
+        ),
+        Formula::Or(left, right) => (1 + depth_up_to(left).max(depth_up_to(right))).min(
+            MOST_DEPTH + 1,
+        ),
+        Formula::Implies(left, right) => (1 + depth_up_to(left).max(depth_up_to(right))).min(
+            MOST_DEPTH + 1,
+        ),
         _ => 1,
     }
 }
 
-/// Whether a formula has at most 200 parts, nests at most 200 deep, and is typed.
+/// Whether a formula has few parts, doesn't nest too deep, and is typed.
 pub fn is_formula(draft: &Draft, params: &[Param], vars: &[u8], formula: &Formula) -> bool
     ensures { result ≡ is_formula_of draft.now params.now vars.now (form_of formula.now) }
 {
-    nodes_up_to(formula) <= 200
-        && depth_up_to(formula) <= 200
+    nodes_up_to(formula) <= MOST_NODES
+        && depth_up_to(formula) <= MOST_DEPTH
         && form_typed(draft, params, vars, formula)
 }
 
@@ -261,11 +275,15 @@ fn is_plain(prefix: Prefix) -> bool
     }
 }
 
-/// Whether a line has at most three variables, and none where it is plain, and its body is typed.
+/// Whether a line has few variables, and none where it is plain, and its body is typed.
 pub fn is_line(draft: &Draft, params: &[Param], line: &Prefixed) -> bool
     ensures { result ≡ is_line_of draft.now params.now line.now }
 {
-    let most = if is_plain(line.prefix) { 0 } else { 3 };
+    let most = if is_plain(line.prefix) {
+        0
+    } else {
+        MOST_VARIABLES
+    };
     are_sorts(draft, most, line.vars.as_slice())
         && is_formula(draft, params, line.vars.as_slice(), &line.body)
 }
