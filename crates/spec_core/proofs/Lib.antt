@@ -7,3 +7,6 @@ pub mod Fitting
 pub mod Entries
 pub mod States
 pub mod Sameness
+pub mod Members
+pub mod Operations
+pub mod Agreeing

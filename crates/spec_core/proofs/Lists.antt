@@ -22,6 +22,11 @@ list_all-within p [] h k x lt = absurd (omega arith)
 list_all-within p (y ∷ ys) h zero x lt = (both (p y) (list_all p ys) h).0
 list_all-within p (y ∷ ys) h (suc k) x lt = list_all-within p ys (both (p y) (list_all p ys) h).1 k x (omega arith)
 
+-- what passes one test passes another
+pub list_all-mono : {X : Type 0} (p q : X → Bool) → ((x : X) → p x ≡ true → q x ≡ true) → (xs : List X) → list_all p xs ≡ true → list_all q xs ≡ true
+list_all-mono p q h [] k = refl
+list_all-mono p q h (x ∷ xs) k = let a = both (p x) (list_all p xs) k in and_true (q x) (list_all q xs) (h x a.0) (list_all-mono p q h xs a.1)
+
 -- two lists place by place, one more of each
 pub zip_more : {A B : Type 0} (R : A → B → Type 0) (xs : List A) (ys : List B) (i : ℕ) (x : A) (y : B) → i < length xs → AllZip R (take i xs) ys → R (get_or xs i x) y → AllZip R (take (suc i) xs) (ys ++ y ∷ [])
 zip_more R [] ys i x y lt h r = absurd (omega arith)

@@ -1,12 +1,13 @@
-use Rattle.std.proofs.Common.{◌≡◌, ℕ, ℤ, ◌≤◌, true, ◌||◌, ◌==◌, nat_le, nat_lt, List, [], ◌∷◌, length, refl, arith}
+use Rattle.std.proofs.Common.{◌≡◌, ℕ, ℤ, ◌≤◌, true, cond, ◌||◌, ◌==◌, nat_le, nat_lt, List, [], ◌∷◌, length, refl, arith}
 use Rattle.std.proofs.lemmas.Bool.Decides.{nat_tests}
 use Rattle.std.specs.List.{list_all}
 use Rattle.spec_core.specs.declared.spec.Counter.{Counter}
-use Rattle.spec_core.specs.Limits.{most_sorts, most_relations, most_places, most_counters, most_keys, most_tokens, most_rules, most_invariants, most_operations}
+use Rattle.spec_core.specs.Limits.{most_sorts, most_relations, most_places, most_counters, most_keys, most_tokens, most_rules, most_invariants, most_operations, most_parameters, most_requires, most_updates, most_takes, most_observes}
 use Rattle.spec_core.specs.Name.{is_word_name}
 use Rattle.spec_core.specs.Fits.{in_literal_range, in_state_range}
+use Rattle.spec_core.specs.declared.operation.Operation.{Operation}
 use Rattle.spec_core.specs.Specification.{Specification, no_relation, no_counter, no_token, relation_places, counter_keys, token_places}
-use Rattle.spec_core.specs.Typed.{are_sorts, consts_typed, is_relation, is_counter, is_token, is_rule, is_invariant, is_operation, all_distinct, global_names, is_specification}
+use Rattle.spec_core.specs.Typed.{are_sorts, consts_typed, is_relation, is_counter, is_token, is_rule, is_invariant, is_parameter, parameter_names, is_line, is_update, is_take, is_operation, all_distinct, global_names, is_specification}
 use Rattle.spec_core.proofs.Lists.{both, and_true, list_all-get_or}
 
 -- what a well-formed specification keeps
@@ -79,3 +80,35 @@ counters_in_range d h = each d.counters (parts_of d h).counters
     each (c ∷ cs) h =
         let p = both (is_counter d c) (list_all (is_counter d) cs) h in
         and_true (in_state_range c.initial) (list_all (λ (c : Counter). in_state_range c.initial) cs) (one c.initial (both (are_sorts d most_keys c.keys) (in_literal_range c.initial) p.0).1) (each cs p.1)
+
+-- what a well-formed operation keeps
+pub record OperationParts (d : Specification) (o : Operation) : Type 0 where
+  pub few_params : nat_le (length o.params) most_parameters ≡ true
+  pub params : list_all (is_parameter d) o.params ≡ true
+  pub distinct : all_distinct (parameter_names o.params) ≡ true
+  pub few_requires : nat_le (length o.requires_) most_requires ≡ true
+  pub requires_ : list_all (is_line d o.params) o.requires_ ≡ true
+  pub few_updates : nat_le (length o.updates) most_updates ≡ true
+  pub updates : list_all (is_update d o.params) o.updates ≡ true
+  pub few_takes : nat_le (length o.takes) most_takes ≡ true
+  pub takes : list_all (is_take d o.params) o.takes ≡ true
+  pub few_observes : nat_le (length o.observes) (cond (d.version == 2) most_observes 0) ≡ true
+  pub observes : list_all (is_line d o.params) o.observes ≡ true
+
+pub operation_parts : (d : Specification) (o : Operation) → is_operation d o ≡ true → OperationParts d o
+operation_parts d o h =
+    let a = both _ _ h in let b = both _ _ a.0 in let c = both _ _ b.0 in let e = both _ _ c.0 in let f = both _ _ e.0 in
+    let g = both _ _ f.0 in let i = both _ _ g.0 in let j = both _ _ i.0 in let k = both _ _ j.0 in let l = both _ _ k.0 in
+    record {
+      few_params = l.0;
+      params = l.1;
+      distinct = k.1;
+      few_requires = j.1;
+      requires_ = i.1;
+      few_updates = g.1;
+      updates = f.1;
+      few_takes = e.1;
+      takes = c.1;
+      few_observes = b.1;
+      observes = a.1;
+    }

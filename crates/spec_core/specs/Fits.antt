@@ -1,5 +1,5 @@
 -- Which worlds, calls and states fit a specification, and which arguments and variables fit a formula, a line, an update and a taking.
-use Rattle.std.specs.Prelude.{if◌then◌else◌, ℕ, ℤ, pos, int_le, nat_lt, nat_le, unsigned_abs, Bool, true, false, ◌&&◌, ◌==◌, List, [], ◌∷◌, length, map}
+use Rattle.std.specs.Prelude.{◌≡◌, if◌then◌else◌, ℕ, ◌<◌, ◌≤◌, ℤ, pos, int_le, nat_lt, nat_le, unsigned_abs, Bool, true, false, ◌&&◌, ◌==◌, List, [], ◌∷◌, length, map}
 use Rattle.std.specs.List.{list_all}
 use Rattle.spec_core.specs.declared.formula.Elem.{Elem}
 use Rattle.spec_core.specs.declared.formula.Elem.TheVariants.{Const, Param, Var}
@@ -13,6 +13,7 @@ use Rattle.spec_core.specs.declared.operation.Kind.{Kind}
 use Rattle.spec_core.specs.declared.operation.Kind.TheVariants.{Sort, Int}
 use Rattle.spec_core.specs.declared.operation.Param.{Param as Parameter}
 use Rattle.spec_core.specs.declared.operation.Take.{Take}
+use Rattle.spec_core.specs.declared.operation.Operation.{Operation}
 use Rattle.spec_core.specs.declared.update.Thing.{Thing}
 use Rattle.spec_core.specs.declared.update.Thing.TheVariants as thing
 use Rattle.spec_core.specs.declared.update.Spot.{Spot}
@@ -23,12 +24,12 @@ use Rattle.spec_core.specs.declared.spec.Relation.{Relation}
 use Rattle.spec_core.specs.declared.spec.Counter.{Counter}
 use Rattle.spec_core.specs.declared.world.World.{World}
 use Rattle.spec_core.specs.declared.world.Call.{Call}
-use Rattle.spec_core.specs.Limits.{greatest_value, greatest_literal, most_elements, most_summands, most_variables}
+use Rattle.spec_core.specs.Limits.{greatest_value, greatest_literal, most_elements, most_summands, most_variables, most_requires, most_observes, most_updates, most_takes}
 use Rattle.spec_core.specs.Form.{Form, true_form, false_form, not_form, and_form, or_form, implies_form, has_form, same_form, differ_form, compare_form}
 use Rattle.spec_core.specs.Line.{Line}
 use Rattle.spec_core.specs.UpdateLine.{UpdateLine}
 use Rattle.spec_core.specs.Specification.{Specification, relation_places, counter_keys, token_places, places_of, op_of}
-use Rattle.spec_core.specs.State.{Listing, listed_keys, is_rising}
+use Rattle.spec_core.specs.State.{Listing, Reads, listed_keys, is_rising}
 use Rattle.spec_core.specs.World.{size_of, tuples}
 use Rattle.spec_core.specs.Truth.{elem_of, elems_of}
 
@@ -178,3 +179,21 @@ update_fits d w args u = change_fits d w args u.thing u.change && spots_fit w ar
 -- Arguments fit a taking.
 abbrev pub take_fits : Specification → World → List ℤ → Take → Bool
 take_fits d w args t = nat_lt t.token (length d.tokens) && elems_fit w args [] (token_places d t.token) t.args
+
+-- All that an operation asks and does fits at these arguments, and is within the limits.
+pub record OperationFits (d : Specification) (w : World) (args : List ℤ) (o : Operation) : Type 0 where
+  pub requires_ : list_all (line_fits d w args) o.requires_ ≡ true
+  pub observes : list_all (line_fits d w args) o.observes ≡ true
+  pub updates : list_all (update_fits d w args) o.updates ≡ true
+  pub takes : list_all (take_fits d w args) o.takes ≡ true
+  pub few_requires : length o.requires_ ≤ most_requires
+  pub few_observes : length o.observes ≤ most_observes
+  pub few_updates : length o.updates ≤ most_updates
+  pub few_takes : length o.takes ≤ most_takes
+
+-- ---- readings that agree
+
+-- Two readings agree at each tuple of elements of each relation's places, and at each key of each counter.
+pub record AgreeOn (d : Specification) (w : World) (r s : Reads) : Type 0 where
+  pub has : (k : ℕ) (t : List ℕ) → k < length d.relations → fits_places w (relation_places d k) t ≡ true → r.has k t ≡ s.has k t
+  pub count : (k : ℕ) (t : List ℕ) → k < length d.counters → fits_places w (counter_keys d k) t ≡ true → r.count k t ≡ s.count k t

@@ -1,4 +1,5 @@
-use Rattle.std.specs.Prelude.{ℕ, Bool, not, cond, Option, [], map, get_or}
+-- What a specification asks of states: invariants, preconditions and observations, and the initial state.
+use Rattle.std.specs.Prelude.{ℕ, ℤ, Bool, not, cond, Option, List, [], map, get_or}
 use Rattle.std.specs.List.{position_from}
 use Rattle.spec_core.specs.declared.world.World.{World}
 use Rattle.spec_core.specs.declared.world.Call.{Call}
@@ -15,6 +16,10 @@ invariant_line d i = (get_or d.invariants i no_invariant).line
 -- Every invariant is true.
 abbrev pub inv : Specification → World → Reads → Bool
 inv d w r = lines_true w r [] (map (λ i. i.line) d.invariants)
+
+-- the place of the first of these lines that is false
+abbrev pub first_false : World → Reads → List ℤ → List Line → Option ℕ
+first_false w r args lines = position_from (λ l. not (line_true w r args l)) 0 lines
 
 -- The place of the first invariant that is false.
 abbrev pub broken_at : Specification → World → Reads → Option ℕ

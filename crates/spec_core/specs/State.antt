@@ -1,3 +1,4 @@
+-- States: as they are listed, and as they are read.
 use Rattle.std.specs.Prelude.{ℕ, ℤ, pos, Bool, true, false, cond, ◌&&◌, ◌==◌, List, [], ◌∷◌, map, get_or}
 use Rattle.std.specs.Ordering.{nat_cmp, is_lt}
 use Rattle.std.specs.Cmp.Lexicographic.{slice_cmp}
@@ -41,6 +42,10 @@ with_count r k t v = record { has = r.has; count = λ j q. cond ((j == k) && byt
 -- the keys that are listed
 abbrev pub listed_keys : List (List ℕ × ℤ) → List (List ℕ)
 listed_keys es = map (λ e. e.0) es
+
+-- whether a counter lists a key
+abbrev pub is_listed : Listing → ℕ → List ℕ → Bool
+is_listed s k q = is_in q (listed_keys (get_or s.counters k []))
 
 -- each is before those after it, by the first place at which they differ
 abbrev pub is_rising : List (List ℕ) → Bool

@@ -10,6 +10,7 @@
 // `State` holds ordered sets and maps, so that a reading is a look-up.
 #![tactic(auto)]
 
+mod broken_lines;
 mod fits;
 mod formula;
 mod initial;
@@ -27,6 +28,7 @@ mod tuples;
 mod update;
 mod world;
 
+pub use broken_lines::{observes_broken_at, requires_broken_at};
 pub use fits::is_in_state_range;
 pub use formula::{Body, Cmp, Elem, Formula, Summand, Term};
 pub use line::{Prefix, Prefixed};

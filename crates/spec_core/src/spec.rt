@@ -1,11 +1,13 @@
-// Specifications.
+// Specifications, and what their parts refer to.
 
 ghost use Rattle.std.specs.Prelude.{◌≡◌, true};
+ghost use Rattle.spec_core.specs.Specification.{relation_places, counter_keys, token_places, places_of, op_of};
 ghost use Rattle.spec_core.specs.Typed.{is_specification};
 
 use crate::line::Prefixed;
 use crate::name::Name;
-use crate::operation::Operation;
+use crate::operation::{Operation, Take};
+use crate::update::{Thing, Update};
 use items::Items;
 use std::marker::Model;
 
@@ -96,5 +98,85 @@ impl Spec {
         ensures { is_specification self.now ≡ true }
     {
         let _version = self.version;
+    }
+
+    /// The requires lines of an operation; none where there is no such operation.
+    pub fn requires_of(&self, op: u8) -> &[Prefixed]
+        ensures { result.now ≡ (op_of self.now op).requires_ }
+    {
+        match self.operations.as_slice().get(op as usize) {
+            Some(operation) => operation.requires_.as_slice(),
+            None => &[],
+        }
+    }
+
+    /// The observes lines of an operation; none where there is no such operation.
+    pub fn observes_of(&self, op: u8) -> &[Prefixed]
+        ensures { result.now ≡ (op_of self.now op).observes }
+    {
+        match self.operations.as_slice().get(op as usize) {
+            Some(operation) => operation.observes.as_slice(),
+            None => &[],
+        }
+    }
+
+    /// The updates of an operation; none where there is no such operation.
+    pub fn updates_of(&self, op: u8) -> &[Update]
+        ensures { result.now ≡ (op_of self.now op).updates }
+    {
+        match self.operations.as_slice().get(op as usize) {
+            Some(operation) => operation.updates.as_slice(),
+            None => &[],
+        }
+    }
+
+    /// The takes lines of an operation; none where there is no such operation.
+    pub fn takes_of(&self, op: u8) -> &[Take]
+        ensures { result.now ≡ (op_of self.now op).takes }
+    {
+        match self.operations.as_slice().get(op as usize) {
+            Some(operation) => operation.takes.as_slice(),
+            None => &[],
+        }
+    }
+
+    /// The sorts of the places of a relation; none where there is no such relation.
+    pub fn relation_places(&self, relation: u8) -> &[u8]
+        ensures { result.now ≡ relation_places self.now relation }
+    {
+        match self.relations.as_slice().get(relation as usize) {
+            Some(found) => found.places.as_slice(),
+            None => &[],
+        }
+    }
+
+    /// The sorts of the keys of a counter; none where there is no such counter.
+    pub fn counter_keys(&self, counter: u8) -> &[u8]
+        ensures { result.now ≡ counter_keys self.now counter }
+    {
+        match self.counters.as_slice().get(counter as usize) {
+            Some(found) => found.keys.as_slice(),
+            None => &[],
+        }
+    }
+
+    /// The sorts of the places of a token; none where there is no such token.
+    pub fn token_places(&self, token: u8) -> &[u8]
+        ensures { result.now ≡ token_places self.now token }
+    {
+        match self.tokens.as_slice().get(token as usize) {
+            Some(found) => found.places.as_slice(),
+            None => &[],
+        }
+    }
+
+    /// The sorts of the places of a relation or of the keys of a counter; none where there is no such thing.
+    pub fn places_of(&self, thing: Thing) -> &[u8]
+        ensures { result.now ≡ places_of self.now thing }
+    {
+        match thing {
+            Thing::Relation(relation) => self.relation_places(relation),
+            Thing::Counter(counter) => self.counter_keys(counter),
+        }
     }
 }

@@ -2,12 +2,13 @@
 //
 // A state has one list for each relation and each counter. What isn't listed reads false or 0.
 
-ghost use Rattle.std.specs.Prelude.{◌≡◌, ℕ, ◌<◌, ◌≤◌, unsigned_abs, List, true, length, ◌++◌, [], OnOk, OnErr, IfOk, IsTrue, ◌↔◌};
+ghost use Rattle.std.specs.Prelude.{◌≡◌, ℕ, ◌<◌, ◌≤◌, unsigned_abs, List, true, length, ◌++◌, [], OnOk, OnErr, IfOk, IsTrue, ◌↔◌, ◌==◌, ◌&&◌, ◌||◌};
+ghost use Rattle.std.specs.Str.{bytes_eq};
 ghost use Rattle.std.specs.Prelude.{replicate};
 ghost use Rattle.spec_core.specs.declared.world.World.{World};
 ghost use Rattle.spec_core.specs.Limits.{greatest_value};
 ghost use Rattle.spec_core.specs.Specification.{Specification, relation_places, counter_keys};
-ghost use Rattle.spec_core.specs.State.{reads, nothing, with_has, with_count};
+ghost use Rattle.spec_core.specs.State.{reads, nothing, with_has, with_count, is_listed};
 ghost use Rattle.spec_core.specs.StateText.{true_lines, count_lines, state_text};
 ghost use Rattle.spec_core.specs.Same.{lists_within, values_agree, same_listing};
 ghost use Rattle.spec_core.specs.Meaning.{initial};
@@ -303,7 +304,7 @@ impl State {
         ensures ok { OnOk result (reads self.new ≡ with_has (reads self.old) relation tuple.now value) }
         ensures err { OnErr result (self.new ≡ self.old) }
         ensures relations { length self.new.relations ≡ length self.old.relations }
-        ensures counters { length self.new.counters ≡ length self.old.counters }
+        ensures counters { self.new.counters ≡ self.old.counters }
         ensures fits { (d : Specification) (w : World) → is_state d w self.old ≡ true → fits_places w (relation_places d relation) tuple.now ≡ true → is_state d w self.new ≡ true }
     {
         let tuples = &mut self.relations[relation as usize];
@@ -311,13 +312,14 @@ impl State {
         Ok(())
     }
 
-    /// Sets the value of a counter at a key. No other reading changes.
+    /// Sets the value of a counter at a key, which is listed from then on. No other reading changes, and no other key gets listed.
     pub fn set_count(&mut self, counter: u8, key: &[u32], value: i64) -> Result<(), AllocError>
         requires counter { counter < length self.old.counters }
         requires value { in_state_range value ≡ true }
         ensures ok { OnOk result (reads self.new ≡ with_count (reads self.old) counter key.now value) }
+        ensures listed { OnOk result ((k : ℕ) (q : List ℕ) → is_listed self.new k q ≡ (((k == counter) && bytes_eq q key.now) || is_listed self.old k q)) }
         ensures err { OnErr result (self.new ≡ self.old) }
-        ensures relations { length self.new.relations ≡ length self.old.relations }
+        ensures relations { self.new.relations ≡ self.old.relations }
         ensures counters { length self.new.counters ≡ length self.old.counters }
         ensures fits { (d : Specification) (w : World) → is_state d w self.old ≡ true → fits_places w (counter_keys d counter) key.now ≡ true → is_state d w self.new ≡ true }
     {
