@@ -1,21 +1,17 @@
 use Rattle.std.proofs.Common.{◌≡◌, ℕ, zero, suc, ◌+◌, ◌<◌, ◌≤◌, Bool, true, false, not, ◌&&◌, ◌||◌, ◌⊎◌, inl, inr, nat_lt, List, [], ◌∷◌, ◌++◌, length, get_or, drop, map, refl, sym, ◌∙◌, ap, append_assoc, append-nil, drop-cons, arith}
 use Rattle.std.proofs.lemmas.Bool.Decides.{nat_tests}
-use Rattle.std.proofs.lemmas.List.Folds.{list_all-append}
+use Rattle.std.proofs.lemmas.List.Folds.{list_all-append, list_all-map}
 use Rattle.std.proofs.lemmas.Grind.{common_steps}
 use Rattle.std.specs.List.{list_all, list_any}
 use Rattle.spec_core.specs.declared.world.World.{World}
 use Rattle.spec_core.specs.World.{size_of, below, each_before, tuples}
 use Rattle.spec_core.specs.Fits.{fits_places}
 use Rattle.spec_core.specs.Choices.{all_below, all_choices}
-use Rattle.spec_core.proofs.Lists.{both, and_true, tell}
-
-pub list_all-map : {X Y : Type 0} (p : Y → Bool) (f : X → Y) (xs : List X) → list_all p (map f xs) ≡ list_all (λ x. p (f x)) xs
-list_all-map p f [] = refl
-list_all-map p f (x ∷ xs) = ap (λ b. p (f x) && b) (list_all-map p f xs)
+use Rattle.std.proofs.lemmas.Bool.{and_parts, and_from, cases_Bool}
 
 -- ---- a test of all tuples, sort by sort
 
-list_all-each_before : (p : List ℕ → Bool) (es : List ℕ) (ts : List (List ℕ)) → list_all p (each_before es ts) ≡ list_all (λ e. list_all (λ t. p (e ∷ t)) ts) es
+pub list_all-each_before : (p : List ℕ → Bool) (es : List ℕ) (ts : List (List ℕ)) → list_all p (each_before es ts) ≡ list_all (λ e. list_all (λ t. p (e ∷ t)) ts) es
 list_all-each_before p [] ts = refl
 list_all-each_before p (e ∷ es) ts =
     list_all-append p (map (λ t. e ∷ t) ts) (each_before es ts)
@@ -25,7 +21,7 @@ list_all-each_before p (e ∷ es) ts =
 one_more : (a b : Bool) → (a && (b && true)) ≡ (a && b)
 one_more a b = grind arith
 
-list_all-below : (p : ℕ → Bool) (n : ℕ) → list_all p (below n) ≡ all_below n p
+pub list_all-below : (p : ℕ → Bool) (n : ℕ) → list_all p (below n) ≡ all_below n p
 list_all-below p zero = refl
 list_all-below p (suc n) = list_all-append p (below n) (n ∷ []) ∙ one_more (list_all p (below n)) (p n) ∙ ap (λ b. b && p n) (list_all-below p n)
 
@@ -42,37 +38,30 @@ all_choices-nil w chosen p = refl
 pub all_below-at : (n : ℕ) (p : ℕ → Bool) (k : ℕ) → k < n → all_below n p ≡ true → p k ≡ true
 all_below-at zero p k lt h = absurd (omega arith)
 all_below-at (suc n) p k lt h = elim (split k n lt) [
-  | inl l ↦ all_below-at n p k l (both (all_below n p) (p n) h).0
-  | inr e ↦ ap p e ∙ (both (all_below n p) (p n) h).1
+  | inl l ↦ all_below-at n p k l (and_parts (all_below n p) (p n) h).0
+  | inr e ↦ ap p e ∙ (and_parts (all_below n p) (p n) h).1
 ]
   where
     split : (k n : ℕ) → k < suc n → (k < n) ⊎ (k ≡ n)
     split k n h = grind arith
 
 pub all_below-fails : (n : ℕ) (p : ℕ → Bool) (k : ℕ) → k < n → p k ≡ false → all_below n p ≡ false
-all_below-fails n p k lt h = elim (tell (all_below n p)) [ inl t ↦ absurd (let u = all_below-at n p k lt t in cc) | inr f ↦ f ]
+all_below-fails n p k lt h = elim (cases_Bool (all_below n p)) [ inl t ↦ absurd (let u = all_below-at n p k lt t in cc) | inr f ↦ f ]
+
+pub all_below-from : (n : ℕ) (p : ℕ → Bool) → ((k : ℕ) → k < n → p k ≡ true) → all_below n p ≡ true
+all_below-from zero p h = refl
+all_below-from (suc n) p h = and_from (all_below n p) (p n) (all_below-from n p (λ k lt. h k (omega arith))) (h n (omega arith))
 
 -- ---- what a test of all tuples says
 
 module _ (w : World) where
   pub all_tuples : (ss : List ℕ) (p : List ℕ → Bool) → ((t : List ℕ) → fits_places w ss t ≡ true → p t ≡ true) → list_all p (tuples w ss) ≡ true
-  all_tuples [] p h = and_true (p []) true (h [] refl) refl
+  all_tuples [] p h = and_from (p []) true (h [] refl) refl
   all_tuples (s ∷ ss) p h = list_all-each_before p (below (size_of w s)) (tuples w ss) ∙ list_all-below (λ e. list_all (λ t. p (e ∷ t)) (tuples w ss)) (size_of w s)
-      ∙ up (size_of w s) (λ e. list_all (λ t. p (e ∷ t)) (tuples w ss)) (λ e lt. all_tuples ss (λ t. p (e ∷ t)) (λ t k. h (e ∷ t) (and_true (nat_lt e (size_of w s)) (fits_places w ss t) (test e (size_of w s) lt) k)))
+      ∙ all_below-from (size_of w s) (λ e. list_all (λ t. p (e ∷ t)) (tuples w ss)) (λ e lt. all_tuples ss (λ t. p (e ∷ t)) (λ t k. h (e ∷ t) (and_from (nat_lt e (size_of w s)) (fits_places w ss t) (test e (size_of w s) lt) k)))
     where
       test : (e n : ℕ) → e < n → nat_lt e n ≡ true
       test e n lt = grind (arith, nat_tests)
-
-      up : (n : ℕ) (q : ℕ → Bool) → ((e : ℕ) → e < n → q e ≡ true) → all_below n q ≡ true
-      up zero q h = refl
-      up (suc n) q h = and_true (all_below n q) (q n) (up n q (λ e lt. h e (omega arith))) (h n (omega arith))
-
-list_any-append : {X : Type 0} (p : X → Bool) (xs ys : List X) → list_any p (xs ++ ys) ≡ (list_any p xs || list_any p ys)
-list_any-append p [] ys = refl
-list_any-append p (x ∷ xs) ys = ap (λ b. p x || b) (list_any-append p xs ys) ∙ or_assoc (p x) (list_any p xs) (list_any p ys)
-  where
-    or_assoc : (a b c : Bool) → (a || (b || c)) ≡ ((a || b) || c)
-    or_assoc a b c = grind arith
 
 pub list_any-not : {X : Type 0} (p : X → Bool) (xs : List X) → list_any p xs ≡ not (list_all (λ x. not (p x)) xs)
 list_any-not p [] = refl

@@ -16,7 +16,7 @@ use Rattle.std.proofs.lemmas.Map.Lookups.{exact_bytes}
 use Rattle.std.proofs.lemmas.Slice.Eq.{bytes_eq-Decides}
 use Rattle.spec_core.specs.State.{is_in, count_in, listed_keys, is_rising}
 use Rattle.spec_core.specs.Fits.{in_state_range}
-use Rattle.spec_core.proofs.Lists.{both, and_true}
+use Rattle.std.proofs.lemmas.Bool.{and_parts, and_from}
 
 abbrev pub Key : Type 0
 Key = Vec ℕ Global
@@ -94,13 +94,13 @@ remove_in (x ∷ xs) h t q = at (is_eq (slice_cmp nat_cmp t x.items)) refl (remo
 
 all_before : (x : Key) (ks : List Key) → AllByRecursion (λ y. compare x y ≡ Less) ks → list_all (λ u. is_lt (slice_cmp nat_cmp x.items u)) (tuples_of ks) ≡ true
 all_before x [] h = refl
-all_before x (k ∷ ks) h = and_true _ _ (ap is_lt h.0) (all_before x ks h.1)
+all_before x (k ∷ ks) h = and_from _ _ (ap is_lt h.0) (all_before x ks h.1)
 
 -- the keys of an ordered set rise
 pub rising : (ks : List Key) → IsStrictlySortedBy compare ks → is_rising (tuples_of ks) ≡ true
 unfolding IsStrictlySortedBy
 rising [] h = refl
-rising (k ∷ ks) h = and_true _ _ (all_before k ks h.0) (rising ks h.1)
+rising (k ∷ ks) h = and_from _ _ (all_before k ks h.0) (rising ks h.1)
 
 items_same : (xs ys : List ℕ) → AllZip (λ (x y : ℕ). y ≡ x) xs ys → ys ≡ xs
 items_same [] [] h = refl
@@ -173,14 +173,14 @@ abbrev pub in_range : List (List ℕ × ℤ) → Bool
 in_range es = list_all (λ (e : List ℕ × ℤ). in_state_range e.1) es
 
 pub insert_range : (es : List (Key × ℤ)) (k : Key) (v : ℤ) → in_state_range v ≡ true → in_range (counts_of es) ≡ true → in_range (counts_of (insert_entry compare es k v)) ≡ true
-insert_range [] k v h p = and_true _ _ h refl
-insert_range (e ∷ es) k v h p = at_place (slice_cmp nat_cmp k.items e.0.items) (insert_range es k v h (both (in_state_range e.1) (in_range (counts_of es)) p).1)
+insert_range [] k v h p = and_from _ _ h refl
+insert_range (e ∷ es) k v h p = at_place (slice_cmp nat_cmp k.items e.0.items) (insert_range es k v h (and_parts (in_state_range e.1) (in_range (counts_of es)) p).1)
   where
     at_place : (o : Ordering) → in_range (counts_of (insert_entry compare es k v)) ≡ true
         → in_range (counts_of (match_ordering o ((k, v) ∷ e ∷ es) ((e.0, v) ∷ es) (e ∷ insert_entry compare es k v))) ≡ true
-    at_place Less ih = and_true _ _ h p
-    at_place Equal ih = and_true _ _ h (both (in_state_range e.1) (in_range (counts_of es)) p).1
-    at_place Greater ih = and_true _ _ (both (in_state_range e.1) (in_range (counts_of es)) p).0 ih
+    at_place Less ih = and_from _ _ h p
+    at_place Equal ih = and_from _ _ h (and_parts (in_state_range e.1) (in_range (counts_of es)) p).1
+    at_place Greater ih = and_from _ _ (and_parts (in_state_range e.1) (in_range (counts_of es)) p).0 ih
 
 keys_listed : (es : List (Key × ℤ)) → listed_keys (counts_of es) ≡ tuples_of (map (λ (e : Key × ℤ). e.0) es)
 keys_listed [] = refl

@@ -10,3 +10,5 @@ pub mod Sameness
 pub mod Members
 pub mod Operations
 pub mod Agreeing
+pub mod Rising
+pub mod Texts

@@ -8,7 +8,8 @@ use Rattle.spec_core.specs.Fits.{in_literal_range, in_state_range}
 use Rattle.spec_core.specs.declared.operation.Operation.{Operation}
 use Rattle.spec_core.specs.Specification.{Specification, no_relation, no_counter, no_token, relation_places, counter_keys, token_places}
 use Rattle.spec_core.specs.Typed.{are_sorts, consts_typed, is_relation, is_counter, is_token, is_rule, is_invariant, is_parameter, parameter_names, is_line, is_update, is_take, is_operation, all_distinct, global_names, is_specification}
-use Rattle.spec_core.proofs.Lists.{both, and_true, list_all-get_or}
+use Rattle.std.proofs.lemmas.Bool.{and_parts, and_from}
+use Rattle.spec_core.proofs.Lists.{list_all-get_or}
 
 -- what a well-formed specification keeps
 pub record Parts (d : Specification) : Type 0 where
@@ -32,9 +33,9 @@ pub record Parts (d : Specification) : Type 0 where
 
 pub parts_of : (d : Specification) → is_specification d ≡ true → Parts d
 parts_of d h =
-    let a = both _ _ h in let b = both _ _ a.0 in let c = both _ _ b.0 in let e = both _ _ c.0 in let f = both _ _ e.0 in
-    let g = both _ _ f.0 in let i = both _ _ g.0 in let j = both _ _ i.0 in let k = both _ _ j.0 in let l = both _ _ k.0 in
-    let m = both _ _ l.0 in let n = both _ _ m.0 in let o = both _ _ n.0 in let p = both _ _ o.0 in let q = both _ _ p.0 in let r = both _ _ q.0 in
+    let a = and_parts _ _ h in let b = and_parts _ _ a.0 in let c = and_parts _ _ b.0 in let e = and_parts _ _ c.0 in let f = and_parts _ _ e.0 in
+    let g = and_parts _ _ f.0 in let i = and_parts _ _ g.0 in let j = and_parts _ _ i.0 in let k = and_parts _ _ j.0 in let l = and_parts _ _ k.0 in
+    let m = and_parts _ _ l.0 in let n = and_parts _ _ m.0 in let o = and_parts _ _ n.0 in let p = and_parts _ _ o.0 in let q = and_parts _ _ p.0 in let r = and_parts _ _ q.0 in
     record {
       version = r.0;
       sorts = r.1;
@@ -56,14 +57,14 @@ parts_of d h =
     }
 
 at_most : (most : ℕ) (d : Specification) (ss : List ℕ) → are_sorts d most ss ≡ true → length ss ≤ most
-at_most most d ss h = let p = (both (nat_le (length ss) most) (list_all (λ s. nat_lt s (length d.sorts)) ss) h).0 in grind (arith, nat_tests)
+at_most most d ss h = let p = (and_parts (nat_le (length ss) most) (list_all (λ s. nat_lt s (length d.sorts)) ss) h).0 in grind (arith, nat_tests)
 
 -- a relation has few places, a counter few keys, a token few places
 pub few_places : (d : Specification) → is_specification d ≡ true → (k : ℕ) → length (relation_places d k) ≤ most_places
 few_places d h k = at_most most_places d (relation_places d k) (list_all-get_or (is_relation d) d.relations (parts_of d h).relations k no_relation refl)
 
 pub few_keys : (d : Specification) → is_specification d ≡ true → (k : ℕ) → length (counter_keys d k) ≤ most_keys
-few_keys d h k = at_most most_keys d (counter_keys d k) (both _ _ (list_all-get_or (is_counter d) d.counters (parts_of d h).counters k no_counter refl)).0
+few_keys d h k = at_most most_keys d (counter_keys d k) (and_parts _ _ (list_all-get_or (is_counter d) d.counters (parts_of d h).counters k no_counter refl)).0
 
 pub few_token_places : (d : Specification) → is_specification d ≡ true → (k : ℕ) → length (token_places d k) ≤ most_places
 few_token_places d h k = at_most most_places d (token_places d k) (list_all-get_or (is_token d) d.tokens (parts_of d h).tokens k no_token refl)
@@ -78,8 +79,8 @@ counters_in_range d h = each d.counters (parts_of d h).counters
     each : (cs : List Counter) → list_all (is_counter d) cs ≡ true → list_all (λ (c : Counter). in_state_range c.initial) cs ≡ true
     each [] h = refl
     each (c ∷ cs) h =
-        let p = both (is_counter d c) (list_all (is_counter d) cs) h in
-        and_true (in_state_range c.initial) (list_all (λ (c : Counter). in_state_range c.initial) cs) (one c.initial (both (are_sorts d most_keys c.keys) (in_literal_range c.initial) p.0).1) (each cs p.1)
+        let p = and_parts (is_counter d c) (list_all (is_counter d) cs) h in
+        and_from (in_state_range c.initial) (list_all (λ (c : Counter). in_state_range c.initial) cs) (one c.initial (and_parts (are_sorts d most_keys c.keys) (in_literal_range c.initial) p.0).1) (each cs p.1)
 
 -- what a well-formed operation keeps
 pub record OperationParts (d : Specification) (o : Operation) : Type 0 where
@@ -97,8 +98,8 @@ pub record OperationParts (d : Specification) (o : Operation) : Type 0 where
 
 pub operation_parts : (d : Specification) (o : Operation) → is_operation d o ≡ true → OperationParts d o
 operation_parts d o h =
-    let a = both _ _ h in let b = both _ _ a.0 in let c = both _ _ b.0 in let e = both _ _ c.0 in let f = both _ _ e.0 in
-    let g = both _ _ f.0 in let i = both _ _ g.0 in let j = both _ _ i.0 in let k = both _ _ j.0 in let l = both _ _ k.0 in
+    let a = and_parts _ _ h in let b = and_parts _ _ a.0 in let c = and_parts _ _ b.0 in let e = and_parts _ _ c.0 in let f = and_parts _ _ e.0 in
+    let g = and_parts _ _ f.0 in let i = and_parts _ _ g.0 in let j = and_parts _ _ i.0 in let k = and_parts _ _ j.0 in let l = and_parts _ _ k.0 in
     record {
       few_params = l.0;
       params = l.1;

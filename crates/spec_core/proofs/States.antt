@@ -14,17 +14,18 @@ use Rattle.spec_core.specs.Meaning.{initial}
 use Rattle.spec_core.specs.Starting.{StartsAs, CountsAs}
 use Rattle.spec_core.specs.Fits.{fits_places, lists_fit, values_fit, is_state, in_state_range, is_counts, is_listing}
 use Rattle.spec_core.proofs.Choosing.{all_tuples}
-use Rattle.spec_core.proofs.Lists.{both, and_true, list_all-get_or}
+use Rattle.std.proofs.lemmas.Bool.{and_parts, and_from}
+use Rattle.spec_core.proofs.Lists.{list_all-get_or}
 
 pub list_all-set : {X : Type 0} (p : X → Bool) (xs : List X) (i : ℕ) (y : X) → list_all p xs ≡ true → p y ≡ true → list_all p (set xs i y) ≡ true
 list_all-set p [] i y h k = refl
-list_all-set p (x ∷ xs) zero y h k = and_true (p y) (list_all p xs) k (both (p x) (list_all p xs) h).1
-list_all-set p (x ∷ xs) (suc i) y h k = let a = both (p x) (list_all p xs) h in and_true (p x) (list_all p (set xs i y)) a.0 (list_all-set p xs i y a.1 k)
+list_all-set p (x ∷ xs) zero y h k = and_from (p y) (list_all p xs) k (and_parts (p x) (list_all p xs) h).1
+list_all-set p (x ∷ xs) (suc i) y h k = let a = and_parts (p x) (list_all p xs) h in and_from (p x) (list_all p (set xs i y)) a.0 (list_all-set p xs i y a.1 k)
 
 -- a test of each tuple, by what is listed
 pub list_all-from_is_in : (p : List ℕ → Bool) (ts : List (List ℕ)) → ((q : List ℕ) → is_in q ts ≡ true → p q ≡ true) → list_all p ts ≡ true
 list_all-from_is_in p [] h = refl
-list_all-from_is_in p (t ∷ ts) h = and_true (p t) (list_all p ts) (h t (or_left (bytes_eq t t) (is_in t ts) ((bytes_eq-Decides t t).1 refl))) (list_all-from_is_in p ts (λ q k. h q (or_right (bytes_eq q t) (is_in q ts) k)))
+list_all-from_is_in p (t ∷ ts) h = and_from (p t) (list_all p ts) (h t (or_left (bytes_eq t t) (is_in t ts) ((bytes_eq-Decides t t).1 refl))) (list_all-from_is_in p ts (λ q k. h q (or_right (bytes_eq q t) (is_in q ts) k)))
   where
     or_left : (a b : Bool) → a ≡ true → (a || b) ≡ true
     or_left a b h = grind arith
@@ -34,17 +35,17 @@ list_all-from_is_in p (t ∷ ts) h = and_true (p t) (list_all p ts) (h t (or_lef
 
 pub list_all-is_in : (p : List ℕ → Bool) (ts : List (List ℕ)) (q : List ℕ) → list_all p ts ≡ true → is_in q ts ≡ true → p q ≡ true
 list_all-is_in p [] q h k = absurd cc
-list_all-is_in p (t ∷ ts) q h k = at (bytes_eq q t) refl k (λ m. list_all-is_in p ts q (both (p t) (list_all p ts) h).1 m)
+list_all-is_in p (t ∷ ts) q h k = at (bytes_eq q t) refl k (λ m. list_all-is_in p ts q (and_parts (p t) (list_all p ts) h).1 m)
   where
     at : (b : Bool) → bytes_eq q t ≡ b → (b || is_in q ts) ≡ true → (is_in q ts ≡ true → p q ≡ true) → p q ≡ true
-    at true e k next = ap p ((bytes_eq-Decides q t).0 e) ∙ (both (p t) (list_all p ts) h).0
+    at true e k next = ap p ((bytes_eq-Decides q t).0 e) ∙ (and_parts (p t) (list_all p ts) h).0
     at false e k next = next k
 
 -- ---- values in range
 
 pub count_in_range : (es : List (List ℕ × ℤ)) (q : List ℕ) → list_all (λ (e : List ℕ × ℤ). in_state_range e.1) es ≡ true → in_state_range (count_in es q) ≡ true
 count_in_range [] q h = refl
-count_in_range (e ∷ es) q h = let a = both _ _ h in at (bytes_eq q e.0) a.0 (count_in_range es q a.1)
+count_in_range (e ∷ es) q h = let a = and_parts _ _ h in at (bytes_eq q e.0) a.0 (count_in_range es q a.1)
   where
     at : (b : Bool) → in_state_range e.1 ≡ true → in_state_range (count_in es q) ≡ true → in_state_range (cond b e.1 (count_in es q)) ≡ true
     at true x y = x
@@ -52,8 +53,8 @@ count_in_range (e ∷ es) q h = let a = both _ _ h in at (bytes_eq q e.0) a.0 (c
 
 pub reading_in_range : (s : Listing) → is_listing s ≡ true → (k : ℕ) (t : List ℕ) → unsigned_abs ((reads s).count k t) ≤ greatest_value
 reading_in_range s h k t =
-    let a = list_all-get_or is_counts s.counters (both _ _ h).1 k [] refl in
-    let b = count_in_range (get_or s.counters k []) t (both _ _ a).1 in
+    let a = list_all-get_or is_counts s.counters (and_parts _ _ h).1 k [] refl in
+    let b = count_in_range (get_or s.counters k []) t (and_parts _ _ a).1 in
     grind (arith, nat_tests)
 
 -- ---- states that fit
@@ -63,10 +64,10 @@ pub lists_fit-set : (w : World) (rs : List Relation) (ls : List (List (List ℕ)
 lists_fit-set w [] [] k ts h p = refl
 lists_fit-set w [] (l ∷ ls) k ts h p = absurd cc
 lists_fit-set w (r ∷ rs) [] k ts h p = absurd cc
-lists_fit-set w (r ∷ rs) (l ∷ ls) zero ts h p = and_true _ _ (list_all-from_is_in (λ tuple. fits_places w r.places tuple) ts p) (both _ _ h).1
-lists_fit-set w (r ∷ rs) (l ∷ ls) (suc k) ts h p = and_true _ _ (both _ _ h).0 (lists_fit-set w rs ls k ts (both _ _ h).1 p)
+lists_fit-set w (r ∷ rs) (l ∷ ls) zero ts h p = and_from _ _ (list_all-from_is_in (λ tuple. fits_places w r.places tuple) ts p) (and_parts _ _ h).1
+lists_fit-set w (r ∷ rs) (l ∷ ls) (suc k) ts h p = and_from _ _ (and_parts _ _ h).0 (lists_fit-set w rs ls k ts (and_parts _ _ h).1 p)
 
-by_key : (w : World) (places : List ℕ) (es : List (List ℕ × ℤ)) → list_all (λ (e : List ℕ × ℤ). fits_places w places e.0) es ≡ list_all (fits_places w places) (listed_keys es)
+pub by_key : (w : World) (places : List ℕ) (es : List (List ℕ × ℤ)) → list_all (λ (e : List ℕ × ℤ). fits_places w places e.0) es ≡ list_all (fits_places w places) (listed_keys es)
 by_key w places [] = refl
 by_key w places (e ∷ es) = ap (λ b. fits_places w places e.0 && b) (by_key w places es)
 
@@ -75,23 +76,23 @@ pub values_fit-set : (w : World) (cs : List Counter) (ls : List (List (List ℕ 
 values_fit-set w [] [] k es h p = refl
 values_fit-set w [] (l ∷ ls) k es h p = absurd cc
 values_fit-set w (c ∷ cs) [] k es h p = absurd cc
-values_fit-set w (c ∷ cs) (l ∷ ls) zero es h p = and_true _ _ (by_key w c.keys es ∙ list_all-from_is_in (fits_places w c.keys) (listed_keys es) p) (both _ _ h).1
-values_fit-set w (c ∷ cs) (l ∷ ls) (suc k) es h p = and_true _ _ (both _ _ h).0 (values_fit-set w cs ls k es (both _ _ h).1 p)
+values_fit-set w (c ∷ cs) (l ∷ ls) zero es h p = and_from _ _ (by_key w c.keys es ∙ list_all-from_is_in (fits_places w c.keys) (listed_keys es) p) (and_parts _ _ h).1
+values_fit-set w (c ∷ cs) (l ∷ ls) (suc k) es h p = and_from _ _ (and_parts _ _ h).0 (values_fit-set w cs ls k es (and_parts _ _ h).1 p)
 
 -- what a state that fits lists
 pub lists_fit-at : (w : World) (rs : List Relation) (ls : List (List (List ℕ))) (k : ℕ) (q : List ℕ) → lists_fit w rs ls ≡ true → is_in q (get_or ls k []) ≡ true → fits_places w (get_or rs k no_relation).places q ≡ true
 lists_fit-at w [] [] k q h p = absurd cc
 lists_fit-at w [] (l ∷ ls) k q h p = absurd cc
 lists_fit-at w (r ∷ rs) [] k q h p = absurd cc
-lists_fit-at w (r ∷ rs) (l ∷ ls) zero q h p = list_all-is_in (λ tuple. fits_places w r.places tuple) l q (both _ _ h).0 p
-lists_fit-at w (r ∷ rs) (l ∷ ls) (suc k) q h p = lists_fit-at w rs ls k q (both _ _ h).1 p
+lists_fit-at w (r ∷ rs) (l ∷ ls) zero q h p = list_all-is_in (λ tuple. fits_places w r.places tuple) l q (and_parts _ _ h).0 p
+lists_fit-at w (r ∷ rs) (l ∷ ls) (suc k) q h p = lists_fit-at w rs ls k q (and_parts _ _ h).1 p
 
 pub values_fit-at : (w : World) (cs : List Counter) (ls : List (List (List ℕ × ℤ))) (k : ℕ) (q : List ℕ) → values_fit w cs ls ≡ true → is_in q (listed_keys (get_or ls k [])) ≡ true → fits_places w (get_or cs k no_counter).keys q ≡ true
 values_fit-at w [] [] k q h p = absurd cc
 values_fit-at w [] (l ∷ ls) k q h p = absurd cc
 values_fit-at w (c ∷ cs) [] k q h p = absurd cc
-values_fit-at w (c ∷ cs) (l ∷ ls) zero q h p = list_all-is_in (fits_places w c.keys) (listed_keys l) q (sym (by_key w c.keys l) ∙ (both _ _ h).0) p
-values_fit-at w (c ∷ cs) (l ∷ ls) (suc k) q h p = values_fit-at w cs ls k q (both _ _ h).1 p
+values_fit-at w (c ∷ cs) (l ∷ ls) zero q h p = list_all-is_in (fits_places w c.keys) (listed_keys l) q (sym (by_key w c.keys l) ∙ (and_parts _ _ h).0) p
+values_fit-at w (c ∷ cs) (l ∷ ls) (suc k) q h p = values_fit-at w cs ls k q (and_parts _ _ h).1 p
 
 -- one list changed
 listed_fits : (w : World) (rs : List Relation) (ls : List (List (List ℕ))) (k : ℕ) (t : List ℕ) (b : Bool) (q : List ℕ) → lists_fit w rs ls ≡ true → fits_places w (get_or rs k no_relation).places t ≡ true
@@ -102,8 +103,8 @@ listed_fits w rs ls k t b q h p false e m = lists_fit-at w rs ls k q h m
 pub state_with_tuples : (d : Specification) (w : World) (s : Listing) (k : ℕ) (t : List ℕ) (b : Bool) (ts : List (List ℕ)) → ((q : List ℕ) → is_in q ts ≡ cond (bytes_eq q t) b (is_in q (get_or s.relations k [])))
     → is_state d w s ≡ true → fits_places w (relation_places d k) t ≡ true → is_state d w (record { relations = set s.relations k ts; counters = s.counters }) ≡ true
 state_with_tuples d w s k t b ts h fit p =
-    let a = both (lists_fit w d.relations s.relations) (values_fit w d.counters s.counters) fit in
-    and_true _ _ (lists_fit-set w d.relations s.relations k ts a.0 (λ q m. listed_fits w d.relations s.relations k t b q a.0 p (bytes_eq q t) refl (sym (h q) ∙ m))) a.1
+    let a = and_parts (lists_fit w d.relations s.relations) (values_fit w d.counters s.counters) fit in
+    and_from _ _ (lists_fit-set w d.relations s.relations k ts a.0 (λ q m. listed_fits w d.relations s.relations k t b q a.0 p (bytes_eq q t) refl (sym (h q) ∙ m))) a.1
 
 counted_fits : (w : World) (cs : List Counter) (ls : List (List (List ℕ × ℤ))) (k : ℕ) (t : List ℕ) (q : List ℕ) → values_fit w cs ls ≡ true → fits_places w (get_or cs k no_counter).keys t ≡ true
     → (x : Bool) → bytes_eq q t ≡ x → (x || is_in q (listed_keys (get_or ls k []))) ≡ true → fits_places w (get_or cs k no_counter).keys q ≡ true
@@ -113,8 +114,8 @@ counted_fits w cs ls k t q h p false e m = values_fit-at w cs ls k q h m
 pub state_with_counts : (d : Specification) (w : World) (s : Listing) (k : ℕ) (t : List ℕ) (es : List (List ℕ × ℤ)) → ((q : List ℕ) → is_in q (listed_keys es) ≡ (bytes_eq q t || is_in q (listed_keys (get_or s.counters k []))))
     → is_state d w s ≡ true → fits_places w (counter_keys d k) t ≡ true → is_state d w (record { relations = s.relations; counters = set s.counters k es }) ≡ true
 state_with_counts d w s k t es h fit p =
-    let a = both (lists_fit w d.relations s.relations) (values_fit w d.counters s.counters) fit in
-    and_true _ _ a.0 (values_fit-set w d.counters s.counters k es a.1 (λ q m. counted_fits w d.counters s.counters k t q a.1 p (bytes_eq q t) refl (sym (h q) ∙ m)))
+    let a = and_parts (lists_fit w d.relations s.relations) (values_fit w d.counters s.counters) fit in
+    and_from _ _ a.0 (values_fit-set w d.counters s.counters k es a.1 (λ q m. counted_fits w d.counters s.counters k t q a.1 p (bytes_eq q t) refl (sym (h q) ∙ m)))
 
 -- ---- states as they begin
 
@@ -163,13 +164,13 @@ module _ (w : World) where
   starts_fit [] [] h = refl
   starts_fit [] (l ∷ ls) h = absurd h
   starts_fit (r ∷ rs) [] h = absurd h
-  starts_fit (r ∷ rs) (l ∷ ls) h = and_true _ _ (list_all-from_is_in (λ tuple. fits_places w r.places tuple) l (λ q m. first_fits r q r.initial (sym (h.0.has q) ∙ m))) (starts_fit rs ls h.1)
+  starts_fit (r ∷ rs) (l ∷ ls) h = and_from _ _ (list_all-from_is_in (λ tuple. fits_places w r.places tuple) l (λ q m. first_fits r q r.initial (sym (h.0.has q) ∙ m))) (starts_fit rs ls h.1)
 
   starts_rising : (rs : List Relation) (ls : List (List (List ℕ))) → AllZip (StartsAs w) rs ls → list_all is_rising ls ≡ true
   starts_rising [] [] h = refl
   starts_rising [] (l ∷ ls) h = absurd h
   starts_rising (r ∷ rs) [] h = absurd h
-  starts_rising (r ∷ rs) (l ∷ ls) h = and_true _ _ h.0.rising (starts_rising rs ls h.1)
+  starts_rising (r ∷ rs) (l ∷ ls) h = and_from _ _ h.0.rising (starts_rising rs ls h.1)
 
   counts_as : (cs : List Counter) (ls : List (List (List ℕ × ℤ))) → AllZip (CountsAs w) cs ls → (k : ℕ) (q : List ℕ) → count_in (get_or ls k []) q ≡ count_in (get_or (map (λ (c : Counter). map (λ key. (key, c.initial)) (tuples w c.keys)) cs) k []) q
   counts_as [] [] h k q = refl
@@ -182,23 +183,23 @@ module _ (w : World) where
   counts_fit [] [] h = refl
   counts_fit [] (l ∷ ls) h = absurd h
   counts_fit (c ∷ cs) [] h = absurd h
-  counts_fit (c ∷ cs) (l ∷ ls) h = and_true _ _ (by_key w c.keys l ∙ list_all-from_is_in (fits_places w c.keys) (listed_keys l) h.0.listed) (counts_fit cs ls h.1)
+  counts_fit (c ∷ cs) (l ∷ ls) h = and_from _ _ (by_key w c.keys l ∙ list_all-from_is_in (fits_places w c.keys) (listed_keys l) h.0.listed) (counts_fit cs ls h.1)
 
   counts_good : (cs : List Counter) (ls : List (List (List ℕ × ℤ))) → AllZip (CountsAs w) cs ls → list_all is_counts ls ≡ true
   counts_good [] [] h = refl
   counts_good [] (l ∷ ls) h = absurd h
   counts_good (c ∷ cs) [] h = absurd h
-  counts_good (c ∷ cs) (l ∷ ls) h = and_true _ _ h.0.counts (counts_good cs ls h.1)
+  counts_good (c ∷ cs) (l ∷ ls) h = and_from _ _ h.0.counts (counts_good cs ls h.1)
 
   module _ (d : Specification) (s : Listing) (relations : AllZip (StartsAs w) d.relations s.relations) (counters : AllZip (CountsAs w) d.counters s.counters) where
     pub initial_reads : reads s ≡ reads (initial d w)
     initial_reads = λ i. record { has = λ k q. starts_has d.relations s.relations relations k q i; count = λ k q. counts_as d.counters s.counters counters k q i }
 
     pub initial_fits : is_state d w s ≡ true
-    initial_fits = and_true _ _ (starts_fit d.relations s.relations relations) (counts_fit d.counters s.counters counters)
+    initial_fits = and_from _ _ (starts_fit d.relations s.relations relations) (counts_fit d.counters s.counters counters)
 
     pub initial_listing : is_listing s ≡ true
-    initial_listing = and_true _ _ (starts_rising d.relations s.relations relations) (counts_good d.counters s.counters counters)
+    initial_listing = and_from _ _ (starts_rising d.relations s.relations relations) (counts_good d.counters s.counters counters)
 
 -- ---- nothing listed
 
@@ -222,7 +223,7 @@ none_values w [] = refl
 none_values w (c ∷ cs) = none_values w cs
 
 pub none_fits : (d : Specification) (w : World) → is_state d w (none (length d.relations) (length d.counters)) ≡ true
-none_fits d w = and_true _ _ (none_lists w d.relations) (none_values w d.counters)
+none_fits d w = and_from _ _ (none_lists w d.relations) (none_values w d.counters)
 
 rises : (n : ℕ) → list_all is_rising (replicate n []) ≡ true
 rises zero = refl
@@ -233,4 +234,4 @@ good zero = refl
 good (suc n) = good n
 
 pub none_listing : (m n : ℕ) → is_listing (none m n) ≡ true
-none_listing m n = and_true _ _ (rises m) (good n)
+none_listing m n = and_from _ _ (rises m) (good n)

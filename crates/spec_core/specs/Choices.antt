@@ -1,3 +1,4 @@
+-- Tests of choices of elements, sort by sort, as the code makes them; for proofs alone.
 use Rattle.std.specs.Prelude.{ℕ, zero, suc, Bool, true, not, cond, ◌&&◌, List, ◌++◌}
 use Rattle.std.specs.List.{list_all}
 use Rattle.spec_core.specs.declared.world.World.{World}

@@ -1,3 +1,4 @@
+-- How a formula is stored, for the types that hold one; for the check alone.
 use Rattle.std.specs.Prelude.{◌≡◌, refl, Box}
 use Rattle.std.specs.declared.alloc.Global.{Global}
 use Rattle.std.specs.Coded.{Coded, code_by}

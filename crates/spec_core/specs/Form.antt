@@ -1,3 +1,4 @@
+-- Formulas as plain data.
 use Rattle.std.specs.Prelude.{ℕ, List}
 use Rattle.spec_core.specs.declared.formula.Elem.{Elem}
 use Rattle.spec_core.specs.declared.formula.Cmp.{Cmp}

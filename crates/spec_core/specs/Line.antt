@@ -1,3 +1,4 @@
+-- Lines: formulas under a prefix.
 use Rattle.std.specs.Prelude.{ℕ, List}
 use Rattle.spec_core.specs.declared.line.Prefix.{Prefix}
 use Rattle.spec_core.specs.Form.{Form}

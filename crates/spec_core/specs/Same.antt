@@ -1,3 +1,4 @@
+-- When two listed states read the same, as the code tests it; for proofs alone.
 use Rattle.std.specs.Prelude.{ℕ, ℤ, Bool, true, ◌&&◌, List, [], ◌∷◌}
 use Rattle.std.specs.List.{list_all}
 use Rattle.spec_core.specs.State.{Listing, is_in, count_in, listed_keys}

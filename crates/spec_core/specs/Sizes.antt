@@ -1,3 +1,4 @@
+-- Elements that a number of a tuple can hold; for proofs alone.
 use Rattle.std.specs.Prelude.{ℕ, ◌^◌, ℤ, nat_lt, Bool, List}
 use Rattle.spec_core.specs.declared.formula.Elem.{Elem}
 use Rattle.spec_core.specs.declared.world.World.{World}

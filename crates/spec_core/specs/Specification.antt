@@ -1,3 +1,4 @@
+-- Specifications as plain data, and what stands at a place of one.
 use Rattle.std.specs.Prelude.{ℕ, pos, false, List, [], get_or}
 use Rattle.spec_core.specs.declared.spec.Const.{Const}
 use Rattle.spec_core.specs.declared.spec.Relation.{Relation}

@@ -1,3 +1,4 @@
+-- What one relation and one counter list in the initial state; for proofs alone.
 use Rattle.std.specs.Prelude.{◌≡◌, ℕ, ℤ, true, cond, List, [], map}
 use Rattle.spec_core.specs.declared.spec.Relation.{Relation}
 use Rattle.spec_core.specs.declared.spec.Counter.{Counter}

@@ -1,3 +1,4 @@
+-- Updates as plain data.
 use Rattle.std.specs.Prelude.{List}
 use Rattle.spec_core.specs.declared.update.Thing.{Thing}
 use Rattle.spec_core.specs.declared.update.Spot.{Spot}

@@ -1,3 +1,4 @@
+-- The elements and the tuples of a world.
 use Rattle.std.specs.Prelude.{ℕ, zero, suc, List, [], ◌∷◌, ◌++◌, map, slice_index}
 use Rattle.spec_core.specs.declared.world.World.{World}
 

@@ -4,16 +4,17 @@
 // formula, a line and an update, wherever they lie in memory), `Specification` (all that is declared), `State` (a state as it
 // is listed and as it is read), `World` (elements and tuples), `Truth`, `Meaning` (invariant, precondition, observation,
 // initial state), `Fits` (which worlds, calls, states and arguments fit), `Typed` (which specifications are well formed) and
-// `StateText` (the lines that show a state). `Code`, `Sizes`, `Choices`, `Starting` and `Same` serve the proofs alone.
+// `StateText` (the lines that show a state); `Limits` and `Name` have the limits of the language and its names. `Code`, `Sizes`, `Choices`, `Starting` and `Same` serve the proofs alone.
 //
-// Truth is computed over whatever reads like a state, without memory, by `holds`, `line_holds` and `invariant_broken_at`. A
-// `State` holds ordered sets and maps, so that a reading is a look-up.
+// Truth is computed over whatever reads like a state, without memory, by `holds`, `line_holds`, `invariant_broken_at`,
+// `requires_broken_at` and `observes_broken_at`. A `State` holds ordered sets and maps, so that a reading is a look-up.
 #![tactic(auto)]
 
 mod broken_lines;
 mod fits;
 mod formula;
 mod initial;
+mod laws;
 pub mod limits;
 mod line;
 mod lines;
@@ -31,6 +32,7 @@ mod world;
 pub use broken_lines::{observes_broken_at, requires_broken_at};
 pub use fits::is_in_state_range;
 pub use formula::{Body, Cmp, Elem, Formula, Summand, Term};
+pub use laws::{law_operations_fit, law_readings_that_agree};
 pub use line::{Prefix, Prefixed};
 pub use name::{Name, is_word_name};
 pub use operation::{Kind, Operation, Param, Take};

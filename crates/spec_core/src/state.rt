@@ -9,7 +9,7 @@ ghost use Rattle.spec_core.specs.declared.world.World.{World};
 ghost use Rattle.spec_core.specs.Limits.{greatest_value};
 ghost use Rattle.spec_core.specs.Specification.{Specification, relation_places, counter_keys};
 ghost use Rattle.spec_core.specs.State.{reads, nothing, with_has, with_count, is_listed};
-ghost use Rattle.spec_core.specs.StateText.{true_lines, count_lines, state_text};
+ghost use Rattle.spec_core.specs.StateText.{true_lines, count_lines, state_text, listed_text};
 ghost use Rattle.spec_core.specs.Same.{lists_within, values_agree, same_listing};
 ghost use Rattle.spec_core.specs.Meaning.{initial};
 ghost use Rattle.spec_core.specs.Fits.{in_state_range, fits_places, lists_fit, values_fit, is_state, is_listing, world_fits};
@@ -176,15 +176,14 @@ fn write_counters(
     }
 }
 
-/// Appends the `true` and `count` lines of a state: by relation and rising tuple, then by counter and rising key, without
-/// values of 0. A refusal appends nothing.
-pub fn write_state(
+// Appends what is listed, as it stands.
+fn write_listed(
     alloc: Global,
     spec: &Spec,
     state: &State,
     out: &mut Vec<u8>,
 ) -> Result<(), AllocError>
-    ensures ok { OnOk result (out.new.items ≡ out.old.items ++ state_text spec.now state.now) }
+    ensures ok { OnOk result (out.new.items ≡ out.old.items ++ listed_text spec.now state.now) }
     ensures rising { is_listing state.now ≡ true }
     ensures err { OnErr result (out.new.items ≡ out.old.items) }
 {
@@ -197,6 +196,24 @@ pub fn write_state(
     )?;
     write_counters(alloc, spec.counters.as_slice(), &state.counters, &mut text)?;
     out.extend_from_slice(&text)?;
+    Ok(())
+}
+
+/// Appends the `true` and `count` lines of a state: by relation and rising tuple, then by counter and rising key, without
+/// values of 0. Where the state fits a world, the text is that of its readings there, so states with equal readings have one
+/// text. A refusal appends nothing.
+pub fn write_state(
+    alloc: Global,
+    spec: &Spec,
+    state: &State,
+    out: &mut Vec<u8>,
+) -> Result<(), AllocError>
+    ensures text { OnOk result ((w : World) → is_state spec.now w state.now ≡ true → out.new.items ≡ out.old.items ++ state_text spec.now w (reads state.now)) }
+    ensures listed { OnOk result (out.new.items ≡ out.old.items ++ listed_text spec.now state.now) }
+    ensures rising { is_listing state.now ≡ true }
+    ensures err { OnErr result (out.new.items ≡ out.old.items) }
+{
+    write_listed(alloc, spec, state, out)?;
     Ok(())
 }
 

@@ -4,7 +4,8 @@ use Rattle.spec_core.specs.declared.spec.Invariant.{Invariant}
 use Rattle.spec_core.specs.Specification.{Specification}
 use Rattle.spec_core.specs.Typed.{is_specification, is_invariant, is_line}
 use Rattle.spec_core.specs.Truth.{is_exists, line_true}
-use Rattle.spec_core.proofs.Lists.{both, list_all-within}
+use Rattle.std.proofs.lemmas.Bool.{and_parts}
+use Rattle.spec_core.proofs.Lists.{list_all-within}
 use Rattle.spec_core.proofs.Parts.{parts_of}
 use Rattle.spec_core.proofs.Fitting.{line_fits_typed}
 use Rattle.spec_core.proofs.Positions.{position_here, position_later, position_past}
@@ -21,7 +22,7 @@ line_holds-requires-clause-fits g c =
     let lt : c.loop-i.i < length d.invariants = subst (λ (xs : List Invariant). c.loop-i.i < length xs) items c.loop-i-test.true in
     let at : is_invariant d (get_or d.invariants c.loop-i.i item) ≡ true = list_all-within (is_invariant d) d.invariants (parts_of d well).invariants c.loop-i.i item lt in
     let here : is_invariant d item ≡ true = subst (λ (x : Invariant). is_invariant d x ≡ true) (sym c.invariant-item.is) (subst (λ (xs : List Invariant). is_invariant d (get_or xs c.loop-i.i item) ≡ true) (sym items) at) in
-    line_fits_typed d w (both _ _ c.requires).0 [] [] refl item.line (both (not (is_exists item.line.prefix)) (is_line d [] item.line) here).1
+    line_fits_typed d w (and_parts _ _ c.requires).0 [] [] refl item.line (and_parts (not (is_exists item.line.prefix)) (is_line d [] item.line) here).1
 
 pub returns-then-not-line_holds : goal.returns-then-not-line_holds
 returns-then-not-line_holds g c =

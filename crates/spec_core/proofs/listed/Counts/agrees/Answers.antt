@@ -2,7 +2,7 @@ use Rattle.std.proofs.Common.{◌≡◌, List, ℕ, ℤ, map, sym, ap, ◌∙◌
 use Rattle.std.specs.List.{list_all}
 use Rattle.spec_core.specs.State.{count_in, listed_keys}
 use Rattle.spec_core.specs.Truth.{int_eq}
-use Rattle.spec_core.proofs.Choosing.{list_all-map}
+use Rattle.std.proofs.lemmas.List.Folds.{list_all-map}
 use Rattle.spec_core.proofs.Entries.{Key}
 use Rattle.spec_core.proofs.listed.Counts.agrees.Goals as goal
 

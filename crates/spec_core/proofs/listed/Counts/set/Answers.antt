@@ -3,15 +3,15 @@ use Rattle.std.specs.BTreeMap.{insert_entry}
 use Rattle.std.specs.Str.{bytes_eq}
 use Rattle.std.proofs.lemmas.Int.{to_z-of_z}
 use Rattle.spec_core.specs.State.{is_in, count_in, listed_keys}
-use Rattle.spec_core.proofs.Lists.{both, and_true}
+use Rattle.std.proofs.lemmas.Bool.{and_parts, and_from}
 use Rattle.spec_core.proofs.Entries.{counts_of, insert_count, insert_listed, insert_range, in_range, compare, rising_keys}
 use Rattle.spec_core.proofs.listed.Counts.set.Goals as goal
 
 pub invariant_of-self-2 : goal.invariant_of-self-2
 invariant_of-self-2 c =
     let old = c.self.inside.entries.entries in
-    let range = insert_range old c.in_ok-own.own c.args.value c.requires (both _ _ c.self.invariant).1 in
-    and_true _ _ (rising_keys c.insert.new.self.entries c.insert.ensures.ordered)
+    let range = insert_range old c.in_ok-own.own c.args.value c.requires (and_parts _ _ c.self.invariant).1 in
+    and_from _ _ (rising_keys c.insert.new.self.entries c.insert.ensures.ordered)
     (ap (λ es. in_range (counts_of es)) c.in_ok-insert.ensures.entries ∙ subst (λ v. in_range (counts_of (insert_entry compare old c.in_ok-own.own v)) ≡ true) (sym (to_z-of_z w64 c.args.value c.ranges.value)) range)
 
 pub returns-clause-ok : goal.returns-clause-ok
@@ -36,6 +36,6 @@ returns-clause-listed c = λ q.
 pub returns-clause-counts : goal.returns-clause-counts
 returns-clause-counts c =
     let old = c.self.inside.entries.entries in
-    let range = insert_range old c.in_ok-own.own c.args.value c.requires (both _ _ c.self.invariant).1 in
-    and_true _ _ (rising_keys c.insert.new.self.entries c.insert.ensures.ordered)
+    let range = insert_range old c.in_ok-own.own c.args.value c.requires (and_parts _ _ c.self.invariant).1 in
+    and_from _ _ (rising_keys c.insert.new.self.entries c.insert.ensures.ordered)
     (ap (λ es. in_range (counts_of es)) c.in_ok-insert.ensures.entries ∙ subst (λ v. in_range (counts_of (insert_entry compare old c.in_ok-own.own v)) ≡ true) (sym (to_z-of_z w64 c.args.value c.ranges.value)) range)

@@ -1,7 +1,7 @@
 use Rattle.std.proofs.Common.{◌≡◌, sym, ap, ◌∙◌}
 use Rattle.std.specs.List.{list_all}
 use Rattle.spec_core.specs.Fits.{fits_places}
-use Rattle.spec_core.proofs.Choosing.{list_all-map}
+use Rattle.std.proofs.lemmas.List.Folds.{list_all-map}
 use Rattle.spec_core.proofs.Entries.{Key}
 use Rattle.spec_core.proofs.listed.Tuples.fits.Goals as goal
 

@@ -3,14 +3,14 @@ use Rattle.std.proofs.lemmas.List.{get_or_default}
 use Rattle.std.specs.Str.{bytes_eq}
 use Rattle.spec_core.specs.State.{Listing, is_in, listed_keys}
 use Rattle.spec_core.specs.Fits.{is_counts, is_state}
-use Rattle.spec_core.proofs.Lists.{both, and_true}
+use Rattle.std.proofs.lemmas.Bool.{and_parts, and_from}
 use Rattle.spec_core.proofs.States.{list_all-set, state_with_counts}
 use Rattle.spec_core.proofs.state.State.set_count.Goals as goal
 
 pub invariant_of-self-2 : goal.invariant_of-self-2
 invariant_of-self-2 c =
-    let p = both _ _ c.self.invariant in
-    and_true _ _ p.0 (list_all-set is_counts c.self.inside.counters.items c.args.counter c.set.new.self p.1 c.set.ensures.counts)
+    let p = and_parts _ _ c.self.invariant in
+    and_from _ _ p.0 (list_all-set is_counts c.self.inside.counters.items c.args.counter c.set.new.self p.1 c.set.ensures.counts)
 
 pub returns-clause-fits : goal.returns-clause-fits
 returns-clause-fits c = λ d w fit keys.

@@ -3,14 +3,14 @@ use Rattle.std.proofs.lemmas.List.{get_or_default}
 use Rattle.std.specs.Str.{bytes_eq}
 use Rattle.spec_core.specs.State.{Listing, is_in, is_rising}
 use Rattle.spec_core.specs.Fits.{is_state}
-use Rattle.spec_core.proofs.Lists.{both, and_true}
+use Rattle.std.proofs.lemmas.Bool.{and_parts, and_from}
 use Rattle.spec_core.proofs.States.{list_all-set, state_with_tuples}
 use Rattle.spec_core.proofs.state.State.set_has.Goals as goal
 
 pub invariant_of-self-2 : goal.invariant_of-self-2
 invariant_of-self-2 c =
-    let p = both _ _ c.self.invariant in
-    and_true _ _ (list_all-set is_rising c.self.inside.relations.items c.args.relation c.set.new.self p.0 c.set.ensures.rising) p.1
+    let p = and_parts _ _ c.self.invariant in
+    and_from _ _ (list_all-set is_rising c.self.inside.relations.items c.args.relation c.set.new.self p.0 c.set.ensures.rising) p.1
 
 pub returns-clause-fits : goal.returns-clause-fits
 returns-clause-fits c = λ d w fit places.

@@ -1,0 +1,5 @@
+use Rattle.spec_core.proofs.Operations.{CallParts, call_parts}
+use Rattle.spec_core.proofs.laws.law_operations_fit.Goals as goal
+
+pub returns : goal.returns
+returns c = λ d w call well world fits. (call_parts d w call well world fits).fits
