@@ -1,10 +1,8 @@
 // The evidence of undecided verdicts: too many rows, and numbers beyond the range.
 use crate::making::{bad, lit, many_rows, row, rows};
 use items::Items;
-use proof_kernel::{
-    Kernel, KernelRefused, Lit, Problem, RangeEvidence, RangeWhat, RowsEvidence, Why, check_range,
-    check_rows,
-};
+use proof_kernel::{Kernel, KernelRefused, check_range, check_rows};
+use proof_lines::{Lit, Problem, RangeEvidence, RangeWhat, RowsEvidence, Why};
 use std::alloc::{AllocError, Global};
 
 fn told_rows(alloc: Global, problem: &Problem, used: &[Lit]) -> Result<(), KernelRefused> {
@@ -53,6 +51,7 @@ fn small_rows_are_no_evidence(rt: HostRuntime) {
     let kernel = Kernel::new(alloc, problem).expect(&rt, "memory");
     assert_eq!(rt; kernel.rows_hold(&[], &[]), Ok(false));
     assert_eq!(rt; kernel.range_holds(&used, &[], &product()), Ok(false));
+    drop(kernel);
 }
 
 fn product() -> RangeWhat {
@@ -75,6 +74,33 @@ fn a_sum_beyond_the_range_is_evidence(rt: HostRuntime) {
     let problem = great(alloc).expect(&rt, "memory");
     let used = [lit(0, true), lit(1, true)];
     assert_eq!(rt; told_range(alloc, &problem, &used, product()), Ok(()));
+    drop(problem);
+}
+
+// Putting a value for `x1` into the first row.
+fn with_value(alloc: Global, value: i128) -> Result<RangeWhat, AllocError> {
+    let values = Items::from_slice(alloc, &[value])?;
+    Ok(RangeWhat::Sum {
+        row: 0,
+        place: 0,
+        values,
+    })
+}
+
+// Four times 2^126 leaves the range of a row, and 2^126 doesn't.
+#[test]
+fn a_value_whose_product_leaves_the_range_is_evidence(rt: HostRuntime) {
+    let alloc = rt.alloc();
+    let problem = great(alloc).expect(&rt, "memory");
+    let used = [lit(0, true)];
+    let four = with_value(alloc, 4).expect(&rt, "memory");
+    assert_eq!(rt; told_range(alloc, &problem, &used, four), Ok(()));
+    let one = with_value(alloc, 1).expect(&rt, "memory");
+    assert_eq!(rt;
+        told_range(alloc, &problem, &used, one),
+        Err(bad(0, Why::Evidence))
+    );
+    drop(problem);
 }
 
 #[test]
@@ -83,6 +109,8 @@ fn ten_thousand_rows_are_evidence(rt: HostRuntime) {
     let problem = many_rows(alloc, 10_000).expect(&rt, "memory");
     let used = many_lits(alloc, 10_000).expect(&rt, "memory");
     assert_eq!(rt; told_rows(alloc, &problem, used.as_slice()), Ok(()));
+    drop(problem);
+    drop(used);
 }
 
 fn many_lits(alloc: Global, count: u32) -> Result<Vec<Lit>, AllocError> {

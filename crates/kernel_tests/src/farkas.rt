@@ -1,6 +1,6 @@
 // Farkas lines over the rows `x0 <= 0` (atom 0) and `-x0 <= -1` (atom 1); atom 2 is plain.
 use crate::making::{answer, both, farkas, lit, row, rows};
-use proof_kernel::{Line, LineRefused, Lit, Problem, RowStep, Why};
+use proof_lines::{Line, LineRefused, Lit, Problem, RowStep, Why};
 use std::alloc::{AllocError, Global};
 
 fn apart(alloc: Global) -> Result<Problem, AllocError> {
@@ -72,4 +72,5 @@ fn the_opposite_of_a_row_may_leave_the_range(rt: HostRuntime) {
         answer(alloc, &problem, line),
         Err(LineRefused::Bad(Why::Range))
     );
+    drop(problem);
 }

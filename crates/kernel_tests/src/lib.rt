@@ -2,8 +2,8 @@
 //
 // The kernel's contracts say exactly what each call answers. The table shows the same on small examples, so that a reader can
 // compare his own reading of docs/REPORT.md with what runs. It stands in a crate of its own so that the kernel stays small. A
-// problem is written by `making`; `logs` has plain clauses, `farkas` and `splits` the lines over rows, `evidence` the evidence of
-// undecided verdicts.
+// problem is written by `making`; `rows` has the arithmetic of rows, `logs` plain clauses, `farkas` and `splits` the lines over
+// rows, `evidence` the evidence of undecided verdicts.
 #![tactic(auto)]
 
 #[cfg(test)]
@@ -14,5 +14,7 @@ mod farkas;
 mod logs;
 #[cfg(test)]
 mod making;
+#[cfg(test)]
+mod rows;
 #[cfg(test)]
 mod splits;

@@ -3,10 +3,9 @@ ghost use Rattle.std.specs.Prelude.{◌≡◌};
 ghost use Rattle.lin_rows.specs.Numbers.{in_range};
 
 use items::Items;
-use lin_rows::{RowTerm, row_of};
-use proof_kernel::{
-    AtomKind, Clause, Kernel, KernelRefused, Line, LineRefused, Lit, Problem, RowStep, Why,
-};
+use lin_rows::{Row, RowTerm, row_of};
+use proof_kernel::{Kernel, KernelRefused};
+use proof_lines::{AtomKind, Clause, Line, LineRefused, Lit, Problem, RowStep, Why};
 use std::alloc::{AllocError, Global};
 
 pub fn lit(atom: u32, positive: bool) -> Lit {
@@ -50,8 +49,8 @@ fn fits(number: i128) -> bool
     number != i128::MIN
 }
 
-// An atom for the row `first * x0 + second * x1 <= bound`.
-pub fn row(alloc: Global, first: i128, second: i128, bound: i128) -> Result<AtomKind, AllocError> {
+// The row `first * x0 + second * x1 <= bound`.
+pub fn linear(alloc: Global, first: i128, second: i128, bound: i128) -> Result<Row, AllocError> {
     if !fits(first) || !fits(second) || !fits(bound) {
         return Err(AllocError);
     }
@@ -66,9 +65,14 @@ pub fn row(alloc: Global, first: i128, second: i128, bound: i128) -> Result<Atom
         },
     ];
     match row_of(alloc, &terms, bound) {
-        Ok(row) => Ok(AtomKind::Row(row)),
+        Ok(row) => Ok(row),
         Err(_) => Err(AllocError),
     }
+}
+
+// An atom for that row.
+pub fn row(alloc: Global, first: i128, second: i128, bound: i128) -> Result<AtomKind, AllocError> {
+    Ok(AtomKind::Row(linear(alloc, first, second, bound)?))
 }
 
 fn made(atoms: Items<AtomKind>, ints: u32, clauses: Items<Clause>) -> Result<Problem, AllocError> {

@@ -2,7 +2,8 @@
 // at most and at least a half, so the atom `x0 <= 0` splits them.
 use crate::making::{answer, both, lit, row, rows};
 use items::Items;
-use proof_kernel::{Kernel, Line, LineRefused, Lit, Problem, RowStep, Why};
+use proof_kernel::Kernel;
+use proof_lines::{Line, LineRefused, Lit, Problem, RowStep, Why};
 use std::alloc::{AllocError, Global};
 
 fn half(alloc: Global) -> Result<Problem, AllocError> {
@@ -62,6 +63,8 @@ fn a_gap_is_split_once(rt: HostRuntime) {
     assert_eq!(rt; kernel.atom_count(), 4);
     assert_eq!(rt; kernel.add(&line), Err(LineRefused::Bad(Why::SplitAgain)));
     assert_eq!(rt; kernel.clause_count(), 0);
+    drop(kernel);
+    drop(line);
 }
 
 #[test]
@@ -74,6 +77,7 @@ fn places_of_a_split_are_tested(rt: HostRuntime) {
     let problem = half(alloc).expect(&rt, "memory");
     let unused = split(alloc, &GOOD, &[], &[]).expect(&rt, "memory");
     assert_eq!(rt; answer(alloc, &problem, unused), place);
+    drop(problem);
 }
 
 #[test]
@@ -131,4 +135,5 @@ fn steps_of_a_split_are_tested(rt: HostRuntime) {
         answer(alloc, &problem, line),
         Err(LineRefused::Bad(Why::Multiplier))
     );
+    drop(problem);
 }

@@ -5,13 +5,15 @@ use Rattle.std.proofs.lemmas.Bool.Decides.{nat_tests}
 use Rattle.std.proofs.lemmas.List.Folds.{list_any-append}
 use Rattle.std.proofs.lemmas.List.{length-set, get_or_default}
 use Rattle.std.proofs.lemmas.Nat.{mod_below}
-use Rattle.proof_kernel.specs.declared.clause.Lit.{Lit}
+use Rattle.proof_lines.specs.declared.clause.Lit.{Lit}
 use Rattle.proof_kernel.specs.declared.freshness.Entry.{Entry}
-use Rattle.proof_kernel.specs.Clauses.{has, sub}
-use Rattle.proof_kernel.specs.Rules.{stands_in, live_of}
+use Rattle.proof_lines.specs.Clauses.{has, sub}
+use Rattle.proof_kernel.specs.Rules.{live_of}
+use Rattle.proof_lines.specs.Numbers.{stands_in}
 use Rattle.proof_kernel.specs.Evidence.{is_new, each_new}
 use Rattle.proof_kernel.specs.Index.{spot, spots, HasNoEntry, slot_new, slot_within, entry_within, finds, IsIndex, PutsOne, with_marks, marked, finds_marked, HasNoMark}
-use Rattle.proof_kernel.proofs.Sets.{both, or_left, or_right, has-cases, same_nat, same_nat-refl}
+use Rattle.std.proofs.lemmas.Bool.{and_parts, or_left, or_right, eqb-true}
+use Rattle.proof_lines.proofs.Sets.{has-cases, same_nat-refl}
 use Rattle.proof_kernel.proofs.States.{live_of-next}
 
 zero-suc : (k : ℕ) → (0 == suc k) ≡ false
@@ -47,10 +49,10 @@ has-spot m (x ∷ c) l h = elim (has-cases x c l h) [
 
 sub-spots : (m : ℕ) (d c : List Lit) (k : ℕ) → sub d c ≡ true → stands_in (map (spot m) d) k ≡ true → stands_in (map (spot m) c) k ≡ true
 sub-spots m [] c k h s = absurd cc
-sub-spots m (x ∷ d) c k h s = by_case (sub-spots m d c k (both (has c x) (sub d c) h).1) (spot m x == k) refl s
+sub-spots m (x ∷ d) c k h s = by_case (sub-spots m d c k (and_parts (has c x) (sub d c) h).1) (spot m x == k) refl s
   where
     by_case : (stands_in (map (spot m) d) k ≡ true → stands_in (map (spot m) c) k ≡ true) → (b : Bool) → (spot m x == k) ≡ b → (b || stands_in (map (spot m) d) k) ≡ true → stands_in (map (spot m) c) k ≡ true
-    by_case ih true e s = subst (λ (z : ℕ). stands_in (map (spot m) c) z ≡ true) (same_nat (spot m x) k e) (has-spot m c x (both (has c x) (sub d c) h).0)
+    by_case ih true e s = subst (λ (z : ℕ). stands_in (map (spot m) c) z ≡ true) (eqb-true (spot m x) k e) (has-spot m c x (and_parts (has c x) (sub d c) h).0)
     by_case ih false e s = ih s
 
 sub-all_spots : (m : ℕ) (d c : List Lit) (k : ℕ) → sub d c ≡ true → stands_in (spots m d) k ≡ true → stands_in (spots m c) k ≡ true

@@ -1,9 +1,4 @@
-pub mod Sets
 pub mod States
-pub mod Sound
-pub mod Certificates
-pub mod Gap
-pub mod Points
 pub mod Lines
 pub mod Index
 pub mod Pairs

@@ -1,26 +1,30 @@
-use Rattle.std.proofs.Common.{◌≡◌, ℕ, zero, suc, Bool, true, false, not, cond, ◌&&◌, ◌||◌, List, [], ◌∷◌, ◌++◌, length, refl, sym, ◌∙◌, ap, subst, arith, Option, Some, Result, Ok, Err}
-use Rattle.std.specs.Prelude.{slice_get, nat_lt, ℤ, OnOk, MatchResult}
+-- Soundness: what makes the clauses that stand true makes those true that stand after a line.
+use Rattle.std.proofs.Common.{◌≡◌, ℕ, zero, suc, Bool, true, false, not, cond, ◌&&◌, ◌||◌, List, [], ◌∷◌, ◌++◌, length, map, refl, sym, ◌∙◌, ap, subst, arith, Option, Some, Result, Ok, Err}
+use Rattle.std.specs.Prelude.{slice_get, nat_lt, ℤ, OnOk, IfOk, MatchResult}
 use Rattle.std.specs.List.{list_any, list_all}
 use Rattle.std.proofs.lemmas.Bool.Decides.{nat_tests}
 use Rattle.std.proofs.lemmas.List.Folds.{list_all-append}
 use Rattle.lin_rows.specs.Rows.{Row}
-use Rattle.proof_kernel.specs.declared.clause.Lit.{Lit}
-use Rattle.proof_kernel.specs.declared.problem.AtomKind.{AtomKind}
-use Rattle.proof_kernel.specs.declared.problem.AtomKind.TheVariants.{Row as OfRow}
-use Rattle.proof_kernel.specs.declared.line.RowStep.{RowStep}
-use Rattle.proof_kernel.specs.declared.line.Line.{Line}
-use Rattle.proof_kernel.specs.declared.line.Line.TheVariants.{Resolve, Farkas, Split, Drop}
-use Rattle.proof_kernel.specs.declared.line.LineRefused.{LineRefused}
-use Rattle.proof_kernel.specs.declared.line.Why.{Why}
-use Rattle.proof_kernel.specs.declared.line.Why.TheVariants.{Place, Pivot, Contradiction, SplitAgain, Dropped}
-use Rattle.proof_kernel.specs.Clauses.{is_empty, has, lit_of, same_bool, clause_true, all_true, resolvent, negations}
-use Rattle.proof_kernel.specs.Problems.{Meaning, atom_true, kind_true, atoms_below}
-use Rattle.proof_kernel.specs.Steps.{then_, line_rows, ends_badly, row_at, split_fits, split_cause}
-use Rattle.proof_kernel.specs.Rules.{State, StateFits, next, holds, live_of, is_live, clause_at, grown, named, at_most, resolved, combined, combined_after, split, split_after, dropped, without_clauses, are_different, is_some_number, is_at_most, cleared}
-use Rattle.proof_kernel.specs.Answers.{IsTold}
-use Rattle.proof_kernel.proofs.Sets.{both, resolvent-true}
-use Rattle.proof_kernel.proofs.States.{and_true, live_of-push, all-live_of, all-cleared}
-use Rattle.proof_kernel.proofs.Sound.{ok_is, farkas-true}
+use Rattle.proof_lines.specs.declared.clause.Lit.{Lit}
+use Rattle.proof_lines.specs.declared.problem.AtomKind.{AtomKind}
+use Rattle.proof_lines.specs.declared.problem.AtomKind.TheVariants.{Row as OfRow}
+use Rattle.proof_lines.specs.declared.line.RowStep.{RowStep}
+use Rattle.proof_lines.specs.declared.line.Line.{Line}
+use Rattle.proof_lines.specs.declared.line.Line.TheVariants.{Resolve, Farkas, Split, Drop}
+use Rattle.proof_lines.specs.declared.line.LineRefused.{LineRefused}
+use Rattle.proof_lines.specs.declared.line.Why.{Why}
+use Rattle.proof_lines.specs.declared.line.Why.TheVariants.{Place, Pivot, Contradiction, SplitAgain, Dropped}
+use Rattle.proof_lines.specs.Clauses.{is_empty, has, lit_of, same_bool, clause_true, all_true, resolvent, negations}
+use Rattle.proof_lines.specs.Problems.{Meaning, atom_true, kind_true, atoms_below, PlainProblem, makes_true}
+use Rattle.proof_lines.specs.Refusals.{then_, IsTold}
+use Rattle.proof_lines.specs.Steps.{line_rows, ends_badly, row_at}
+use Rattle.proof_lines.specs.Splits.{split_fits, split_cause, at_most, is_at_most}
+use Rattle.proof_kernel.specs.Rules.{State, StateFits, next, holds, live_of, is_live, clause_at, grown, named, resolved, combined, combined_after, split, split_after, dropped, without_clauses, is_some_number, cleared, start}
+use Rattle.proof_lines.specs.Numbers.{are_different}
+use Rattle.std.proofs.lemmas.Bool.{and_parts, and_from}
+use Rattle.proof_lines.proofs.Sets.{resolvent-true}
+use Rattle.proof_kernel.proofs.States.{live_of-push, all-live_of, all-cleared, live_of-map}
+use Rattle.proof_lines.proofs.Sound.{ok_is, farkas-true, none_empty}
 
 -- one rule after the other
 pub record Went {A B : Type 0} (o : Result A Why) (f : A → Result B Why) (b : B) : Type 0 where
@@ -32,13 +36,25 @@ then-went : {A B : Type 0} (o : Result A Why) (f : A → Result B Why) (b : B) �
 then-went (Ok a) f b h = record { first = a; is = refl; second = h }
 then-went (Err w) f b h = absurd cc
 
+-- what stands before the first line
+pub start-holds : (m : Meaning) (p : PlainProblem) → makes_true m p ≡ true → holds m (start p) ≡ true
+start-holds m p h =
+    let v = atom_true m p.atoms in
+    and_from (all_true v (live_of (map (λ c. Some c) p.clauses))) (not (list_any is_empty p.clauses))
+    (rw (live_of-map p.clauses) h)
+    (ap not (none_empty v p.clauses h))
+
+pub begun-sound : {E : Type 0} (p : PlainProblem) (r : Result State E) → IfOk r (λ s. s ≡ start p) → IfOk r (λ s. (m : Meaning) → makes_true m p ≡ true → holds m s ≡ true)
+begun-sound p (Ok s) e = λ m h. subst (λ (z : State). holds m z ≡ true) (sym e) (start-holds m p h)
+begun-sound p (Err x) e = e
+
 -- one true clause more
 grown-holds : (m : Meaning) (s : State) (c : List Lit) → holds m s ≡ true → clause_true (atom_true m s.atoms) c ≡ true → holds m (grown s c) ≡ true
 grown-holds m s c h t =
     let v = atom_true m s.atoms in
-    let p = both (all_true v (live_of s.slots)) (not s.empty) h in
-    and_true (all_true v (live_of (s.slots ++ Some c ∷ []))) (not (s.empty || is_empty c))
-    (rw (live_of-push s.slots c, list_all-append) (and_true (all_true v (live_of s.slots)) (clause_true v c && true) p.0 (and_true (clause_true v c) true t refl)))
+    let p = and_parts (all_true v (live_of s.slots)) (not s.empty) h in
+    and_from (all_true v (live_of (s.slots ++ Some c ∷ []))) (not (s.empty || is_empty c))
+    (rw (live_of-push s.slots c, list_all-append) (and_from (all_true v (live_of s.slots)) (clause_true v c && true) p.0 (and_from (clause_true v c) true t refl)))
     (not_either s.empty (is_empty c) p.1 (not_empty c t))
   where
     not_empty : (c : List Lit) → clause_true (atom_true m s.atoms) c ≡ true → is_empty c ≡ false
@@ -52,8 +68,8 @@ grown-holds m s c h t =
 cleared-holds : (m : Meaning) (s : State) (ns : List ℕ) → holds m s ≡ true → holds m (without_clauses s ns) ≡ true
 cleared-holds m s ns h =
     let v = atom_true m s.atoms in
-    let p = both (all_true v (live_of s.slots)) (not s.empty) h in
-    and_true (all_true v (live_of (cleared s.slots ns))) (not s.empty) (all-cleared (clause_true v) s.slots ns p.0) p.1
+    let p = and_parts (all_true v (live_of s.slots)) (not s.empty) h in
+    and_from (all_true v (live_of (cleared s.slots ns))) (not s.empty) (all-cleared (clause_true v) s.slots ns p.0) p.1
 
 -- one atom more, which no clause names
 get-append : (atoms more : List AtomKind) (a : ℕ) → nat_lt a (length atoms) ≡ true → slice_get (atoms ++ more) a ≡ slice_get atoms a
@@ -64,7 +80,7 @@ get-append (k ∷ atoms) more (suc a) h = get-append atoms more a (grind (arith,
 true-agree : (v w : ℕ → Bool) (n : ℕ) (c : List Lit) → ((a : ℕ) → nat_lt a n ≡ true → v a ≡ w a) → atoms_below n c ≡ true → clause_true v c ≡ clause_true w c
 true-agree v w n [] f h = refl
 true-agree v w n (l ∷ c) f h =
-    let p = both (nat_lt l.atom n) (atoms_below n c) h in
+    let p = and_parts (nat_lt l.atom n) (atoms_below n c) h in
     let e = f l.atom p.0 in
     let g = true-agree v w n c f p.1 in
     λ i. same_bool (e i) l.positive || g i
@@ -72,7 +88,7 @@ true-agree v w n (l ∷ c) f h =
 all-agree : (v w : ℕ → Bool) (n : ℕ) (cs : List (List Lit)) → ((a : ℕ) → nat_lt a n ≡ true → v a ≡ w a) → list_all (atoms_below n) cs ≡ true → all_true v cs ≡ all_true w cs
 all-agree v w n [] f h = refl
 all-agree v w n (c ∷ cs) f h =
-    let p = both (atoms_below n c) (list_all (atoms_below n) cs) h in
+    let p = and_parts (atoms_below n c) (list_all (atoms_below n) cs) h in
     let e = true-agree v w n c f p.0 in
     let g = all-agree v w n cs f p.1 in
     λ i. e i && g i
@@ -82,8 +98,8 @@ named-holds m s r f h =
     let more : List AtomKind = OfRow r ∷ [] in
     let agree = all-agree (atom_true m s.atoms) (atom_true m (s.atoms ++ more)) (length s.atoms) (live_of s.slots)
     (λ a l. ap (λ (o : Option AtomKind). kind_true m a o) (sym (get-append s.atoms more a l))) f.atoms_named in
-    let p = both (all_true (atom_true m s.atoms) (live_of s.slots)) (not s.empty) h in
-    and_true (all_true (atom_true m (s.atoms ++ more)) (live_of s.slots)) (not s.empty) (sym agree ∙ p.0) p.1
+    let p = and_parts (all_true (atom_true m s.atoms) (live_of s.slots)) (not s.empty) h in
+    and_from (all_true (atom_true m (s.atoms ++ more)) (live_of s.slots)) (not s.empty) (sym agree ∙ p.0) p.1
 
 -- THE RULES
 resolved-sound : (s : State) (left right pivot : ℕ) (t : State) → resolved s left right pivot ≡ Ok t → (m : Meaning) → holds m s ≡ true → holds m t ≡ true
@@ -97,8 +113,8 @@ resolved-sound s left right pivot t h m k =
     by_case : (a b e : Bool) → (is_live s left && is_live s right) ≡ b
         → cond a (cond b (cond e (Ok (grown s (resolvent pivot (clause_at s left) (clause_at s right)))) (Err Pivot)) (Err Dropped)) (Err Place) ≡ Ok t → holds m t ≡ true
     by_case true true true l h =
-        let p = both (is_live s left) (is_live s right) l in
-        let q = both (all_true v (live_of s.slots)) (not s.empty) k in
+        let p = and_parts (is_live s left) (is_live s right) l in
+        let q = and_parts (all_true v (live_of s.slots)) (not s.empty) k in
         let c = resolvent-true v pivot (clause_at s left) (clause_at s right) (all-live_of (clause_true v) s.slots left p.0 q.0) (all-live_of (clause_true v) s.slots right p.1 q.0) in
         subst (λ (z : State). holds m z ≡ true) (ok_is _ t _ refl h) (grown-holds m s (resolvent pivot (clause_at s left) (clause_at s right)) k c)
     by_case true true false l h = absurd cc

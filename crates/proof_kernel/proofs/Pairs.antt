@@ -5,9 +5,9 @@ use Rattle.std.specs.Ordering.{int_eq}
 use Rattle.std.specs.HashSet.{HashSet, Updates}
 use Rattle.std.proofs.lemmas.List.Folds.{list_any-append}
 use Rattle.lin_rows.specs.declared.term.RowTerm.{RowTerm}
-use Rattle.proof_kernel.specs.declared.problem.AtomKind.{AtomKind}
-use Rattle.proof_kernel.specs.declared.problem.AtomKind.TheVariants.{Plain, Row as OfRow}
-use Rattle.proof_kernel.specs.Rules.{is_at_most}
+use Rattle.proof_lines.specs.declared.problem.AtomKind.{AtomKind}
+use Rattle.proof_lines.specs.declared.problem.AtomKind.TheVariants.{Plain, Row as OfRow}
+use Rattle.proof_lines.specs.Splits.{is_at_most}
 use Rattle.proof_kernel.specs.Atoms.{same_pair, has_pair, pair_of, pair_at, is_pair}
 
 -- the pair of an atom says which row `place <= at` it has

@@ -1,23 +1,18 @@
+-- The state of a kernel: its live clauses, and what it keeps.
 use Rattle.std.proofs.Common.{◌≡◌, ℕ, zero, suc, ◌+◌, ◌<◌, ◌≤◌, ◌^◌, Bool, true, false, not, cond, ◌&&◌, List, [], ◌∷◌, ◌++◌, length, map, set, get_or, take, refl, sym, ◌∙◌, ap, subst, arith, Option, Some, None, length-append, append-nil, drop, drop-cons}
-use Rattle.std.specs.Prelude.{slice_index_or, slice_set, is_some, nat_lt, Ok, Err}
+use Rattle.std.specs.Prelude.{slice_index_or, slice_set, is_some}
 use Rattle.std.specs.List.{list_all}
-use Rattle.std.proofs.lemmas.Bool.Decides.{nat_tests}
 use Rattle.std.proofs.lemmas.List.Folds.{list_all-append}
 use Rattle.lin_rows.specs.Rows.{Row, is_row, places_below}
-use Rattle.proof_kernel.specs.declared.clause.Lit.{Lit}
-use Rattle.proof_kernel.specs.declared.problem.AtomKind.{AtomKind}
-use Rattle.proof_kernel.specs.declared.problem.AtomKind.TheVariants.{Row as OfRow}
-use Rattle.proof_kernel.specs.declared.line.RowStep.{RowStep}
-use Rattle.proof_kernel.specs.declared.line.Why.TheVariants.{Place, Range}
-use Rattle.proof_kernel.specs.Steps.{then_, or_broken, atom_row, has_row, is_some_literal, lit_rows, with_steps, line_rows}
-use Rattle.proof_kernel.specs.Clauses.{has, same_lit, insert, join, without, lit_of, resolvent, flip, negations}
-use Rattle.proof_kernel.specs.Problems.{PlainProblem, atoms_below, names_below, has_good_row, fits}
-use Rattle.proof_kernel.specs.Rules.{State, StateFits, live_of, live_clause, clause_or_empty, cleared, are_different, stands_in}
+use Rattle.proof_lines.specs.declared.clause.Lit.{Lit}
+use Rattle.proof_lines.specs.declared.problem.AtomKind.{AtomKind}
+use Rattle.proof_lines.specs.declared.problem.AtomKind.TheVariants.{Row as OfRow}
+use Rattle.proof_lines.specs.Problems.{PlainProblem, atoms_below, names_below, has_good_row, fits}
+use Rattle.proof_kernel.specs.Rules.{State, StateFits, live_of, live_clause, clause_or_empty, cleared}
+use Rattle.proof_lines.specs.Numbers.{are_different, stands_in}
 use Rattle.proof_kernel.specs.Evidence.{is_new, each_new}
-use Rattle.proof_kernel.proofs.Sets.{both}
-
-pub and_true : (a b : Bool) → a ≡ true → b ≡ true → (a && b) ≡ true
-and_true a b p q = grind arith
+use Rattle.std.proofs.lemmas.Bool.{and_parts, and_from}
+use Rattle.proof_lines.proofs.Names.{all-weaker}
 
 -- the live clauses
 pub live_of-push : (slots : List (Option (List Lit))) (c : List Lit) → live_of (slots ++ Some c ∷ []) ≡ live_of slots ++ c ∷ []
@@ -38,19 +33,19 @@ length-live_of (None ∷ slots) = let h = length-live_of slots in omega (arith, 
 pub all-live_of : (p : List Lit → Bool) (slots : List (Option (List Lit))) (i : ℕ) → is_some (slice_index_or slots i None) ≡ true
     → list_all p (live_of slots) ≡ true → p (clause_or_empty (slice_index_or slots i None)) ≡ true
 all-live_of p [] i s h = absurd cc
-all-live_of p (Some c ∷ slots) zero s h = (both (p c) (list_all p (live_of slots)) h).0
+all-live_of p (Some c ∷ slots) zero s h = (and_parts (p c) (list_all p (live_of slots)) h).0
 all-live_of p (None ∷ slots) zero s h = absurd cc
-all-live_of p (Some c ∷ slots) (suc i) s h = all-live_of p slots i s (both (p c) (list_all p (live_of slots)) h).1
+all-live_of p (Some c ∷ slots) (suc i) s h = all-live_of p slots i s (and_parts (p c) (list_all p (live_of slots)) h).1
 all-live_of p (None ∷ slots) (suc i) s h = all-live_of p slots i s h
 
 -- and of those that are left
 pub all-set_none : (p : List Lit → Bool) (slots : List (Option (List Lit))) (i : ℕ) → list_all p (live_of slots) ≡ true → list_all p (live_of (set slots i None)) ≡ true
 all-set_none p [] i h = refl
-all-set_none p (Some c ∷ slots) zero h = (both (p c) (list_all p (live_of slots)) h).1
+all-set_none p (Some c ∷ slots) zero h = (and_parts (p c) (list_all p (live_of slots)) h).1
 all-set_none p (None ∷ slots) zero h = h
 all-set_none p (Some c ∷ slots) (suc i) h =
-    let q = both (p c) (list_all p (live_of slots)) h in
-    and_true (p c) (list_all p (live_of (set slots i None))) q.0 (all-set_none p slots i q.1)
+    let q = and_parts (p c) (list_all p (live_of slots)) h in
+    and_from (p c) (list_all p (live_of (set slots i None))) q.0 (all-set_none p slots i q.1)
 all-set_none p (None ∷ slots) (suc i) h = all-set_none p slots i h
 
 pub all-cleared : (p : List Lit → Bool) (slots : List (Option (List Lit))) (ns : List ℕ) → list_all p (live_of slots) ≡ true → list_all p (live_of (cleared slots ns)) ≡ true
@@ -66,29 +61,6 @@ length-cleared slots (n ∷ ns) = length-cleared (slice_set slots n None) ns ∙
     length-set_none (x ∷ xs) zero = refl
     length-set_none (x ∷ xs) (suc i) = ap suc (length-set_none xs i)
 
--- what holds of all literals of two clauses holds of those of their resolvent
-pub all-without : (p : Lit → Bool) (l : Lit) (c : List Lit) → list_all p c ≡ true → list_all p (without l c) ≡ true
-all-without p l [] h = refl
-all-without p l (x ∷ c) h = by_case (not (same_lit x l)) (both (p x) (list_all p c) h) (all-without p l c)
-  where
-    by_case : (b : Bool) → (p x ≡ true) × (list_all p c ≡ true) → (list_all p c ≡ true → list_all p (without l c) ≡ true) → list_all p (cond b (x ∷ without l c) (without l c)) ≡ true
-    by_case true q ih = and_true (p x) (list_all p (without l c)) q.0 (ih q.1)
-    by_case false q ih = ih q.1
-
-pub all-insert : (p : Lit → Bool) (c : List Lit) (l : Lit) → list_all p c ≡ true → p l ≡ true → list_all p (insert c l) ≡ true
-all-insert p c l h t = by_case (has c l)
-  where
-    by_case : (b : Bool) → list_all p (cond b c (c ++ l ∷ [])) ≡ true
-    by_case true = h
-    by_case false = rw list_all-append (and_true (list_all p c) (p l && true) h (and_true (p l) true t refl))
-
-pub all-join : (p : Lit → Bool) (c d : List Lit) → list_all p c ≡ true → list_all p d ≡ true → list_all p (join c d) ≡ true
-all-join p c [] h k = h
-all-join p c (l ∷ d) h k = let q = both (p l) (list_all p d) k in all-join p (insert c l) d (all-insert p c l h q.0) q.1
-
-pub all-resolvent : (p : Lit → Bool) (a : ℕ) (c d : List Lit) → list_all p c ≡ true → list_all p d ≡ true → list_all p (resolvent a c d) ≡ true
-all-resolvent p a c d h k = all-join p (without (lit_of a true) c) (without (lit_of a false) d) (all-without p (lit_of a true) c h) (all-without p (lit_of a false) d k)
-
 -- the state of a kernel
 pub fits-grown : (s : State) (slots : List (Option (List Lit))) (c : List Lit) (e : Bool) → StateFits s → slots ≡ s.slots ++ Some c ∷ [] → length slots < 2 ^ 32
     → atoms_below (length s.atoms) c ≡ true → StateFits (record { atoms = s.atoms; ints = s.ints; given = s.given; slots = slots; empty = e })
@@ -96,7 +68,7 @@ fits-grown s slots c e f is few below =
     let l : length slots ≡ length s.slots + 1 = ap length is ∙ length-append s.slots (Some c ∷ []) in
     let g = f.given_first in
     let named : list_all (atoms_below (length s.atoms)) (live_of (s.slots ++ Some c ∷ [])) ≡ true =
-    rw (live_of-push s.slots c, list_all-append) (and_true (list_all (atoms_below (length s.atoms)) (live_of s.slots)) (atoms_below (length s.atoms) c && true) f.atoms_named (and_true (atoms_below (length s.atoms) c) true below refl)) in
+    rw (live_of-push s.slots c, list_all-append) (and_from (list_all (atoms_below (length s.atoms)) (live_of s.slots)) (atoms_below (length s.atoms) c && true) f.atoms_named (and_from (atoms_below (length s.atoms) c) true below refl)) in
     record {
       few_clauses = few;
       few_atoms = f.few_atoms;
@@ -124,7 +96,7 @@ fits-cleared s slots ns f is =
 pub fits-start : (p : PlainProblem) (slots : List (Option (List Lit))) (g : ℕ) (e : Bool) → g ≡ length p.clauses → fits p ≡ true → list_all has_good_row p.atoms ≡ true → slots ≡ map (λ c. Some c) p.clauses → length p.clauses < 2 ^ 32 → length p.atoms < 2 ^ 32
     → StateFits (record { atoms = p.atoms; ints = p.ints; given = g; slots = slots; empty = e })
 fits-start p slots g e gl f good is few fewer =
-    let q = both (list_all (names_below p.ints) p.atoms) (list_all (atoms_below (length p.atoms)) p.clauses) f in
+    let q = and_parts (list_all (names_below p.ints) p.atoms) (list_all (atoms_below (length p.atoms)) p.clauses) f in
     let l : length slots ≡ length p.clauses = ap length is ∙ length-somes p.clauses in
     record {
       few_clauses = subst (λ (k : ℕ). k < 2 ^ 32) (sym l) few;
@@ -177,61 +149,22 @@ live_of-more (Some c ∷ slots) (suc i) d b lt is s = let h = live_of-more slots
     one_more m n k h = omega (arith, h)
 live_of-more (None ∷ slots) (suc i) d b lt is s = live_of-more slots i d b (omega arith) is s
 
--- literals below a number are below a greater one
-all_weaker : (m n : ℕ) (cs : List (List Lit)) → m ≤ n → list_all (atoms_below m) cs ≡ true → list_all (atoms_below n) cs ≡ true
-all_weaker m n [] h a = refl
-all_weaker m n (c ∷ cs) h a =
-    let q = both (atoms_below m c) (list_all (atoms_below m) cs) a in
-    and_true (atoms_below n c) (list_all (atoms_below n) cs) (weaker c q.0) (all_weaker m n cs h q.1)
-  where
-    lt_more : (a : ℕ) → nat_lt a m ≡ true → nat_lt a n ≡ true
-    lt_more a l = grind (arith, nat_tests)
-
-    weaker : (c : List Lit) → atoms_below m c ≡ true → atoms_below n c ≡ true
-    weaker [] a = refl
-    weaker (l ∷ c) a =
-        let q = both (nat_lt l.atom m) (atoms_below m c) a in
-        and_true (nat_lt l.atom n) (atoms_below n c) (lt_more l.atom q.0) (weaker c q.1)
-
 pub fits-named : (s : State) (atoms : List AtomKind) (r : Row) → StateFits s → atoms ≡ s.atoms ++ OfRow r ∷ [] → length atoms < 2 ^ 32 → is_row r ≡ true → places_below s.ints r ≡ true
     → StateFits (record { atoms = atoms; ints = s.ints; given = s.given; slots = s.slots; empty = s.empty })
 fits-named s atoms r f is few good below =
     let l : length atoms ≡ length s.atoms + 1 = ap length is ∙ length-append s.atoms (OfRow r ∷ []) in
     let placed : list_all (names_below s.ints) (s.atoms ++ OfRow r ∷ []) ≡ true =
-    rw list_all-append (and_true (list_all (names_below s.ints) s.atoms) (places_below s.ints r && true) f.places_named (and_true (places_below s.ints r) true below refl)) in
+    rw list_all-append (and_from (list_all (names_below s.ints) s.atoms) (places_below s.ints r && true) f.places_named (and_from (places_below s.ints r) true below refl)) in
     let goods : list_all has_good_row (s.atoms ++ OfRow r ∷ []) ≡ true =
-    rw list_all-append (and_true (list_all has_good_row s.atoms) (is_row r && true) f.rows_good (and_true (is_row r) true good refl)) in
+    rw list_all-append (and_from (list_all has_good_row s.atoms) (is_row r && true) f.rows_good (and_from (is_row r) true good refl)) in
     record {
       few_clauses = f.few_clauses;
       few_atoms = few;
       given_first = f.given_first;
-      atoms_named = all_weaker (length s.atoms) (length atoms) (live_of s.slots) (omega (arith, l)) f.atoms_named;
+      atoms_named = all-weaker (length s.atoms) (length atoms) (live_of s.slots) (omega (arith, l)) f.atoms_named;
       places_named = subst (λ (z : List AtomKind). list_all (names_below s.ints) z ≡ true) (sym is) placed;
       rows_good = subst (λ (z : List AtomKind). list_all has_good_row z ≡ true) (sym is) goods;
     }
-
--- the literals of a Farkas line name atoms
-row_there : (atoms : List AtomKind) (a : ℕ) → is_some (atom_row atoms a) ≡ true → nat_lt a (length atoms) ≡ true
-row_there [] a h = absurd cc
-row_there (k ∷ atoms) zero h = grind (arith, nat_tests)
-row_there (k ∷ atoms) (suc a) h = let l = row_there atoms a h in grind (arith, nat_tests)
-
-rows_there : (atoms : List AtomKind) (used : List Lit) → list_all (has_row atoms) used ≡ true → atoms_below (length atoms) (map flip used) ≡ true
-rows_there atoms [] h = refl
-rows_there atoms (l ∷ used) h =
-    let q = both (has_row atoms l) (list_all (has_row atoms) used) h in
-    and_true (nat_lt l.atom (length atoms)) (atoms_below (length atoms) (map flip used)) (row_there atoms l.atom q.0) (rows_there atoms used q.1)
-
-pub used-have_rows : (atoms : List AtomKind) (used : List Lit) (steps : List RowStep) (rows : List Row) → line_rows atoms used steps ≡ Ok rows → list_all (has_row atoms) used ≡ true
-used-have_rows atoms used steps rows h = by_case (is_some_literal used) (list_all (has_row atoms) used) h
-  where
-    by_case : (a b : Bool) → then_ (cond (a && b) (or_broken Range (lit_rows atoms used)) (Err Place)) (λ rows. with_steps rows steps) ≡ Ok rows → b ≡ true
-    by_case true true h = refl
-    by_case true false h = absurd cc
-    by_case false b h = absurd cc
-
-pub negations-below : (atoms : List AtomKind) (used : List Lit) (steps : List RowStep) (rows : List Row) → line_rows atoms used steps ≡ Ok rows → atoms_below (length atoms) (negations used) ≡ true
-negations-below atoms used steps rows h = all-join (λ l. nat_lt l.atom (length atoms)) [] (map flip used) refl (rows_there atoms used (used-have_rows atoms used steps rows h))
 
 -- the clauses among some slots and the next one
 pub live_of-next : (slots : List (Option (List Lit))) (i : ℕ) (d : Option (List Lit)) → i < length slots → live_of (take (suc i) slots) ≡ live_of (take i slots) ++ live_of (get_or slots i d ∷ [])

@@ -1,22 +1,15 @@
 use Rattle.std.specs.Prelude.{◌≡◌, ℕ, Bool, true, false, cond, ◌&&◌, ◌==◌, List, length, Result, Ok, Err}
-use Rattle.proof_kernel.specs.declared.line.Line.{Line}
-use Rattle.proof_kernel.specs.declared.line.Why.{Why}
-use Rattle.proof_kernel.specs.declared.line.Why.TheVariants.{Evidence}
-use Rattle.proof_kernel.specs.declared.line.LineRefused.{LineRefused}
-use Rattle.proof_kernel.specs.declared.line.LineRefused.TheVariants.{Bad, Memory}
-use Rattle.proof_kernel.specs.declared.line.Checked.{Checked}
-use Rattle.proof_kernel.specs.declared.line.RowsEvidence.{RowsEvidence}
-use Rattle.proof_kernel.specs.declared.line.RangeEvidence.{RangeEvidence}
-use Rattle.proof_kernel.specs.declared.line.KernelRefused.{KernelRefused}
-use Rattle.proof_kernel.specs.declared.line.KernelRefused.TheVariants.{BadLine, NoEmptyClause, Memory as NoMemory}
-use Rattle.proof_kernel.specs.Problems.{PlainProblem}
+use Rattle.proof_lines.specs.declared.line.Line.{Line}
+use Rattle.proof_lines.specs.declared.line.Why.{Why}
+use Rattle.proof_lines.specs.declared.line.Why.TheVariants.{Evidence}
+use Rattle.proof_kernel.specs.declared.answer.Checked.{Checked}
+use Rattle.proof_lines.specs.declared.line.RowsEvidence.{RowsEvidence}
+use Rattle.proof_lines.specs.declared.line.RangeEvidence.{RangeEvidence}
+use Rattle.proof_kernel.specs.declared.answer.KernelRefused.{KernelRefused}
+use Rattle.proof_kernel.specs.declared.answer.KernelRefused.TheVariants.{BadLine, NoEmptyClause, Memory as NoMemory}
+use Rattle.proof_lines.specs.Problems.{PlainProblem}
 use Rattle.proof_kernel.specs.Rules.{State, run}
 use Rattle.proof_kernel.specs.Evidence.{is_fresh, rows_hold, range_holds}
-
--- a refusal of a line names the first rule that it breaks; want of memory may come at any time
-abbrev pub IsTold : {A : Type 0} → LineRefused → Result A Why → Type 0
-IsTold (Bad w) given = given ≡ Err w
-IsTold Memory given = Unit {0}
 
 -- a refusal of a log names the first line that breaks a rule, with that rule
 abbrev pub IsRunTold : KernelRefused → Result State (ℕ × Why) → Type 0

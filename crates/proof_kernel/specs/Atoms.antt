@@ -2,8 +2,8 @@ use Rattle.std.specs.Prelude.{ℕ, ℤ, pos, ◌==◌, ◌&&◌, Bool, false, co
 use Rattle.std.specs.Ordering.{int_eq}
 use Rattle.std.specs.HashSet.{contains, HashSet, spare}
 use Rattle.lin_rows.specs.declared.term.RowTerm.{RowTerm}
-use Rattle.proof_kernel.specs.declared.problem.AtomKind.{AtomKind}
-use Rattle.proof_kernel.specs.declared.problem.AtomKind.TheVariants.{Plain, Row as OfRow}
+use Rattle.proof_lines.specs.declared.problem.AtomKind.{AtomKind}
+use Rattle.proof_lines.specs.declared.problem.AtomKind.TheVariants.{Plain, Row as OfRow}
 
 -- THE INDEX of the rows `place <= at` of atoms. No clause of a call outside src/atoms.rt names it.
 

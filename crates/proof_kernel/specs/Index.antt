@@ -1,9 +1,9 @@
 use Rattle.std.specs.Prelude.{◌≡◌, ℕ, ◌+◌, ◌*◌, ◌%◌, ◌<◌, ◌==◌, Bool, true, false, ◌&&◌, ◌||◌, List, [], ◌∷◌, ◌++◌, length, map, slice_index_or, slice_set, Option, Some, None}
 use Rattle.std.specs.List.{list_any, fold}
-use Rattle.proof_kernel.specs.declared.clause.Lit.{Lit}
+use Rattle.proof_lines.specs.declared.clause.Lit.{Lit}
 use Rattle.proof_kernel.specs.declared.freshness.Entry.{Entry}
-use Rattle.proof_kernel.specs.Clauses.{sub}
-use Rattle.proof_kernel.specs.Rules.{stands_in}
+use Rattle.proof_lines.specs.Clauses.{sub}
+use Rattle.proof_lines.specs.Numbers.{stands_in}
 use Rattle.proof_kernel.specs.Evidence.{is_new}
 
 -- THE INDEX by which fresh logs are checked. No clause of a call outside src/freshness.rt names it.

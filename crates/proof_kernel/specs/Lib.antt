@@ -1,9 +1,5 @@
-pub mod Clauses
-pub mod Problems
-pub mod Forced
-pub mod Steps
 pub mod Rules
 pub mod Evidence
+pub mod Answers
 pub mod Index
 pub mod Atoms
-pub mod Answers

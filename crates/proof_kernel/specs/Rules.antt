@@ -1,19 +1,20 @@
-use Rattle.std.specs.Prelude.{◌≡◌, ℕ, ◌<◌, ◌≤◌, ◌^◌, ◌+◌, ◌==◌, nat_lt, ℤ, pos, Bool, true, false, not, cond, ◌&&◌, ◌||◌, List, [], ◌∷◌, ◌++◌, length, map, slice_index_or, slice_set, Option, Some, None, is_some, Result, Ok, Err}
+use Rattle.std.specs.Prelude.{◌≡◌, ℕ, ◌<◌, ◌≤◌, ◌^◌, ◌+◌, nat_lt, ℤ, Bool, true, false, not, cond, ◌&&◌, ◌||◌, List, [], ◌∷◌, ◌++◌, length, map, slice_index_or, slice_set, Option, Some, None, is_some, Result, Ok, Err}
 use Rattle.std.specs.List.{list_any, list_all, fold}
-use Rattle.std.specs.Ordering.{int_eq}
-use Rattle.lin_rows.specs.declared.term.RowTerm.{RowTerm}
 use Rattle.lin_rows.specs.Rows.{Row}
-use Rattle.proof_kernel.specs.declared.clause.Lit.{Lit}
-use Rattle.proof_kernel.specs.declared.problem.AtomKind.{AtomKind}
-use Rattle.proof_kernel.specs.declared.problem.AtomKind.TheVariants.{Plain, Row as OfRow}
-use Rattle.proof_kernel.specs.declared.line.RowStep.{RowStep}
-use Rattle.proof_kernel.specs.declared.line.Line.{Line}
-use Rattle.proof_kernel.specs.declared.line.Line.TheVariants.{Resolve, Farkas, Split, Drop}
-use Rattle.proof_kernel.specs.declared.line.Why.{Why}
-use Rattle.proof_kernel.specs.declared.line.Why.TheVariants.{Place, Pivot, Contradiction, SplitAgain, Dropped}
-use Rattle.proof_kernel.specs.Clauses.{has, lit_of, resolvent, negations, is_empty, all_true}
-use Rattle.proof_kernel.specs.Problems.{PlainProblem, Meaning, atom_true, atoms_below, names_below, has_good_row}
-use Rattle.proof_kernel.specs.Steps.{then_, line_rows, ends_badly, row_at, split_fits, split_cause}
+use Rattle.proof_lines.specs.declared.clause.Lit.{Lit}
+use Rattle.proof_lines.specs.declared.problem.AtomKind.{AtomKind}
+use Rattle.proof_lines.specs.declared.problem.AtomKind.TheVariants.{Row as OfRow}
+use Rattle.proof_lines.specs.declared.line.RowStep.{RowStep}
+use Rattle.proof_lines.specs.declared.line.Line.{Line}
+use Rattle.proof_lines.specs.declared.line.Line.TheVariants.{Resolve, Farkas, Split, Drop}
+use Rattle.proof_lines.specs.declared.line.Why.{Why}
+use Rattle.proof_lines.specs.declared.line.Why.TheVariants.{Place, Pivot, Contradiction, SplitAgain, Dropped}
+use Rattle.proof_lines.specs.Clauses.{has, lit_of, resolvent, negations, is_empty, all_true}
+use Rattle.proof_lines.specs.Problems.{PlainProblem, Meaning, atom_true, atoms_below, names_below, has_good_row}
+use Rattle.proof_lines.specs.Refusals.{then_}
+use Rattle.proof_lines.specs.Steps.{line_rows, ends_badly, row_at}
+use Rattle.proof_lines.specs.Splits.{split_fits, split_cause, at_most, is_at_most}
+use Rattle.proof_lines.specs.Numbers.{are_different}
 
 -- What stands after some lines: the atoms, the number of integer names, how many clauses the problem has, the clauses by their
 -- numbers without the dropped ones, and whether an empty clause was ever among them.
@@ -82,20 +83,6 @@ combined s used steps = then_ (line_rows s.atoms used steps) (combined_after s u
 
 -- SPLIT, by the order of its tests.
 
--- the row `place <= at`
-abbrev pub at_most : ℕ → ℤ → Row
-at_most place at = record { terms = record { place = place; coef = pos 1 } ∷ []; bound = at }
-
--- the term `1 * place`, and no other
-abbrev pub is_alone : ℕ → List RowTerm → Bool
-is_alone place [] = false
-is_alone place (t ∷ []) = (t.place == place) && int_eq t.coef (pos 1)
-is_alone place (t ∷ u ∷ ts) = false
-
-abbrev pub is_at_most : ℕ → ℤ → AtomKind → Bool
-is_at_most place at Plain = false
-is_at_most place at (OfRow r) = is_alone place r.terms && int_eq r.bound at
-
 -- with an atom for a row
 abbrev pub named : State → Row → State
 named s r = record { atoms = s.atoms ++ OfRow r ∷ []; ints = s.ints; given = s.given; slots = s.slots; empty = s.empty }
@@ -118,13 +105,6 @@ split s place at used steps low high values =
 
 -- DROP. Place: the list is empty, or one of its numbers isn't below the number of clauses. Dropped: a number stands in it twice,
 -- or an earlier line dropped it.
-abbrev pub stands_in : List ℕ → ℕ → Bool
-stands_in ns n = list_any (λ m. m == n) ns
-
-abbrev pub are_different : List ℕ → Bool
-are_different [] = true
-are_different (n ∷ ns) = not (stands_in ns n) && are_different ns
-
 abbrev pub is_some_number : List ℕ → Bool
 is_some_number [] = false
 is_some_number (n ∷ ns) = true

@@ -2,11 +2,11 @@
 // no look at each atom.
 ghost use Rattle.std.specs.Prelude.{◌≡◌, ℕ, ℤ, ◌<◌, ◌||◌, ◌++◌, ◌∷◌, [], true, IfOk, OnOk, OnErr, length, option_copied, slice_get};
 ghost use Rattle.std.specs.List.{list_any};
-ghost use Rattle.proof_kernel.specs.declared.problem.AtomKind.TheVariants.{Row as OfRow};
-ghost use Rattle.proof_kernel.specs.Rules.{is_at_most};
+ghost use Rattle.proof_lines.specs.declared.problem.AtomKind.TheVariants.{Row as OfRow};
+ghost use Rattle.proof_lines.specs.Splits.{is_at_most};
 ghost use Rattle.proof_kernel.specs.Atoms.{has_pair, is_pair, pair_of, room};
 
-use crate::problem::AtomKind;
+use proof_lines::problem::AtomKind;
 use items::Items;
 use lin_rows::Row;
 use std::alloc::{AllocError, Global};
@@ -23,8 +23,8 @@ pub struct Atoms {
 impl Model for Atoms {
     ghost use Rattle.std.specs.Prelude.{List, ℕ, ℤ, ◌≡◌};
     ghost use Rattle.std.specs.List.{list_any};
-    ghost use Rattle.proof_kernel.specs.declared.problem.AtomKind.{AtomKind};
-    ghost use Rattle.proof_kernel.specs.Rules.{is_at_most};
+    ghost use Rattle.proof_lines.specs.declared.problem.AtomKind.{AtomKind};
+    ghost use Rattle.proof_lines.specs.Splits.{is_at_most};
     ghost use Rattle.proof_kernel.specs.Atoms.{has_pair};
 
     ghost Value = { List AtomKind };

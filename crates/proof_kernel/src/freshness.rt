@@ -8,12 +8,13 @@
 // no memory for the index, each clause is compared with each earlier one.
 ghost use Rattle.std.specs.Prelude.{◌≡◌, ◌+◌, ◌*◌, ◌^◌, ◌<◌, ◌≤◌, ◌++◌, ◌∷◌, true, cond, IfOk, OnOk, drop, take, length, is_some, map, slice_index_or, slice_set, Some, None, []};
 ghost use Rattle.std.specs.List.{list_all, list_any};
-ghost use Rattle.proof_kernel.specs.Clauses.{sub};
-ghost use Rattle.proof_kernel.specs.Rules.{live_of, stands_in};
+ghost use Rattle.proof_lines.specs.Clauses.{sub};
+ghost use Rattle.proof_kernel.specs.Rules.{live_of};
+ghost use Rattle.proof_lines.specs.Numbers.{stands_in};
 ghost use Rattle.proof_kernel.specs.Evidence.{is_new, each_new};
 ghost use Rattle.proof_kernel.specs.Index.{HasNoEntry, HasNoMark, slot_new, IsIndex, PutsOne, finds, finds_marked, marked, marked_within, slot_within, sign_number, spot, spots, with_marks};
 
-use crate::clause::{Clause, Lit, holds_both_ways, is_within};
+use proof_lines::clause::{Clause, Lit, holds_both_ways, is_within};
 use items::Items;
 use std::alloc::{AllocError, Global};
 

@@ -1,12 +1,13 @@
 // Whole logs: the first line that breaks a rule, or what the log shows.
 ghost use Rattle.std.specs.Prelude.{◌≡◌, ◌<◌, ◌^◌, true, ◌&&◌, MatchResult, OnOk, IfOk, IsOk, length, Ok};
-ghost use Rattle.proof_kernel.specs.Problems.{Meaning, makes_true, HasNoInterpretation};
+ghost use Rattle.proof_lines.specs.Problems.{Meaning, makes_true, HasNoInterpretation};
 ghost use Rattle.proof_kernel.specs.Rules.{run, run_from, holds};
 ghost use Rattle.proof_kernel.specs.Answers.{IsRunTold, IsJudged, Answers, lines_judged, rows_judged, range_judged};
 
 use crate::kernel::Kernel;
-use crate::line::{Checked, KernelRefused, Line, LineRefused, RangeEvidence, RowsEvidence, Why};
-use crate::problem::Problem;
+use crate::answer::{Checked, KernelRefused};
+use proof_lines::line::{Line, LineRefused, RangeEvidence, RowsEvidence, Why};
+use proof_lines::problem::Problem;
 use std::alloc::Global;
 
 // Takes the lines one by one.

@@ -6,20 +6,20 @@ use Rattle.std.proofs.lemmas.Option.{slice_get-get_or, slice_get_within}
 use Rattle.lin_rows.specs.declared.term.RowTerm.{RowTerm}
 use Rattle.lin_rows.specs.Numbers.{fit}
 use Rattle.lin_rows.specs.Rows.{Row, places_below, negated, opposite, point_of}
-use Rattle.proof_kernel.specs.declared.clause.Lit.{Lit}
-use Rattle.proof_kernel.specs.declared.problem.AtomKind.{AtomKind}
-use Rattle.proof_kernel.specs.declared.problem.AtomKind.TheVariants.{Plain, Row as OfRow}
-use Rattle.proof_kernel.specs.declared.line.RowStep.{RowStep}
-use Rattle.proof_kernel.specs.declared.line.RangeWhat.{RangeWhat}
-use Rattle.proof_kernel.specs.declared.line.Line.{Line}
-use Rattle.proof_kernel.specs.declared.line.Line.TheVariants.{Farkas, Split}
-use Rattle.proof_kernel.specs.Clauses.{has, sub, flip, lit_of, same_bool, negations, clause_true, all_true, holds_both_ways}
-use Rattle.proof_kernel.specs.Problems.{PlainProblem, Meaning, fits, names_below, row_true, atom_true, kind_true, meaning_of}
-use Rattle.proof_kernel.specs.Steps.{row_of_kind, atom_row, lit_row}
-use Rattle.proof_kernel.specs.Rules.{next, at_most, is_at_most}
-use Rattle.proof_kernel.proofs.Sets.{both, or_left, or_right, same_nat-refl, true_by}
-use Rattle.proof_kernel.proofs.States.{and_true}
-use Rattle.proof_kernel.proofs.Gap.{lt_is, is_lt}
+use Rattle.proof_lines.specs.declared.clause.Lit.{Lit}
+use Rattle.proof_lines.specs.declared.problem.AtomKind.{AtomKind}
+use Rattle.proof_lines.specs.declared.problem.AtomKind.TheVariants.{Plain, Row as OfRow}
+use Rattle.proof_lines.specs.declared.line.RowStep.{RowStep}
+use Rattle.proof_lines.specs.declared.line.RangeWhat.{RangeWhat}
+use Rattle.proof_lines.specs.declared.line.Line.{Line}
+use Rattle.proof_lines.specs.declared.line.Line.TheVariants.{Farkas, Split}
+use Rattle.proof_lines.specs.Clauses.{has, sub, flip, lit_of, same_bool, negations, clause_true, all_true, holds_both_ways}
+use Rattle.proof_lines.specs.Problems.{PlainProblem, Meaning, fits, names_below, row_true, atom_true, kind_true, meaning_of}
+use Rattle.proof_lines.specs.Steps.{row_of_kind, atom_row, lit_row}
+use Rattle.proof_kernel.specs.Rules.{next}
+use Rattle.proof_lines.specs.Splits.{at_most, is_at_most}
+use Rattle.std.proofs.lemmas.Bool.{and_parts, or_left, or_right, and_from, ltb-true, lt-ltb}
+use Rattle.proof_lines.proofs.Sets.{same_nat-refl, true_by}
 use Rattle.theory_api.specs.Laws.{all_below, all_satisfied, is_some_row, are_given, rows_at, settles, IsModel, IsConflict, IsSplit, IsTooMany, IsBeyond}
 use Rattle.theory_api.proofs.Standing.{Stand, lit_at}
 use Rattle.search_logs.specs.declared.trail.Entry.{Entry}
@@ -46,7 +46,7 @@ use Rattle.sat_core.proofs.Ends.{settled_unrefuted, settled_full, searched-so}
 -- What follows from an answer of the solver of rows.
 
 pub none_false : (cs : List (List Lit)) (t : List Entry) → Settled t cs → NoneFalse t cs
-none_false cs t s = λ k l. one (is_false t (get_or cs k [])) (both (not (is_false t (get_or cs k []))) _ (s k l)).0
+none_false cs t s = λ k l. one (is_false t (get_or cs k [])) (and_parts (not (is_false t (get_or cs k []))) _ (s k l)).0
   where
     one : (b : Bool) → not b ≡ true → b ≡ false
     one b g = grind arith
@@ -73,8 +73,8 @@ any-push p (k ∷ lits) l = ap (λ b. p k || b) (any-push p lits l) ∙ assoc (p
     assoc a b c = grind arith
 
 all-push : (p : Lit → Bool) (lits : List Lit) (l : Lit) → list_all p lits ≡ true → p l ≡ true → list_all p (lits ++ l ∷ []) ≡ true
-all-push p [] l h k = and_true (p l) true k refl
-all-push p (x ∷ lits) l h k = let b = both (p x) (list_all p lits) h in and_true (p x) (list_all p (lits ++ l ∷ [])) b.0 (all-push p lits l b.1 k)
+all-push p [] l h k = and_from (p l) true k refl
+all-push p (x ∷ lits) l h k = let b = and_parts (p x) (list_all p lits) h in and_from (p x) (list_all p (lits ++ l ∷ [])) b.0 (all-push p lits l b.1 k)
 
 -- the literal of an atom that a trail has
 held : (t : List Entry) (x : ℕ) (p : Bool) → named t x ≡ true → p ≡ in_trail t (lit_of x true) → in_trail t (lit_of x p) ≡ true
@@ -112,7 +112,7 @@ places-negated n q r h p = by_fit (fit (pos 0 -ℤ q.bound -ℤ pos 1)) h
   where
     same : (ts : List RowTerm) → list_all (λ t. nat_lt t.place n) ts ≡ true → list_all (λ t. nat_lt t.place n) (map opposite ts) ≡ true
     same [] p = refl
-    same (t ∷ ts) p = let b = both (nat_lt t.place n) (list_all (λ t. nat_lt t.place n) ts) p in and_true (nat_lt t.place n) (list_all (λ t. nat_lt t.place n) (map opposite ts)) b.0 (same ts b.1)
+    same (t ∷ ts) p = let b = and_parts (nat_lt t.place n) (list_all (λ t. nat_lt t.place n) ts) p in and_from (nat_lt t.place n) (list_all (λ t. nat_lt t.place n) (map opposite ts)) b.0 (same ts b.1)
 
     by_fit : (o : Option ℤ) → option_map (λ b. record { terms = map opposite q.terms; bound = b }) o ≡ Some r → places_below n r ≡ true
     by_fit (Some b) h = let e : map opposite q.terms ≡ r.terms = cc in subst (λ (ts : List RowTerm). list_all (λ t. nat_lt t.place n) ts ≡ true) e (same q.terms p)
@@ -121,14 +121,14 @@ places-negated n q r h p = by_fit (fit (pos 0 -ℤ q.bound -ℤ pos 1)) h
 row-below : (n : ℕ) (atoms : List AtomKind) (x : ℕ) (r : Row) → list_all (names_below n) atoms ≡ true → atom_row atoms x ≡ Some r → places_below n r ≡ true
 row-below n [] x r p h = absurd cc
 row-below n (Plain ∷ atoms) zero r p h = absurd cc
-row-below n (OfRow q ∷ atoms) zero r p h = let e : q ≡ r = cc in subst (λ (z : Row). places_below n z ≡ true) e (both (places_below n q) (list_all (names_below n) atoms) p).0
-row-below n (k ∷ atoms) (suc x) r p h = row-below n atoms x r (both (names_below n k) (list_all (names_below n) atoms) p).1 h
+row-below n (OfRow q ∷ atoms) zero r p h = let e : q ≡ r = cc in subst (λ (z : Row). places_below n z ≡ true) e (and_parts (places_below n q) (list_all (names_below n) atoms) p).0
+row-below n (k ∷ atoms) (suc x) r p h = row-below n atoms x r (and_parts (names_below n k) (list_all (names_below n) atoms) p).1 h
 
 pub stand-places : (n : ℕ) (atoms : List AtomKind) (lits : List Lit) (rows : List Row) → list_all (names_below n) atoms ≡ true → Stand atoms lits rows → all_below n rows ≡ true
 stand-places n atoms [] [] p s = refl
 stand-places n atoms [] (r ∷ rows) p s = absurd s
 stand-places n atoms (l ∷ lits) [] p s = absurd s
-stand-places n atoms (l ∷ lits) (r ∷ rows) p s = and_true (places_below n r) (all_below n rows) (by_sign l.positive s.0) (stand-places n atoms lits rows p s.1)
+stand-places n atoms (l ∷ lits) (r ∷ rows) p s = and_from (places_below n r) (all_below n rows) (by_sign l.positive s.0) (stand-places n atoms lits rows p s.1)
   where
     by_row : (o : Option Row) → atom_row atoms l.atom ≡ o → option_and_then negated o ≡ Some r → places_below n r ≡ true
     by_row (Some q) e h = places-negated n q r h (row-below n atoms l.atom q p e)
@@ -146,7 +146,7 @@ stand-plain atoms lits rows used p s g = by_rows lits rows s g
     no_row [] x p = refl
     no_row (Plain ∷ atoms) zero p = refl
     no_row (OfRow q ∷ atoms) zero p = absurd cc
-    no_row (k ∷ atoms) (suc x) p = no_row atoms x (both (is_plain k) (are_plain atoms) p).1
+    no_row (k ∷ atoms) (suc x) p = no_row atoms x (and_parts (is_plain k) (are_plain atoms) p).1
 
     no_lit : (l : Lit) (r : Row) → lit_row atoms l ≡ Some r → ⊥
     no_lit l r h = by_sign l.positive (no_row atoms l.atom p) h
@@ -157,7 +157,7 @@ stand-plain atoms lits rows used p s g = by_rows lits rows s g
 
     none_given : (used : List ℕ) → are_given [] used ≡ true → ⊥
     none_given [] g = absurd cc
-    none_given (u ∷ used) g = absurd (let b = both (nat_lt u 0) (list_all (λ u. nat_lt u 0) used) g in let l = lt_is u 0 b.0 in omega arith)
+    none_given (u ∷ used) g = absurd (let b = and_parts (nat_lt u 0) (list_all (λ u. nat_lt u 0) used) g in let l = ltb-true u 0 b.0 in omega arith)
 
     by_rows : (lits : List Lit) (rows : List Row) → Stand atoms lits rows → are_given rows used ≡ true → ⊥
     by_rows [] [] s g = none_given used g
@@ -175,18 +175,18 @@ stand-length atoms (l ∷ lits) [] s = absurd s
 stand-length atoms (l ∷ lits) (r ∷ rows) s = ap suc (stand-length atoms lits rows s.1)
 
 pub given-lits : (atoms : List AtomKind) (lits : List Lit) (rows : List Row) (used : List ℕ) → Stand atoms lits rows → are_given rows used ≡ true → list_all (λ u. nat_lt u (length lits)) used ≡ true
-given-lits atoms lits rows used s g = subst (λ (n : ℕ). list_all (λ u. nat_lt u n) used ≡ true) (sym (stand-length atoms lits rows s)) (both (is_some_row used) (list_all (λ u. nat_lt u (length rows)) used) g).1
+given-lits atoms lits rows used s g = subst (λ (n : ℕ). list_all (λ u. nat_lt u n) used ≡ true) (sym (stand-length atoms lits rows s)) (and_parts (is_some_row used) (list_all (λ u. nat_lt u (length rows)) used) g).1
 
 pub picked-in : (t : List Entry) (lits : List Lit) (used : List ℕ) → list_all (in_trail t) lits ≡ true → list_all (λ u. nat_lt u (length lits)) used ≡ true → list_all (in_trail t) (map (lit_at lits) used) ≡ true
 picked-in t lits [] h g = refl
 picked-in t lits (u ∷ used) h g =
-    let b = both (nat_lt u (length lits)) (list_all (λ u. nat_lt u (length lits)) used) g in
-    and_true (in_trail t (lit_at lits u)) (list_all (in_trail t) (map (lit_at lits) used)) (one lits u h (lt_is u (length lits) b.0)) (picked-in t lits used h b.1)
+    let b = and_parts (nat_lt u (length lits)) (list_all (λ u. nat_lt u (length lits)) used) g in
+    and_from (in_trail t (lit_at lits u)) (list_all (in_trail t) (map (lit_at lits) used)) (one lits u h (ltb-true u (length lits) b.0)) (picked-in t lits used h b.1)
   where
     one : (lits : List Lit) (u : ℕ) → list_all (in_trail t) lits ≡ true → u < length lits → in_trail t (lit_at lits u) ≡ true
     one [] u h l = absurd (omega arith)
-    one (k ∷ lits) zero h l = (both (in_trail t k) (list_all (in_trail t) lits) h).0
-    one (k ∷ lits) (suc u) h l = one lits u (both (in_trail t k) (list_all (in_trail t) lits) h).1 (omega arith)
+    one (k ∷ lits) zero h l = (and_parts (in_trail t k) (list_all (in_trail t) lits) h).0
+    one (k ∷ lits) (suc u) h l = one lits u (and_parts (in_trail t k) (list_all (in_trail t) lits) h).1 (omega arith)
 
 -- CONFLICT.
 
@@ -264,7 +264,7 @@ module _ (a : Aim) (budget : ℕ) (q : PlainProblem) (t : List Entry) (ls : List
 
   all_so : (cs : List (List Lit)) → ((k : ℕ) → k < length cs → clause_true (atom_true meaning a.problem.atoms) (get_or cs k []) ≡ true) → all_true (atom_true meaning a.problem.atoms) cs ≡ true
   all_so [] h = refl
-  all_so (c ∷ cs) h = and_true (clause_true (atom_true meaning a.problem.atoms) c) (all_true (atom_true meaning a.problem.atoms) cs) (h zero (omega arith)) (all_so cs (λ k l. h (suc k) (omega arith)))
+  all_so (c ∷ cs) h = and_from (clause_true (atom_true meaning a.problem.atoms) c) (all_true (atom_true meaning a.problem.atoms) cs) (h zero (omega arith)) (all_so cs (λ k l. h (suc k) (omega arith)))
 
   pub model_of : IsModelOf a.problem (record { truths = truths; ints = values })
   unfolding meaning
@@ -300,7 +300,7 @@ module _ (a : Aim) (budget : ℕ) (q : PlainProblem) (t : List Entry) (ls : List
       let m : length (q.atoms ++ OfRow (at_most place at) ∷ []) ≡ length q.atoms + 1 = length-append q.atoms (OfRow (at_most place at) ∷ []) in
       record {
         keeps = keeps_row a budget q ls (Split place at (map (lit_at lits) used) steps low high values) (at_most place at) x.keeps room refl taken no_split (no_plain a budget q ls lits rows used x.keeps stand g)
-            (and_true (nat_lt place q.ints) true (is_lt place q.ints c.place_below) refl) few;
+            (and_from (nat_lt place q.ints) true (lt-ltb place q.ints c.place_below) refl) few;
         trail = x.trail;
         calm = x.calm;
         below = λ k h. (let b = x.below k h in omega (arith, m, b));

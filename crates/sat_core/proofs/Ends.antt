@@ -2,12 +2,12 @@ use Rattle.std.proofs.Common.{◌≡◌, ◌≢◌, ℕ, zero, suc, ◌+◌, ◌
 use Rattle.std.specs.Prelude.{nat_le}
 use Rattle.std.specs.List.{list_any}
 use Rattle.std.proofs.lemmas.Bool.Decides.{nat_tests}
-use Rattle.proof_kernel.specs.declared.clause.Lit.{Lit}
-use Rattle.proof_kernel.specs.declared.line.Line.{Line}
-use Rattle.proof_kernel.specs.Clauses.{is_empty}
-use Rattle.proof_kernel.specs.Problems.{PlainProblem}
+use Rattle.proof_lines.specs.declared.clause.Lit.{Lit}
+use Rattle.proof_lines.specs.declared.line.Line.{Line}
+use Rattle.proof_lines.specs.Clauses.{is_empty}
+use Rattle.proof_lines.specs.Problems.{PlainProblem}
 use Rattle.proof_kernel.specs.Rules.{run, start}
-use Rattle.proof_kernel.proofs.Sets.{or_left, or_right}
+use Rattle.std.proofs.lemmas.Bool.{or_left, or_right}
 use Rattle.search_logs.specs.declared.trail.Entry.{Entry}
 use Rattle.search_logs.specs.Trails.{is_false, open_in, before_last, has_decision, older, is_done, Settled, NoneFalse}
 use Rattle.search_logs.specs.Forcing.{AreRefuted}

@@ -3,17 +3,16 @@ use Rattle.std.specs.List.{list_any, list_all}
 use Rattle.std.proofs.lemmas.Bool.Decides.{nat_tests}
 use Rattle.std.proofs.lemmas.List.Folds.{list_all-append}
 use Rattle.lin_rows.specs.Rows.{Row, places_below}
-use Rattle.proof_kernel.specs.declared.clause.Lit.{Lit}
-use Rattle.proof_kernel.specs.declared.problem.AtomKind.{AtomKind}
-use Rattle.proof_kernel.specs.declared.problem.AtomKind.TheVariants.{Row as OfRow}
-use Rattle.proof_kernel.specs.declared.line.Line.{Line}
-use Rattle.proof_kernel.specs.Clauses.{has, lit_of}
-use Rattle.proof_kernel.specs.Problems.{PlainProblem, fits, names_below, atoms_below}
+use Rattle.proof_lines.specs.declared.clause.Lit.{Lit}
+use Rattle.proof_lines.specs.declared.problem.AtomKind.{AtomKind}
+use Rattle.proof_lines.specs.declared.problem.AtomKind.TheVariants.{Row as OfRow}
+use Rattle.proof_lines.specs.declared.line.Line.{Line}
+use Rattle.proof_lines.specs.Clauses.{has, lit_of}
+use Rattle.proof_lines.specs.Problems.{PlainProblem, fits, names_below, atoms_below}
 use Rattle.proof_kernel.specs.Rules.{next, start}
-use Rattle.proof_kernel.proofs.Sets.{both}
-use Rattle.proof_kernel.proofs.States.{and_true, all-resolvent}
-use Rattle.proof_kernel.proofs.Certificates.{all_at}
-use Rattle.proof_kernel.proofs.Gap.{lt_is}
+use Rattle.std.proofs.lemmas.Bool.{and_parts, and_from, ltb-true}
+use Rattle.proof_lines.proofs.Names.{all-resolvent}
+use Rattle.proof_lines.proofs.Certificates.{all_at}
 use Rattle.search_logs.specs.Fresh.{IsFresh}
 use Rattle.search_logs.specs.Forcing.{are_plain}
 use Rattle.search_logs.specs.SearchLogs.{with_clause, with_row, standing, is_split, splits, resolved_on}
@@ -29,17 +28,17 @@ use Rattle.sat_core.specs.Searching.{Aim, Keeps}
 
 pub fits-clause : (q : PlainProblem) (c : List Lit) → fits q ≡ true → atoms_below (length q.atoms) c ≡ true → fits (with_clause q c) ≡ true
 fits-clause q c f b =
-    let p = both (list_all (names_below q.ints) q.atoms) (list_all (atoms_below (length q.atoms)) q.clauses) f in
+    let p = and_parts (list_all (names_below q.ints) q.atoms) (list_all (atoms_below (length q.atoms)) q.clauses) f in
     let cs : list_all (atoms_below (length q.atoms)) (q.clauses ++ c ∷ []) ≡ true =
-    rw list_all-append (and_true (list_all (atoms_below (length q.atoms)) q.clauses) (atoms_below (length q.atoms) c && true) p.1 (and_true (atoms_below (length q.atoms) c) true b refl)) in
-    and_true (list_all (names_below q.ints) q.atoms) (list_all (atoms_below (length q.atoms)) (q.clauses ++ c ∷ [])) p.0 cs
+    rw list_all-append (and_from (list_all (atoms_below (length q.atoms)) q.clauses) (atoms_below (length q.atoms) c && true) p.1 (and_from (atoms_below (length q.atoms) c) true b refl)) in
+    and_from (list_all (names_below q.ints) q.atoms) (list_all (atoms_below (length q.atoms)) (q.clauses ++ c ∷ [])) p.0 cs
 
 -- literals below a number are below a greater one
 all_weaker : (m n : ℕ) (cs : List (List Lit)) → m ≤ n → list_all (atoms_below m) cs ≡ true → list_all (atoms_below n) cs ≡ true
 all_weaker m n [] h a = refl
 all_weaker m n (c ∷ cs) h a =
-    let q = both (atoms_below m c) (list_all (atoms_below m) cs) a in
-    and_true (atoms_below n c) (list_all (atoms_below n) cs) (weaker c q.0) (all_weaker m n cs h q.1)
+    let q = and_parts (atoms_below m c) (list_all (atoms_below m) cs) a in
+    and_from (atoms_below n c) (list_all (atoms_below n) cs) (weaker c q.0) (all_weaker m n cs h q.1)
   where
     lt_more : (a : ℕ) → nat_lt a m ≡ true → nat_lt a n ≡ true
     lt_more a l = grind (arith, nat_tests)
@@ -47,27 +46,27 @@ all_weaker m n (c ∷ cs) h a =
     weaker : (c : List Lit) → atoms_below m c ≡ true → atoms_below n c ≡ true
     weaker [] a = refl
     weaker (l ∷ c) a =
-        let q = both (nat_lt l.atom m) (atoms_below m c) a in
-        and_true (nat_lt l.atom n) (atoms_below n c) (lt_more l.atom q.0) (weaker c q.1)
+        let q = and_parts (nat_lt l.atom m) (atoms_below m c) a in
+        and_from (nat_lt l.atom n) (atoms_below n c) (lt_more l.atom q.0) (weaker c q.1)
 
 pub fits-row : (q : PlainProblem) (r : Row) → fits q ≡ true → places_below q.ints r ≡ true → fits (with_row q r) ≡ true
 fits-row q r f b =
-    let p = both (list_all (names_below q.ints) q.atoms) (list_all (atoms_below (length q.atoms)) q.clauses) f in
+    let p = and_parts (list_all (names_below q.ints) q.atoms) (list_all (atoms_below (length q.atoms)) q.clauses) f in
     let l : length (q.atoms ++ OfRow r ∷ []) ≡ length q.atoms + 1 = length-append q.atoms (OfRow r ∷ []) in
     let ks : list_all (names_below q.ints) (q.atoms ++ OfRow r ∷ []) ≡ true =
-    rw list_all-append (and_true (list_all (names_below q.ints) q.atoms) (places_below q.ints r && true) p.0 (and_true (places_below q.ints r) true b refl)) in
-    and_true (list_all (names_below q.ints) (q.atoms ++ OfRow r ∷ [])) (list_all (atoms_below (length (q.atoms ++ OfRow r ∷ []))) q.clauses) ks (all_weaker (length q.atoms) (length (q.atoms ++ OfRow r ∷ [])) q.clauses (omega (arith, l)) p.1)
+    rw list_all-append (and_from (list_all (names_below q.ints) q.atoms) (places_below q.ints r && true) p.0 (and_from (places_below q.ints r) true b refl)) in
+    and_from (list_all (names_below q.ints) (q.atoms ++ OfRow r ∷ [])) (list_all (atoms_below (length (q.atoms ++ OfRow r ∷ []))) q.clauses) ks (all_weaker (length q.atoms) (length (q.atoms ++ OfRow r ∷ [])) q.clauses (omega (arith, l)) p.1)
 
 pub clause-below : (q : PlainProblem) → fits q ≡ true → (i : ℕ) (l : Lit) → i < length q.clauses → has (get_or q.clauses i []) l ≡ true → l.atom < length q.atoms
 clause-below q f i l b h =
-    let p = both (list_all (names_below q.ints) q.atoms) (list_all (atoms_below (length q.atoms)) q.clauses) f in
+    let p = and_parts (list_all (names_below q.ints) q.atoms) (list_all (atoms_below (length q.atoms)) q.clauses) f in
     let c = all_at (atoms_below (length q.atoms)) q.clauses i [] b p.1 in
-    lt_is l.atom (length q.atoms) (all_has (λ k. nat_lt k.atom (length q.atoms)) (get_or q.clauses i []) l c h)
+    ltb-true l.atom (length q.atoms) (all_has (λ k. nat_lt k.atom (length q.atoms)) (get_or q.clauses i []) l c h)
 
 -- a resolvent of two clauses names atoms
 pub resolved-below : (q : PlainProblem) → fits q ≡ true → (l : Lit) (r i : ℕ) → r < length q.clauses → i < length q.clauses → atoms_below (length q.atoms) (resolved_on l (get_or q.clauses r []) (get_or q.clauses i [])) ≡ true
 resolved-below q f l r i a b =
-    let p = both (list_all (names_below q.ints) q.atoms) (list_all (atoms_below (length q.atoms)) q.clauses) f in
+    let p = and_parts (list_all (names_below q.ints) q.atoms) (list_all (atoms_below (length q.atoms)) q.clauses) f in
     by_sign l.positive (all_at (atoms_below (length q.atoms)) q.clauses r [] a p.1) (all_at (atoms_below (length q.atoms)) q.clauses i [] b p.1)
   where
     by_sign : (s : Bool) → atoms_below (length q.atoms) (get_or q.clauses r []) ≡ true → atoms_below (length q.atoms) (get_or q.clauses i []) ≡ true

@@ -3,18 +3,19 @@ use Rattle.std.specs.Prelude.{is_none}
 use Rattle.std.specs.List.{list_any, list_all}
 use Rattle.std.proofs.Math.Nat.{mul-le-mul_right}
 use Rattle.lin_rows.specs.Rows.{Row}
-use Rattle.proof_kernel.specs.declared.clause.Lit.{Lit}
-use Rattle.proof_kernel.specs.declared.problem.AtomKind.{AtomKind}
-use Rattle.proof_kernel.specs.declared.problem.AtomKind.TheVariants.{Row as OfRow}
-use Rattle.proof_kernel.specs.declared.line.RowStep.{RowStep}
-use Rattle.proof_kernel.specs.declared.line.RangeWhat.{RangeWhat}
-use Rattle.proof_kernel.specs.declared.line.Line.{Line}
-use Rattle.proof_kernel.specs.declared.line.Line.TheVariants.{Split as SplitLine}
-use Rattle.proof_kernel.specs.Clauses.{has, same_lit, lit_of, is_empty}
-use Rattle.proof_kernel.specs.Forced.{Forced}
-use Rattle.proof_kernel.specs.Problems.{PlainProblem, fits, names_below, atoms_below}
-use Rattle.proof_kernel.specs.Rules.{at_most}
-use Rattle.proof_kernel.proofs.Sets.{both, either, neither, same_nat, same_lit-is}
+use Rattle.proof_lines.specs.declared.clause.Lit.{Lit}
+use Rattle.proof_lines.specs.declared.problem.AtomKind.{AtomKind}
+use Rattle.proof_lines.specs.declared.problem.AtomKind.TheVariants.{Row as OfRow}
+use Rattle.proof_lines.specs.declared.line.RowStep.{RowStep}
+use Rattle.proof_lines.specs.declared.line.RangeWhat.{RangeWhat}
+use Rattle.proof_lines.specs.declared.line.Line.{Line}
+use Rattle.proof_lines.specs.declared.line.Line.TheVariants.{Split as SplitLine}
+use Rattle.proof_lines.specs.Clauses.{has, same_lit, lit_of, is_empty}
+use Rattle.proof_lines.specs.Forced.{Forced}
+use Rattle.proof_lines.specs.Problems.{PlainProblem, fits, names_below, atoms_below}
+use Rattle.proof_lines.specs.Splits.{at_most}
+use Rattle.std.proofs.lemmas.Bool.{and_parts, or_cases, or_parts, eqb-true}
+use Rattle.proof_lines.proofs.Sets.{same_lit-is}
 use Rattle.theory_api.specs.Laws.{all_below, is_some_row, are_given, IsConflict, IsSplit, IsTooMany, IsBeyond}
 use Rattle.theory_api.proofs.Standing.{lit_at}
 use Rattle.search_logs.specs.declared.trail.Entry.{Entry}
@@ -74,18 +75,18 @@ search_begins a budget f cs ks h = record {
 
     full : (cs : List (List Lit)) → list_any is_empty cs ≡ false → (k : ℕ) → k < length cs → is_false [] (get_or cs k []) ≡ false
     full [] h k l = absurd (omega arith)
-    full (c ∷ cs) h zero l = full_one c (neither (is_empty c) (list_any is_empty cs) h).0
-    full (c ∷ cs) h (suc k) l = full cs (neither (is_empty c) (list_any is_empty cs) h).1 k (omega arith)
+    full (c ∷ cs) h zero l = full_one c (or_parts (is_empty c) (list_any is_empty cs) h).0
+    full (c ∷ cs) h (suc k) l = full cs (or_parts (is_empty c) (list_any is_empty cs) h).1 k (omega arith)
 
 pub search_pushes : (a : Aim) (budget : ℕ) (q : PlainProblem) (t : List Entry) (ls : List Line) (e : Entry) → InSearch a budget q t ls → NoneFalse t q.clauses → named t e.lit.atom ≡ false → e.lit.atom < length q.atoms → IsStep q.clauses t e.lit e.reason → InSearch a budget q (e ∷ t) ls
 search_pushes a budget q t ls e x n u b w = record {
   keeps = x.keeps;
   trail = (u, w, x.trail);
   calm = n;
-  below = λ y h. elim (either (e.lit.atom == y) (named t y) h) [ inl k ↦ subst (λ (z : ℕ). z < length q.atoms) (same_nat e.lit.atom y k) b | inr k ↦ x.below y k ];
+  below = λ y h. elim (or_cases (e.lit.atom == y) (named t y) h) [ inl k ↦ subst (λ (z : ℕ). z < length q.atoms) (eqb-true e.lit.atom y k) b | inr k ↦ x.below y k ];
   search = x.search;
   early = λ r. (let y = x.early r in (pushed_early r (e.reason) w y, y.1, y.2));
-  easy = λ r. (let y = x.easy r in (y.0, y.1, λ d l h. pushed_easy e.reason w y d l (either (same_lit e.lit l) (in_trail t l) h)));
+  easy = λ r. (let y = x.easy r in (y.0, y.1, λ d l h. pushed_easy e.reason w y d l (or_cases (same_lit e.lit l) (in_trail t l) h)));
 }
   where
     pushed_early : AreRefuted a.problem.clauses → (r : Option ℕ) → IsStep q.clauses t e.lit r → (has_decision t ≡ false) × (ls ≡ []) × (q.clauses ≡ a.problem.clauses) → (is_none r || has_decision t) ≡ false
@@ -137,7 +138,7 @@ learned-outcome NoMemory split stop p budget q t ls r u ms x h = tt
 
 pub places-so : (q : PlainProblem) (t : List Entry) (k : ℕ) (lits : List Lit) (rows rows2 : List Row) (ints : ℕ) → fits q ≡ true → IsDrawn q.atoms t k lits rows → rows2 ≡ rows → ints ≡ q.ints → all_below ints rows2 ≡ true
 places-so q t k lits rows rows2 ints f d e i =
-    let p = both (list_all (names_below q.ints) q.atoms) (list_all (atoms_below (length q.atoms)) q.clauses) f in
+    let p = and_parts (list_all (names_below q.ints) q.atoms) (list_all (atoms_below (length q.atoms)) q.clauses) f in
     (λ j. all_below (i j) (e j)) ∙ stand-places q.ints q.atoms lits rows p.0 (stand-of q.atoms lits rows d.stand)
 
 pub takes-so : (split : Bool) (takes : List Row → ℕ → Type 0) (p : PlainProblem) (budget : ℕ) (q : PlainProblem) (t : List Entry) (ls : List Line) (k : ℕ) (lits : List Lit) (rows rows2 : List Row) (ints : ℕ)

@@ -1,13 +1,13 @@
 use Rattle.std.proofs.Common.{◌≡◌, ℕ, zero, suc, ◌+◌, ◌^◌, ◌<◌, ◌≤◌, Bool, true, false, cond, ◌||◌, ◌==◌, inl, inr, List, [], ◌∷◌, ◌++◌, length, get_or, refl, sym, ◌∙◌, ap, subst, arith, Option, Some, None, Ok, length-append}
 use Rattle.std.specs.Prelude.{is_none, nat_le, nat_lt}
 use Rattle.std.proofs.lemmas.Bool.Decides.{nat_tests}
-use Rattle.proof_kernel.specs.declared.clause.Lit.{Lit}
-use Rattle.proof_kernel.specs.declared.line.Line.{Line}
-use Rattle.proof_kernel.specs.Clauses.{has, distinct, flip}
-use Rattle.proof_kernel.specs.Problems.{PlainProblem, atoms_below}
+use Rattle.proof_lines.specs.declared.clause.Lit.{Lit}
+use Rattle.proof_lines.specs.declared.line.Line.{Line}
+use Rattle.proof_lines.specs.Clauses.{has, distinct, flip}
+use Rattle.proof_lines.specs.Problems.{PlainProblem, atoms_below}
 use Rattle.proof_kernel.specs.Rules.{next}
-use Rattle.proof_kernel.proofs.Sets.{both, neither, or_left, or_right, same_nat-refl}
-use Rattle.proof_kernel.proofs.Gap.{is_lt}
+use Rattle.std.proofs.lemmas.Bool.{and_parts, or_parts, or_left, or_right, lt-ltb}
+use Rattle.proof_lines.proofs.Sets.{same_nat-refl}
 use Rattle.search_logs.specs.declared.trail.Entry.{Entry}
 use Rattle.search_logs.specs.Trails.{after, named, is_false, open_in, before_last, is_decision, has_decision, IsTrail, older, IsCalm, is_done}
 use Rattle.search_logs.specs.Forcing.{AreRefuted}
@@ -76,7 +76,7 @@ chain_pops a budget before q e t ls i x n = record {
   search = x.search;
   since = x.since;
   grew = x.grew;
-  early = λ r. (let y = x.early r in ((neither (is_decision e) (has_decision t) y.0).1, (let z = y.1 in omega arith)));
+  early = λ r. (let y = x.early r in ((or_parts (is_decision e) (has_decision t) y.0).1, (let z = y.1 in omega arith)));
   uneasy = x.uneasy;
 }
 
@@ -115,13 +115,13 @@ module _ (a : Aim) (budget before : ℕ) (q : PlainProblem) (e : Entry) (t : Lis
           by_sign false = refl
 
       reason_has : has (get_or q.clauses r []) e.lit ≡ true
-      reason_has = subst (λ (c : List Lit). has c e.lit ≡ true) (sym (the_clause r p)) (both (has (get_or x.start top.reason []) e.lit) _ top.unit).0
+      reason_has = subst (λ (c : List Lit). has c e.lit ≡ true) (sym (the_clause r p)) (and_parts (has (get_or x.start top.reason []) e.lit) _ top.unit).0
 
       atom_there : e.lit.atom < length q.atoms
       atom_there = x.below e.lit.atom (or_left (e.lit.atom == e.lit.atom) (named t e.lit.atom) (same_nat-refl e.lit.atom))
 
       new_below : atoms_below (length q.atoms) new ≡ true
-      new_below = has_all (λ l. nat_lt l.atom (length q.atoms)) new (λ l m. is_lt l.atom (length q.atoms) (one l m))
+      new_below = has_all (λ l. nat_lt l.atom (length q.atoms)) new (λ l m. lt-ltb l.atom (length q.atoms) (one l m))
         where
           one : (l : Lit) → has new l ≡ true → l.atom < length q.atoms
           one l m = elim (members e.lit (get_or x.start top.reason []) (get_or q.clauses i []) l m) [
@@ -159,7 +159,7 @@ module _ (a : Aim) (budget before : ℕ) (q : PlainProblem) (e : Entry) (t : Lis
         search = subst (λ (c : List Lit). SearchLog a.problem (ls ++ line_on e.lit r i ∷ []) (with_clause q new) (within x.start x.from c)) (sym (at_new q.clauses new)) (step x.search (line_on e.lit r i) new undone next_is);
         since = (let l = longer_log in let s = x.since in omega arith);
         grew = λ _. (let l = longer_log in let s = x.since in omega arith);
-        early = λ f. (let y = x.early f in ((neither (is_decision e) (has_decision t) y.0).1, (let z = y.1 in let l = longer_log in omega arith)));
+        early = λ f. (let y = x.early f in ((or_parts (is_decision e) (has_decision t) y.0).1, (let z = y.1 in let l = longer_log in omega arith)));
         uneasy = x.uneasy;
       }
 

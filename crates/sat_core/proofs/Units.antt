@@ -1,8 +1,9 @@
 use Rattle.std.proofs.Common.{◌≡◌, Bool, true, false, not, ◌&&◌, ◌||◌, List, refl, sym, subst, arith, ℕ, zero, suc, ◌<◌, length, get_or, [], ◌∷◌, ◌≤◌, take, ap}
 use Rattle.std.specs.List.{list_any}
-use Rattle.proof_kernel.specs.declared.clause.Lit.{Lit}
-use Rattle.proof_kernel.specs.Clauses.{has, same_lit, flip}
-use Rattle.proof_kernel.proofs.Sets.{both, same_lit-is, same_lit-refl, or_left, or_right}
+use Rattle.proof_lines.specs.declared.clause.Lit.{Lit}
+use Rattle.proof_lines.specs.Clauses.{has, same_lit, flip}
+use Rattle.std.proofs.lemmas.Bool.{and_parts, or_left, or_right}
+use Rattle.proof_lines.proofs.Sets.{same_lit-is, same_lit-refl}
 use Rattle.search_logs.specs.declared.trail.Entry.{Entry}
 use Rattle.search_logs.specs.Trails.{negated, named, is_false, lone, is_unit}
 use Rattle.search_logs.proofs.Trails.{any_has, all_has, in_named}
@@ -16,8 +17,8 @@ off false f = refl
 -- a literal that makes a clause unit isn't negated
 unit-open : (t : List Entry) (c : List Lit) (l : Lit) → is_unit t c l ≡ true → negated t l ≡ true → ⊥
 unit-open t c l u n = absurd (
-    let p = both (has c l) (lone t c l && not (named t l.atom)) u in
-    let q = both (lone t c l) (not (named t l.atom)) p.1 in
+    let p = and_parts (has c l) (lone t c l && not (named t l.atom)) u in
+    let q = and_parts (lone t c l) (not (named t l.atom)) p.1 in
     let m = in_named t (flip l) n in
     let k = not_true (named t l.atom) q.1 in cc)
   where
@@ -37,8 +38,8 @@ first_open t c l h n u = off (list_any (is_unit t c) c) (λ k. (let r = any_has 
     by_case : (x : Lit) → is_unit t c x ≡ true → (b : Bool) → same_lit l x ≡ b → ⊥
     by_case x v true e = absurd (let w : is_unit t c l ≡ true = subst (λ (z : Lit). is_unit t c z ≡ true) (sym (same_lit-is l x e)) v in cc)
     by_case x v false e = absurd (
-        let p = both (has c x) (lone t c x && not (named t x.atom)) v in
-        let q = both (lone t c x) (not (named t x.atom)) p.1 in
+        let p = and_parts (has c x) (lone t c x && not (named t x.atom)) v in
+        let q = and_parts (lone t c x) (not (named t x.atom)) p.1 in
         let s = all_has (λ y. same_lit y x || negated t y) c l q.0 h in
         let m = or_last (same_lit l x) (negated t l) s e in cc)
 

@@ -1,18 +1,18 @@
 use Rattle.std.specs.Prelude.{◌≡◌, ℕ, ◌+◌, ◌^◌, ◌<◌, ◌≤◌, ℤ, Bool, true, false, List, length, map, slice_index_or, Option, Some, None, Ok}
 use Rattle.std.specs.List.{list_all}
 use Rattle.lin_rows.specs.Rows.{Row}
-use Rattle.proof_kernel.specs.declared.clause.Lit.{Lit}
-use Rattle.proof_kernel.specs.declared.problem.AtomKind.{AtomKind}
-use Rattle.proof_kernel.specs.declared.problem.Interpretation.{Interpretation}
-use Rattle.proof_kernel.specs.declared.line.RowStep.{RowStep}
-use Rattle.proof_kernel.specs.declared.line.RangeWhat.{RangeWhat}
-use Rattle.proof_kernel.specs.declared.line.Line.{Line}
-use Rattle.proof_kernel.specs.declared.line.RowsEvidence.{RowsEvidence}
-use Rattle.proof_kernel.specs.declared.line.RangeEvidence.{RangeEvidence}
-use Rattle.proof_kernel.specs.Problems.{PlainProblem, meaning_of, makes_true, atom_true}
-use Rattle.proof_kernel.specs.Steps.{lit_row}
+use Rattle.proof_lines.specs.declared.clause.Lit.{Lit}
+use Rattle.proof_lines.specs.declared.problem.AtomKind.{AtomKind}
+use Rattle.proof_lines.specs.declared.problem.Interpretation.{Interpretation}
+use Rattle.proof_lines.specs.declared.line.RowStep.{RowStep}
+use Rattle.proof_lines.specs.declared.line.RangeWhat.{RangeWhat}
+use Rattle.proof_lines.specs.declared.line.Line.{Line}
+use Rattle.proof_lines.specs.declared.line.RowsEvidence.{RowsEvidence}
+use Rattle.proof_lines.specs.declared.line.RangeEvidence.{RangeEvidence}
+use Rattle.proof_lines.specs.Problems.{PlainProblem, meaning_of, makes_true, atom_true}
+use Rattle.proof_lines.specs.Steps.{lit_row}
 use Rattle.proof_kernel.specs.Rules.{State, run}
-use Rattle.proof_kernel.specs.Evidence.{in_state}
+use Rattle.proof_lines.specs.Evidence.{in_state}
 use Rattle.proof_kernel.specs.Answers.{lines_judged, rows_judged, range_judged}
 use Rattle.theory_api.specs.Laws.{HasChosen}
 use Rattle.search_logs.specs.declared.trail.Entry.{Entry}

@@ -1,7 +1,7 @@
 use Rattle.std.specs.Prelude.{◌≡◌, ℕ, ◌<◌, Bool, true, List, ◌∷◌, Option}
-use Rattle.proof_kernel.specs.declared.clause.Lit.{Lit}
-use Rattle.proof_kernel.specs.declared.line.Line.{Line}
-use Rattle.proof_kernel.specs.Problems.{PlainProblem}
+use Rattle.proof_lines.specs.declared.clause.Lit.{Lit}
+use Rattle.proof_lines.specs.declared.line.Line.{Line}
+use Rattle.proof_lines.specs.Problems.{PlainProblem}
 use Rattle.search_logs.specs.declared.trail.Entry.{Entry}
 use Rattle.sat_core.specs.declared.asking.Outcome.{Outcome}
 use Rattle.sat_core.specs.declared.asking.Outcome.TheVariants.{Goes, Refuted, Found, Spent, Rows, Range, Memory}

@@ -1,15 +1,15 @@
 use Rattle.std.specs.Prelude.{◌≡◌, ℕ, ◌+◌, ◌-◌, ◌*◌, ◌^◌, ◌<◌, ◌≤◌, Bool, true, false, List, [], length, slice_index_or, slice_get, Some, Ok, ◌==◌}
 use Rattle.std.specs.List.{list_all, list_any}
-use Rattle.proof_kernel.specs.declared.clause.Lit.{Lit}
-use Rattle.proof_kernel.specs.declared.line.Line.{Line}
+use Rattle.proof_lines.specs.declared.clause.Lit.{Lit}
+use Rattle.proof_lines.specs.declared.line.Line.{Line}
 use Rattle.lin_rows.specs.Rows.{Row}
-use Rattle.proof_kernel.specs.declared.problem.AtomKind.{AtomKind}
-use Rattle.proof_kernel.specs.declared.problem.AtomKind.TheVariants.{Row as OfRow}
-use Rattle.proof_kernel.specs.declared.line.RowStep.{RowStep}
-use Rattle.proof_kernel.specs.declared.line.Line.TheVariants.{Farkas}
-use Rattle.proof_kernel.specs.Clauses.{negations, distinct}
-use Rattle.proof_kernel.specs.Forced.{Forced}
-use Rattle.proof_kernel.specs.Problems.{PlainProblem, fits}
+use Rattle.proof_lines.specs.declared.problem.AtomKind.{AtomKind}
+use Rattle.proof_lines.specs.declared.problem.AtomKind.TheVariants.{Row as OfRow}
+use Rattle.proof_lines.specs.declared.line.RowStep.{RowStep}
+use Rattle.proof_lines.specs.declared.line.Line.TheVariants.{Farkas}
+use Rattle.proof_lines.specs.Clauses.{negations, distinct}
+use Rattle.proof_lines.specs.Forced.{Forced}
+use Rattle.proof_lines.specs.Problems.{PlainProblem, fits}
 use Rattle.proof_kernel.specs.Rules.{run, next}
 use Rattle.search_logs.specs.declared.trail.Entry.{Entry}
 use Rattle.search_logs.specs.Trails.{in_trail, has_decision, named, is_false, is_unit, is_done, Settled, NoneFalse, IsTrail, IsCalm, free}

@@ -1,6 +1,6 @@
 // What a search answers.
 use items::Items;
-use proof_kernel::{Interpretation, Line, RangeEvidence, RowsEvidence};
+use proof_lines::{Interpretation, Line, RangeEvidence, RowsEvidence};
 
 /// The answer of a search for an interpretation that makes all clauses of a problem true.
 #[derive(Drop)]

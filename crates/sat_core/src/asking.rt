@@ -1,9 +1,9 @@
 // What follows for a search from what its solver says of the rows of a complete trail.
 ghost use Rattle.std.specs.Prelude.{◌≡◌, ◌<◌, ◌≤◌, ◌^◌, ◌++◌, ◌∷◌, [], ℕ, List, true, false, length, OnOk, IfOk};
 ghost use Rattle.lin_rows.specs.Rows.{Row as PlainRow};
-ghost use Rattle.proof_kernel.specs.declared.clause.Lit.{Lit as PlainLit};
-ghost use Rattle.proof_kernel.specs.declared.line.Line.TheVariants.{Split};
-ghost use Rattle.proof_kernel.specs.Rules.{at_most};
+ghost use Rattle.proof_lines.specs.declared.clause.Lit.{Lit as PlainLit};
+ghost use Rattle.proof_lines.specs.declared.line.Line.TheVariants.{Split};
+ghost use Rattle.proof_lines.specs.Splits.{at_most};
 ghost use Rattle.search_logs.specs.Trails.{named, Settled};
 ghost use Rattle.search_logs.specs.SearchLogs.{with_row};
 ghost use Rattle.sat_core.specs.Answers.{AreRowsOf};
@@ -14,8 +14,8 @@ use crate::drawing::{draw, pick, truths};
 use crate::explaining::{Explained, explain, learn};
 use crate::growing::add_row;
 use items::Items;
-use proof_kernel::splitting::at_most;
-use proof_kernel::{Interpretation, Line, Lit, Problem, RangeWhat, RowStep};
+use proof_lines::splitting::at_most;
+use proof_lines::{Interpretation, Line, Lit, Problem, RangeWhat, RowStep};
 use search_logs::Trail;
 use std::alloc::{AllocError, Global};
 use theory_api::{Theory, TheoryAnswer};

@@ -2,14 +2,14 @@
 ghost use Rattle.std.specs.Prelude.{◌≡◌, ◌<◌, ◌^◌, nat_lt, ℕ, cond, true, false, map, length, slice_index_or, Some, IfOk, OnOk, ◌+◌};
 ghost use Rattle.std.specs.List.{list_all};
 ghost use Rattle.lin_rows.specs.Rows.{negated};
-ghost use Rattle.proof_kernel.specs.Clauses.{lit_of};
+ghost use Rattle.proof_lines.specs.Clauses.{lit_of};
 ghost use Rattle.search_logs.specs.Trails.{in_trail, named};
 ghost use Rattle.sat_core.specs.Searching.{IsDrawn, lit_at};
 
 use crate::growing::atom_count;
 use items::Items;
 use lin_rows::{Row, negate};
-use proof_kernel::{AtomKind, Lit, Problem};
+use proof_lines::{AtomKind, Lit, Problem};
 use search_logs::Trail;
 use std::alloc::{AllocError, Global};
 

@@ -1,16 +1,16 @@
 // Conflicts: a chain of resolvents from a false clause back along the trail, and the cutting of the trail after it.
 ghost use Rattle.std.specs.Prelude.{◌≡◌, ◌<◌, ◌≤◌, ◌^◌, ◌∷◌, ◌++◌, [], true, false, length, slice_index_or, IfOk};
-ghost use Rattle.proof_kernel.specs.declared.line.Line.TheVariants.{Farkas};
-ghost use Rattle.proof_kernel.specs.Clauses.{negations};
-ghost use Rattle.proof_kernel.specs.Problems.{atoms_below};
+ghost use Rattle.proof_lines.specs.declared.line.Line.TheVariants.{Farkas};
+ghost use Rattle.proof_lines.specs.Clauses.{negations};
+ghost use Rattle.proof_lines.specs.Problems.{atoms_below};
 ghost use Rattle.search_logs.specs.Trails.{is_done};
 ghost use Rattle.search_logs.specs.SearchLogs.{line_on, resolved_on, with_clause};
 ghost use Rattle.sat_core.specs.Searching.{IsChain, GoesOn, IsChained, IsExplained, IsCutBack, IsLevel};
 
 use crate::growing::{add_clause, clause_at, lits_of};
 use items::Items;
-use proof_kernel::clause::holds;
-use proof_kernel::{Clause, Line, Lit, Problem, RowStep};
+use proof_lines::clause::holds;
+use proof_lines::{Clause, Line, Lit, Problem, RowStep};
 use search_logs::Trail;
 use std::alloc::{AllocError, Global};
 

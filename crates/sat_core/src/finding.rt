@@ -5,7 +5,7 @@ ghost use Rattle.search_logs.specs.Trails.{named, is_unit};
 ghost use Rattle.sat_core.specs.Searching.{IsFound};
 
 use crate::growing::{clause_count, lits_of};
-use proof_kernel::{Lit, Problem};
+use proof_lines::{Lit, Problem};
 use search_logs::Trail;
 
 /// What stands in the way of a decision.

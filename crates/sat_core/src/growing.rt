@@ -1,12 +1,12 @@
 // The problem so far: the given one, with the clauses and atoms that the lines of the log gave.
 ghost use Rattle.std.specs.Prelude.{◌≡◌, ◌<◌, ◌^◌, ◌∷◌, [], true, length, slice_index_or, OnOk, IfOk, MatchResult};
 ghost use Rattle.lin_rows.specs.Rows.{places_below};
-ghost use Rattle.proof_kernel.specs.Clauses.{distinct};
-ghost use Rattle.proof_kernel.specs.Problems.{atoms_below};
+ghost use Rattle.proof_lines.specs.Clauses.{distinct};
+ghost use Rattle.proof_lines.specs.Problems.{atoms_below};
 ghost use Rattle.search_logs.specs.SearchLogs.{with_clause, with_row};
 
 use lin_rows::Row;
-use proof_kernel::{AtomKind, Clause, Lit, Problem};
+use proof_lines::{AtomKind, Clause, Lit, Problem};
 use std::alloc::AllocError;
 
 /// The clause with a number.

@@ -1,7 +1,7 @@
 use Rattle.std.proofs.Common.{◌≡◌, ℕ, zero, suc, ◌+◌, ◌*◌, ◌^◌, ◌<◌, ◌≤◌, Bool, true, false, cond, ◌==◌, ◌⊎◌, inl, inr, List, [], ◌∷◌, length, get_or, refl, sym, subst, arith, None}
-use Rattle.proof_kernel.specs.declared.clause.Lit.{Lit}
-use Rattle.proof_kernel.specs.Clauses.{has, sub, flip, lit_of}
-use Rattle.proof_kernel.proofs.Sets.{either, same_nat}
+use Rattle.proof_lines.specs.declared.clause.Lit.{Lit}
+use Rattle.proof_lines.specs.Clauses.{has, sub, flip, lit_of}
+use Rattle.std.proofs.lemmas.Bool.{or_cases, eqb-true}
 use Rattle.search_logs.specs.declared.trail.Entry.{Entry}
 use Rattle.search_logs.specs.Trails.{named, free}
 use Rattle.search_logs.specs.Fresh.{IsFresh}
@@ -75,8 +75,8 @@ module _ (n first : ℕ) (cs : List (List Lit)) (f : IsFresh first cs) (below : 
 
   was_named : (k a : ℕ) → named (numbers k) a ≡ true → (j : ℕ) × (j < k) × (number n (get_or cs (first + j) []) ≡ a)
   was_named zero a h = absurd cc
-  was_named (suc k) a h = elim (either (number n (get_or cs (first + k) []) == a) (named (numbers k) a) h) [
-    | inl q ↦ (k, omega arith, same_nat (number n (get_or cs (first + k) [])) a q)
+  was_named (suc k) a h = elim (or_cases (number n (get_or cs (first + k) []) == a) (named (numbers k) a) h) [
+    | inl q ↦ (k, omega arith, eqb-true (number n (get_or cs (first + k) [])) a q)
     | inr q ↦ (let r = was_named k a q in (r.0, let s = r.1 in omega arith, r.2))
   ]
 

@@ -1,9 +1,10 @@
 use Rattle.std.proofs.Common.{◌≡◌, ℕ, zero, suc, ◌+◌, ◌<◌, ◌≤◌, ◌≢◌, Bool, true, false, not, cond, ◌&&◌, ◌||◌, ◌⊎◌, inl, inr, List, [], ◌∷◌, ◌++◌, length, get_or, refl, sym, ◌∙◌, ap, subst, arith, Option, Some, None, length-append}
 use Rattle.std.specs.Prelude.{is_none, nat_le}
 use Rattle.std.proofs.lemmas.Bool.Decides.{nat_tests}
-use Rattle.proof_kernel.specs.declared.clause.Lit.{Lit}
-use Rattle.proof_kernel.specs.Clauses.{has, sub, distinct, same_lit, flip, lit_of}
-use Rattle.proof_kernel.proofs.Sets.{both, has-resolvent, resolvent-left, resolvent-right, distinct-resolvent}
+use Rattle.proof_lines.specs.declared.clause.Lit.{Lit}
+use Rattle.proof_lines.specs.Clauses.{has, sub, distinct, same_lit, flip, lit_of}
+use Rattle.std.proofs.lemmas.Bool.{and_parts}
+use Rattle.proof_lines.proofs.Sets.{has-resolvent, resolvent-left, resolvent-right, distinct-resolvent}
 use Rattle.search_logs.specs.declared.trail.Entry.{Entry}
 use Rattle.search_logs.specs.Trails.{named, is_false, lone, is_unit, quiet, NoneFalse, open_in, after, before_last, is_decision, has_decision, IsStep, IsTrail, older, IsCalm, is_done, from_last}
 use Rattle.search_logs.specs.SearchLogs.{line_on, resolved_on, IsNext}
@@ -196,7 +197,7 @@ module _ (start : List (List Lit)) (t0 : List Entry) (cs : List (List Lit)) (e :
   gives = resolved_on e.lit (get_or start p.reason []) (get_or cs i [])
 
   unit_lone : lone t (get_or start p.reason []) e.lit ≡ true
-  unit_lone = (both (lone t (get_or start p.reason []) e.lit) (not (named t e.lit.atom)) (both (has (get_or start p.reason []) e.lit) (lone t (get_or start p.reason []) e.lit && not (named t e.lit.atom)) p.unit).1).0
+  unit_lone = (and_parts (lone t (get_or start p.reason []) e.lit) (not (named t e.lit.atom)) (and_parts (has (get_or start p.reason []) e.lit) (lone t (get_or start p.reason []) e.lit && not (named t e.lit.atom)) p.unit).1).0
 
   same_has : has_decision (e ∷ t) ≡ has_decision t
   same_has = ap (λ r. is_none r || has_decision t) p.is
@@ -315,7 +316,7 @@ first_cut start t0 cs t i x h = record {
     by_case k l (inr q) (inl o) = subst (λ (c : List Lit). is_false (before_last t) c ≡ false) (sym (x.grows.same k o)) (quiet_open (settled-before start t x.trail h k o))
       where
         quiet_open : quiet (before_last t) (get_or start k []) ≡ true → is_false (before_last t) (get_or start k []) ≡ false
-        quiet_open m = one (is_false (before_last t) (get_or start k [])) (both (not (is_false (before_last t) (get_or start k []))) _ m).0
+        quiet_open m = one (is_false (before_last t) (get_or start k [])) (and_parts (not (is_false (before_last t) (get_or start k []))) _ m).0
           where
             one : (b : Bool) → not b ≡ true → b ≡ false
             one b g = grind arith

@@ -1,9 +1,10 @@
 use Rattle.std.proofs.Common.{◌≡◌, ℕ, zero, suc, ◌<◌, Bool, true, false, not, ◌&&◌, ◌||◌, ◌==◌, ◌⊎◌, inl, inr, List, [], ◌∷◌, length, get_or, refl, sym, subst, arith, Option, Some, None}
 use Rattle.std.specs.List.{list_any}
-use Rattle.proof_kernel.specs.declared.clause.Lit.{Lit}
-use Rattle.proof_kernel.specs.Clauses.{has, same_lit, flip, lit_of, is_empty}
-use Rattle.proof_kernel.specs.Forced.{Forced, by_clause}
-use Rattle.proof_kernel.proofs.Sets.{both, either, or_left, or_right, same_nat, same_lit-is, same_lit-refl}
+use Rattle.proof_lines.specs.declared.clause.Lit.{Lit}
+use Rattle.proof_lines.specs.Clauses.{has, same_lit, flip, lit_of, is_empty}
+use Rattle.proof_lines.specs.Forced.{Forced, by_clause}
+use Rattle.std.proofs.lemmas.Bool.{and_parts, or_cases, or_left, or_right, eqb-true, and_from}
+use Rattle.proof_lines.proofs.Sets.{same_lit-is, same_lit-refl}
 use Rattle.search_logs.specs.declared.trail.Entry.{Entry}
 use Rattle.search_logs.specs.Trails.{in_trail, negated, named, is_false, is_unit, quiet, lone, has_decision, before_last, after, Settled, NoneFalse, IsTrail}
 use Rattle.search_logs.specs.Forcing.{AreRefuted, AreSatisfied}
@@ -13,15 +14,15 @@ use Rattle.search_logs.proofs.Trails.{has_all, all_has, one-way, settled-before}
 
 any_there : (p : Lit → Bool) (c : List Lit) (l : Lit) → has c l ≡ true → p l ≡ true → list_any p c ≡ true
 any_there p [] l h k = absurd cc
-any_there p (x ∷ c) l h k = elim (either (same_lit x l) (has c l) h) [
+any_there p (x ∷ c) l h k = elim (or_cases (same_lit x l) (has c l) h) [
   | inl e ↦ or_left (p x) (list_any p c) (subst (λ (z : Lit). p z ≡ true) (sym (same_lit-is x l e)) k)
   | inr e ↦ or_right (p x) (list_any p c) (any_there p c l e k)
 ]
 
 pub named_one : (t : List Entry) (a : ℕ) → named t a ≡ true → (in_trail t (lit_of a true) ≡ true) ⊎ (in_trail t (lit_of a false) ≡ true)
 named_one [] a h = absurd cc
-named_one (e ∷ t) a h = elim (either (e.lit.atom == a) (named t a) h) [
-  | inl q ↦ at_top e.lit.positive refl (same_nat e.lit.atom a q)
+named_one (e ∷ t) a h = elim (or_cases (e.lit.atom == a) (named t a) h) [
+  | inl q ↦ at_top e.lit.positive refl (eqb-true e.lit.atom a q)
   | inr q ↦ elim (named_one t a q) [ inl r ↦ inl (or_right (same_lit e.lit (lit_of a true)) (in_trail t (lit_of a true)) r) | inr r ↦ inr (or_right (same_lit e.lit (lit_of a false)) (in_trail t (lit_of a false)) r) ]
 ]
   where
@@ -35,9 +36,6 @@ named_one (e ∷ t) a h = elim (either (e.lit.atom == a) (named t a) h) [
 forced_here : (t : List Entry) (c : List Lit) (l : Lit) → has c l ≡ true → lone t c l ≡ true → quiet t c ≡ true → is_false t c ≡ false → in_trail t l ≡ true
 forced_here t c l h o q f = by_case (negated t l) (named t l.atom) refl refl
   where
-    and_true : (a b : Bool) → a ≡ true → b ≡ true → (a && b) ≡ true
-    and_true a b p q = grind arith
-
     or_last : (a b : Bool) → (a || b) ≡ true → a ≡ false → b ≡ true
     or_last a b p q = grind arith
 
@@ -60,9 +58,9 @@ forced_here t c l h o q f = by_case (negated t l) (named t l.atom) refl refl
         each x k true e = subst (λ (z : Lit). negated t z ≡ true) (sym (same_lit-is x l e)) p
         each x k false e = or_last (same_lit x l) (negated t x) (all_has (λ y. same_lit y l || negated t y) c x o k) e
     by_case false false p r = absurd (
-        let u = and_true (has c l) (lone t c l && not (named t l.atom)) h (and_true (lone t c l) (not (named t l.atom)) o (on (named t l.atom) r)) in
+        let u = and_from (has c l) (lone t c l && not (named t l.atom)) h (and_from (lone t c l) (not (named t l.atom)) o (on (named t l.atom) r)) in
         let m = any_there (is_unit t c) c l h u in
-        let v = off (list_any (is_unit t c) c) (both (not (is_false t c)) (not (list_any (is_unit t c) c)) q).1 in cc)
+        let v = off (list_any (is_unit t c) c) (and_parts (not (is_false t c)) (not (list_any (is_unit t c) c)) q).1 in cc)
     by_case false true p r = signs l.atom l.positive p (named_one t l.atom r)
 
 -- a settled trail holds what is forced
@@ -80,8 +78,8 @@ refuted_none cs t r w n =
 
 pub unit_forced : (cs : List (List Lit)) (t : List Entry) (r : ℕ) (l : Lit) → r < length cs → is_unit t (get_or cs r []) l ≡ true → ((k : Lit) → in_trail t k ≡ true → Forced cs k) → Forced cs l
 unit_forced cs t r l b u f =
-    let p = both (has (get_or cs r []) l) _ u in
-    let q = both (lone t (get_or cs r []) l) _ p.1 in
+    let p = and_parts (has (get_or cs r []) l) _ u in
+    let q = and_parts (lone t (get_or cs r []) l) _ p.1 in
     by_clause r b l p.0 (λ k h n. f (flip k) (or_last (same_lit k l) (negated t k) (all_has (λ y. same_lit y l || negated t y) (get_or cs r []) k q.0 h) n))
   where
     or_last : (a b : Bool) → (a || b) ≡ true → a ≡ false → b ≡ true
@@ -100,7 +98,7 @@ pub conflict_free : (cs : List (List Lit)) (t : List Entry) (i : ℕ) → IsTrai
 conflict_free cs t i w s f b n = by_case (has_decision t) refl
   where
     none_of : (u : List Entry) → Settled u cs → NoneFalse u cs
-    none_of u g = λ k l. one (is_false u (get_or cs k [])) (both (not (is_false u (get_or cs k []))) _ (g k l)).0
+    none_of u g = λ k l. one (is_false u (get_or cs k [])) (and_parts (not (is_false u (get_or cs k []))) _ (g k l)).0
       where
         one : (b : Bool) → not b ≡ true → b ≡ false
         one b g = grind arith
@@ -119,7 +117,7 @@ empty_unsat cs h s = let r = find_empty cs h in s.0 (r.0, r.1, λ l k. absurd (n
   where
     find_empty : (cs : List (List Lit)) → list_any is_empty cs ≡ true → (i : ℕ) × (i < length cs) × (is_empty (get_or cs i []) ≡ true)
     find_empty [] h = absurd cc
-    find_empty (c ∷ cs) h = elim (either (is_empty c) (list_any is_empty cs) h) [ inl e ↦ (zero, omega arith, e) | inr e ↦ (let r = find_empty cs e in (suc r.0, (let q = r.1 in omega arith), r.2)) ]
+    find_empty (c ∷ cs) h = elim (or_cases (is_empty c) (list_any is_empty cs) h) [ inl e ↦ (zero, omega arith, e) | inr e ↦ (let r = find_empty cs e in (suc r.0, (let q = r.1 in omega arith), r.2)) ]
 
     nothing : (c : List Lit) (l : Lit) → has c l ≡ true → is_empty c ≡ true → ⊥
     nothing [] l h e = absurd cc
@@ -130,7 +128,7 @@ empty_unsat cs h s = let r = find_empty cs h in s.0 (r.0, r.1, λ l k. absurd (n
 
 -- a forced literal
 pub unit_parts : (t : List Entry) (c : List Lit) (l : Lit) → is_unit t c l ≡ true → (has c l ≡ true) × (named t l.atom ≡ false)
-unit_parts t c l h = let p = both (has c l) _ h in let q = both _ (not (named t l.atom)) p.1 in (p.0, not_true (named t l.atom) q.1)
+unit_parts t c l h = let p = and_parts (has c l) _ h in let q = and_parts _ (not (named t l.atom)) p.1 in (p.0, not_true (named t l.atom) q.1)
   where
     not_true : (a : Bool) → not a ≡ true → a ≡ false
     not_true a h = grind arith

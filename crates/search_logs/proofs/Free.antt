@@ -1,7 +1,8 @@
 use Rattle.std.proofs.Common.{◌≡◌, ℕ, zero, suc, ◌+◌, ◌<◌, ◌≤◌, Bool, true, false, cond, ◌||◌, ◌==◌, List, [], ◌∷◌, length, refl, subst, arith}
 use Rattle.std.proofs.lemmas.Bool.Decides.{nat_tests}
-use Rattle.proof_kernel.specs.declared.clause.Lit.{Lit}
-use Rattle.proof_kernel.proofs.Sets.{or_left, or_right, same_nat, same_nat-refl}
+use Rattle.proof_lines.specs.declared.clause.Lit.{Lit}
+use Rattle.std.proofs.lemmas.Bool.{or_left, or_right, eqb-true}
+use Rattle.proof_lines.proofs.Sets.{same_nat-refl}
 use Rattle.search_logs.specs.declared.trail.Entry.{Entry}
 use Rattle.search_logs.specs.Trails.{named, IsTrail, free}
 
@@ -34,7 +35,7 @@ free-falls (suc n) e t l h = by_case (e.lit.atom == n) (named t n) refl refl (fr
 
     by_case : (a b : Bool) → (e.lit.atom == n) ≡ a → named t n ≡ b → free n (e ∷ t) ≤ free n t → (e.lit.atom < n → free n (e ∷ t) < free n t) → cond (a || b) (free n (e ∷ t)) (1 + free n (e ∷ t)) < cond b (free n t) (1 + free n t)
     by_case true false p q m f = omega arith
-    by_case true true p q m f = absurd (let s = same_nat e.lit.atom n p in let r : named t n ≡ false = subst (λ (a : ℕ). named t a ≡ false) s h in cc)
+    by_case true true p q m f = absurd (let s = eqb-true e.lit.atom n p in let r : named t n ≡ false = subst (λ (a : ℕ). named t a ≡ false) s h in cc)
     by_case false true p q m f = f (other e.lit.atom n p l)
     by_case false false p q m f = let r = f (other e.lit.atom n p l) in omega arith
 

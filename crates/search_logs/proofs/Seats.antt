@@ -5,9 +5,10 @@ use Rattle.std.specs.List.{count_by}
 use Rattle.std.proofs.lemmas.List.Recursion.{is_count_by}
 use Rattle.std.proofs.lemmas.Bool.Decides.{nat_tests}
 use Rattle.std.proofs.lemmas.List.{get_or-set_same, get_or-set_other}
-use Rattle.proof_kernel.specs.declared.clause.Lit.{Lit}
-use Rattle.proof_kernel.specs.Clauses.{same_lit, same_bool, flip, lit_of}
-use Rattle.proof_kernel.proofs.Sets.{same_nat, same_nat-refl, same_lit-is, same_lit-refl}
+use Rattle.proof_lines.specs.declared.clause.Lit.{Lit}
+use Rattle.proof_lines.specs.Clauses.{same_lit, same_bool, flip, lit_of}
+use Rattle.std.proofs.lemmas.Bool.{eqb-true}
+use Rattle.proof_lines.proofs.Sets.{same_nat-refl, same_lit-is, same_lit-refl}
 use Rattle.search_logs.specs.declared.trail.Entry.{Entry}
 use Rattle.search_logs.specs.Trails.{in_trail, negated, named, open_in, after, before_last}
 use Rattle.search_logs.specs.Places.{place_of, lies_before, lies_from, ArePlaces}
@@ -118,7 +119,7 @@ places-put e t places n m b h w a = by_case (e.lit.atom == a) refl
     other p s = absurd (let q = ap (λ (z : Lit). z.atom) (same_lit-is e.lit (lit_of a e.lit.positive) s) in apart p (sym q))
 
     by_case : (b : Bool) → (e.lit.atom == a) ≡ b → get_or (set places e.lit.atom (Some n)) a None ≡ place_of (e ∷ t) (lit_of a e.lit.positive)
-    by_case true p = subst (λ (z : ℕ). get_or (set places e.lit.atom (Some n)) z None ≡ place_of (e ∷ t) (lit_of z e.lit.positive)) (same_nat e.lit.atom a p)
+    by_case true p = subst (λ (z : ℕ). get_or (set places e.lit.atom (Some n)) z None ≡ place_of (e ∷ t) (lit_of z e.lit.positive)) (eqb-true e.lit.atom a p)
         (get_or-set_same places e.lit.atom (Some n) None b ∙ ap (λ (k : ℕ). Some k) m ∙ sym here)
     by_case false p = get_or-set_other places e.lit.atom a (Some n) None (apart p) ∙ w a ∙ sym (place-same e t (lit_of a e.lit.positive) (other p))
 
@@ -146,7 +147,7 @@ places-stay e t places h w a = w a ∙ by_case (e.lit.atom == a) refl
         sym (gone e t ∙ (λ j. cond (f j) None (place_of (e ∷ t) e.lit)))
 
     by_case : (b : Bool) → (e.lit.atom == a) ≡ b → place_of (e ∷ t) (lit_of a e.lit.positive) ≡ place_of t (lit_of a e.lit.positive)
-    by_case true p = subst (λ (z : ℕ). place_of (e ∷ t) (lit_of z e.lit.positive) ≡ place_of t (lit_of z e.lit.positive)) (same_nat e.lit.atom a p) here
+    by_case true p = subst (λ (z : ℕ). place_of (e ∷ t) (lit_of z e.lit.positive) ≡ place_of t (lit_of z e.lit.positive)) (eqb-true e.lit.atom a p) here
     by_case false p = place-same e t (lit_of a e.lit.positive) (λ s. absurd (let q = ap (λ (z : Lit). z.atom) (same_lit-is e.lit (lit_of a e.lit.positive) s) in let r = same_nat-refl a in let u : (e.lit.atom == a) ≡ true = subst (λ (z : ℕ). (z == a) ≡ true) (sym q) r in cc))
 
 pub places-cleared : (e : Entry) (t : List Entry) (places : List (Option ℕ)) → e.lit.atom < length places → lies_from (length t) (get_or places e.lit.atom None) ≡ true → ArePlaces places e.lit.positive (e ∷ t)
@@ -162,7 +163,7 @@ places-cleared e t places b h w a = by_case (e.lit.atom == a) refl
     apart p q = absurd (let r = same_nat-refl e.lit.atom in let s : (e.lit.atom == a) ≡ true = subst (λ (z : ℕ). (e.lit.atom == z) ≡ true) (sym q) r in cc)
 
     by_case : (b : Bool) → (e.lit.atom == a) ≡ b → get_or (set places e.lit.atom None) a None ≡ place_of t (lit_of a e.lit.positive)
-    by_case true p = subst (λ (z : ℕ). get_or (set places e.lit.atom None) z None ≡ place_of t (lit_of z e.lit.positive)) (same_nat e.lit.atom a p)
+    by_case true p = subst (λ (z : ℕ). get_or (set places e.lit.atom None) z None ≡ place_of t (lit_of z e.lit.positive)) (eqb-true e.lit.atom a p)
         (get_or-set_same places e.lit.atom None None b ∙ sym here)
     by_case false p = get_or-set_other places e.lit.atom a None None (apart p) ∙ w a
         ∙ place-same e t (lit_of a e.lit.positive) (λ s. absurd (let q = ap (λ (z : Lit). z.atom) (same_lit-is e.lit (lit_of a e.lit.positive) s) in apart p (sym q)))

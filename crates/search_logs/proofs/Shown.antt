@@ -3,23 +3,25 @@ use Rattle.std.specs.List.{list_any, list_all}
 use Rattle.std.proofs.Math.Seq.{take-suc, drop-cons}
 use Rattle.std.proofs.lemmas.Bool.Decides.{Decides-eqb}
 use Rattle.lin_rows.specs.Rows.{Row}
-use Rattle.proof_kernel.specs.declared.clause.Lit.{Lit}
-use Rattle.proof_kernel.specs.declared.line.RowStep.{RowStep}
-use Rattle.proof_kernel.specs.declared.line.RangeWhat.{RangeWhat}
-use Rattle.proof_kernel.specs.declared.line.Line.{Line}
-use Rattle.proof_kernel.specs.declared.line.Why.{Why}
-use Rattle.proof_kernel.specs.declared.line.Why.TheVariants.{Evidence}
-use Rattle.proof_kernel.specs.declared.line.RowsEvidence.{RowsEvidence}
-use Rattle.proof_kernel.specs.declared.line.RangeEvidence.{RangeEvidence}
-use Rattle.proof_kernel.specs.Clauses.{has, sub, flip, negations, is_empty, holds_both_ways, distinct}
-use Rattle.proof_kernel.specs.Problems.{PlainProblem, atoms_below}
-use Rattle.proof_kernel.specs.Steps.{line_rows}
+use Rattle.proof_lines.specs.declared.clause.Lit.{Lit}
+use Rattle.proof_lines.specs.declared.line.RowStep.{RowStep}
+use Rattle.proof_lines.specs.declared.line.RangeWhat.{RangeWhat}
+use Rattle.proof_lines.specs.declared.line.Line.{Line}
+use Rattle.proof_lines.specs.declared.line.Why.{Why}
+use Rattle.proof_lines.specs.declared.line.Why.TheVariants.{Evidence}
+use Rattle.proof_lines.specs.declared.line.RowsEvidence.{RowsEvidence}
+use Rattle.proof_lines.specs.declared.line.RangeEvidence.{RangeEvidence}
+use Rattle.proof_lines.specs.Clauses.{has, sub, flip, negations, is_empty, holds_both_ways, distinct}
+use Rattle.proof_lines.specs.Problems.{PlainProblem, atoms_below}
+use Rattle.proof_lines.specs.Steps.{line_rows}
 use Rattle.proof_kernel.specs.Rules.{State, live_of, run}
-use Rattle.proof_kernel.specs.Evidence.{is_new, each_new, is_fresh, rows_hold, range_holds, rows_shown, range_shown}
+use Rattle.proof_kernel.specs.Evidence.{is_new, each_new, is_fresh, rows_hold, range_holds}
+use Rattle.proof_lines.specs.Evidence.{rows_shown, range_shown}
 use Rattle.proof_kernel.specs.Answers.{judged, lines_judged, rows_judged, range_judged}
-use Rattle.proof_kernel.proofs.Sets.{both, flip_twice, distinct-join}
-use Rattle.proof_kernel.proofs.States.{and_true, all-join, live_of-map}
-use Rattle.proof_kernel.proofs.Gap.{is_lt}
+use Rattle.std.proofs.lemmas.Bool.{and_parts, and_from, lt-ltb}
+use Rattle.proof_lines.proofs.Sets.{flip_twice, distinct-join}
+use Rattle.proof_lines.proofs.Names.{all-join}
+use Rattle.proof_kernel.proofs.States.{live_of-map}
 use Rattle.theory_api.specs.Laws.{IsTooMany, IsBeyond}
 use Rattle.theory_api.proofs.Standing.{Stand, lit_at}
 use Rattle.search_logs.specs.declared.trail.Entry.{Entry}
@@ -67,7 +69,7 @@ each_new-all (suc n) g cs e f =
     let rest = each_new-all n (suc g) cs (omega arith) (λ k h m. f k (omega arith) m) in
     let after = subst (λ (z : List (List Lit)). each_new z (drop (suc g) cs) ≡ true) (take-suc cs g [] l) rest in
     subst (λ (z : List (List Lit)). each_new (take g cs) z ≡ true) (sym (drop-cons cs g [] l))
-    (and_true (is_new (take g cs) (get_or cs g [])) (each_new (take g cs ++ get_or cs g [] ∷ []) (drop (suc g) cs)) (f g (omega arith) l) after)
+    (and_from (is_new (take g cs) (get_or cs g [])) (each_new (take g cs ++ get_or cs g [] ∷ []) (drop (suc g) cs)) (f g (omega arith) l) after)
 
 off : (b : Bool) → (b ≡ true → ⊥) → b ≡ false
 off true f = absurd (f refl)
@@ -79,7 +81,7 @@ one_way-clause c f = off (holds_both_ways c) (λ h. (let r = any_has (λ l. has 
 -- a fresh log by the proof kernel's test
 pub standing-fresh : (first : ℕ) (q : PlainProblem) → first ≤ length q.clauses → IsFresh first q.clauses → ((k : ℕ) → first ≤ k → k < length q.clauses → is_empty (get_or q.clauses k []) ≡ false) → is_fresh (standing first q) ≡ true
 standing-fresh first q l f n =
-    and_true (list_all (λ o. is_some o) (standing first q).slots) (each_new (live_of (take first (standing first q).slots)) (live_of (drop first (standing first q).slots)))
+    and_from (list_all (λ o. is_some o) (standing first q).slots) (each_new (live_of (take first (standing first q).slots)) (live_of (drop first (standing first q).slots)))
     (all_some q.clauses)
     (subst (λ (z : List (List Lit)). each_new z (live_of (drop first (standing first q).slots)) ≡ true) (sym (live_take first q.clauses))
     (subst (λ (z : List (List Lit)). each_new (take first q.clauses) z ≡ true) (sym (live_drop first q.clauses)) all))
@@ -104,15 +106,15 @@ false-negations t used h = all-join (negated t) [] (map flip used) refl (flipped
     flipped : (used : List Lit) → list_all (in_trail t) used ≡ true → list_all (negated t) (map flip used) ≡ true
     flipped [] h = refl
     flipped (l ∷ used) h =
-        let b = both (in_trail t l) (list_all (in_trail t) used) h in
-        and_true (in_trail t (flip (flip l))) (list_all (negated t) (map flip used)) (subst (λ (z : Lit). in_trail t z ≡ true) (sym (flip_twice l)) b.0) (flipped used b.1)
+        let b = and_parts (in_trail t l) (list_all (in_trail t) used) h in
+        and_from (in_trail t (flip (flip l))) (list_all (negated t) (map flip used)) (subst (λ (z : Lit). in_trail t z ≡ true) (sym (flip_twice l)) b.0) (flipped used b.1)
 
 pub distinct-negations : (used : List Lit) → distinct (negations used) ≡ true
 distinct-negations used = distinct-join [] (map flip used) refl
 
 -- the atoms of a false clause are named
 pub false-below : (n : ℕ) (t : List Entry) (c : List Lit) → is_false t c ≡ true → ((x : ℕ) → named t x ≡ true → x < n) → atoms_below n c ≡ true
-false-below n t c f b = has_all (λ l. nat_lt l.atom n) c (λ l h. is_lt l.atom n (b l.atom (in_named t (flip l) (all_has (negated t) c l f h))))
+false-below n t c f b = has_all (λ l. nat_lt l.atom n) c (λ l h. lt-ltb l.atom n (b l.atom (in_named t (flip l) (all_has (negated t) c l f h))))
 
 -- literals of a trail don't stand in it both ways
 pub trail_one_way : (cs : List (List Lit)) (t : List Entry) (used : List Lit) → IsTrail cs t → list_all (in_trail t) used ≡ true → holds_both_ways used ≡ false
@@ -133,13 +135,13 @@ judged-so : (test : State → Bool) (lines : List Line) (o : Result State (ℕ �
 judged-so test lines o s e h = ap (judged test lines) e ∙ (λ i. cond (h i) (Ok tt) (Err (length lines, Evidence)))
 
 pub lines_judged-so : (p : PlainProblem) (log : List Line) (budget : ℕ) (s : State) → run p log ≡ Ok s → length log ≡ budget → is_fresh s ≡ true → lines_judged p log budget ≡ Ok tt
-lines_judged-so p log budget s e l f = judged-so (λ z. (length log == budget) && is_fresh z) log (run p log) s e (and_true (length log == budget) (is_fresh s) ((Decides-eqb (length log) budget).1 l) f)
+lines_judged-so p log budget s e l f = judged-so (λ z. (length log == budget) && is_fresh z) log (run p log) s e (and_from (length log == budget) (is_fresh s) ((Decides-eqb (length log) budget).1 l) f)
 
 pub rows_judged-so : (p : PlainProblem) (e : RowsEvidence) (s : State) → run p e.log ≡ Ok s → is_fresh s ≡ true → rows_hold s e.used e.steps ≡ true → rows_judged p e ≡ Ok tt
-rows_judged-so p e s r f h = judged-so (λ z. is_fresh z && rows_hold z e.used e.steps) e.log (run p e.log) s r (and_true (is_fresh s) (rows_hold s e.used e.steps) f h)
+rows_judged-so p e s r f h = judged-so (λ z. is_fresh z && rows_hold z e.used e.steps) e.log (run p e.log) s r (and_from (is_fresh s) (rows_hold s e.used e.steps) f h)
 
 pub range_judged-so : (p : PlainProblem) (e : RangeEvidence) (s : State) → run p e.log ≡ Ok s → is_fresh s ≡ true → range_holds s e.used e.steps e.what ≡ true → range_judged p e ≡ Ok tt
-range_judged-so p e s r f h = judged-so (λ z. is_fresh z && range_holds z e.used e.steps e.what) e.log (run p e.log) s r (and_true (is_fresh s) (range_holds s e.used e.steps e.what) f h)
+range_judged-so p e s r f h = judged-so (λ z. is_fresh z && range_holds z e.used e.steps e.what) e.log (run p e.log) s r (and_from (is_fresh s) (range_holds s e.used e.steps e.what) f h)
 
 length-picked : (lits : List Lit) (used : List ℕ) → length (map (lit_at lits) used) ≡ length used
 length-picked lits [] = refl
@@ -149,7 +151,7 @@ pub rows_hold-so : (g : ℕ) (q : PlainProblem) (lits : List Lit) (rows : List R
     → rows_hold (standing g q) (map (lit_at lits) used) steps ≡ true
 rows_hold-so g q lits rows used steps s x h =
     let n : length (map (lit_at lits) used) + length steps ≡ 10000 = (let a = length-picked lits used in let b = x.count in omega arith) in
-    and_true (length (map (lit_at lits) used) + length steps == 10000) (not (holds_both_ways (map (lit_at lits) used)) && rows_shown steps (line_rows q.atoms (map (lit_at lits) used) steps))
+    and_from (length (map (lit_at lits) used) + length steps == 10000) (not (holds_both_ways (map (lit_at lits) used)) && rows_shown steps (line_rows q.atoms (map (lit_at lits) used) steps))
     ((Decides-eqb (length (map (lit_at lits) used) + length steps) 10000).1 n)
     ((λ i. not (h i) && rows_shown steps (picked-line q lits rows used steps s x.given i)) ∙ x.shown)
 

@@ -1,18 +1,19 @@
 use Rattle.std.proofs.Common.{◌≡◌, ℕ, zero, suc, ◌+◌, ◌<◌, ℤ, Bool, true, false, cond, ◌&&◌, ◌||◌, List, [], ◌∷◌, ◌++◌, length, map, get_or, refl, sym, ◌∙◌, ap, subst, arith, Option, Some, None, Result, Ok, Err, is_some, nat_lt}
 use Rattle.std.specs.List.{list_any, list_all}
-use Rattle.proof_kernel.specs.declared.clause.Lit.{Lit}
-use Rattle.proof_kernel.specs.declared.line.RowStep.{RowStep}
-use Rattle.proof_kernel.specs.declared.line.Line.{Line}
-use Rattle.proof_kernel.specs.declared.line.Line.TheVariants.{Resolve, Farkas, Split}
-use Rattle.proof_kernel.specs.declared.line.Why.{Why}
-use Rattle.proof_kernel.specs.declared.line.Why.TheVariants.{Place, Pivot, Dropped, Contradiction, SplitAgain}
+use Rattle.proof_lines.specs.declared.clause.Lit.{Lit}
+use Rattle.proof_lines.specs.declared.line.RowStep.{RowStep}
+use Rattle.proof_lines.specs.declared.line.Line.{Line}
+use Rattle.proof_lines.specs.declared.line.Line.TheVariants.{Resolve, Farkas, Split}
+use Rattle.proof_lines.specs.declared.line.Why.{Why}
+use Rattle.proof_lines.specs.declared.line.Why.TheVariants.{Place, Pivot, Dropped, Contradiction, SplitAgain}
 use Rattle.lin_rows.specs.Rows.{Row}
-use Rattle.proof_kernel.specs.Clauses.{has, flip, lit_of, resolvent, negations, is_empty}
-use Rattle.proof_kernel.specs.Problems.{PlainProblem}
-use Rattle.proof_kernel.specs.Steps.{then_, line_rows, held_rows, refutes_so, row_at, split_fits, split_cause, is_some_literal}
-use Rattle.proof_kernel.specs.Rules.{State, next, grown, named, run_from, is_live, clause_at, clause_or_empty, combined_after, split_after, at_most, is_at_most}
-use Rattle.proof_kernel.proofs.Sets.{both}
-use Rattle.proof_kernel.proofs.Gap.{is_lt}
+use Rattle.proof_lines.specs.Clauses.{has, flip, lit_of, resolvent, negations, is_empty}
+use Rattle.proof_lines.specs.Problems.{PlainProblem}
+use Rattle.proof_lines.specs.Refusals.{then_}
+use Rattle.proof_lines.specs.Steps.{line_rows, held_rows, refutes_so, row_at, is_some_literal}
+use Rattle.proof_lines.specs.Splits.{split_fits, split_cause, at_most, is_at_most}
+use Rattle.proof_kernel.specs.Rules.{State, next, grown, named, run_from, is_live, clause_at, clause_or_empty, combined_after, split_after}
+use Rattle.std.proofs.lemmas.Bool.{and_parts, lt-ltb}
 use Rattle.theory_api.specs.Laws.{IsConflict, IsSplit, rows_at, is_some_row}
 use Rattle.theory_api.proofs.Standing.{Stand, lit_at, stand-line, stand-used}
 use Rattle.search_logs.specs.SearchLogs.{standing, with_clause, with_row, line_on, resolved_on}
@@ -61,7 +62,7 @@ slot-at (c ∷ cs) (suc i) h = slot-at cs i (omega arith)
 
 module _ (g : ℕ) (q : PlainProblem) where
   there : (i : ℕ) → i < length q.clauses → nat_lt i (length (standing g q).slots) ≡ true
-  there i h = is_lt i (length (standing g q).slots) (let e = slots-length q.clauses in omega arith)
+  there i h = lt-ltb i (length (standing g q).slots) (let e = slots-length q.clauses in omega arith)
 
   live : (i : ℕ) → i < length q.clauses → is_live (standing g q) i ≡ true
   live i h = ap (λ (o : Option (List Lit)). is_some o) (slot-at q.clauses i h)
@@ -79,7 +80,7 @@ module _ (g : ℕ) (q : PlainProblem) where
   resolves left right pivot a b d h k =
       let cl = clause left a in
       let cr = clause right b in
-      passes (grown (standing g q) (resolvent pivot (clause_at (standing g q) left) (clause_at (standing g q) right))) _ _ _ _ _ _ _ (there left a) (there right b) (is_lt pivot (length q.atoms) d) (live left a) (live right b)
+      passes (grown (standing g q) (resolvent pivot (clause_at (standing g q) left) (clause_at (standing g q) right))) _ _ _ _ _ _ _ (there left a) (there right b) (lt-ltb pivot (length q.atoms) d) (live left a) (live right b)
       (ap (λ (c : List Lit). has c (lit_of pivot true)) cl ∙ h) (ap (λ (c : List Lit). has c (lit_of pivot false)) cr ∙ k)
       ∙ (λ i. Ok (grown (standing g q) (resolvent pivot (cl i) (cr i))))
       ∙ ap (λ (s : State). Ok s) (standing-grown g q (resolvent pivot (get_or q.clauses left []) (get_or q.clauses right [])))
@@ -101,7 +102,7 @@ some_lits lits (u ∷ used) h = refl
 pub picked-line : (q : PlainProblem) (lits : List Lit) (rows : List Row) (used : List ℕ) (steps : List RowStep) → Stand q.atoms lits rows → (is_some_row used && list_all (λ u. nat_lt u (length rows)) used) ≡ true
     → line_rows q.atoms (map (lit_at lits) used) steps ≡ held_rows (rows_at rows used) steps
 picked-line q lits rows used steps s h =
-    let b = both (is_some_row used) (list_all (λ u. nat_lt u (length rows)) used) h in
+    let b = and_parts (is_some_row used) (list_all (λ u. nat_lt u (length rows)) used) h in
     stand-line q.atoms (map (lit_at lits) used) (rows_at rows used) steps (stand-used q.atoms lits rows used s b.1) (some_lits lits used b.0)
 
 pub farkas_taken : (g : ℕ) (q : PlainProblem) (lits : List Lit) (rows : List Row) (used : List ℕ) (steps : List RowStep) → Stand q.atoms lits rows → IsConflict rows used steps
@@ -120,7 +121,7 @@ pub split_taken : (g : ℕ) (q : PlainProblem) (lits : List Lit) (rows : List Ro
     → IsSplit q.ints rows place at used steps low high values → list_any (is_at_most place at) q.atoms ≡ false
     → next (standing g q) (Split place at (map (lit_at lits) used) steps low high values) ≡ Ok (standing g (with_row q (at_most place at)))
 split_taken g q lits rows place at used steps low high values s c n =
-    (λ i. cond (is_lt place q.ints c.place_below i) (then_ (picked-line q lits rows used steps s c.given i) (λ all. split_after (standing g q) place at all low high values)) (Err Place))
+    (λ i. cond (lt-ltb place q.ints c.place_below i) (then_ (picked-line q lits rows used steps s c.given i) (λ all. split_after (standing g q) place at all low high values)) (Err Place))
     ∙ by_rows (held_rows (rows_at rows used) steps) c.cause
   where
     by_cause : (o : Result (Unit {0}) Why) → o ≡ Ok tt → then_ o (λ _. Ok (named (standing g q) (at_most place at))) ≡ Ok (standing g (with_row q (at_most place at)))

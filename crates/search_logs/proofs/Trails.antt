@@ -1,14 +1,12 @@
 use Rattle.std.proofs.Common.{◌≡◌, ℕ, zero, suc, ◌+◌, ◌≤◌, Bool, true, false, not, cond, ◌&&◌, ◌||◌, ◌==◌, ◌⊎◌, inl, inr, List, [], ◌∷◌, refl, sym, ◌∙◌, ap, subst, arith, Option, Some, None}
 use Rattle.std.specs.List.{list_any, list_all, count_by}
 use Rattle.std.proofs.lemmas.List.Recursion.{is_count_by}
-use Rattle.proof_kernel.specs.declared.clause.Lit.{Lit}
-use Rattle.proof_kernel.specs.Clauses.{has, sub, distinct, same_lit, flip}
-use Rattle.proof_kernel.proofs.Sets.{both, either, neither, or_left, or_right, same_lit-is, same_lit-refl, flip_twice, flip-apart, has-cases}
+use Rattle.proof_lines.specs.declared.clause.Lit.{Lit}
+use Rattle.proof_lines.specs.Clauses.{has, sub, distinct, same_lit, flip}
+use Rattle.std.proofs.lemmas.Bool.{and_parts, or_cases, or_parts, or_left, or_right, and_from}
+use Rattle.proof_lines.proofs.Sets.{same_lit-is, same_lit-refl, flip_twice, flip-apart, has-cases}
 use Rattle.search_logs.specs.declared.trail.Entry.{Entry}
 use Rattle.search_logs.specs.Trails.{in_trail, negated, named, is_false, lone, is_unit, quiet, Settled, open_in, after, before_last, is_decision, has_decision, IsStep, IsTrail}
-
-and_true : (a b : Bool) → a ≡ true → b ≡ true → (a && b) ≡ true
-and_true a b p q = grind arith
 
 or_last : (a b : Bool) → (a || b) ≡ true → a ≡ false → b ≡ true
 or_last a b p q = grind arith
@@ -23,17 +21,17 @@ true-not a h = grind arith
 pub all_has : (p : Lit → Bool) (c : List Lit) (l : Lit) → list_all p c ≡ true → has c l ≡ true → p l ≡ true
 all_has p [] l h k = absurd cc
 all_has p (x ∷ c) l h k = elim (has-cases x c l k) [
-  | inl e ↦ subst (λ (z : Lit). p z ≡ true) e (both (p x) (list_all p c) h).0
-  | inr e ↦ all_has p c l (both (p x) (list_all p c) h).1 e
+  | inl e ↦ subst (λ (z : Lit). p z ≡ true) e (and_parts (p x) (list_all p c) h).0
+  | inr e ↦ all_has p c l (and_parts (p x) (list_all p c) h).1 e
 ]
 
 pub has_all : (p : Lit → Bool) (c : List Lit) → ((l : Lit) → has c l ≡ true → p l ≡ true) → list_all p c ≡ true
 has_all p [] h = refl
-has_all p (x ∷ c) h = and_true (p x) (list_all p c) (h x (or_left (same_lit x x) (has c x) (same_lit-refl x))) (has_all p c (λ l k. h l (or_right (same_lit x l) (has c l) k)))
+has_all p (x ∷ c) h = and_from (p x) (list_all p c) (h x (or_left (same_lit x x) (has c x) (same_lit-refl x))) (has_all p c (λ l k. h l (or_right (same_lit x l) (has c l) k)))
 
 pub any_has : (p : Lit → Bool) (c : List Lit) → list_any p c ≡ true → (l : Lit) × (has c l ≡ true) × (p l ≡ true)
 any_has p [] h = absurd cc
-any_has p (x ∷ c) h = elim (either (p x) (list_any p c) h) [
+any_has p (x ∷ c) h = elim (or_cases (p x) (list_any p c) h) [
   | inl e ↦ (x, or_left (same_lit x x) (has c x) (same_lit-refl x), e)
   | inr e ↦ (let r = any_has p c e in (r.0, or_right (same_lit x r.0) (has c r.0) r.1, r.2))
 ]
@@ -44,8 +42,8 @@ flip_back a b h = ap flip (same_lit-is a (flip b) h) ∙ flip_twice b
 -- the trail
 pub in_named : (t : List Entry) (l : Lit) → in_trail t l ≡ true → named t l.atom ≡ true
 in_named [] l h = absurd cc
-in_named (e ∷ t) l h = elim (either (same_lit e.lit l) (in_trail t l) h) [
-  | inl s ↦ or_left (e.lit.atom == l.atom) (named t l.atom) (both (e.lit.atom == l.atom) _ s).0
+in_named (e ∷ t) l h = elim (or_cases (same_lit e.lit l) (in_trail t l) h) [
+  | inl s ↦ or_left (e.lit.atom == l.atom) (named t l.atom) (and_parts (e.lit.atom == l.atom) _ s).0
   | inr s ↦ or_right (e.lit.atom == l.atom) (named t l.atom) (in_named t l s)
 ]
 
@@ -60,7 +58,7 @@ pub false-older : (e : Entry) (t : List Entry) (c : List Lit) → is_false (e �
 false-older e t c h n = has_all (negated t) c one
   where
     one : (l : Lit) → has c l ≡ true → negated t l ≡ true
-    one l k = elim (either (same_lit e.lit (flip l)) (negated t l) (all_has (negated (e ∷ t)) c l h k)) [
+    one l k = elim (or_cases (same_lit e.lit (flip l)) (negated t l) (all_has (negated (e ∷ t)) c l h k)) [
       | inl s ↦ absurd (let q = flip_back e.lit l s in let r : has c l ≡ false = subst (λ (z : Lit). has c z ≡ false) q n in cc)
       | inr s ↦ s
     ]
@@ -83,7 +81,7 @@ held-open e t c n h = by_case (is_false t c) refl
 pub open_zero : (t : List Entry) (c : List Lit) → is_false t c ≡ true → open_in t c ≡ 0
 open_zero t [] h = refl
 open_zero t (x ∷ c) h =
-    let p = both (negated t x) (is_false t c) h in
+    let p = and_parts (negated t x) (is_false t c) h in
     ap (λ b. cond b (open_in t c) (1 + open_in t c)) p.0 ∙ open_zero t c p.1
 
 pub zero-open : (t : List Entry) (c : List Lit) → open_in t c ≡ 0 → is_false t c ≡ true
@@ -91,7 +89,7 @@ zero-open t [] h = refl
 zero-open t (x ∷ c) h = by_case (λ z. zero-open t c z) (negated t x) refl h
   where
     by_case : (open_in t c ≡ 0 → is_false t c ≡ true) → (b : Bool) → negated t x ≡ b → cond b (open_in t c) (1 + open_in t c) ≡ 0 → (negated t x && is_false t c) ≡ true
-    by_case ih true e h = and_true (negated t x) (is_false t c) e (ih h)
+    by_case ih true e h = and_from (negated t x) (is_false t c) e (ih h)
     by_case ih false e h = absurd (omega arith)
 
 pub open-more : (e : Entry) (t : List Entry) (c : List Lit) → open_in (e ∷ t) c ≤ open_in t c
@@ -116,7 +114,7 @@ open_one t [] x h n = absurd (omega arith)
 open_one t (y ∷ c) x h n = by_case (open_one t c x) (negated t y) refl h
   where
     apart : (same_lit y x ≡ false) × (has c x ≡ false)
-    apart = neither (same_lit y x) (has c x) n
+    apart = or_parts (same_lit y x) (has c x) n
 
     by_case : (1 ≤ open_in t c → has c x ≡ false → Left t c x) → (b : Bool) → negated t y ≡ b → 1 ≤ cond b (open_in t c) (1 + open_in t c) → Left t (y ∷ c) x
     by_case ih true e h = let r = ih h apart.1 in record { lit = r.lit; held = or_right (same_lit y r.lit) (has c r.lit) r.held; other = r.other; still = r.still }
@@ -128,7 +126,7 @@ open_two t [] x d h = absurd (omega arith)
 open_two t (y ∷ c) x d h = by_case (open_two t c x p.1) (negated t y) (same_lit y x) refl refl h
   where
     p : (not (has c y) ≡ true) × (distinct c ≡ true)
-    p = both (not (has c y)) (distinct c) d
+    p = and_parts (not (has c y)) (distinct c) d
 
     by_case : (2 ≤ open_in t c → Left t c x) → (b s : Bool) → negated t y ≡ b → same_lit y x ≡ s → 2 ≤ cond b (open_in t c) (1 + open_in t c) → Left t (y ∷ c) x
     by_case ih true s e f h = let r = ih h in record { lit = r.lit; held = or_right (same_lit y r.lit) (has c r.lit) r.held; other = r.other; still = r.still }
@@ -141,7 +139,7 @@ open_two t (y ∷ c) x d h = by_case (open_two t c x p.1) (negated t y) (same_li
 
 -- two open literals keep a clause from being unit or false
 pub open-quiet : (t : List Entry) (c : List Lit) → distinct c ≡ true → 2 ≤ open_in t c → quiet t c ≡ true
-open-quiet t c d h = and_true (not (is_false t c)) (not (list_any (is_unit t c) c)) (true-not (is_false t c) (no_false (is_false t c) refl)) (true-not (list_any (is_unit t c) c) (no_unit (list_any (is_unit t c) c) refl))
+open-quiet t c d h = and_from (not (is_false t c)) (not (list_any (is_unit t c) c)) (true-not (is_false t c) (no_false (is_false t c) refl)) (true-not (list_any (is_unit t c) c) (no_unit (list_any (is_unit t c) c) refl))
   where
     no_false : (b : Bool) → is_false t c ≡ b → b ≡ false
     no_false true f = absurd (let z = open_zero t c f in omega arith)
@@ -151,8 +149,8 @@ open-quiet t c d h = and_true (not (is_false t c)) (not (list_any (is_unit t c) 
     no_unit false u = refl
     no_unit true u = absurd (
         let r = any_has (is_unit t c) c u in
-        let m = both (has c r.0) (lone t c r.0 && not (named t r.0.atom)) r.2 in
-        let k = both (lone t c r.0) (not (named t r.0.atom)) m.1 in
+        let m = and_parts (has c r.0) (lone t c r.0 && not (named t r.0.atom)) r.2 in
+        let k = and_parts (lone t c r.0) (not (named t r.0.atom)) m.1 in
         let w = open_two t c r.0 d h in
         let s = all_has (λ x. same_lit x r.0 || negated t x) c w.lit k.0 w.held in
         let s2 = or_last (same_lit w.lit r.0) (negated t w.lit) s w.other in
@@ -170,7 +168,7 @@ open_alone t [] h = absurd (omega arith)
 open_alone t (y ∷ c) h = by_case (open_alone t c) (negated t y) refl h
   where
     rest_lone : (l : Lit) → lone t c l ≡ true → negated t y ≡ true → lone t (y ∷ c) l ≡ true
-    rest_lone l k e = and_true (same_lit y l || negated t y) (lone t c l) (or_right (same_lit y l) (negated t y) e) k
+    rest_lone l k e = and_from (same_lit y l || negated t y) (lone t c l) (or_right (same_lit y l) (negated t y) e) k
 
     by_case : (open_in t c ≡ 1 → Alone t c) → (b : Bool) → negated t y ≡ b → cond b (open_in t c) (1 + open_in t c) ≡ 1 → Alone t (y ∷ c)
     by_case ih true e h = let r = ih h in record { lit = r.lit; held = or_right (same_lit y r.lit) (has c r.lit) r.held; still = r.still; rest = rest_lone r.lit r.rest e }
@@ -180,7 +178,7 @@ open_alone t (y ∷ c) h = by_case (open_alone t c) (negated t y) refl h
           lit = y;
           held = or_left (same_lit y y) (has c y) (same_lit-refl y);
           still = e;
-          rest = and_true (same_lit y y || negated t y) (lone t c y) (or_left (same_lit y y) (negated t y) (same_lit-refl y)) (has_all (λ x. same_lit x y || negated t x) c (λ l k. or_right (same_lit l y) (negated t l) (all_has (negated t) c l f k)));
+          rest = and_from (same_lit y y || negated t y) (lone t c y) (or_left (same_lit y y) (negated t y) (same_lit-refl y)) (has_all (λ x. same_lit x y || negated t x) c (λ l k. or_right (same_lit l y) (negated t l) (all_has (negated t) c l f k)));
         }
 
 -- prefixes at decisions
@@ -216,8 +214,8 @@ unnamed-before cs (e ∷ t) l w h n = by_case (unnamed-before cs t l w.2) e.reas
     earlier false e f = refl
 
     by_case : (negated t l ≡ true → negated (before_last t) l ≡ false → named (before_last t) l.atom ≡ false) → (r : Option ℕ) → negated (after r t (before_last t)) l ≡ false → named (after r t (before_last t)) l.atom ≡ false
-    by_case ih None n = elim (either (same_lit e.lit (flip l)) (negated t l) h) [ inl s ↦ fresh_atom s | inr s ↦ absurd cc ]
-    by_case ih (Some r) n = elim (either (same_lit e.lit (flip l)) (negated t l) h) [ inl s ↦ earlier (named (before_last t) l.atom) refl (fresh_atom s) | inr s ↦ ih s n ]
+    by_case ih None n = elim (or_cases (same_lit e.lit (flip l)) (negated t l) h) [ inl s ↦ fresh_atom s | inr s ↦ absurd cc ]
+    by_case ih (Some r) n = elim (or_cases (same_lit e.lit (flip l)) (negated t l) h) [ inl s ↦ earlier (named (before_last t) l.atom) refl (fresh_atom s) | inr s ↦ ih s n ]
 
 pub trail-before : (cs : List (List Lit)) (t : List Entry) → IsTrail cs t → IsTrail cs (before_last t)
 trail-before cs [] w = w
@@ -241,7 +239,7 @@ pub starts-open : (cs : List (List Lit)) (t : List Entry) (c : List Lit) → IsT
 starts-open cs t c w f q = by_size (open_in (before_last t) c) refl
   where
     p : (not (is_false (before_last t) c) ≡ true) × (not (list_any (is_unit (before_last t) c) c) ≡ true)
-    p = both (not (is_false (before_last t) c)) (not (list_any (is_unit (before_last t) c) c)) q
+    p = and_parts (not (is_false (before_last t) c)) (not (list_any (is_unit (before_last t) c) c)) q
 
     there : (d : List Lit) (p : Lit → Bool) (l : Lit) → has d l ≡ true → p l ≡ true → list_any p d ≡ true
     there [] p l h k = absurd cc
@@ -253,7 +251,7 @@ starts-open cs t c w f q = by_size (open_in (before_last t) c) refl
         let a = open_alone (before_last t) c e in
         let n = all_has (negated t) c a.lit f a.held in
         let u = unnamed-before cs t a.lit w n a.still in
-        let m = and_true (has c a.lit) (lone (before_last t) c a.lit && not (named (before_last t) a.lit.atom)) a.held (and_true (lone (before_last t) c a.lit) (not (named (before_last t) a.lit.atom)) a.rest (true-not (named (before_last t) a.lit.atom) u)) in
+        let m = and_from (has c a.lit) (lone (before_last t) c a.lit && not (named (before_last t) a.lit.atom)) a.held (and_from (lone (before_last t) c a.lit) (not (named (before_last t) a.lit.atom)) a.rest (true-not (named (before_last t) a.lit.atom) u)) in
         let k = there c (is_unit (before_last t) c) a.lit a.held m in
         let y = not_true (list_any (is_unit (before_last t) c) c) p.1 in cc)
     by_size (suc (suc n)) e = omega arith
@@ -267,7 +265,7 @@ top-reason e t c d f h = by_case e.reason refl h
     by_case None i h = absurd (
         let w = open_two t c (flip e.lit) d (h refl) in
         let n = all_has (negated (e ∷ t)) c w.lit f w.held in
-        elim (either (same_lit e.lit (flip w.lit)) (negated t w.lit) n) [
+        elim (or_cases (same_lit e.lit (flip w.lit)) (negated t w.lit) n) [
           | inl s ↦ (let q = flip_back e.lit w.lit s in let r = same_lit-refl (flip e.lit) in let u : same_lit w.lit (flip e.lit) ≡ true = subst (λ (z : Lit). same_lit z (flip e.lit) ≡ true) q r in let v = w.other in absurd cc)
           | inr s ↦ (let v = w.still in absurd cc)
         ])
@@ -279,7 +277,7 @@ pub resolved-false : (e : Entry) (t : List Entry) (c r d : List Lit) → is_fals
 resolved-false e t c r d f u h = has_all (negated t) d one
   where
     from_cur : (x : Lit) → has c x ≡ true → same_lit x (flip e.lit) ≡ false → negated t x ≡ true
-    from_cur x k n = elim (either (same_lit e.lit (flip x)) (negated t x) (all_has (negated (e ∷ t)) c x f k)) [
+    from_cur x k n = elim (or_cases (same_lit e.lit (flip x)) (negated t x) (all_has (negated (e ∷ t)) c x f k)) [
       | inl s ↦ absurd (let q = flip_back e.lit x s in let r = same_lit-refl (flip e.lit) in let v : same_lit x (flip e.lit) ≡ true = subst (λ (z : Lit). same_lit z (flip e.lit) ≡ true) q r in cc)
       | inr s ↦ s
     ]
@@ -315,12 +313,12 @@ one-way cs (e ∷ t) l w h = by_case (one-way cs t l w.2) (in_trail (e ∷ t) (f
     by_case : (in_trail t l ≡ true → in_trail t (flip l) ≡ false) → (b : Bool) → in_trail (e ∷ t) (flip l) ≡ b → b ≡ false
     by_case ih false k = refl
     by_case ih true k = absurd (
-        elim (either (same_lit e.lit l) (in_trail t l) h) [
-          | inl s ↦ elim (either (same_lit e.lit (flip l)) (in_trail t (flip l)) k) [
+        elim (or_cases (same_lit e.lit l) (in_trail t l) h) [
+          | inl s ↦ elim (or_cases (same_lit e.lit (flip l)) (in_trail t (flip l)) k) [
             | inl u ↦ (let x = same_lit-is e.lit l s in let y = same_lit-is e.lit (flip l) u in let z = flip-apart l in let v = same_lit-refl l in let m : same_lit l (flip l) ≡ true = subst (λ (q : Lit). same_lit l q ≡ true) (sym x ∙ y) v in absurd cc)
             | inr u ↦ (let x = same_lit-is e.lit l s in let n = in_named t (flip l) u in let m : named t l.atom ≡ false = subst (λ (q : Lit). named t q.atom ≡ false) x w.0 in absurd cc)
           ]
-          | inr s ↦ elim (either (same_lit e.lit (flip l)) (in_trail t (flip l)) k) [
+          | inr s ↦ elim (or_cases (same_lit e.lit (flip l)) (in_trail t (flip l)) k) [
             | inl u ↦ (let y = same_lit-is e.lit (flip l) u in let n = in_named t l s in let m : named t l.atom ≡ false = subst (λ (q : Lit). named t q.atom ≡ false) y w.0 in absurd cc)
             | inr u ↦ (let m = ih s in absurd cc)
           ]

@@ -7,16 +7,16 @@ use Rattle.std.proofs.lemmas.Bool.Decides.{Decides-int_eq, Decides-eqb}
 use Rattle.lin_rows.specs.declared.term.RowTerm.{RowTerm}
 use Rattle.lin_rows.specs.Rows.{Row, Satisfies, negated as opposite}
 use Rattle.lin_rows.proofs.Points.{satisfies-negated}
-use Rattle.proof_kernel.specs.declared.clause.Lit.{Lit}
-use Rattle.proof_kernel.specs.declared.problem.AtomKind.{AtomKind}
-use Rattle.proof_kernel.specs.declared.problem.AtomKind.TheVariants.{Plain, Row as OfRow}
-use Rattle.proof_kernel.specs.Clauses.{lit_of}
-use Rattle.proof_kernel.specs.Problems.{row_true}
-use Rattle.proof_kernel.specs.Steps.{row_of_kind, atom_row, lit_row}
-use Rattle.proof_kernel.specs.Rules.{at_most, is_alone, is_at_most}
-use Rattle.proof_kernel.specs.Evidence.{same_row}
-use Rattle.proof_kernel.proofs.Sets.{both, either, or_left, or_right, same_nat}
-use Rattle.proof_kernel.proofs.Certificates.{same_row-refl}
+use Rattle.proof_lines.specs.declared.clause.Lit.{Lit}
+use Rattle.proof_lines.specs.declared.problem.AtomKind.{AtomKind}
+use Rattle.proof_lines.specs.declared.problem.AtomKind.TheVariants.{Plain, Row as OfRow}
+use Rattle.proof_lines.specs.Clauses.{lit_of}
+use Rattle.proof_lines.specs.Problems.{row_true}
+use Rattle.proof_lines.specs.Steps.{row_of_kind, atom_row, lit_row}
+use Rattle.proof_lines.specs.Splits.{at_most, is_alone, is_at_most}
+use Rattle.proof_lines.specs.Evidence.{same_row}
+use Rattle.std.proofs.lemmas.Bool.{and_parts, or_cases, or_left, or_right, eqb-true}
+use Rattle.proof_lines.proofs.Certificates.{same_row-refl}
 use Rattle.theory_api.specs.Laws.{all_satisfied, settles, is_that}
 use Rattle.theory_api.proofs.Standing.{Stand}
 use Rattle.search_logs.specs.declared.trail.Entry.{Entry}
@@ -43,10 +43,10 @@ pub sided : (pl : Lit → Bool) (pr : Row → Bool) (atoms : List AtomKind) (lit
 sided pl pr atoms [] rows a r s i v h c = absurd cc
 sided pl pr atoms (l ∷ lits) [] a r s i v h c = absurd s
 sided pl pr atoms (l ∷ lits) (q ∷ rows) a r s i v h c =
-    let m = both (pl l) (list_all pl lits) i in
-    let w = both (pr q) (list_all pr rows) v in
-    elim (either (l.atom == a) (list_any (λ k. k.atom == a) lits) c) [
-      | inl e ↦ (let d = same_nat l.atom a e in
+    let m = and_parts (pl l) (list_all pl lits) i in
+    let w = and_parts (pr q) (list_all pr rows) v in
+    elim (or_cases (l.atom == a) (list_any (λ k. k.atom == a) lits) c) [
+      | inl e ↦ (let d = eqb-true l.atom a e in
           let o : atom_row atoms l.atom ≡ Some r = ap (atom_row atoms) d ∙ h in (
             q,
             l.positive,
@@ -80,11 +80,11 @@ valued x cs t atoms lits rows a r w s i v h c = let f = sided (in_trail t) (row_
 
 -- the row that a Split asks for is no atom's, where the rows of all atoms are given and none settles it
 at_most-is : (place : ℕ) (at : ℤ) (r : Row) → (is_alone place r.terms && int_eq r.bound at) ≡ true → r ≡ at_most place at
-at_most-is place at r h = let p = both (is_alone place r.terms) (int_eq r.bound at) h in λ i. record { terms = alone r.terms p.0 i; bound = (Decides-int_eq r.bound at).0 p.1 i }
+at_most-is place at r h = let p = and_parts (is_alone place r.terms) (int_eq r.bound at) h in λ i. record { terms = alone r.terms p.0 i; bound = (Decides-int_eq r.bound at).0 p.1 i }
   where
     alone : (ts : List RowTerm) → is_alone place ts ≡ true → ts ≡ (at_most place at).terms
     alone [] k = absurd cc
-    alone (t ∷ []) k = let b = both (t.place == place) _ k in λ i. record { place = (Decides-eqb t.place place).0 b.0 i; coef = (Decides-int_eq t.coef (at_most-coef)).0 b.1 i } ∷ []
+    alone (t ∷ []) k = let b = and_parts (t.place == place) _ k in λ i. record { place = (Decides-eqb t.place place).0 b.0 i; coef = (Decides-int_eq t.coef (at_most-coef)).0 b.1 i } ∷ []
       where
         at_most-coef : ℤ
         at_most-coef = pos 1
@@ -93,7 +93,7 @@ at_most-is place at r h = let p = both (is_alone place r.terms) (int_eq r.bound 
 named_at : (place : ℕ) (at : ℤ) (atoms : List AtomKind) → list_any (is_at_most place at) atoms ≡ true → (a : ℕ) × (r : Row) × (slice_get atoms a ≡ Some (OfRow r)) × (r ≡ at_most place at)
 named_at place at [] h = absurd cc
 named_at place at (Plain ∷ atoms) h = let n = named_at place at atoms h in (suc n.0, n.1, n.2, n.3)
-named_at place at (OfRow r ∷ atoms) h = elim (either (is_alone place r.terms && int_eq r.bound at) (list_any (is_at_most place at) atoms) h) [
+named_at place at (OfRow r ∷ atoms) h = elim (or_cases (is_alone place r.terms && int_eq r.bound at) (list_any (is_at_most place at) atoms) h) [
   | inl e ↦ (zero, r, refl, at_most-is place at r e)
   | inr e ↦ (let n = named_at place at atoms e in (suc n.0, n.1, n.2, n.3))
 ]

@@ -1,6 +1,6 @@
 use Rattle.std.specs.Prelude.{ℕ, refl, Option, Bool}
 use Rattle.std.specs.Coded.{Coded, code_by, coded×, coded_ℕ, coded_option, coded_bool}
-use Rattle.proof_kernel.specs.declared.clause.Lit.{Lit}
+use Rattle.proof_lines.specs.declared.clause.Lit.{Lit}
 use Rattle.search_logs.specs.declared.trail.Entry.{Entry}
 
 -- entries of a trail are told apart by their parts

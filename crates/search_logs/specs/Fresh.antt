@@ -1,6 +1,6 @@
 use Rattle.std.specs.Prelude.{◌≡◌, ℕ, ◌<◌, ◌≤◌, true, false, List, [], length, slice_index_or}
-use Rattle.proof_kernel.specs.declared.clause.Lit.{Lit}
-use Rattle.proof_kernel.specs.Clauses.{has, sub, flip}
+use Rattle.proof_lines.specs.declared.clause.Lit.{Lit}
+use Rattle.proof_lines.specs.Clauses.{has, sub, flip}
 
 -- no clause after the first ones contains an earlier one or holds an atom both ways
 pub record IsFresh (first : ℕ) (cs : List (List Lit)) : Type 0 where

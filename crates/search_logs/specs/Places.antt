@@ -1,7 +1,7 @@
 use Rattle.std.specs.Prelude.{◌≡◌, ℕ, nat_lt, nat_le, Bool, true, false, cond, List, [], ◌∷◌, length, slice_index_or, Option, Some, None}
 use Rattle.std.specs.Option.{option_or}
-use Rattle.proof_kernel.specs.declared.clause.Lit.{Lit}
-use Rattle.proof_kernel.specs.Clauses.{same_lit, lit_of}
+use Rattle.proof_lines.specs.declared.clause.Lit.{Lit}
+use Rattle.proof_lines.specs.Clauses.{same_lit, lit_of}
 use Rattle.search_logs.specs.declared.trail.Entry.{Entry}
 
 -- WHERE THE LITERALS OF A TRAIL STAND. Places are counted from the oldest entry on.

@@ -1,17 +1,18 @@
 use Rattle.std.specs.Prelude.{◌≡◌, ℕ, ◌+◌, ◌<◌, ℤ, Bool, true, false, cond, List, [], ◌∷◌, ◌++◌, length, map, slice_index_or, Option, Some, None, Ok}
 use Rattle.std.specs.List.{list_any, list_all}
 use Rattle.lin_rows.specs.Rows.{Row}
-use Rattle.proof_kernel.specs.declared.clause.Lit.{Lit}
-use Rattle.proof_kernel.specs.declared.problem.AtomKind.{AtomKind}
-use Rattle.proof_kernel.specs.declared.problem.AtomKind.TheVariants.{Row as OfRow}
-use Rattle.proof_kernel.specs.declared.line.RowStep.{RowStep}
-use Rattle.proof_kernel.specs.declared.line.RangeWhat.{RangeWhat}
-use Rattle.proof_kernel.specs.declared.line.Line.{Line}
-use Rattle.proof_kernel.specs.declared.line.Line.TheVariants.{Resolve, Farkas, Split, Drop}
-use Rattle.proof_kernel.specs.Clauses.{resolvent, negations, is_empty}
-use Rattle.proof_kernel.specs.Problems.{PlainProblem}
-use Rattle.proof_kernel.specs.Steps.{line_rows, row_at, other_names}
-use Rattle.proof_kernel.specs.Rules.{State, at_most, run}
+use Rattle.proof_lines.specs.declared.clause.Lit.{Lit}
+use Rattle.proof_lines.specs.declared.problem.AtomKind.{AtomKind}
+use Rattle.proof_lines.specs.declared.problem.AtomKind.TheVariants.{Row as OfRow}
+use Rattle.proof_lines.specs.declared.line.RowStep.{RowStep}
+use Rattle.proof_lines.specs.declared.line.RangeWhat.{RangeWhat}
+use Rattle.proof_lines.specs.declared.line.Line.{Line}
+use Rattle.proof_lines.specs.declared.line.Line.TheVariants.{Resolve, Farkas, Split, Drop}
+use Rattle.proof_lines.specs.Clauses.{resolvent, negations, is_empty}
+use Rattle.proof_lines.specs.Problems.{PlainProblem}
+use Rattle.proof_lines.specs.Steps.{line_rows, row_at}
+use Rattle.proof_lines.specs.Splits.{other_names, at_most}
+use Rattle.proof_kernel.specs.Rules.{State, run}
 use Rattle.proof_kernel.specs.Evidence.{is_fresh}
 use Rattle.theory_api.specs.Chosen.{AreChosen}
 use Rattle.theory_api.specs.Elimination.{AreEliminations}

@@ -1,7 +1,7 @@
 use Rattle.std.specs.Prelude.{◌≡◌, ℕ, zero, suc, ◌+◌, ◌<◌, ◌==◌, nat_le, Bool, true, false, not, cond, ◌&&◌, ◌||◌, List, [], ◌∷◌, length, slice_index_or, Option, Some, None, is_none}
 use Rattle.std.specs.List.{list_any, list_all}
-use Rattle.proof_kernel.specs.declared.clause.Lit.{Lit}
-use Rattle.proof_kernel.specs.Clauses.{has, same_lit, flip}
+use Rattle.proof_lines.specs.declared.clause.Lit.{Lit}
+use Rattle.proof_lines.specs.Clauses.{has, same_lit, flip}
 use Rattle.search_logs.specs.declared.trail.Entry.{Entry}
 
 -- A TRAIL is a list of literals that are taken to be true, each with the number of the clause that forced it, or with none where

@@ -1,12 +1,12 @@
 // Trails: the literals that a search takes to be true, in the order in which it came to them.
 ghost use Rattle.std.specs.Prelude.{◌≡◌, ◌<◌, ◌≤◌, ◌+◌, true, OnOk, OnErr, IfSome, IfNone, MatchOption, false, [], ◌∷◌, length, reverse, take};
-ghost use Rattle.proof_kernel.specs.Clauses.{has, flip};
+ghost use Rattle.proof_lines.specs.Clauses.{has, flip};
 ghost use Rattle.search_logs.specs.Trails.{in_trail, negated, named, is_false, is_unit, open_in, before_last, has_decision, is_done, lone};
 ghost use Rattle.search_logs.specs.Places.{place_of};
 
 use crate::places::{enter, leave, lies_before, place_at};
-use proof_kernel::Lit;
-use proof_kernel::clause::holds;
+use proof_lines::Lit;
+use proof_lines::clause::holds;
 use std::alloc::{AllocError, Global};
 use std::marker::Model;
 

@@ -3,7 +3,8 @@ ghost use Rattle.std.specs.Prelude.{◌≡◌, ◌<◌, ◌≤◌, true};
 ghost use Rattle.search_logs.specs.Forcing.{is_plain, are_plain};
 
 use items::Items;
-use proof_kernel::{AtomKind, Clause, Lit, Problem, check_lines, check_log};
+use proof_kernel::{check_lines, check_log};
+use proof_lines::{AtomKind, Clause, Lit, Problem};
 use sat_core::{Answer, solve_plain};
 use std::alloc::{AllocError, Global};
 use std::test::Fail;

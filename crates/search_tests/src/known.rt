@@ -6,7 +6,7 @@ ghost use Rattle.theory_api.specs.Laws.{IsAnswer};
 use items::Items;
 use lin_rows::number::same_number;
 use lin_rows::{Row, RowTerm};
-use proof_kernel::RangeWhat;
+use proof_lines::RangeWhat;
 use std::alloc::{AllocError, Global};
 use theory_api::{Theory, TheoryAnswer};
 

@@ -1,18 +1,16 @@
 use Rattle.std.proofs.Common.{◌≡◌, ℕ, zero, suc, ◌<◌, ℤ, Bool, true, false, List, [], ◌∷◌, length, map, refl, sym, ◌∙◌, ap, arith, Some, Result, Ok, Err, nat_lt, slice_get}
 use Rattle.std.specs.List.{list_all}
 use Rattle.lin_rows.specs.Rows.{Row, is_row}
-use Rattle.proof_kernel.specs.declared.clause.Lit.{Lit}
-use Rattle.proof_kernel.specs.declared.problem.AtomKind.{AtomKind}
-use Rattle.proof_kernel.specs.declared.problem.AtomKind.TheVariants.{Row as OfRow}
-use Rattle.proof_kernel.specs.declared.line.RowStep.{RowStep}
-use Rattle.proof_kernel.specs.declared.line.Why.{Why}
-use Rattle.proof_kernel.specs.Problems.{Meaning, has_good_row, row_true, atom_true, kind_true}
-use Rattle.proof_kernel.specs.Clauses.{lit_true, same_bool}
-use Rattle.proof_kernel.specs.Steps.{is_some_literal, row_of_kind, held_rows, refutes_so, row_at}
-use Rattle.proof_kernel.proofs.Sets.{both}
-use Rattle.proof_kernel.proofs.States.{and_true}
-use Rattle.proof_kernel.proofs.Gap.{lt_is}
-use Rattle.proof_kernel.proofs.Sound.{refuted-apart}
+use Rattle.proof_lines.specs.declared.clause.Lit.{Lit}
+use Rattle.proof_lines.specs.declared.problem.AtomKind.{AtomKind}
+use Rattle.proof_lines.specs.declared.problem.AtomKind.TheVariants.{Row as OfRow}
+use Rattle.proof_lines.specs.declared.line.RowStep.{RowStep}
+use Rattle.proof_lines.specs.declared.line.Why.{Why}
+use Rattle.proof_lines.specs.Problems.{Meaning, has_good_row, row_true, atom_true, kind_true}
+use Rattle.proof_lines.specs.Clauses.{lit_true, same_bool}
+use Rattle.proof_lines.specs.Steps.{is_some_literal, row_of_kind, held_rows, refutes_so, row_at}
+use Rattle.std.proofs.lemmas.Bool.{and_parts, and_from, ltb-true}
+use Rattle.proof_lines.proofs.Sound.{refuted-apart}
 use Rattle.theory_api.specs.Laws.{IsConflict, AreUnsatisfiable, all_satisfied, is_some_row, rows_at}
 use Rattle.theory_api.proofs.Standing.{Stand, stand-line}
 
@@ -32,22 +30,22 @@ atom_at (r ∷ rows) (suc u) l = atom_at rows u (omega arith)
 atoms_good : (rows : List Row) → list_all is_row rows ≡ true → list_all has_good_row (atoms_of rows) ≡ true
 atoms_good [] h = refl
 atoms_good (r ∷ rows) h =
-    let b = both (is_row r) (list_all is_row rows) h in
-    and_true (is_row r) (list_all has_good_row (atoms_of rows)) b.0 (atoms_good rows b.1)
+    let b = and_parts (is_row r) (list_all is_row rows) h in
+    and_from (is_row r) (list_all has_good_row (atoms_of rows)) b.0 (atoms_good rows b.1)
 
 stands : (rows : List Row) (used : List ℕ) → list_all (λ u. nat_lt u (length rows)) used ≡ true → Stand (atoms_of rows) (lits_of used) (rows_at rows used)
 stands rows [] h = tt
 stands rows (u ∷ used) h =
-    let b = both (nat_lt u (length rows)) (list_all (λ u. nat_lt u (length rows)) used) h in
-    (ap row_of_kind (atom_at rows u (lt_is u (length rows) b.0)), stands rows used b.1)
+    let b = and_parts (nat_lt u (length rows)) (list_all (λ u. nat_lt u (length rows)) used) h in
+    (ap row_of_kind (atom_at rows u (ltb-true u (length rows) b.0)), stands rows used b.1)
 
 abbrev meaning : (ℕ → ℤ) → Meaning
 meaning x = record { truth = λ _. false; number = x }
 
 row_at-satisfied : (x : ℕ → ℤ) (rows : List Row) (u : ℕ) → u < length rows → all_satisfied x rows ≡ true → row_true x (row_at rows u) ≡ true
 row_at-satisfied x [] u l h = absurd (omega arith)
-row_at-satisfied x (r ∷ rows) zero l h = (both (row_true x r) (all_satisfied x rows) h).0
-row_at-satisfied x (r ∷ rows) (suc u) l h = row_at-satisfied x rows u (omega arith) (both (row_true x r) (all_satisfied x rows) h).1
+row_at-satisfied x (r ∷ rows) zero l h = (and_parts (row_true x r) (all_satisfied x rows) h).0
+row_at-satisfied x (r ∷ rows) (suc u) l h = row_at-satisfied x rows u (omega arith) (and_parts (row_true x r) (all_satisfied x rows) h).1
 
 same_true : (b : Bool) → b ≡ true → same_bool b true ≡ true
 same_true true h = refl
@@ -57,9 +55,9 @@ lits-true : (x : ℕ → ℤ) (rows : List Row) (used : List ℕ) → list_all (
     → list_all (lit_true (atom_true (meaning x) (atoms_of rows))) (lits_of used) ≡ true
 lits-true x rows [] h s = refl
 lits-true x rows (u ∷ used) h s =
-    let b = both (nat_lt u (length rows)) (list_all (λ u. nat_lt u (length rows)) used) h in
-    let l = lt_is u (length rows) b.0 in
-    and_true (same_bool (atom_true (meaning x) (atoms_of rows) u) true) (list_all (lit_true (atom_true (meaning x) (atoms_of rows))) (lits_of used))
+    let b = and_parts (nat_lt u (length rows)) (list_all (λ u. nat_lt u (length rows)) used) h in
+    let l = ltb-true u (length rows) b.0 in
+    and_from (same_bool (atom_true (meaning x) (atoms_of rows) u) true) (list_all (lit_true (atom_true (meaning x) (atoms_of rows))) (lits_of used))
     (same_true (atom_true (meaning x) (atoms_of rows) u) (ap (kind_true (meaning x) u) (atom_at rows u l) ∙ row_at-satisfied x rows u l s))
     (lits-true x rows used b.1 s)
 
@@ -72,7 +70,7 @@ pub conflict-unsatisfiable : (rows : List Row) (used : List ℕ) (steps : List R
 conflict-unsatisfiable rows used steps g c x s = by_case (held_rows (rows_at rows used) steps) refl
   where
     given : (is_some_row used ≡ true) × (list_all (λ u. nat_lt u (length rows)) used ≡ true)
-    given = both (is_some_row used) (list_all (λ u. nat_lt u (length rows)) used) c.given
+    given = and_parts (is_some_row used) (list_all (λ u. nat_lt u (length rows)) used) c.given
 
     by_case : (o : Result (List Row) Why) → held_rows (rows_at rows used) steps ≡ o → ⊥
     by_case (Ok all) e =

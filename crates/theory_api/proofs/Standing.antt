@@ -3,14 +3,13 @@ use Rattle.std.specs.List.{list_all}
 use Rattle.std.specs.Option.{option_map, option_and_then}
 use Rattle.lin_rows.specs.Rows.{Row, negated}
 use Rattle.lin_rows.specs.Divisors.{tightened}
-use Rattle.proof_kernel.specs.declared.clause.Lit.{Lit}
-use Rattle.proof_kernel.specs.declared.problem.AtomKind.{AtomKind}
-use Rattle.proof_kernel.specs.declared.line.RowStep.{RowStep}
-use Rattle.proof_kernel.specs.declared.line.Why.TheVariants.{Place, Range}
-use Rattle.proof_kernel.specs.Steps.{then_, or_broken, atom_row, has_row, lit_row, lit_rows, with_row, is_some_literal, with_steps, line_rows, held_rows, row_at}
-use Rattle.proof_kernel.proofs.Sets.{both}
-use Rattle.proof_kernel.proofs.States.{and_true}
-use Rattle.proof_kernel.proofs.Gap.{lt_is}
+use Rattle.proof_lines.specs.declared.clause.Lit.{Lit}
+use Rattle.proof_lines.specs.declared.problem.AtomKind.{AtomKind}
+use Rattle.proof_lines.specs.declared.line.RowStep.{RowStep}
+use Rattle.proof_lines.specs.declared.line.Why.TheVariants.{Place, Range}
+use Rattle.proof_lines.specs.Refusals.{then_, or_broken}
+use Rattle.proof_lines.specs.Steps.{atom_row, has_row, lit_row, lit_rows, with_row, is_some_literal, with_steps, line_rows, held_rows, row_at}
+use Rattle.std.proofs.lemmas.Bool.{and_parts, and_from, ltb-true}
 use Rattle.theory_api.specs.Laws.{rows_at}
 
 -- rows that stand for literals, one for each
@@ -31,7 +30,7 @@ lit_has atoms l r h = by_case l.positive (atom_row atoms l.atom) h
 pub stand-have : (atoms : List AtomKind) (lits : List Lit) (rows : List Row) → Stand atoms lits rows → list_all (has_row atoms) lits ≡ true
 stand-have atoms [] rows s = refl
 stand-have atoms (l ∷ lits) [] s = absurd s
-stand-have atoms (l ∷ lits) (r ∷ rows) s = and_true (has_row atoms l) (list_all (has_row atoms) lits) (lit_has atoms l r s.0) (stand-have atoms lits rows s.1)
+stand-have atoms (l ∷ lits) (r ∷ rows) s = and_from (has_row atoms l) (list_all (has_row atoms) lits) (lit_has atoms l r s.0) (stand-have atoms lits rows s.1)
 
 pub stand-rows : (atoms : List AtomKind) (lits : List Lit) (rows : List Row) → Stand atoms lits rows → lit_rows atoms lits ≡ Some (map tightened rows)
 stand-rows atoms [] [] s = refl
@@ -43,7 +42,7 @@ stand-rows atoms (l ∷ lits) (r ∷ rows) s = λ i. with_row (option_map tighte
 pub stand-line : (atoms : List AtomKind) (lits : List Lit) (rows : List Row) (steps : List RowStep) → Stand atoms lits rows → is_some_literal lits ≡ true
     → line_rows atoms lits steps ≡ held_rows rows steps
 stand-line atoms lits rows steps s h =
-    λ i. then_ (cond (is_some_and (and_true (is_some_literal lits) (list_all (has_row atoms) lits) h (stand-have atoms lits rows s)) i) (or_broken Range (stand-rows atoms lits rows s i)) (Err Place)) (λ first. with_steps first steps)
+    λ i. then_ (cond (is_some_and (and_from (is_some_literal lits) (list_all (has_row atoms) lits) h (stand-have atoms lits rows s)) i) (or_broken Range (stand-rows atoms lits rows s i)) (Err Place)) (λ first. with_steps first steps)
   where
     is_some_and : {b : Bool} → b ≡ true → b ≡ true
     is_some_and e = e
@@ -64,5 +63,5 @@ pub stand-used : (atoms : List AtomKind) (lits : List Lit) (rows : List Row) (us
     → Stand atoms (map (lit_at lits) used) (rows_at rows used)
 stand-used atoms lits rows [] s h = tt
 stand-used atoms lits rows (u ∷ used) s h =
-    let b = both (nat_lt u (length rows)) (list_all (λ u. nat_lt u (length rows)) used) h in
-    (stand-at atoms lits rows u s (lt_is u (length rows) b.0), stand-used atoms lits rows used s b.1)
+    let b = and_parts (nat_lt u (length rows)) (list_all (λ u. nat_lt u (length rows)) used) h in
+    (stand-at atoms lits rows u s (ltb-true u (length rows) b.0), stand-used atoms lits rows used s b.1)

@@ -1,13 +1,13 @@
 use Rattle.std.specs.Prelude.{◌≡◌, ℕ, ◌+◌, ◌<◌, nat_lt, ℤ, Bool, true, false, ◌&&◌, ◌||◌, List, [], ◌∷◌, length, map, Option, Some, None, Ok}
 use Rattle.std.specs.List.{list_any, list_all}
 use Rattle.lin_rows.specs.Rows.{Row, negated, places_below, point_of}
-use Rattle.proof_kernel.specs.declared.line.RowStep.{RowStep}
-use Rattle.proof_kernel.specs.declared.line.RangeWhat.{RangeWhat}
-use Rattle.proof_kernel.specs.declared.line.RangeWhat.TheVariants.{Product, Value, Sum}
-use Rattle.proof_kernel.specs.Problems.{row_true}
-use Rattle.proof_kernel.specs.Steps.{row_at, held_rows, refutes, splits, other_names}
-use Rattle.proof_kernel.specs.Rules.{at_most}
-use Rattle.proof_kernel.specs.Evidence.{same_row, in_state, rows_shown, range_shown}
+use Rattle.proof_lines.specs.declared.line.RowStep.{RowStep}
+use Rattle.proof_lines.specs.declared.line.RangeWhat.{RangeWhat}
+use Rattle.proof_lines.specs.declared.line.RangeWhat.TheVariants.{Product, Value, Sum}
+use Rattle.proof_lines.specs.Problems.{row_true}
+use Rattle.proof_lines.specs.Steps.{row_at, held_rows, refutes}
+use Rattle.proof_lines.specs.Splits.{splits, other_names, at_most}
+use Rattle.proof_lines.specs.Evidence.{same_row, in_state, rows_shown, range_shown}
 use Rattle.theory_api.specs.declared.answer.TheoryAnswer.{TheoryAnswer}
 use Rattle.theory_api.specs.declared.answer.TheoryAnswer.TheVariants.{Model, Conflict, Split, Rows, Range, Memory}
 use Rattle.theory_api.specs.Chosen.{AreChosen}

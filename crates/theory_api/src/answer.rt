@@ -1,6 +1,6 @@
 // What a solver says of the rows that it was given.
 use items::Items;
-use proof_kernel::{RangeWhat, RowStep};
+use proof_lines::{RangeWhat, RowStep};
 
 /// An answer of a solver. `used` holds numbers of given rows, counted from 0. In steps and in what stands besides, rows are
 /// numbered as in a line of the proof kernel: the used ones first, in their order, then those of the steps.

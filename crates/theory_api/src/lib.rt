@@ -1,8 +1,8 @@
 // What a solver of linear rows promises to a clause search.
 //
 // The layer is a trait alone: a search is proved once, from the trait's laws, and works with any solver. Each answer carries its
-// certificate in the terms of the proof kernel, so nothing is believed of a solver but what its laws say. It stands on `lin_rows`
-// and `proof_kernel`. Definitions, in the order in which a reader needs them: specs/Chosen (values that rows drive),
+// certificate in the terms of the lines of a log, so nothing is believed of a solver but what its laws say. It stands on `lin_rows`
+// and `proof_lines`. Definitions, in the order in which a reader needs them: specs/Chosen (values that rows drive),
 // specs/Elimination (steps in an order of names), specs/Laws (what each answer promises).
 #![tactic(auto)]
 
@@ -13,6 +13,3 @@ pub mod theory;
 pub use answer::TheoryAnswer;
 pub use refuting::{law_rows, refutes};
 pub use theory::{NoInts, Theory};
-
-#[cfg(test)]
-mod tests;

@@ -1,5 +1,5 @@
 use Rattle.std.proofs.Common.{◌≡◌, ◌+◌, ◌∙◌, sym, subst, arith, true, List, take}
-use Rattle.proof_kernel.specs.declared.clause.Lit.{Lit}
+use Rattle.proof_lines.specs.declared.clause.Lit.{Lit}
 use Rattle.proof_kernel.specs.Rules.{live_of}
 use Rattle.proof_kernel.specs.Evidence.{is_new}
 use Rattle.proof_kernel.proofs.States.{each_new-some, each_new-none}

@@ -1,6 +1,6 @@
 use Rattle.std.proofs.Common.{◌≡◌, drop}
 use Rattle.std.specs.List.{list_any}
-use Rattle.proof_kernel.specs.Clauses.{sub}
+use Rattle.proof_lines.specs.Clauses.{sub}
 use Rattle.proof_kernel.specs.Rules.{live_of}
 use Rattle.proof_kernel.proofs.freshness.holds_one_within.Given as goal
 

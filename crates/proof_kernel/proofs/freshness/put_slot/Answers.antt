@@ -1,6 +1,6 @@
 use Rattle.std.proofs.Common.{◌∙◌, sym, subst, arith, List}
 use Rattle.std.proofs.lemmas.Result.{on_ok_weaker}
-use Rattle.proof_kernel.specs.declared.clause.Lit.{Lit}
+use Rattle.proof_lines.specs.declared.clause.Lit.{Lit}
 use Rattle.proof_kernel.specs.Index.{PutsOne}
 use Rattle.proof_kernel.proofs.Index.{index-some, index-dropped}
 use Rattle.proof_kernel.proofs.freshness.put_slot.Goals as goal

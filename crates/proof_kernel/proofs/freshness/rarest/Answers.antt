@@ -1,5 +1,5 @@
 use Rattle.std.proofs.Common.{◌≡◌, ◌<◌, true, ℕ, sym, subst, ◌∙◌}
-use Rattle.proof_kernel.specs.Rules.{stands_in}
+use Rattle.proof_lines.specs.Numbers.{stands_in}
 use Rattle.proof_kernel.specs.Index.{spots}
 use Rattle.proof_kernel.proofs.Index.{spot-among}
 use Rattle.proof_kernel.proofs.freshness.rarest.Goals as goal

@@ -1,5 +1,5 @@
 use Rattle.std.proofs.Common.{◌≡◌, ◌<◌, true}
-use Rattle.proof_kernel.specs.Rules.{stands_in}
+use Rattle.proof_lines.specs.Numbers.{stands_in}
 use Rattle.proof_kernel.specs.Index.{spots}
 use Rattle.proof_kernel.proofs.freshness.rarest.Given as goal
 

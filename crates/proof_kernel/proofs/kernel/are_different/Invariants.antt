@@ -1,7 +1,7 @@
 use Rattle.std.proofs.Common.{◌≡◌, ℕ, ◌≤◌, drop, length, true}
 use Rattle.std.specs.Prelude.{nat_eq}
 use Rattle.std.specs.HashSet.{contains}
-use Rattle.proof_kernel.specs.Rules.{are_different, stands_in}
+use Rattle.proof_lines.specs.Numbers.{are_different, stands_in}
 use Rattle.proof_kernel.proofs.kernel.are_different.Given as goal
 
 abbrev pub invariant-loop-i : goal.invariant-loop-i

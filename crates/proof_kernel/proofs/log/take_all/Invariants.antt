@@ -1,5 +1,5 @@
 use Rattle.std.proofs.Common.{◌≡◌, true, drop}
-use Rattle.proof_kernel.specs.Problems.{Meaning}
+use Rattle.proof_lines.specs.Problems.{Meaning}
 use Rattle.proof_kernel.specs.Rules.{run_from, holds}
 use Rattle.proof_kernel.proofs.log.take_all.Given as goal
 

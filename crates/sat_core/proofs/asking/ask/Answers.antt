@@ -2,8 +2,8 @@ use mir.Syntax.{w128}
 use Rattle.std.proofs.lemmas.Int.{to_z-of_z}
 use Rattle.std.proofs.Common.{rules, FitsSigned, ◌≡◌, ℕ, ◌<◌, ◌≤◌, true, List, length, map, sym, ◌∙◌, ap, subst, arith}
 use Rattle.lin_rows.specs.Rows.{Row}
-use Rattle.proof_kernel.specs.declared.clause.Lit.{Lit}
-use Rattle.proof_kernel.specs.Problems.{PlainProblem, fits}
+use Rattle.proof_lines.specs.declared.clause.Lit.{Lit}
+use Rattle.proof_lines.specs.Problems.{PlainProblem, fits}
 use Rattle.theory_api.specs.Laws.{are_given, IsModel, IsConflict, IsSplit, IsTooMany, IsBeyond}
 use Rattle.theory_api.proofs.Standing.{lit_at}
 use Rattle.sat_core.specs.declared.asking.Outcome.{Outcome}

@@ -1,5 +1,5 @@
 use Rattle.std.proofs.Common.{◌≡◌, ◌≤◌, ◌<◌, length, arith}
-use Rattle.proof_kernel.specs.Clauses.{negations}
+use Rattle.proof_lines.specs.Clauses.{negations}
 use Rattle.search_logs.proofs.Shown.{false-negations, false-below}
 use Rattle.sat_core.proofs.Ends.{search_spends}
 use Rattle.sat_core.proofs.Asked.{none_false, refute_chain, learned-so}

@@ -1,11 +1,11 @@
 use Rattle.std.proofs.Common.{◌≡◌, ◌<◌, ◌+◌, List, [], ◌∷◌, ◌++◌, length, refl, sym, ◌∙◌, ap, subst, Some, slice_get}
 use Rattle.std.proofs.lemmas.Option.{slice_get_read}
 use Rattle.lin_rows.specs.Rows.{Row}
-use Rattle.proof_kernel.specs.declared.clause.Lit.{Lit}
-use Rattle.proof_kernel.specs.declared.problem.AtomKind.{AtomKind}
-use Rattle.proof_kernel.specs.declared.problem.AtomKind.TheVariants.{Row as OfRow}
-use Rattle.proof_kernel.specs.Clauses.{lit_of}
-use Rattle.proof_kernel.specs.Problems.{PlainProblem}
+use Rattle.proof_lines.specs.declared.clause.Lit.{Lit}
+use Rattle.proof_lines.specs.declared.problem.AtomKind.{AtomKind}
+use Rattle.proof_lines.specs.declared.problem.AtomKind.TheVariants.{Row as OfRow}
+use Rattle.proof_lines.specs.Clauses.{lit_of}
+use Rattle.proof_lines.specs.Problems.{PlainProblem}
 use Rattle.sat_core.specs.Searching.{IsDrawn}
 use Rattle.sat_core.proofs.Asked.{drawn-row}
 use Rattle.sat_core.proofs.drawing.draw_atom.Goals as goal

@@ -1,5 +1,5 @@
 use Rattle.std.proofs.Common.{◌≡◌, ◌<◌, ℕ, true, false, length, get_or}
-use Rattle.proof_kernel.specs.Clauses.{lit_of}
+use Rattle.proof_lines.specs.Clauses.{lit_of}
 use Rattle.search_logs.specs.Trails.{in_trail}
 use Rattle.sat_core.proofs.drawing.truths.Given as goal
 

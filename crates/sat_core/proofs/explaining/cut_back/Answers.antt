@@ -1,5 +1,5 @@
 use Rattle.std.proofs.Common.{◌≡◌, ℕ, ◌<◌, ◌≤◌, Bool, true, false, List, [], length, get_or, refl, sym, ◌∙◌, ap, subst, arith}
-use Rattle.proof_kernel.specs.declared.clause.Lit.{Lit}
+use Rattle.proof_lines.specs.declared.clause.Lit.{Lit}
 use Rattle.search_logs.specs.declared.trail.Entry.{Entry}
 use Rattle.search_logs.specs.Trails.{open_in, before_last, has_decision}
 use Rattle.sat_core.proofs.Resolving.{InCut, cut_begins, cut_more, cut_ends, before-shorter}

@@ -1,5 +1,5 @@
 use Rattle.std.proofs.Common.{◌≡◌, ℕ, true, List, get_or, [], length}
-use Rattle.proof_kernel.specs.declared.line.Line.{Line}
+use Rattle.proof_lines.specs.declared.line.Line.{Line}
 use Rattle.search_logs.specs.Trails.{has_decision, is_done}
 use Rattle.sat_core.specs.Searching.{Aim, InChain}
 use Rattle.sat_core.proofs.Resolving.{InCut}

@@ -1,5 +1,5 @@
 use Rattle.std.proofs.Common.{◌≡◌, ℕ, ◌+◌, ◌<◌, Bool, true, false, List, length, refl, sym, ◌∙◌, subst, arith}
-use Rattle.proof_kernel.specs.declared.clause.Lit.{Lit}
+use Rattle.proof_lines.specs.declared.clause.Lit.{Lit}
 use Rattle.search_logs.specs.declared.trail.Entry.{Entry}
 use Rattle.search_logs.specs.Trails.{is_false, named, open_in, before_last, has_decision, IsTrail, Settled}
 use Rattle.search_logs.proofs.Trails.{zero-open, open_zero, trail-before, settled-before, named-before}

@@ -1,5 +1,5 @@
 use Rattle.std.proofs.Common.{◌≡◌, ℕ, true, List, length}
-use Rattle.proof_kernel.specs.declared.clause.Lit.{Lit}
+use Rattle.proof_lines.specs.declared.clause.Lit.{Lit}
 use Rattle.search_logs.specs.Trails.{is_false, named, IsTrail, Settled}
 use Rattle.sat_core.proofs.explaining.cut_levels.Given as goal
 

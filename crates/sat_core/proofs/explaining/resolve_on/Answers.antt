@@ -1,6 +1,6 @@
 use Rattle.std.proofs.Common.{◌≡◌, true, length, List, sym, subst}
-use Rattle.proof_kernel.specs.declared.clause.Lit.{Lit}
-use Rattle.proof_kernel.specs.Problems.{atoms_below}
+use Rattle.proof_lines.specs.declared.clause.Lit.{Lit}
+use Rattle.proof_lines.specs.Problems.{atoms_below}
 use Rattle.sat_core.proofs.Keeping.{resolved-below}
 use Rattle.sat_core.proofs.explaining.resolve_on.Goals as goal
 

@@ -1,8 +1,8 @@
 use Rattle.std.proofs.Common.{◌≡◌, ℕ, ◌+◌, ◌^◌, ◌<◌, true, false, List, [], ◌∷◌, ◌++◌, length, get_or, sym, ◌∙◌, ap, subst, arith}
-use Rattle.proof_kernel.specs.declared.clause.Lit.{Lit}
-use Rattle.proof_kernel.specs.declared.line.Line.{Line}
-use Rattle.proof_kernel.specs.Clauses.{has, distinct, flip}
-use Rattle.proof_kernel.specs.Problems.{PlainProblem}
+use Rattle.proof_lines.specs.declared.clause.Lit.{Lit}
+use Rattle.proof_lines.specs.declared.line.Line.{Line}
+use Rattle.proof_lines.specs.Clauses.{has, distinct, flip}
+use Rattle.proof_lines.specs.Problems.{PlainProblem}
 use Rattle.search_logs.specs.declared.trail.Entry.{Entry}
 use Rattle.search_logs.specs.Trails.{is_done}
 use Rattle.search_logs.specs.SearchLogs.{with_clause, resolved_on}

@@ -1,7 +1,7 @@
 use Rattle.std.proofs.Common.{◌≡◌, true, List, sym, subst}
 use Rattle.lin_rows.specs.Rows.{places_below}
-use Rattle.proof_kernel.specs.declared.problem.AtomKind.{AtomKind}
-use Rattle.proof_kernel.specs.Problems.{PlainProblem, fits}
+use Rattle.proof_lines.specs.declared.problem.AtomKind.{AtomKind}
+use Rattle.proof_lines.specs.Problems.{PlainProblem, fits}
 use Rattle.sat_core.proofs.Keeping.{fits-row}
 use Rattle.sat_core.proofs.growing.add_row.Goals as goal
 

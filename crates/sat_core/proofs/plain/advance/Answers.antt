@@ -1,5 +1,5 @@
 use Rattle.std.proofs.Common.{◌≡◌, ℕ, ◌<◌, true, length, Some, None, sym, subst}
-use Rattle.proof_kernel.specs.Clauses.{lit_of}
+use Rattle.proof_lines.specs.Clauses.{lit_of}
 use Rattle.sat_core.specs.declared.asking.Outcome.{Outcome}
 use Rattle.sat_core.specs.Outcomes.{IsOutcome}
 use Rattle.sat_core.proofs.Resolving.{chain_begins}

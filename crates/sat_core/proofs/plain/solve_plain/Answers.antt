@@ -1,8 +1,8 @@
 use Rattle.std.proofs.Common.{◌≡◌, ◌^◌, ◌<◌, true, false, List, [], length, sym, ◌∙◌, ap, subst, arith}
 use Rattle.std.specs.List.{list_any}
-use Rattle.proof_kernel.specs.declared.line.Line.{Line}
-use Rattle.proof_kernel.specs.Clauses.{is_empty}
-use Rattle.proof_kernel.specs.Problems.{PlainProblem, fits}
+use Rattle.proof_lines.specs.declared.line.Line.{Line}
+use Rattle.proof_lines.specs.Clauses.{is_empty}
+use Rattle.proof_lines.specs.Problems.{PlainProblem, fits}
 use Rattle.search_logs.specs.declared.trail.Entry.{Entry}
 use Rattle.sat_core.specs.Searching.{InSearch}
 use Rattle.sat_core.proofs.Ends.{at_once}

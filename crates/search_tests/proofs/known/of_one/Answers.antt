@@ -1,8 +1,8 @@
 use Rattle.std.proofs.Common.{◌≡◌, ◌<◌, ◌≤◌, ℕ, ℤ, negsuc, List, [], ◌∷◌, ◌++◌, length, get_or, refl, sym, ◌∙◌, ap, subst, arith}
 use Rattle.lin_rows.specs.Rows.{Row}
 use Rattle.lin_rows.specs.Divisors.{common_divisor}
-use Rattle.proof_kernel.specs.declared.line.RowStep.{RowStep}
-use Rattle.proof_kernel.specs.declared.line.RangeWhat.TheVariants.{Value}
+use Rattle.proof_lines.specs.declared.line.RowStep.{RowStep}
+use Rattle.proof_lines.specs.declared.line.RangeWhat.TheVariants.{Value}
 use Rattle.theory_api.specs.Laws.{IsConflict, IsBeyond}
 use Rattle.search_tests.proofs.known.of_one.Goals as goal
 

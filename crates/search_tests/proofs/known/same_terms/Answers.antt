@@ -3,8 +3,7 @@ use Rattle.std.specs.Bool.{Decides}
 use Rattle.std.proofs.lemmas.Bool.Decides.{Decides-int_eq, Decides-eqb}
 use Rattle.std.proofs.lemmas.Slice.Eq.{slice_eq-Decides}
 use Rattle.lin_rows.specs.declared.term.RowTerm.{RowTerm}
-use Rattle.proof_kernel.proofs.Sets.{both}
-use Rattle.proof_kernel.proofs.States.{and_true}
+use Rattle.std.proofs.lemmas.Bool.{and_parts, and_from}
 use Rattle.search_tests.proofs.known.same_terms.Goals as goal
 
 term_Decides : (a b : RowTerm) → Decides (nat_eq a.place b.place && int_eq a.coef b.coef) (a ≡ b)
@@ -12,13 +11,13 @@ term_Decides a b = (yes, no_)
   where
     yes : (nat_eq a.place b.place && int_eq a.coef b.coef) ≡ true → a ≡ b
     yes h =
-        let k = both (nat_eq a.place b.place) (int_eq a.coef b.coef) h in
+        let k = and_parts (nat_eq a.place b.place) (int_eq a.coef b.coef) h in
         let p = (Decides-eqb a.place b.place).0 k.0 in
         let q = (Decides-int_eq a.coef b.coef).0 k.1 in
         λ i. record { place = p i; coef = q i }
 
     no_ : a ≡ b → (nat_eq a.place b.place && int_eq a.coef b.coef) ≡ true
-    no_ e = and_true (nat_eq a.place b.place) (int_eq a.coef b.coef) ((Decides-eqb a.place b.place).1 (ap (λ t. t.place) e)) ((Decides-int_eq a.coef b.coef).1 (ap (λ t. t.coef) e))
+    no_ e = and_from (nat_eq a.place b.place) (int_eq a.coef b.coef) ((Decides-eqb a.place b.place).1 (ap (λ t. t.place) e)) ((Decides-int_eq a.coef b.coef).1 (ap (λ t. t.coef) e))
 
 pub returns : goal.returns
 returns c = slice_eq-Decides term_Decides c.args.left.now c.args.right.now c.eq.result c.eq.ensures

@@ -1,9 +1,9 @@
 use Rattle.std.proofs.Common.{subst, true, ◌≡◌, ◌<◌, ◌^◌, length, ◌∙◌, sym, ap, arith, List, map, Some}
 use Rattle.std.specs.List.{list_any, list_all}
-use Rattle.proof_kernel.specs.declared.clause.Lit.{Lit}
-use Rattle.proof_kernel.specs.declared.problem.AtomKind.{AtomKind}
-use Rattle.proof_kernel.specs.Problems.{has_good_row}
-use Rattle.proof_kernel.specs.Clauses.{is_empty}
+use Rattle.proof_lines.specs.declared.clause.Lit.{Lit}
+use Rattle.proof_lines.specs.declared.problem.AtomKind.{AtomKind}
+use Rattle.proof_lines.specs.Problems.{has_good_row}
+use Rattle.proof_lines.specs.Clauses.{is_empty}
 use Rattle.proof_kernel.specs.Rules.{StateFits, start}
 use Rattle.proof_kernel.proofs.States.{fits-start}
 use Rattle.proof_kernel.proofs.kernel.Kernel.begin.Goals as goal

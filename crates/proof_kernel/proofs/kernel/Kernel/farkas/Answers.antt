@@ -1,10 +1,10 @@
 use Rattle.std.proofs.Common.{◌≡◌, true, length, sym, ◌∙◌, ap, subst, List}
-use Rattle.proof_kernel.specs.declared.clause.Lit.{Lit}
-use Rattle.proof_kernel.specs.declared.problem.AtomKind.{AtomKind}
-use Rattle.proof_kernel.specs.Clauses.{negations}
-use Rattle.proof_kernel.specs.Problems.{atoms_below}
+use Rattle.proof_lines.specs.declared.clause.Lit.{Lit}
+use Rattle.proof_lines.specs.declared.problem.AtomKind.{AtomKind}
+use Rattle.proof_lines.specs.Clauses.{negations}
+use Rattle.proof_lines.specs.Problems.{atoms_below}
 use Rattle.proof_kernel.specs.Rules.{State}
-use Rattle.proof_kernel.proofs.States.{negations-below}
+use Rattle.proof_lines.proofs.Names.{negations-below}
 use Rattle.proof_kernel.proofs.kernel.Kernel.farkas.Goals as goal
 
 pub grow-requires : goal.grow-requires

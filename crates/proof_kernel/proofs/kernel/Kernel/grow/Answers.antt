@@ -1,5 +1,5 @@
 use Rattle.std.proofs.Common.{◌≡◌, true, length, sym, subst, arith}
-use Rattle.proof_kernel.specs.Problems.{atoms_below}
+use Rattle.proof_lines.specs.Problems.{atoms_below}
 use Rattle.proof_kernel.specs.Rules.{State}
 use Rattle.proof_kernel.proofs.States.{fits-grown}
 use Rattle.proof_kernel.proofs.kernel.Kernel.grow.Goals as goal

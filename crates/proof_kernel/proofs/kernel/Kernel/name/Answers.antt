@@ -1,5 +1,5 @@
 use Rattle.std.proofs.Common.{◌≡◌, true, sym, subst, arith, ap, ◌∙◌, length, length-append, ◌∷◌, []}
-use Rattle.proof_kernel.specs.declared.problem.AtomKind.TheVariants.{Row as OfRow}
+use Rattle.proof_lines.specs.declared.problem.AtomKind.TheVariants.{Row as OfRow}
 use Rattle.lin_rows.specs.Rows.{places_below}
 use Rattle.proof_kernel.specs.Rules.{State}
 use Rattle.proof_kernel.proofs.States.{fits-named}

@@ -1,4 +1,4 @@
-use Rattle.proof_kernel.proofs.Sound.{begun-sound}
+use Rattle.proof_kernel.proofs.Lines.{begun-sound}
 use Rattle.proof_kernel.proofs.kernel.Kernel.new.Goals as goal
 
 pub returns-clause-sound : goal.returns-clause-sound

@@ -1,7 +1,7 @@
 use Rattle.std.proofs.Common.{rules, ◌≡◌, sym, ◌∙◌, ap, not, length, reverse, take}
 use Rattle.std.specs.List.{count_by}
 use Rattle.std.proofs.lemmas.List.{length-reverse, length-take-le}
-use Rattle.proof_kernel.specs.Clauses.{flip}
+use Rattle.proof_lines.specs.Clauses.{flip}
 use Rattle.search_logs.specs.Trails.{before_last}
 use Rattle.search_logs.specs.Places.{lies_before, place_of}
 use Rattle.search_logs.proofs.Seats.{open_by_places}

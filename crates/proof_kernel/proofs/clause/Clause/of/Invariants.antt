@@ -1,6 +1,0 @@
-use Rattle.std.proofs.Common.{◌≡◌, take, []}
-use Rattle.proof_kernel.specs.Clauses.{join}
-use Rattle.proof_kernel.proofs.clause.Clause.of.Given as goal
-
-abbrev pub invariant-loop-lit : goal.invariant-loop-lit
-invariant-loop-lit l = l.clause ≡ join [] (take l.lit-index l.lits)

@@ -1,0 +1,185 @@
+// Literals, and clauses: sets of literals.
+ghost use Rattle.std.specs.Prelude.{◌≡◌, true, IfOk, OnOk, OnErr, []};
+ghost use Rattle.proof_lines.specs.Clauses.{is_empty, has, resolvent, insert, join, same_lit, sub, distinct, without, flip, negations, holds_both_ways};
+
+use items::Items;
+use std::alloc::{AllocError, Global};
+use std::marker::Model;
+
+/// An atom, or its negation. Atoms are numbered from 0.
+#[derive(Clone, Copy, PartialEq, Eq, Debug)]
+pub struct Lit {
+    pub atom: u32,
+    pub positive: bool,
+}
+
+impl Lit {
+    /// The negation of a literal over the same atom.
+    pub fn opposite(self) -> Lit
+        ensures { result ≡ flip self }
+    {
+        Lit {
+            atom: self.atom,
+            positive: !self.positive,
+        }
+    }
+
+    /// Whether two literals are one.
+    pub fn same(self, other: Lit) -> bool
+        ensures { result ≡ same_lit self other }
+    {
+        self.atom == other.atom && self.positive == other.positive
+    }
+}
+
+/// A set of literals, which are alternatives: a clause is true where one of its literals is. Contracts see the list of its
+/// literals, each once; their order has no meaning.
+#[derive(Drop)]
+pub struct Clause {
+    lits: Items<Lit>,
+}
+
+impl Model for Clause {
+    ghost use Rattle.std.specs.Prelude.{List, ◌≡◌, true};
+    ghost use Rattle.proof_lines.specs.declared.clause.Lit.{Lit};
+    ghost use Rattle.proof_lines.specs.Clauses.{distinct};
+
+    ghost Value = { List Lit };
+
+    ghost view = { λ a. a.lits };
+
+    ghost invariant = { λ a. distinct a.lits ≡ true };
+}
+
+impl Clause {
+    /// The clause without literals, which is false.
+    pub fn empty(alloc: Global) -> Clause
+        ensures { result ≡ [] }
+    {
+        Clause {
+            lits: Items::new(alloc),
+        }
+    }
+
+    /// Adds a literal, unless it is there.
+    pub fn insert(&mut self, lit: Lit) -> Result<(), AllocError>
+        ensures ok { OnOk result (self.new ≡ insert self.old lit) }
+        ensures err { OnErr result (self.new ≡ self.old) }
+    {
+        if self.holds(lit) {
+            return Ok(());
+        }
+        self.lits.push(lit)?;
+        Ok(())
+    }
+
+    /// The clause of some literals; one that stands there again counts once.
+    pub fn of(alloc: Global, lits: &[Lit]) -> Result<Clause, AllocError>
+        ensures { IfOk result (λ c. c ≡ join [] lits.now) }
+    {
+        let mut clause = Clause::empty(alloc);
+        for lit in lits {
+            clause.insert(*lit)?;
+        }
+        Ok(clause)
+    }
+
+    /// The clause of the opposites of some literals.
+    pub fn of_opposites(alloc: Global, lits: &[Lit]) -> Result<Clause, AllocError>
+        ensures { IfOk result (λ c. c ≡ negations lits.now) }
+    {
+        let mut clause = Clause::empty(alloc);
+        for lit in lits {
+            clause.insert(lit.opposite())?;
+        }
+        Ok(clause)
+    }
+
+    /// The left clause without the positive literal of `atom`, joined with the right one without the negative literal. It
+    /// follows from the two.
+    pub fn resolvent(
+        alloc: Global,
+        left: &Clause,
+        right: &Clause,
+        atom: u32,
+    ) -> Result<Clause, AllocError>
+        ensures { IfOk result (λ c. c ≡ resolvent atom left.now right.now) }
+    {
+        let up = Lit {
+            atom,
+            positive: true,
+        };
+        let lits = copy_without(alloc, left.lits(), up)?;
+        left.law_distinct();
+        let mut clause = Clause {
+            lits: Items::from_vec(lits),
+        };
+        for lit in right.lits() {
+            if !lit.same(up.opposite()) {
+                clause.insert(*lit)?;
+            }
+        }
+        Ok(clause)
+    }
+
+    /// A copy of this clause.
+    pub fn copy(&self, alloc: Global) -> Result<Clause, AllocError>
+        ensures { IfOk result (λ c. c ≡ self.now) }
+    {
+        let lits = Items::from_slice(alloc, self.lits.as_slice())?;
+        Ok(Clause { lits })
+    }
+
+    /// The literals, in no order that has a meaning.
+    pub fn lits(&self) -> &[Lit]
+        ensures { result.now ≡ self.now }
+    {
+        self.lits.as_slice()
+    }
+
+    pub fn holds(&self, lit: Lit) -> bool
+        ensures { result ≡ has self.now lit }
+    {
+        holds(self.lits.as_slice(), lit)
+    }
+
+    pub fn is_empty(&self) -> bool
+        ensures { result ≡ is_empty self.now }
+    {
+        self.lits.as_slice().is_empty()
+    }
+
+    /// The fact that the literals of a clause are different.
+    pub fn law_distinct(&self)
+        ensures { distinct self.now ≡ true }
+    {
+        let _ = &self.lits;
+    }
+}
+
+/// Whether a literal is one of some literals.
+pub fn holds(lits: &[Lit], lit: Lit) -> bool
+    ensures { result ≡ has lits.now lit }
+{
+    lits.iter().any(|x| x.same(lit))
+}
+
+/// Whether each of the first literals is one of the second ones.
+pub fn is_within(few: &[Lit], lits: &[Lit]) -> bool
+    ensures { result ≡ sub few.now lits.now }
+{
+    few.iter().all(|x| holds(lits, *x))
+}
+
+/// Whether some atom stands in the list both ways.
+pub fn holds_both_ways(lits: &[Lit]) -> bool
+    ensures { result ≡ holds_both_ways lits.now }
+{
+    lits.iter().any(|x| holds(lits, x.opposite()))
+}
+
+fn copy_without(alloc: Global, lits: &[Lit], lit: Lit) -> Result<Vec<Lit>, AllocError>
+    ensures { IfOk result (λ v. v.items ≡ without lit lits.now) }
+{
+    lits.iter().copied().filter(|x| !x.same(lit)).collect(alloc)
+}
