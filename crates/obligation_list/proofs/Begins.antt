@@ -22,24 +22,8 @@ use Rattle.effectors.specs.Places.{fits_relation, fits_counter}
 use Rattle.effectors.proofs.Members.{is_in-tuples}
 use Rattle.effectors.proofs.Reading.{count_in_map, initial_is_state}
 use Rattle.effectors.proofs.Written.{has_unfit, count_unfit}
-use Rattle.obligation_list.specs.Breaking.{bool_eq}
 use Rattle.obligation_list.specs.Starting.{starts_at, starts_everywhere, starts}
-
-same_bool : (a b : Bool) → bool_eq a b ≡ true → a ≡ b
-same_bool true b h = sym h
-same_bool false true h = absurd cc
-same_bool false false h = refl
-
-bool_same : (a b : Bool) → a ≡ b → bool_eq a b ≡ true
-bool_same true b h = sym h
-bool_same false true h = absurd cc
-bool_same false false h = refl
-
-same_int : (a b : ℤ) → int_eq a b ≡ true → a ≡ b
-same_int a b h = let p = both (int_le a b) (int_le b a) h in let q = p.0 in let r = p.1 in grind (arith, ints)
-
-int_same : (a b : ℤ) → a ≡ b → int_eq a b ≡ true
-int_same a b h = grind (arith, ints)
+use Rattle.obligation_list.proofs.Equal.{same_bool, bool_same, same_int, int_same}
 
 map_at : {X Y : Type 0} (f : X → Y) (xs : List X) (k : ℕ) (x : X) (y : Y) → k < length xs → get_or (map f xs) k y ≡ f (get_or xs k x)
 map_at f [] k x y h = absurd (omega arith)

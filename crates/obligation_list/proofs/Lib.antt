@@ -2,6 +2,8 @@ pub mod Below
 pub mod Members
 pub mod Listed
 pub mod LineFits
+pub mod Counting
 pub mod Chosen
+pub mod Equal
 pub mod Begins
 pub mod Refuted

@@ -1,5 +1,5 @@
 -- Lines of a specification fit: invariants without arguments, requires lines at the arguments of their calls.
-use Rattle.std.proofs.Common.{◌≡◌, ℕ, ◌<◌, ◌≤◌, ℤ, Bool, true, false, cond, not, ◌&&◌, nat_lt, List, [], ◌∷◌, length, get_or, refl, sym, ◌∙◌, ap, arith}
+use Rattle.std.proofs.Common.{◌≡◌, ℕ, ◌<◌, ◌≤◌, ℤ, Bool, true, false, cond, not, ◌&&◌, nat_lt, nat_le, List, [], ◌∷◌, length, get_or, refl, sym, ◌∙◌, ap, arith}
 use Rattle.std.proofs.lemmas.Bool.Decides.{nat_tests}
 use Rattle.std.specs.List.{list_all}
 use Rattle.spec_core.specs.declared.world.World.{World}
@@ -19,6 +19,10 @@ use Rattle.spec_core.proofs.States.{list_all-is_in}
 use Rattle.spec_core.proofs.Fitting.{line_fits_typed}
 use Rattle.effectors.proofs.Members.{is_in-tuples}
 use Rattle.obligation_list.specs.Breaking.{requires_line, failing_vars}
+
+pub few_requires : (d : Specification) (o : Operation) → is_operation d o ≡ true → nat_le (length o.requires_) 8 ≡ true
+few_requires d o h =
+    let a = both _ _ h in let b = both _ _ a.0 in let c = both _ _ b.0 in let e = both _ _ c.0 in let f = both _ _ e.0 in let g = both _ _ f.0 in (both _ _ (both _ _ g.0).0).1
 
 requires_typed : (d : Specification) (o : Operation) → is_operation d o ≡ true → list_all (is_line d o.params) o.requires_ ≡ true
 requires_typed d o h =

@@ -1,5 +1,5 @@
 -- What breaks an obligation, and what it means that a specification is safe.
-use Rattle.std.specs.Prelude.{◌≡◌, ℕ, ℤ, Bool, true, false, not, cond, ◌&&◌, ◌==◌, List, [], ◌∷◌, get_or}
+use Rattle.std.specs.Prelude.{◌≡◌, ℕ, ℤ, Bool, true, false, not, cond, List, [], ◌∷◌, get_or}
 use Rattle.spec_core.specs.declared.world.World.{World}
 use Rattle.spec_core.specs.declared.world.Call.{Call}
 use Rattle.spec_core.specs.declared.update.Thing.{Thing}
@@ -52,53 +52,68 @@ elements_of d (Safety o i) = failing_vars (invariant_line d i)
 elements_of d (Commute o p x) = places_of d x
 elements_of d (Stable o l p) = failing_vars (requires_line d o l)
 
--- calls of these operations, one of each
-abbrev pub are_calls : Specification → World → List ℕ → List Call → Bool
-are_calls d w [] [] = true
-are_calls d w [] (c ∷ cs) = false
-are_calls d w (o ∷ os) [] = false
-are_calls d w (o ∷ os) (c ∷ cs) = (c.op == o) && is_call d w c && are_calls d w os cs
+-- a call of an operation
+pub record IsCallOf (d : Specification) (w : World) (o : ℕ) (a : Call) : Type 0 where
+  pub operation : a.op ≡ o
+  pub fits : is_call d w a ≡ true
 
--- all preconditions are true
-abbrev pub all_ready : Specification → World → Reads → List Call → Bool
-all_ready d w r [] = true
-all_ready d w r (c ∷ cs) = pre d w c r && all_ready d w r cs
+-- Two calls may run together in a state: every invariant is true in it, and so are both preconditions, and the calls don't conflict.
+pub record MayRunTogether (d : Specification) (w : World) (r : Reads) (a b : Call) : Type 0 where
+  pub invariant : inv d w r ≡ true
+  pub first : pre d w a r ≡ true
+  pub second : pre d w b r ≡ true
+  pub apart : conflicts d w a b ≡ false
 
--- two calls don't conflict
-abbrev pub are_free : Specification → World → List Call → Bool
-are_free d w [] = true
-are_free d w (a ∷ []) = true
-are_free d w (a ∷ b ∷ cs) = not (conflicts d w a b)
+-- An invariant is false at the elements in a state, which is the initial one.
+pub record BreaksInit (d : Specification) (i : ℕ) (w : World) (r : Reads) (es : List ℕ) : Type 0 where
+  pub start : r ≡ reads (initial d w)
+  pub fails : line_at w r [] (invariant_line d i) es ≡ false
 
--- what must be true of the state at the entry: it is the initial state, or every invariant is true in it
-abbrev pub EntryHolds : Specification → Obligation → World → Reads → Type 0
-EntryHolds d (Init i) w r = r ≡ reads (initial d w)
-EntryHolds d (Safety o i) w r = inv d w r ≡ true
-EntryHolds d (Commute o p x) w r = inv d w r ≡ true
-EntryHolds d (Stable o l p) w r = inv d w r ≡ true
+-- An invariant is false at the elements after a call. Every invariant was true before it, and so was its precondition.
+pub record BreaksSafety (d : Specification) (o i : ℕ) (w : World) (r : Reads) (a : Call) (es : List ℕ) : Type 0 where
+  pub call : IsCallOf d w o a
+  pub invariant : inv d w r ≡ true
+  pub ready : pre d w a r ≡ true
+  pub fails : line_at w (after d w a r) [] (invariant_line d i) es ≡ false
 
--- what must be true at the end: of one call or two, after them
-abbrev pub concluded : Specification → Obligation → World → Reads → Call → Call → List ℕ → Bool
-concluded d (Init i) w r a b es = line_at w r [] (invariant_line d i) es
-concluded d (Safety o i) w r a b es = line_at w (after d w a r) [] (invariant_line d i) es
-concluded d (Commute o p x) w r a b es = reads_same x es (after d w b (after d w a r)) (after d w a (after d w b r))
-concluded d (Stable o l p) w r a b es = line_at w (after d w b r) a.args (requires_line d o l) es
+-- Two calls may run together, and after both in the one order and in the other a thing doesn't read the same at the elements.
+pub record BreaksCommute (d : Specification) (o p : ℕ) (x : Thing) (w : World) (r : Reads) (a b : Call) (es : List ℕ) : Type 0 where
+  pub first : IsCallOf d w o a
+  pub second : IsCallOf d w p b
+  pub together : MayRunTogether d w r a b
+  pub fails : reads_same x es (after d w b (after d w a r)) (after d w a (after d w b r)) ≡ false
 
--- a call of these, by its place
-abbrev pub call_at : List Call → ℕ → Call
-call_at cs n = get_or cs n (record { op = 0; args = [] })
+-- Two calls may run together, and a requires line of the first is false at the elements after the second.
+pub record BreaksStable (d : Specification) (o l p : ℕ) (w : World) (r : Reads) (a b : Call) (es : List ℕ) : Type 0 where
+  pub first : IsCallOf d w o a
+  pub second : IsCallOf d w p b
+  pub together : MayRunTogether d w r a b
+  pub fails : line_at w (after d w b r) a.args (requires_line d o l) es ≡ false
 
--- A world, a state, calls and elements break an obligation: all parts fit, what must be true of the state and of the calls in it
--- is true, and the conclusion fails at the elements.
+-- Calls and elements break an obligation in a state, by its kind. An initial obligation speaks of no call, safety of one, the others
+-- of two.
+abbrev pub BreaksIn : Specification → Obligation → World → Reads → List Call → List ℕ → Type 0
+BreaksIn d (Init i) w r [] es = BreaksInit d i w r es
+BreaksIn d (Init i) w r (a ∷ cs) es = ⊥
+BreaksIn d (Safety o i) w r [] es = ⊥
+BreaksIn d (Safety o i) w r (a ∷ []) es = BreaksSafety d o i w r a es
+BreaksIn d (Safety o i) w r (a ∷ b ∷ cs) es = ⊥
+BreaksIn d (Commute o p x) w r [] es = ⊥
+BreaksIn d (Commute o p x) w r (a ∷ []) es = ⊥
+BreaksIn d (Commute o p x) w r (a ∷ b ∷ []) es = BreaksCommute d o p x w r a b es
+BreaksIn d (Commute o p x) w r (a ∷ b ∷ c ∷ cs) es = ⊥
+BreaksIn d (Stable o l p) w r [] es = ⊥
+BreaksIn d (Stable o l p) w r (a ∷ []) es = ⊥
+BreaksIn d (Stable o l p) w r (a ∷ b ∷ []) es = BreaksStable d o l p w r a b es
+BreaksIn d (Stable o l p) w r (a ∷ b ∷ c ∷ cs) es = ⊥
+
+-- A world, a state, calls and elements break an obligation: the world, the state and the elements fit, and the calls and elements
+-- break it in the state.
 pub record Breaks (d : Specification) (ob : Obligation) (w : World) (s : Listing) (cs : List Call) (es : List ℕ) : Type 0 where
   pub world : is_world d w ≡ true
   pub state : is_state d w s ≡ true
-  pub calls : are_calls d w (operations_of ob) cs ≡ true
   pub elements : fits_places w (elements_of d ob) es ≡ true
-  pub entry : EntryHolds d ob w (reads s)
-  pub ready : all_ready d w (reads s) cs ≡ true
-  pub free : are_free d w cs ≡ true
-  pub fails : concluded d ob w (reads s) (call_at cs 0) (call_at cs 1) es ≡ false
+  pub broken : BreaksIn d ob w (reads s) cs es
 
 -- An obligation holds where nothing breaks it.
 abbrev pub Holds : Specification → Obligation → Type 0

@@ -1,15 +1,18 @@
--- When a witness refutes an obligation: it breaks it, within the bounds that worlds and calls have in a program.
-use Rattle.std.specs.Prelude.{◌≡◌, ℕ, nat_le, Bool, true, false, not, ◌&&◌, ◌==◌, List, [], ◌∷◌}
+-- When a witness refutes an obligation: it breaks it, within the bounds that worlds and calls have in a program; and the test of that.
+use Rattle.std.specs.Prelude.{◌≡◌, ℕ, ℤ, nat_le, Bool, true, false, not, ◌&&◌, ◌==◌, List, [], ◌∷◌}
 use Rattle.std.specs.List.{list_all}
 use Rattle.spec_core.specs.declared.world.World.{World}
 use Rattle.spec_core.specs.declared.world.Call.{Call}
+use Rattle.spec_core.specs.declared.update.Thing.{Thing}
 use Rattle.spec_core.specs.Specification.{Specification}
 use Rattle.spec_core.specs.State.{Listing, Reads, reads}
-use Rattle.spec_core.specs.Meaning.{inv}
+use Rattle.spec_core.specs.Meaning.{invariant_line, inv, pre}
 use Rattle.spec_core.specs.Fits.{in_state_range, fits_places, is_state, world_fits, call_fits}
+use Rattle.effectors.specs.Effect.{after}
+use Rattle.token_rules.specs.Conflict.{conflicts}
 use Rattle.obligation_list.specs.declared.obligation.Obligation.{Obligation}
 use Rattle.obligation_list.specs.declared.obligation.Obligation.TheVariants.{Init, Safety, Commute, Stable}
-use Rattle.obligation_list.specs.Breaking.{operations_of, elements_of, all_ready, are_free, concluded, call_at, Breaks}
+use Rattle.obligation_list.specs.Breaking.{requires_line, line_at, reads_same, elements_of, Breaks}
 use Rattle.obligation_list.specs.Starting.{starts}
 
 -- A witness refutes an obligation: it breaks it, no sort has more than 100 elements, and numbers are in the range of a state.
@@ -18,29 +21,49 @@ pub record IsRefutation (d : Specification) (ob : Obligation) (w : World) (s : L
   pub sizes : list_all (λ n. nat_le n 100) w.sizes ≡ true
   pub numbers : list_all (λ c. list_all in_state_range c.args) cs ≡ true
 
--- calls of these operations, one of each, whose numbers are in range
-abbrev pub calls_fit : Specification → World → List ℕ → List Call → Bool
-calls_fit d w [] [] = true
-calls_fit d w [] (c ∷ cs) = false
-calls_fit d w (o ∷ os) [] = false
-calls_fit d w (o ∷ os) (c ∷ cs) = (c.op == o) && call_fits d w c && calls_fit d w os cs
+-- ---- the test, kind by kind
+
+abbrev pub is_call_of : Specification → World → ℕ → Call → Bool
+is_call_of d w o a = (a.op == o) && call_fits d w a
+
+abbrev pub may_run_together : Specification → World → Reads → Call → Call → Bool
+may_run_together d w r a b = inv d w r && pre d w a r && pre d w b r && not (conflicts d w a b)
+
+abbrev pub refutes_init : Specification → ℕ → World → Reads → List ℕ → Bool
+refutes_init d i w r es = starts d w r && not (line_at w r [] (invariant_line d i) es)
+
+abbrev pub refutes_safety : Specification → ℕ → ℕ → World → Reads → Call → List ℕ → Bool
+refutes_safety d o i w r a es = is_call_of d w o a && inv d w r && pre d w a r && not (line_at w (after d w a r) [] (invariant_line d i) es)
+
+-- two calls of these operations that may run together
+abbrev pub are_together : Specification → ℕ → ℕ → World → Reads → Call → Call → Bool
+are_together d o p w r a b = is_call_of d w o a && is_call_of d w p b && may_run_together d w r a b
+
+abbrev pub refutes_commute : Specification → ℕ → ℕ → Thing → World → Reads → Call → Call → List ℕ → Bool
+refutes_commute d o p x w r a b es = are_together d o p w r a b && not (reads_same x es (after d w b (after d w a r)) (after d w a (after d w b r)))
+
+abbrev pub refutes_stable : Specification → ℕ → ℕ → ℕ → World → Reads → Call → Call → List ℕ → Bool
+refutes_stable d o l p w r a b es = are_together d o p w r a b && not (line_at w (after d w b r) a.args (requires_line d o l) es)
+
+abbrev pub refutes_in : Specification → Obligation → World → Reads → List Call → List ℕ → Bool
+refutes_in d (Init i) w r [] es = refutes_init d i w r es
+refutes_in d (Init i) w r (a ∷ cs) es = false
+refutes_in d (Safety o i) w r [] es = false
+refutes_in d (Safety o i) w r (a ∷ []) es = refutes_safety d o i w r a es
+refutes_in d (Safety o i) w r (a ∷ b ∷ cs) es = false
+refutes_in d (Commute o p x) w r [] es = false
+refutes_in d (Commute o p x) w r (a ∷ []) es = false
+refutes_in d (Commute o p x) w r (a ∷ b ∷ []) es = refutes_commute d o p x w r a b es
+refutes_in d (Commute o p x) w r (a ∷ b ∷ c ∷ cs) es = false
+refutes_in d (Stable o l p) w r [] es = false
+refutes_in d (Stable o l p) w r (a ∷ []) es = false
+refutes_in d (Stable o l p) w r (a ∷ b ∷ []) es = refutes_stable d o l p w r a b es
+refutes_in d (Stable o l p) w r (a ∷ b ∷ c ∷ cs) es = false
 
 -- all parts fit
-abbrev pub parts_fit : Specification → Obligation → World → Listing → List Call → List ℕ → Bool
-parts_fit d ob w s cs es = world_fits d w && is_state d w s && calls_fit d w (operations_of ob) cs && fits_places w (elements_of d ob) es
-
--- what must be true at the entry
-abbrev pub entry_test : Specification → Obligation → World → Reads → Bool
-entry_test d (Init i) w r = starts d w r
-entry_test d (Safety o i) w r = inv d w r
-entry_test d (Commute o p x) w r = inv d w r
-entry_test d (Stable o l p) w r = inv d w r
-
--- what must be true of the state and the calls is true, and the conclusion fails
-abbrev pub fails : Specification → Obligation → World → Listing → List Call → List ℕ → Bool
-fails d ob w s cs es =
-    entry_test d ob w (reads s) && all_ready d w (reads s) cs && are_free d w cs && not (concluded d ob w (reads s) (call_at cs 0) (call_at cs 1) es)
+abbrev pub parts_fit : Specification → Obligation → World → Listing → List ℕ → Bool
+parts_fit d ob w s es = world_fits d w && is_state d w s && fits_places w (elements_of d ob) es
 
 -- the test of a refutation
 abbrev pub refutes : Specification → Obligation → World → Listing → List Call → List ℕ → Bool
-refutes d ob w s cs es = parts_fit d ob w s cs es && fails d ob w s cs es
+refutes d ob w s cs es = parts_fit d ob w s es && refutes_in d ob w (reads s) cs es

@@ -2,54 +2,22 @@
 // read without building a state.
 
 ghost use Rattle.std.specs.Prelude.{◌≡◌, ◌<◌, ◌↔◌, IsTrue, true, length, is_none, []};
-ghost use Rattle.std.specs.List.{list_all};
 ghost use Rattle.spec_core.specs.State.{reads};
 ghost use Rattle.spec_core.specs.Specification.{op_of, places_of};
-ghost use Rattle.spec_core.specs.Meaning.{invariant_line, inv};
+ghost use Rattle.spec_core.specs.Meaning.{invariant_line, inv, pre};
 ghost use Rattle.spec_core.specs.Fits.{fits_places, world_fits, call_fits, is_state};
 ghost use Rattle.effectors.specs.Effect.{after};
 ghost use Rattle.obligation_list.specs.Obligations.{IsObligation};
-ghost use Rattle.obligation_list.specs.Breaking.{requires_line, failing_vars, line_at, reads_same, operations_of, elements_of, are_free, call_at, concluded};
-ghost use Rattle.obligation_list.specs.Refuting.{IsRefutation, calls_fit, parts_fit, entry_test, fails, refutes};
+ghost use Rattle.obligation_list.specs.Breaking.{requires_line, failing_vars, line_at, reads_same, elements_of};
+ghost use Rattle.obligation_list.specs.Refuting.{IsRefutation, may_run_together, refutes_init, refutes_safety, are_together, refutes_commute, refutes_stable, refutes_in, parts_fit, refutes};
 
 use crate::initial::is_initial;
-use crate::lines::{all_ready, invariant_line, line_at, requires_line};
+use crate::lines::{invariant_line, is_ready, line_at, requires_line};
 use crate::obligation::Obligation;
 use crate::witness::Witness;
 use effectors::{After, places_of, post2_count, post2_has};
 use spec_core::{Call, Prefix, Prefixed, Spec, State, Thing, World, invariant_broken_at};
 use token_rules::conflicts;
-
-// Calls of these operations, one of each, whose numbers are in range.
-fn calls_fit(spec: &Spec, world: &World, operations: &[u8], calls: &[Call]) -> bool
-    ensures { result ≡ calls_fit spec.now world.now operations.now calls.now }
-{
-    match operations {
-        [] => calls.is_empty(),
-        [op, operations @ ..] => match calls {
-            [] => false,
-            [call, calls @ ..] => call.op == *op
-                && call.fits(spec, world)
-                && calls_fit(spec, world, operations, calls),
-        },
-    }
-}
-
-// The calls are those of the obligation.
-fn has_calls(spec: &Spec, world: &World, ob: &Obligation, calls: &[Call]) -> bool
-    ensures { result ≡ calls_fit spec.now world.now (operations_of ob.now) calls.now }
-{
-    match ob {
-        Obligation::Init { inv: _ } => calls_fit(spec, world, &[], calls),
-        Obligation::Safety { op, inv: _ } => calls_fit(spec, world, &[*op], calls),
-        Obligation::Commute {
-            first,
-            second,
-            thing: _,
-        } => calls_fit(spec, world, &[*first, *second], calls),
-        Obligation::Stable { op, line: _, other } => calls_fit(spec, world, &[*op, *other], calls),
-    }
-}
 
 // The elements are those at which a line may fail.
 fn fits_line(world: &World, line: &Prefixed, elements: &[u32]) -> bool
@@ -85,11 +53,10 @@ fn has_elements(spec: &Spec, world: &World, ob: &Obligation, elements: &[u32]) -
 
 fn parts_fit(spec: &Spec, ob: &Obligation, w: &Witness) -> bool
     requires { IsObligation spec.now ob.now }
-    ensures { result ≡ parts_fit spec.now ob.now w.now.world w.now.state w.now.calls w.now.elements }
+    ensures { result ≡ parts_fit spec.now ob.now w.now.world w.now.state w.now.elements }
 {
     w.world.fits(spec)
         && w.state.fits(spec, &w.world)
-        && has_calls(spec, &w.world, ob, w.calls.as_slice())
         && has_elements(spec, &w.world, ob, w.elements.as_slice())
 }
 
@@ -99,36 +66,6 @@ fn invariants_hold(spec: &Spec, world: &World, state: &State) -> bool
     ensures { result ≡ inv spec.now world.now (reads state.now) }
 {
     invariant_broken_at(spec, world, state).is_none()
-}
-
-fn entry_holds(spec: &Spec, ob: &Obligation, world: &World, state: &State) -> bool
-    requires { world_fits spec.now world.now ≡ true }
-    ensures { result ≡ entry_test spec.now ob.now world.now (reads state.now) }
-{
-    match ob {
-        Obligation::Init { inv: _ } => is_initial(spec, world, state),
-        Obligation::Safety { op: _, inv: _ } => invariants_hold(spec, world, state),
-        Obligation::Commute {
-            first: _,
-            second: _,
-            thing: _,
-        } => invariants_hold(spec, world, state),
-        Obligation::Stable {
-            op: _,
-            line: _,
-            other: _,
-        } => invariants_hold(spec, world, state),
-    }
-}
-
-fn are_free(spec: &Spec, world: &World, calls: &[Call]) -> bool
-    ensures { result ≡ are_free spec.now world.now calls.now }
-{
-    match calls {
-        [] => true,
-        [_] => true,
-        [a, b, ..] => !conflicts(spec, world, a, b),
-    }
 }
 
 // The invariant is true in the state at the elements.
@@ -210,6 +147,7 @@ fn stable_concluded(
     state: &State,
     a: &Call,
     b: &Call,
+    op: u8,
     line: u8,
     elements: &[u32],
 ) -> bool
@@ -217,9 +155,10 @@ fn stable_concluded(
     requires state { is_state spec.now world.now state.now ≡ true }
     requires a { call_fits spec.now world.now a.now ≡ true }
     requires b { call_fits spec.now world.now b.now ≡ true }
-    requires line { line < length (op_of spec.now a.now.op).requires_ }
-    requires elements { fits_places world.now (failing_vars (requires_line spec.now a.now.op line)) elements.now ≡ true }
-    ensures { result ≡ line_at world.now (after spec.now world.now b.now (reads state.now)) a.now.args (requires_line spec.now a.now.op line) elements.now }
+    requires op { a.now.op ≡ op }
+    requires line { line < length (op_of spec.now op).requires_ }
+    requires elements { fits_places world.now (failing_vars (requires_line spec.now op line)) elements.now ≡ true }
+    ensures { result ≡ line_at world.now (after spec.now world.now b.now (reads state.now)) a.now.args (requires_line spec.now op line) elements.now }
 {
     spec.well_formed();
     let after = After {
@@ -233,54 +172,117 @@ fn stable_concluded(
         world,
         &after,
         a.args.as_slice(),
-        requires_line(spec, a.op, line),
+        requires_line(spec, op, line),
         elements,
     )
 }
 
-// The conclusion of the obligation is true at the elements.
-fn concluded(
-    spec: &Spec,
-    ob: &Obligation,
-    world: &World,
-    state: &State,
-    calls: &[Call],
-    elements: &[u32],
-) -> bool
-    requires ob { IsObligation spec.now ob.now }
+fn refutes_init(spec: &Spec, world: &World, state: &State, inv: u8, elements: &[u32]) -> bool
     requires world { world_fits spec.now world.now ≡ true }
-    requires state { is_state spec.now world.now state.now ≡ true }
-    requires calls { calls_fit spec.now world.now (operations_of ob.now) calls.now ≡ true }
-    requires elements { fits_places world.now (elements_of spec.now ob.now) elements.now ≡ true }
-    ensures { result ≡ concluded spec.now ob.now world.now (reads state.now) (call_at calls.now 0) (call_at calls.now 1) elements.now }
+    requires inv { inv < length spec.now.invariants }
+    requires elements { fits_places world.now (failing_vars (invariant_line spec.now inv)) elements.now ≡ true }
+    ensures { result ≡ refutes_init spec.now inv world.now (reads state.now) elements.now }
 {
-    match ob {
-        Obligation::Init { inv } => init_concluded(spec, world, state, *inv, elements),
-        Obligation::Safety { op: _, inv } => match calls {
-            [a] => safety_concluded(spec, world, state, a, *inv, elements),
-            _ => unreachable!(),
-        },
-        Obligation::Commute {
-            first: _,
-            second: _,
-            thing,
-        } => match calls {
-            [a, b] => commute_concluded(spec, world, state, a, b, *thing, elements),
-            _ => unreachable!(),
-        },
-        Obligation::Stable {
-            op: _,
-            line,
-            other: _,
-        } => match calls {
-            [a, b] => stable_concluded(spec, world, state, a, b, *line, elements),
-            _ => unreachable!(),
-        },
-    }
+    is_initial(spec, world, state) && !init_concluded(spec, world, state, inv, elements)
 }
 
-// What must be true of the state and the calls is true, and the conclusion fails at the elements.
-fn fails(
+fn refutes_safety(
+    spec: &Spec,
+    world: &World,
+    state: &State,
+    op: u8,
+    inv: u8,
+    call: &Call,
+    elements: &[u32],
+) -> bool
+    requires world { world_fits spec.now world.now ≡ true }
+    requires state { is_state spec.now world.now state.now ≡ true }
+    requires inv { inv < length spec.now.invariants }
+    requires elements { fits_places world.now (failing_vars (invariant_line spec.now inv)) elements.now ≡ true }
+    ensures { result ≡ refutes_safety spec.now op inv world.now (reads state.now) call.now elements.now }
+{
+    call.op == op
+        && call.fits(spec, world)
+        && invariants_hold(spec, world, state)
+        && is_ready(spec, world, state, call)
+        && !safety_concluded(spec, world, state, call, inv, elements)
+}
+
+// Every invariant and both preconditions are true in the state, and the calls don't conflict.
+fn may_run_together(spec: &Spec, world: &World, state: &State, a: &Call, b: &Call) -> bool
+    requires world { world_fits spec.now world.now ≡ true }
+    requires a { call_fits spec.now world.now a.now ≡ true }
+    requires b { call_fits spec.now world.now b.now ≡ true }
+    ensures { result ≡ may_run_together spec.now world.now (reads state.now) a.now b.now }
+{
+    invariants_hold(spec, world, state)
+        && is_ready(spec, world, state, a)
+        && is_ready(spec, world, state, b)
+        && !conflicts(spec, world, a, b)
+}
+
+// The calls are of these operations and may run together.
+fn are_together(
+    spec: &Spec,
+    world: &World,
+    state: &State,
+    first: u8,
+    second: u8,
+    a: &Call,
+    b: &Call,
+) -> bool
+    requires { world_fits spec.now world.now ≡ true }
+    ensures { result ≡ are_together spec.now first second world.now (reads state.now) a.now b.now }
+{
+    a.op == first
+        && a.fits(spec, world)
+        && b.op == second
+        && b.fits(spec, world)
+        && may_run_together(spec, world, state, a, b)
+}
+
+fn refutes_commute(
+    spec: &Spec,
+    world: &World,
+    state: &State,
+    first: u8,
+    second: u8,
+    thing: Thing,
+    a: &Call,
+    b: &Call,
+    elements: &[u32],
+) -> bool
+    requires world { world_fits spec.now world.now ≡ true }
+    requires state { is_state spec.now world.now state.now ≡ true }
+    ensures { result ≡ refutes_commute spec.now first second thing world.now (reads state.now) a.now b.now elements.now }
+{
+    are_together(spec, world, state, first, second, a, b)
+        && !commute_concluded(spec, world, state, a, b, thing, elements)
+}
+
+fn refutes_stable(
+    spec: &Spec,
+    world: &World,
+    state: &State,
+    first: u8,
+    line: u8,
+    second: u8,
+    a: &Call,
+    b: &Call,
+    elements: &[u32],
+) -> bool
+    requires world { world_fits spec.now world.now ≡ true }
+    requires state { is_state spec.now world.now state.now ≡ true }
+    requires line { line < length (op_of spec.now first).requires_ }
+    requires elements { fits_places world.now (failing_vars (requires_line spec.now first line)) elements.now ≡ true }
+    ensures { result ≡ refutes_stable spec.now first line second world.now (reads state.now) a.now b.now elements.now }
+{
+    are_together(spec, world, state, first, second, a, b)
+        && !stable_concluded(spec, world, state, a, b, first, line, elements)
+}
+
+// The calls are those of the obligation, what must be true is true, and the conclusion fails at the elements.
+fn refutes_in(
     spec: &Spec,
     ob: &Obligation,
     world: &World,
@@ -291,14 +293,33 @@ fn fails(
     requires ob { IsObligation spec.now ob.now }
     requires world { world_fits spec.now world.now ≡ true }
     requires state { is_state spec.now world.now state.now ≡ true }
-    requires calls { calls_fit spec.now world.now (operations_of ob.now) calls.now ≡ true }
     requires elements { fits_places world.now (elements_of spec.now ob.now) elements.now ≡ true }
-    ensures { result ≡ fails spec.now ob.now world.now state.now calls.now elements.now }
+    ensures { result ≡ refutes_in spec.now ob.now world.now (reads state.now) calls.now elements.now }
 {
-    entry_holds(spec, ob, world, state)
-        && all_ready(spec, world, state, calls)
-        && are_free(spec, world, calls)
-        && !concluded(spec, ob, world, state, calls, elements)
+    match ob {
+        Obligation::Init { inv } => match calls {
+            [] => refutes_init(spec, world, state, *inv, elements),
+            _ => false,
+        },
+        Obligation::Safety { op, inv } => match calls {
+            [a] => refutes_safety(spec, world, state, *op, *inv, a, elements),
+            _ => false,
+        },
+        Obligation::Commute {
+            first,
+            second,
+            thing,
+        } => match calls {
+            [a, b] => {
+                refutes_commute(spec, world, state, *first, *second, *thing, a, b, elements)
+            }
+            _ => false,
+        },
+        Obligation::Stable { op, line, other } => match calls {
+            [a, b] => refutes_stable(spec, world, state, *op, *line, *other, a, b, elements),
+            _ => false,
+        },
+    }
 }
 
 fn refutes(spec: &Spec, ob: &Obligation, w: &Witness) -> bool
@@ -306,7 +327,7 @@ fn refutes(spec: &Spec, ob: &Obligation, w: &Witness) -> bool
     ensures { result ≡ refutes spec.now ob.now w.now.world w.now.state w.now.calls w.now.elements }
 {
     if parts_fit(spec, ob, w) {
-        fails(
+        refutes_in(
             spec,
             ob,
             &w.world,

@@ -7,7 +7,7 @@ ghost use Rattle.spec_core.specs.State.{reads};
 ghost use Rattle.spec_core.specs.Truth.{lines_true};
 ghost use Rattle.spec_core.specs.Meaning.{invariant_line, pre};
 ghost use Rattle.spec_core.specs.Fits.{in_state_range, fits_places, world_fits, call_fits, line_fits};
-ghost use Rattle.obligation_list.specs.Breaking.{requires_line, failing_vars, line_at, all_ready};
+ghost use Rattle.obligation_list.specs.Breaking.{requires_line, failing_vars, line_at};
 
 use spec_core::{Call, Prefix, Prefixed, Readings, Spec, State, World, holds, line_holds};
 
@@ -67,19 +67,6 @@ pub fn is_ready(spec: &Spec, world: &World, state: &State, call: &Call) -> bool
     spec.well_formed();
     let lines = requires_of(spec, call.op);
     lines_hold(spec, world, state, call.args.as_slice(), lines)
-}
-
-/// Whether all preconditions are true in a state.
-pub fn all_ready(spec: &Spec, world: &World, state: &State, calls: &[Call]) -> bool
-    requires world { world_fits spec.now world.now ≡ true }
-    requires calls { list_all (call_fits spec.now world.now) calls.now ≡ true }
-    ensures { result ≡ all_ready spec.now world.now (reads state.now) calls.now }
-{
-    match calls {
-        [] => true,
-        [call, calls @ ..] => is_ready(spec, world, state, call)
-            && all_ready(spec, world, state, calls),
-    }
 }
 
 /// Whether a line is true at elements, or as a whole where its prefix is `exists`.

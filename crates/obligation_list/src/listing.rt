@@ -1,6 +1,6 @@
 // The list of a specification's obligations.
 
-ghost use Rattle.std.specs.Prelude.{◌≡◌, ◌<◌, ◌++◌, ◌∷◌, [], ℕ, true, cond, map, length, IfOk, OnOk};
+ghost use Rattle.std.specs.Prelude.{◌≡◌, ◌<◌, ◌≤◌, ◌++◌, ◌∷◌, [], ℕ, true, cond, map, length, IfOk, OnOk};
 ghost use Rattle.std.specs.List.{filter, flat_map, Contains};
 ghost use Rattle.spec_core.specs.World.{below};
 ghost use Rattle.spec_core.specs.Specification.{Specification, op_of};
@@ -214,10 +214,8 @@ fn add_all_stable(list: &mut Items<Obligation>, spec: &Spec) -> Result<(), Alloc
     Ok(())
 }
 
-/// The obligations of a specification: for each invariant that it is true initially; for each operation and invariant that the
-/// operation keeps it; for each two operations, equal ones too, that they commute on each thing that either writes; for each
-/// requires line of an operation that each operation keeps it. There are at most 12,208.
-pub fn list(alloc: Global, spec: &Spec) -> Result<Items<Obligation>, AllocError>
+// All obligations, in their order.
+fn all_obligations(alloc: Global, spec: &Spec) -> Result<Items<Obligation>, AllocError>
     ensures { IfOk result (λ list. list ≡ obligations_of spec.now) }
 {
     let mut list = Items::new(alloc);
@@ -225,6 +223,19 @@ pub fn list(alloc: Global, spec: &Spec) -> Result<Items<Obligation>, AllocError>
     add_all_safety(&mut list, spec)?;
     add_all_commute(&mut list, spec)?;
     add_all_stable(&mut list, spec)?;
+    Ok(list)
+}
+
+/// The obligations of a specification: for each invariant that it is true initially; for each operation and invariant that the
+/// operation keeps it; for each two operations, equal ones too, that they commute on each thing that either writes; for each
+/// requires line of an operation that each operation keeps it.
+pub fn list(alloc: Global, spec: &Spec) -> Result<Items<Obligation>, AllocError>
+    ensures list { IfOk result (λ list. list ≡ obligations_of spec.now) }
+    ensures few { IfOk result (λ list. length list ≤ 12208) }
+    ensures obligations { IfOk result (λ list. (ob : Obligation) → Contains list ob → IsObligation spec.now ob) }
+{
+    spec.well_formed();
+    let list = all_obligations(alloc, spec)?;
     Ok(list)
 }
 
