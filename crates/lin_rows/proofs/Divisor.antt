@@ -1,5 +1,6 @@
 use Prim.Native.Nat.{◌∣◌}
 use Rattle.std.proofs.Common.{◌≡◌, ℕ, zero, suc, ◌+◌, ◌%◌, ◌<◌, ◌≤◌, Bool, true, false, cond, List, [], ◌∷◌, map, length, get_or, drop, refl, sym, ◌∙◌, ap, subst, arith, add-one, drop-cons, unsigned_abs, ◌⊎◌, inl, inr}
+use Rattle.std.proofs.lemmas.Bool.{cases_Bool, cases_lt, eq-eqb, eqb-true, and_from}
 use Rattle.std.specs.Prelude.{nat_eq, sum}
 use Rattle.std.specs.List.{list_all}
 use Rattle.std.specs.Int.{IsGcd}
@@ -10,7 +11,7 @@ use Rattle.std.proofs.Math.Nat.{mod-one, eq-zero_of_zero-dvd}
 use Rattle.lin_rows.specs.declared.term.RowTerm.{RowTerm}
 use Rattle.lin_rows.specs.Divisors.{greatest, common_divisor, divisor_of}
 use Rattle.lin_rows.proofs.Steps.{nothing_left}
-use Rattle.lin_rows.proofs.Kept.{first_of_both, second_of_both, both_hold}
+use Rattle.lin_rows.proofs.Kept.{first_of_both, second_of_both}
 
 -- a number divides all of a list
 abbrev pub DividesAll : ℕ → List ℕ → Type 0
@@ -20,32 +21,22 @@ DividesAll d (n ∷ ns) = (d ∣ n) × DividesAll d ns
 abbrev pub divides_all : ℕ → List ℕ → Bool
 divides_all d ns = list_all (λ n. nat_eq (n % d) 0) ns
 
-eq_of : (a b : ℕ) → nat_eq a b ≡ true → a ≡ b
-eq_of a b h = grind (arith, nat_tests)
-
-of_eq : (a b : ℕ) → a ≡ b → nat_eq a b ≡ true
-of_eq a b h = grind (arith, nat_tests)
-
 pub DividesAll-from : (d : ℕ) (ns : List ℕ) → divides_all d ns ≡ true → DividesAll d ns
 DividesAll-from d [] h = tt
 DividesAll-from d (n ∷ ns) h = (
-  dvd_of_mod-eq-zero d (eq_of (n % d) 0 (first_of_both (nat_eq (n % d) 0) (divides_all d ns) h)),
+  dvd_of_mod-eq-zero d (eqb-true (n % d) 0 (first_of_both (nat_eq (n % d) 0) (divides_all d ns) h)),
   DividesAll-from d ns (second_of_both (nat_eq (n % d) 0) (divides_all d ns) h),
 )
 
 pub DividesAll-to : (d : ℕ) (ns : List ℕ) → DividesAll d ns → divides_all d ns ≡ true
 DividesAll-to d [] h = refl
-DividesAll-to d (n ∷ ns) h = both_hold (nat_eq (n % d) 0) (divides_all d ns) (of_eq (n % d) 0 (mod-eq-zero_of_dvd d h.0)) (DividesAll-to d ns h.1)
-
-tell : (b : Bool) → (b ≡ true) ⊎ (b ≡ false)
-tell true = inl refl
-tell false = inr refl
+DividesAll-to d (n ∷ ns) h = and_from (nat_eq (n % d) 0) (divides_all d ns) (eq-eqb (n % d) 0 (mod-eq-zero_of_dvd d h.0)) (DividesAll-to d ns h.1)
 
 -- what a search from above finds
 greatest-is : (test : ℕ → Bool) (n g : ℕ) → (g ≡ 0) ⊎ ((g ≤ n) × (test g ≡ true)) → ((d : ℕ) → g < d → d ≤ n → test d ≡ false) → greatest test n ≡ g
 greatest-is test zero g (inl h) k = sym h
 greatest-is test zero g (inr h) k = omega (arith, h.0)
-greatest-is test (suc n) g h k = by_top (tell (test (suc n))) (order g (suc n)) (λ b. greatest-is test n g b (λ d l m. k d l (omega arith)))
+greatest-is test (suc n) g h k = by_top (cases_Bool (test (suc n))) (order g (suc n)) (λ b. greatest-is test n g b (λ d l m. k d l (omega arith)))
   where
     order : (a b : ℕ) → (a < b) ⊎ ((a ≡ b) ⊎ (b < a))
     order a b = grind arith
@@ -71,7 +62,7 @@ greatest-is test (suc n) g h k = by_top (tell (test (suc n))) (order g (suc n)) 
 greatest-passes : (test : ℕ → Bool) (n : ℕ) → test 1 ≡ true → 0 < n → (0 < greatest test n) × (test (greatest test n) ≡ true)
 greatest-passes test zero h k = absurd (omega arith)
 greatest-passes test (suc zero) h k = subst (λ (z : ℕ). (0 < z) × (test z ≡ true)) (sym (ap (λ (z : Bool). cond z 1 0) h)) (omega arith, h)
-greatest-passes test (suc (suc n)) h k = by_top (tell (test (suc (suc n)))) (greatest-passes test (suc n) h (omega arith))
+greatest-passes test (suc (suc n)) h k = by_top (cases_Bool (test (suc (suc n)))) (greatest-passes test (suc n) h (omega arith))
   where
     by_top : (test (suc (suc n)) ≡ true) ⊎ (test (suc (suc n)) ≡ false) → (0 < greatest test (suc n)) × (test (greatest test (suc n)) ≡ true)
         → (0 < greatest test (suc (suc n))) × (test (greatest test (suc (suc n))) ≡ true)
@@ -106,7 +97,7 @@ common_divisor-is ns g h k = by_size (size g)
 
     by_size : (g ≡ 0) ⊎ (0 < g) → greatest (λ d. divides_all d ns) (sum ns) ≡ g
     by_size (inl z) = let s = only_zeros ns (subst (λ (w : ℕ). DividesAll w ns) z h) in greatest-is (λ d. divides_all d ns) (sum ns) g (inl z) (λ d l m. absurd (omega arith))
-    by_size (inr p) = greatest-is (λ d. divides_all d ns) (sum ns) g (inr (le_sum g ns h some, DividesAll-to g ns h)) (λ d l m. above d l (tell (divides_all d ns)))
+    by_size (inr p) = greatest-is (λ d. divides_all d ns) (sum ns) g (inr (le_sum g ns h some, DividesAll-to g ns h)) (λ d l m. above d l (cases_Bool (divides_all d ns)))
       where
         some : 0 < sum ns
         some = by_sum (size (sum ns))
@@ -137,11 +128,8 @@ le_common_divisor ns d h k = le_greatest (λ d. divides_all d ns) (sum ns) d (le
   where
     le_greatest : (test : ℕ → Bool) (n d : ℕ) → d ≤ n → test d ≡ true → d ≤ greatest test n
     le_greatest test zero d h k = h
-    le_greatest test (suc n) d h k = by_top (tell (test (suc n))) (order d (suc n)) (λ l. le_greatest test n d l k)
+    le_greatest test (suc n) d h k = by_top (cases_Bool (test (suc n))) (cases_lt d (suc n)) (λ l. le_greatest test n d l k)
       where
-        order : (a b : ℕ) → (a < b) ⊎ (b ≤ a)
-        order a b = grind arith
-
         by_top : (test (suc n) ≡ true) ⊎ (test (suc n) ≡ false) → (d < suc n) ⊎ (suc n ≤ d) → (d ≤ n → d ≤ greatest test n) → d ≤ greatest test (suc n)
         by_top (inl t) o f = subst (λ (z : ℕ). d ≤ z) (sym (ap (λ (z : Bool). cond z (suc n) (greatest test n)) t)) h
         by_top (inr t) (inl l) f = subst (λ (z : ℕ). d ≤ z) (sym (ap (λ (z : Bool). cond z (suc n) (greatest test n)) t)) (f (omega arith))

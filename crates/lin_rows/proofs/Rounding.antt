@@ -1,5 +1,6 @@
 use Prim.Native.Nat.{◌∣◌}
 use Rattle.std.proofs.Common.{◌≡◌, ℕ, zero, suc, ◌+◌, ◌*◌, ◌/◌, ◌%◌, ◌^◌, ◌<◌, ◌≤◌, ℤ, pos, negsuc, ◌+ℤ◌, ◌*ℤ◌, neg_ℤ, ◌≤ℤ◌, ◌<ℤ◌, Bool, true, false, cond, not, List, [], ◌∷◌, map, refl, sym, ◌∙◌, ap, subst, arith, unsigned_abs, ◌⊎◌, inl, inr}
+use Rattle.std.proofs.lemmas.Bool.{and_from}
 use Rattle.std.specs.Prelude.{nat_lt, ◌↔◌}
 use Rattle.std.specs.Int.{int_div_euclid}
 use Rattle.std.proofs.lemmas.Int.{ints}
@@ -14,7 +15,7 @@ use Rattle.lin_rows.specs.Rows.{Row, has_no_terms, is_coefficient, rises_from, i
 use Rattle.lin_rows.specs.Divisors.{divisor_of, divided_term, divided, tightened}
 use Rattle.lin_rows.proofs.Ring.{add_mul, mul_assoc}
 use Rattle.lin_rows.proofs.Points.{is_zero-is}
-use Rattle.lin_rows.proofs.Kept.{first_of_both, second_of_both, both_hold, rises, rises-cons}
+use Rattle.lin_rows.proofs.Kept.{first_of_both, second_of_both, rises, rises-cons}
 use Rattle.lin_rows.proofs.Divisor.{DividesAll, sizes_of, common_divisor-divides}
 
 pub mul_le : (n : ℕ) (a b : ℤ) → a ≤ℤ b → (pos n *ℤ a) ≤ℤ (pos n *ℤ b)
@@ -128,7 +129,7 @@ in_range-div g b h = below (unsigned_abs (int_div_euclid b (pos g))) (unsigned_a
 
 is_coefficient-div : (g : ℕ) (c : ℤ) → 0 < g → g ∣ unsigned_abs c → is_coefficient c ≡ true → is_coefficient (int_div_euclid c (pos g)) ≡ true
 is_coefficient-div g c h d k =
-    both_hold (not (is_zero (int_div_euclid c (pos g)))) (in_range (int_div_euclid c (pos g)))
+    and_from (not (is_zero (int_div_euclid c (pos g)))) (in_range (int_div_euclid c (pos g)))
     (by_zero (is_zero (int_div_euclid c (pos g))) refl)
     (in_range-div g c (second_of_both (not (is_zero c)) (in_range c) k))
   where
@@ -152,7 +153,7 @@ pub is_row-divided : (r : Row) → has_no_terms r.terms ≡ false → is_row r �
 is_row-divided r h k =
     let rising = first_of_both (rises_from 0 r.terms) (in_range r.bound) k in
     let d = divisor_of-row r.terms h rising in
-    both_hold (rises_from 0 (map (divided_term (pos (divisor_of r.terms))) r.terms)) (in_range (int_div_euclid r.bound (pos (divisor_of r.terms))))
+    and_from (rises_from 0 (map (divided_term (pos (divisor_of r.terms))) r.terms)) (in_range (int_div_euclid r.bound (pos (divisor_of r.terms))))
     (rises-divided (divisor_of r.terms) 0 r.terms d.positive d.divides rising)
     (in_range-div (divisor_of r.terms) r.bound (second_of_both (rises_from 0 r.terms) (in_range r.bound) k))
 

@@ -1,4 +1,5 @@
 use Rattle.std.proofs.Common.{◌≡◌, ℕ, ℤ, pos, negsuc, ◌+ℤ◌, ◌*ℤ◌, ◌≤ℤ◌, true, List, ap, subst, arith, Option, Some, None}
+use Rattle.std.proofs.lemmas.Bool.{and_from}
 use Rattle.std.specs.Option.{option_map, option_and_then}
 use Rattle.std.proofs.lemmas.Int.{ints}
 use Rattle.lin_rows.specs.Numbers.{fit, in_range}
@@ -7,7 +8,7 @@ use Rattle.lin_rows.specs.Rows.{Row, rises_from, is_row, value_at, Satisfies}
 use Rattle.lin_rows.specs.Divisors.{tightened}
 use Rattle.lin_rows.specs.Sums.{scaled, merged, row_fit, times_row, plus_row, row_sum}
 use Rattle.lin_rows.proofs.Points.{fit-is, in_range-fit, some_is, option_map-went, option_and_then-went, value_at-scaled, value_at-merged}
-use Rattle.lin_rows.proofs.Kept.{both_hold, rises_of, rises-scaled, rises-merged}
+use Rattle.lin_rows.proofs.Kept.{rises_of, rises-scaled, rises-merged}
 use Rattle.lin_rows.proofs.Rounding.{mul_le, is_row-tightened, satisfies-tightened}
 
 pub row_fit-went : (o : Option (List RowTerm)) (b : Option ℤ) (out : Row) → row_fit o b ≡ Some out → (o ≡ Some out.terms) × (b ≡ Some out.bound)
@@ -19,12 +20,12 @@ row_fit-went None b out h = absurd cc
 pub is_row-times : (by : ℤ) (r out : Row) → is_row r ≡ true → times_row by r ≡ Some out → is_row out ≡ true
 is_row-times by r out k h =
     let w = row_fit-went (scaled by r.terms) (fit (by *ℤ r.bound)) out h in
-    both_hold (rises_from 0 out.terms) (in_range out.bound) (rises-scaled 0 by r.terms out.terms (rises_of r k) w.0) (in_range-fit (by *ℤ r.bound) out.bound w.1)
+    and_from (rises_from 0 out.terms) (in_range out.bound) (rises-scaled 0 by r.terms out.terms (rises_of r k) w.0) (in_range-fit (by *ℤ r.bound) out.bound w.1)
 
 pub is_row-plus : (l r out : Row) → is_row l ≡ true → is_row r ≡ true → plus_row l r ≡ Some out → is_row out ≡ true
 is_row-plus l r out j k h =
     let w = row_fit-went (merged l.terms r.terms) (fit (l.bound +ℤ r.bound)) out h in
-    both_hold (rises_from 0 out.terms) (in_range out.bound) (rises-merged 0 l.terms r.terms out.terms (rises_of l j) (rises_of r k) w.0) (in_range-fit (l.bound +ℤ r.bound) out.bound w.1)
+    and_from (rises_from 0 out.terms) (in_range out.bound) (rises-merged 0 l.terms r.terms out.terms (rises_of l j) (rises_of r k) w.0) (in_range-fit (l.bound +ℤ r.bound) out.bound w.1)
 
 -- what a sum of rows was made of
 pub record Summed (l : Row) (first : ℤ) (r : Row) (second : ℤ) (out : Row) : Type 0 where

@@ -1,3 +1,4 @@
+-- What a call on rows answers, against its definition.
 use Rattle.std.specs.Prelude.{◌≡◌, Option, Some, None, Result, Ok, Err}
 use Rattle.lin_rows.specs.declared.refused.RowRefused.{RowRefused}
 use Rattle.lin_rows.specs.declared.refused.RowRefused.TheVariants.{Range, Memory}

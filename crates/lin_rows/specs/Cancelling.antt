@@ -1,3 +1,4 @@
+-- The least sum of two rows that cancels a place.
 use Rattle.std.specs.Prelude.{ℕ, ◌/◌, ℤ, pos, unsigned_abs, [], ◌∷◌, Option}
 use Rattle.std.specs.Option.{option_map}
 use Rattle.lin_rows.specs.declared.combining.Combined.{Combined}

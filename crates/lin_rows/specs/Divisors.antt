@@ -1,3 +1,4 @@
+-- Common divisors of coefficients, and a row divided by the greatest, its bound rounded down.
 use Rattle.std.specs.Prelude.{ℕ, zero, suc, ◌%◌, nat_eq, ℤ, pos, unsigned_abs, Bool, cond, List, map, sum}
 use Rattle.std.specs.List.{list_all}
 use Rattle.std.specs.Int.{int_div_euclid}

@@ -1,3 +1,4 @@
+-- The numbers of rows, and their range.
 use Rattle.std.specs.Prelude.{◌^◌, zero, suc, nat_lt, ℤ, pos, negsuc, Bool, true, false, cond, unsigned_abs, Option, Some, None}
 
 -- the range of a row: from -(2^127 - 1) to 2^127 - 1

@@ -1,3 +1,4 @@
+-- Rows: a sum of coefficients times whole numbers is at most a bound; when a point satisfies one, and its negation.
 use Rattle.std.specs.Prelude.{ℕ, nat_eq, nat_le, nat_lt, suc, ℤ, pos, ◌+ℤ◌, ◌*ℤ◌, ◌-ℤ◌, ◌≤ℤ◌, int_le, int_lt, Bool, true, false, cond, not, ◌&&◌, List, [], ◌∷◌, map, slice_index_or, Option, Some}
 use Rattle.std.specs.List.{list_all}
 use Rattle.std.specs.Option.{option_map, option_and_then}

@@ -28,6 +28,3 @@ pub use row::{Row, same_row};
 pub use term::RowTerm;
 pub use tightening::tighten;
 pub use truth::truth_at;
-
-#[cfg(test)]
-mod tests;

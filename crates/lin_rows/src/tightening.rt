@@ -1,7 +1,7 @@
 // Tightening: over whole numbers a row says the same when it is divided by the greatest common divisor of its coefficients
 // and the bound is rounded down.
 ghost use Rattle.std.specs.Prelude.{◌≡◌, ◌<ℤ◌, ℕ, ℤ, pos, IfOk, map, ◌↔◌, false};
-ghost use Rattle.std.specs.Int.{IsGcd};
+ghost use Rattle.std.specs.Int.{IsGcd, int_div_euclid};
 ghost use Rattle.lin_rows.specs.Rows.{has_no_terms, Satisfies};
 ghost use Rattle.lin_rows.specs.Divisors.{divisor_of, divided_term, tightened};
 
@@ -58,6 +58,14 @@ fn divisor(row: &Row) -> i128
     common(row.terms()) as i128
 }
 
+// A bound divided by a positive number and rounded down.
+fn rounded_down(bound: &i128, by: &i128) -> i128
+    requires { pos 0 <ℤ by.now }
+    ensures { result ≡ int_div_euclid bound.now by.now }
+{
+    bound.div_euclid(*by)
+}
+
 /// Divides by the greatest common divisor of the coefficients and rounds the bound down. A row without terms stays.
 pub fn tighten(alloc: Global, row: &Row) -> Result<Row, AllocError>
     ensures tightened { IfOk result (λ out. out ≡ tightened row.now) }
@@ -68,5 +76,5 @@ pub fn tighten(alloc: Global, row: &Row) -> Result<Row, AllocError>
     }
     let by = divisor(row);
     let terms = divide(alloc, row.terms(), &by)?;
-    Ok(Row::new(terms, row.bound().div_euclid(by)))
+    Ok(Row::new(terms, rounded_down(&row.bound(), &by)))
 }

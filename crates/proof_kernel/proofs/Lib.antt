@@ -1,4 +1,5 @@
 pub mod States
 pub mod Lines
+pub mod Runs
 pub mod Index
 pub mod Pairs

@@ -15,7 +15,7 @@ use Rattle.proof_lines.specs.declared.line.LineRefused.{LineRefused}
 use Rattle.proof_lines.specs.declared.line.Why.{Why}
 use Rattle.proof_lines.specs.declared.line.Why.TheVariants.{Place, Pivot, Contradiction, SplitAgain, Dropped}
 use Rattle.proof_lines.specs.Clauses.{is_empty, has, lit_of, same_bool, clause_true, all_true, resolvent, negations}
-use Rattle.proof_lines.specs.Problems.{Meaning, atom_true, kind_true, atoms_below, PlainProblem, makes_true}
+use Rattle.proof_lines.specs.Problems.{Meaning, atom_true, kind_true, atoms_below, PlainProblem, makes_true, has_good_row}
 use Rattle.proof_lines.specs.Refusals.{then_, IsTold}
 use Rattle.proof_lines.specs.Steps.{line_rows, ends_badly, row_at}
 use Rattle.proof_lines.specs.Splits.{split_fits, split_cause, at_most, is_at_most}
@@ -26,13 +26,18 @@ use Rattle.proof_lines.proofs.Sets.{resolvent-true}
 use Rattle.proof_kernel.proofs.States.{live_of-push, all-live_of, all-cleared, live_of-map}
 use Rattle.proof_lines.proofs.Sound.{ok_is, farkas-true, none_empty}
 
+-- what soundness asks of a state: literals name atoms, and the rows of atoms are rows
+pub record Keeps (s : State) : Type 0 where
+  pub atoms_named : list_all (atoms_below (length s.atoms)) (live_of s.slots) ≡ true
+  pub rows_good : list_all has_good_row s.atoms ≡ true
+
 -- one rule after the other
 pub record Went {A B : Type 0} (o : Result A Why) (f : A → Result B Why) (b : B) : Type 0 where
   pub first : A
   pub is : o ≡ Ok first
   pub second : f first ≡ Ok b
 
-then-went : {A B : Type 0} (o : Result A Why) (f : A → Result B Why) (b : B) → then_ o f ≡ Ok b → Went o f b
+pub then-went : {A B : Type 0} (o : Result A Why) (f : A → Result B Why) (b : B) → then_ o f ≡ Ok b → Went o f b
 then-went (Ok a) f b h = record { first = a; is = refl; second = h }
 then-went (Err w) f b h = absurd cc
 
@@ -93,7 +98,7 @@ all-agree v w n (c ∷ cs) f h =
     let g = all-agree v w n cs f p.1 in
     λ i. e i && g i
 
-named-holds : (m : Meaning) (s : State) (r : Row) → StateFits s → holds m s ≡ true → holds m (named s r) ≡ true
+named-holds : (m : Meaning) (s : State) (r : Row) → Keeps s → holds m s ≡ true → holds m (named s r) ≡ true
 named-holds m s r f h =
     let more : List AtomKind = OfRow r ∷ [] in
     let agree = all-agree (atom_true m s.atoms) (atom_true m (s.atoms ++ more)) (length s.atoms) (live_of s.slots)
@@ -121,7 +126,7 @@ resolved-sound s left right pivot t h m k =
     by_case true false e l h = absurd cc
     by_case false b e l h = absurd cc
 
-combined-sound : (s : State) (used : List Lit) (steps : List RowStep) (t : State) → StateFits s → combined s used steps ≡ Ok t → (m : Meaning) → holds m s ≡ true → holds m t ≡ true
+combined-sound : (s : State) (used : List Lit) (steps : List RowStep) (t : State) → Keeps s → combined s used steps ≡ Ok t → (m : Meaning) → holds m s ≡ true → holds m t ≡ true
 combined-sound s used steps t f h m k =
     let w = then-went (line_rows s.atoms used steps) (combined_after s used) t h in
     by_case w.first w.is (ends_badly w.first) refl w.second
@@ -131,11 +136,11 @@ combined-sound s used steps t f h m k =
         subst (λ (z : State). holds m z ≡ true) (ok_is _ t _ refl h) (grown-holds m s (negations used) k (farkas-true m s.atoms used steps rows f.rows_good e b))
     by_case rows e false b h = absurd cc
 
-split-sound : (s : State) (place : ℕ) (at : ℤ) (used : List Lit) (steps : List RowStep) (low high : ℕ) (values : List ℤ) (t : State) → StateFits s → split s place at used steps low high values ≡ Ok t
+split-sound : (s : State) (place : ℕ) (at : ℤ) (used : List Lit) (steps : List RowStep) (low high : ℕ) (values : List ℤ) (t : State) → Keeps s → split s place at used steps low high values ≡ Ok t
     → (m : Meaning) → holds m s ≡ true → holds m t ≡ true
 split-sound s place at used steps low high values t f h m k = by_case (nat_lt place s.ints) h
   where
-    after : (rows : List Row) (a b : Bool) (o : Result (Unit {0}) Why) → cond a (cond b (Err SplitAgain) (then_ o (λ _. Ok (named s (at_most place at))))) (Err Place) ≡ Ok t → holds m t ≡ true
+    after : (rows : List Row) (a b : Bool) (o : Result (Unit {0}) Why) → cond a (cond (not b) (then_ o (λ _. Ok (named s (at_most place at)))) (Err SplitAgain)) (Err Place) ≡ Ok t → holds m t ≡ true
     after rows true false (Ok u) h = subst (λ (z : State). holds m z ≡ true) (ok_is _ t _ refl h) (named-holds m s (at_most place at) f k)
     after rows true false (Err w) h = absurd cc
     after rows true true o h = absurd cc
@@ -156,7 +161,7 @@ dropped-sound s ns t h m k = by_case (is_some_number ns && list_all (λ n. nat_l
     by_case false b h = absurd cc
 
 -- a line keeps what makes all clauses true
-pub next-sound : (s : State) (l : Line) (t : State) → StateFits s → next s l ≡ Ok t → (m : Meaning) → holds m s ≡ true → holds m t ≡ true
+pub next-sound : (s : State) (l : Line) (t : State) → Keeps s → next s l ≡ Ok t → (m : Meaning) → holds m s ≡ true → holds m t ≡ true
 next-sound s (Resolve left right pivot) t f h = resolved-sound s left right pivot t h
 next-sound s (Farkas used steps) t f h = combined-sound s used steps t f h
 next-sound s (Split place at used steps low high values) t f h = split-sound s place at used steps low high values t f h
@@ -164,5 +169,5 @@ next-sound s (Drop clauses) t f h = dropped-sound s clauses t h
 
 pub taken-sound : (s : State) (l : Line) (t : State) (r : Result (Unit {0}) LineRefused) → StateFits s → MatchResult r (λ _. next s l ≡ Ok t) (λ e. IsTold e (next s l))
     → OnOk r ((m : Meaning) → holds m s ≡ true → holds m t ≡ true)
-taken-sound s l t (Ok u) f e = next-sound s l t f e
+taken-sound s l t (Ok u) f e = next-sound s l t (record { atoms_named = f.atoms_named; rows_good = f.rows_good }) e
 taken-sound s l t (Err w) f e = tt

@@ -11,7 +11,7 @@ use Rattle.proof_lines.specs.Problems.{PlainProblem, atoms_below, names_below, h
 use Rattle.proof_kernel.specs.Rules.{State, StateFits, live_of, live_clause, clause_or_empty, cleared}
 use Rattle.proof_lines.specs.Numbers.{are_different, stands_in}
 use Rattle.proof_kernel.specs.Evidence.{is_new, each_new}
-use Rattle.std.proofs.lemmas.Bool.{and_parts, and_from}
+use Rattle.std.proofs.lemmas.Bool.{and_parts, and_from, and_right}
 use Rattle.proof_lines.proofs.Names.{all-weaker}
 
 -- the live clauses
@@ -127,10 +127,7 @@ different-stop ns i j e lt h = rw (drop-cons ns i 0) (by_case (stands_in (drop (
 pub different-drop : (ns : List ℕ) (i : ℕ) → are_different (drop i ns) ≡ false → are_different ns ≡ false
 different-drop ns zero h = h
 different-drop [] (suc i) h = h
-different-drop (n ∷ ns) (suc i) h = and_false (not (stands_in ns n)) (are_different ns) (different-drop ns i h)
-  where
-    and_false : (a b : Bool) → b ≡ false → (a && b) ≡ false
-    and_false a b h = grind arith
+different-drop (n ∷ ns) (suc i) h = and_right (not (stands_in ns n)) (are_different ns) (different-drop ns i h)
 
 -- how many clauses are live among some slots and the next one
 pub live_of-more : (slots : List (Option (List Lit))) (i : ℕ) (d : Option (List Lit)) (b : Bool) → i < length slots → d ≡ get_or slots i d → is_some d ≡ b

@@ -1,3 +1,4 @@
+-- The answers to whole logs: accepted, the first bad line, or what is missing.
 use Rattle.std.specs.Prelude.{◌≡◌, ℕ, Bool, true, false, cond, ◌&&◌, ◌==◌, List, length, Result, Ok, Err}
 use Rattle.proof_lines.specs.declared.line.Line.{Line}
 use Rattle.proof_lines.specs.declared.line.Why.{Why}

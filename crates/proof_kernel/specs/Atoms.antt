@@ -1,3 +1,4 @@
+-- A private index of the rows `place <= at` of atoms; it mirrors src/atoms.rt, and a reader of the rules passes it by.
 use Rattle.std.specs.Prelude.{ℕ, ℤ, pos, ◌==◌, ◌&&◌, Bool, false, cond, List, [], ◌∷◌, Option, Some, None}
 use Rattle.std.specs.Ordering.{int_eq}
 use Rattle.std.specs.HashSet.{contains, HashSet, spare}

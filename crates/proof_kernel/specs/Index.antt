@@ -1,3 +1,4 @@
+-- A private index of literals by which freshness is checked; it mirrors src/freshness.rt, and a reader of the rules passes it by.
 use Rattle.std.specs.Prelude.{◌≡◌, ℕ, ◌+◌, ◌*◌, ◌%◌, ◌<◌, ◌==◌, Bool, true, false, ◌&&◌, ◌||◌, List, [], ◌∷◌, ◌++◌, length, map, slice_index_or, slice_set, Option, Some, None}
 use Rattle.std.specs.List.{list_any, fold}
 use Rattle.proof_lines.specs.declared.clause.Lit.{Lit}

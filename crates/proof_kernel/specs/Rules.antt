@@ -1,3 +1,4 @@
+-- The rules of a log: what stands after a line, or the first rule that the line breaks.
 use Rattle.std.specs.Prelude.{◌≡◌, ℕ, ◌<◌, ◌≤◌, ◌^◌, ◌+◌, nat_lt, ℤ, Bool, true, false, not, cond, ◌&&◌, ◌||◌, List, [], ◌∷◌, ◌++◌, length, map, slice_index_or, slice_set, Option, Some, None, is_some, Result, Ok, Err}
 use Rattle.std.specs.List.{list_any, list_all, fold}
 use Rattle.lin_rows.specs.Rows.{Row}
@@ -11,7 +12,7 @@ use Rattle.proof_lines.specs.declared.line.Why.{Why}
 use Rattle.proof_lines.specs.declared.line.Why.TheVariants.{Place, Pivot, Contradiction, SplitAgain, Dropped}
 use Rattle.proof_lines.specs.Clauses.{has, lit_of, resolvent, negations, is_empty, all_true}
 use Rattle.proof_lines.specs.Problems.{PlainProblem, Meaning, atom_true, atoms_below, names_below, has_good_row}
-use Rattle.proof_lines.specs.Refusals.{then_}
+use Rattle.proof_lines.specs.Refusals.{need, then_}
 use Rattle.proof_lines.specs.Steps.{line_rows, ends_badly, row_at}
 use Rattle.proof_lines.specs.Splits.{split_fits, split_cause, at_most, is_at_most}
 use Rattle.proof_lines.specs.Numbers.{are_different}
@@ -66,17 +67,14 @@ grown s c = record { atoms = s.atoms; ints = s.ints; given = s.given; slots = s.
 -- earlier line dropped `left` or `right`. Pivot: the left clause lacks `+pivot`, or the right one lacks `-pivot`.
 abbrev pub resolved : State → ℕ → ℕ → ℕ → Result State Why
 resolved s left right pivot =
-    cond (nat_lt left (length s.slots) && (nat_lt right (length s.slots) && nat_lt pivot (length s.atoms)))
-    (cond (is_live s left && is_live s right)
-    (cond (has (clause_at s left) (lit_of pivot true) && has (clause_at s right) (lit_of pivot false))
-    (Ok (grown s (resolvent pivot (clause_at s left) (clause_at s right))))
-    (Err Pivot))
-    (Err Dropped))
-    (Err Place)
+    need (nat_lt left (length s.slots) && (nat_lt right (length s.slots) && nat_lt pivot (length s.atoms))) Place
+    (need (is_live s left && is_live s right) Dropped
+    (need (has (clause_at s left) (lit_of pivot true) && has (clause_at s right) (lit_of pivot false)) Pivot
+    (Ok (grown s (resolvent pivot (clause_at s left) (clause_at s right))))))
 
 -- FARKAS. The rules of the used literals and of the steps, then Contradiction. The clause is the opposites of the used literals.
 abbrev pub combined_after : State → List Lit → List Row → Result State Why
-combined_after s used rows = cond (ends_badly rows) (Ok (grown s (negations used))) (Err Contradiction)
+combined_after s used rows = need (ends_badly rows) Contradiction (Ok (grown s (negations used)))
 
 abbrev pub combined : State → List Lit → List RowStep → Result State Why
 combined s used steps = then_ (line_rows s.atoms used steps) (combined_after s used)
@@ -90,18 +88,15 @@ named s r = record { atoms = s.atoms ++ OfRow r ∷ []; ints = s.ints; given = s
 -- SplitAgain: an atom has exactly the row `place <= at`
 abbrev pub split_after : State → ℕ → ℤ → List Row → ℕ → ℕ → List ℤ → Result State Why
 split_after s place at rows low high values =
-    cond (split_fits rows place low high values)
-    (cond (list_any (is_at_most place at) s.atoms)
-    (Err SplitAgain)
+    need (split_fits rows place low high values) Place
+    (need (not (list_any (is_at_most place at) s.atoms)) SplitAgain
     (then_ (split_cause place at (row_at rows low) (row_at rows high) values) (λ _. Ok (named s (at_most place at)))))
-    (Err Place)
 
 -- the place isn't below the number of integer names; the rules of the used literals and of the steps; then the rest
 abbrev pub split : State → ℕ → ℤ → List Lit → List RowStep → ℕ → ℕ → List ℤ → Result State Why
 split s place at used steps low high values =
-    cond (nat_lt place s.ints)
+    need (nat_lt place s.ints) Place
     (then_ (line_rows s.atoms used steps) (λ rows. split_after s place at rows low high values))
-    (Err Place)
 
 -- DROP. Place: the list is empty, or one of its numbers isn't below the number of clauses. Dropped: a number stands in it twice,
 -- or an earlier line dropped it.
@@ -118,9 +113,9 @@ without_clauses s ns = record { atoms = s.atoms; ints = s.ints; given = s.given;
 
 abbrev pub dropped : State → List ℕ → Result State Why
 dropped s ns =
-    cond (is_some_number ns && list_all (λ n. nat_lt n (length s.slots)) ns)
-    (cond (are_different ns && list_all (is_live s) ns) (Ok (without_clauses s ns)) (Err Dropped))
-    (Err Place)
+    need (is_some_number ns && list_all (λ n. nat_lt n (length s.slots)) ns) Place
+    (need (are_different ns && list_all (is_live s) ns) Dropped
+    (Ok (without_clauses s ns)))
 
 -- THE RULES: what stands after a line, or the first rule that it breaks.
 abbrev pub next : State → Line → Result State Why

@@ -6,9 +6,9 @@ ghost use Rattle.proof_lines.specs.declared.problem.AtomKind.TheVariants.{Row as
 ghost use Rattle.proof_lines.specs.Splits.{is_at_most};
 ghost use Rattle.proof_kernel.specs.Atoms.{has_pair, is_pair, pair_of, room};
 
-use proof_lines::problem::AtomKind;
 use items::Items;
 use lin_rows::Row;
+use proof_lines::problem::AtomKind;
 use std::alloc::{AllocError, Global};
 use std::collections::HashSet;
 use std::marker::Model;

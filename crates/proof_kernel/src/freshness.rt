@@ -14,8 +14,8 @@ ghost use Rattle.proof_lines.specs.Numbers.{stands_in};
 ghost use Rattle.proof_kernel.specs.Evidence.{is_new, each_new};
 ghost use Rattle.proof_kernel.specs.Index.{HasNoEntry, HasNoMark, slot_new, IsIndex, PutsOne, finds, finds_marked, marked, marked_within, slot_within, sign_number, spot, spots, with_marks};
 
-use proof_lines::clause::{Clause, Lit, holds_both_ways, is_within};
 use items::Items;
+use proof_lines::clause::{Clause, Lit, holds_both_ways, is_within};
 use std::alloc::{AllocError, Global};
 
 /// An earlier clause in a list of the index: its number, and the spot of one of its literals.

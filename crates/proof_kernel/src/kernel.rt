@@ -10,14 +10,14 @@ ghost use Rattle.proof_kernel.specs.Evidence.{is_fresh, rows_hold, range_holds};
 ghost use Rattle.proof_lines.specs.Refusals.{IsTold};
 
 use crate::atoms::Atoms;
+use crate::freshness::{each_new, none_dropped};
+use lin_rows::Row;
 use proof_lines::clause::{Clause, Lit, holds_both_ways};
 use proof_lines::evidence::{all_cancel, all_different, is_beyond};
-use crate::freshness::{each_new, none_dropped};
 use proof_lines::line::{Line, LineRefused, RangeWhat, RowStep, Why};
 use proof_lines::problem::{AtomKind, Problem, law_rows};
 use proof_lines::splitting::{at_most, names_of_two, split_cause};
 use proof_lines::steps::{ends_badly, line_rows};
-use lin_rows::Row;
 use std::alloc::{AllocError, Global};
 use std::collections::HashSet;
 use std::marker::Model;

@@ -4,8 +4,8 @@ ghost use Rattle.proof_lines.specs.Problems.{Meaning, makes_true, HasNoInterpret
 ghost use Rattle.proof_kernel.specs.Rules.{run, run_from, holds};
 ghost use Rattle.proof_kernel.specs.Answers.{IsRunTold, IsJudged, Answers, lines_judged, rows_judged, range_judged};
 
-use crate::kernel::Kernel;
 use crate::answer::{Checked, KernelRefused};
+use crate::kernel::Kernel;
 use proof_lines::line::{Line, LineRefused, RangeEvidence, RowsEvidence, Why};
 use proof_lines::problem::Problem;
 use std::alloc::Global;

@@ -3,7 +3,7 @@ use Rattle.std.proofs.Common.{◌≡◌, ℕ, zero, suc, ◌+◌, ◌-◌, ◌*�
 use Rattle.std.specs.Prelude.{◌^◌, IsTrue, nat_lt, nat_le, nat_eq, ℤ, pos, negsuc, ◌+ℤ◌, ◌-ℤ◌, ◌*ℤ◌, ◌<ℤ◌, ◌≤ℤ◌, int_lt, unsigned_abs, neg_ℤ}
 use Rattle.std.proofs.lemmas.Int.{ints}
 use Rattle.std.proofs.Math.Nat.{div-add-mod', mod-lt, mul-le-mul_left, mul_comm}
-use Rattle.std.proofs.lemmas.Bool.{and_parts, and_from, ltb-true, lt-ltb, le-ltb, eqb-true, eq-eqb}
+use Rattle.std.proofs.lemmas.Bool.{and_parts, and_from, ltb-true, lt-ltb, le-ltb, eqb-true, eq-eqb, and_right, le-leb, leb-true}
 use Rattle.std.proofs.lemmas.Bool.Decides.{nat_tests}
 use Rattle.lin_rows.specs.Numbers.{in_range}
 use Rattle.proof_lines.specs.Splits.{is_in_gap, is_floor}
@@ -71,10 +71,6 @@ core k g b h = test_eq (nat_eq k (g / b) && not (nat_eq (g % b) 0)) (nat_lt (k *
         let f : k * b ≡ g / b * b = ap (λ (n : ℕ). n * b) e in
         and_from (nat_eq k (g / b)) (not (nat_eq (g % b) 0)) (eq-eqb k (g / b) e) (not_eq (g % b) 0 (λ z. omega (arith, f, l, is, z)))
 
-and_false : (a b : Bool) → b ≡ false → (a && b) ≡ false
-and_false true b e = e
-and_false false b e = refl
-
 swap : (a b c d : Bool) → a ≡ d → b ≡ c → (a && b) ≡ (c && d)
 swap a b c d e f = by_case a b ∙ (λ i. f i && e i)
   where
@@ -111,9 +107,9 @@ unfolding around
 up at (negsuc g) b h p = absurd (omega (arith, ints, p))
 up at n zero h p = absurd (omega arith)
 up (pos k) (pos g) (suc b) h p = core k g (suc b) h
-up (negsuc zero) (pos g) (suc b) h p = sym (and_false (int_lt (negsuc 0 *ℤ pos (suc b)) (pos g)) (nat_lt g (0 * suc b)) (le-ltb g (0 * suc b) (omega arith)))
+up (negsuc zero) (pos g) (suc b) h p = sym (and_right (int_lt (negsuc 0 *ℤ pos (suc b)) (pos g)) (nat_lt g (0 * suc b)) (le-ltb g (0 * suc b) (omega arith)))
 up (negsuc (suc k)) (pos g) (suc b) h p =
-    sym (and_false (int_lt (negsuc (suc k) *ℤ pos (suc b)) (pos g)) (int_lt (pos g) ((negsuc (suc k) +ℤ pos 1) *ℤ pos (suc b))) (second k (suc b) (pos g) ∙ below_pos (suc k * suc b) g))
+    sym (and_right (int_lt (negsuc (suc k) *ℤ pos (suc b)) (pos g)) (int_lt (pos g) ((negsuc (suc k) +ℤ pos 1) *ℤ pos (suc b))) (second k (suc b) (pos g) ∙ below_pos (suc k * suc b) g))
 
 -- n isn't positive
 down : (at n : ℤ) (b : ℕ) → 0 < b → n ≤ℤ pos 0 → (is_floor at false (unsigned_abs n / b) && not (nat_eq (unsigned_abs n % b) 0)) ≡ is_in_gap at n (pos b)
@@ -123,9 +119,9 @@ down at n zero h p = absurd (omega arith)
 down (pos k) (pos zero) (suc b) h p = sym (ap (λ (t : Bool). t && nat_lt 0 ((k + 1) * suc b)) (le-ltb (k * suc b) 0 (omega arith)))
 down (pos k) (negsuc g) (suc b) h p = refl
 down (negsuc zero) (pos zero) (suc b) h p = core 0 0 (suc b) h ∙ ap (λ (t : Bool). t && nat_lt 0 ((0 + 1) * suc b)) (le-ltb (0 * suc b) 0 (omega arith))
-    ∙ sym (and_false (int_lt (negsuc 0 *ℤ pos (suc b)) (pos 0)) (nat_lt 0 (0 * suc b)) (le-ltb 0 (0 * suc b) (omega arith)))
+    ∙ sym (and_right (int_lt (negsuc 0 *ℤ pos (suc b)) (pos 0)) (nat_lt 0 (0 * suc b)) (le-ltb 0 (0 * suc b) (omega arith)))
 down (negsuc (suc k)) (pos zero) (suc b) h p = core (suc k) 0 (suc b) h ∙ ap (λ (t : Bool). t && nat_lt 0 ((suc k + 1) * suc b)) (le-ltb (suc k * suc b) 0 (omega arith))
-    ∙ sym (and_false (int_lt (negsuc (suc k) *ℤ pos (suc b)) (pos 0)) (int_lt (pos 0) ((negsuc (suc k) +ℤ pos 1) *ℤ pos (suc b))) (second k (suc b) (pos 0) ∙ below_pos (suc k * suc b) 0))
+    ∙ sym (and_right (int_lt (negsuc (suc k) *ℤ pos (suc b)) (pos 0)) (int_lt (pos 0) ((negsuc (suc k) +ℤ pos 1) *ℤ pos (suc b))) (second k (suc b) (pos 0) ∙ below_pos (suc k * suc b) 0))
 down (negsuc zero) (negsuc g) (suc b) h p = core 0 (suc g) (suc b) h
     ∙ swap (nat_lt (0 * suc b) (suc g)) (nat_lt (suc g) ((0 + 1) * suc b)) (int_lt (negsuc 0 *ℤ pos (suc b)) (negsuc g)) true
     (lt-ltb (0 * suc b) (suc g) (omega arith)) (sym (neg_lt (1 * suc b) g))
@@ -211,11 +207,6 @@ gap_told true at more less b h e t = gap_fits at more less b h (sym e)
 gap_told false at more less b h e t = absurd cc
 
 -- a fraction above a limit
-le_is : (a b : ℕ) → nat_le a b ≡ true → a ≤ b
-le_is a b h = grind (arith, nat_tests)
-
-is_le : (a b : ℕ) → a ≤ b → nat_le a b ≡ true
-is_le a b h = grind (arith, nat_tests)
 
 over : (l g b : ℕ) → 0 < b → 0 < g → nat_le l ((g - 1) / b) ≡ nat_lt (l * b) g
 over l g b h p = test_eq (nat_le l ((g - 1) / b)) (nat_lt (l * b) g) there back
@@ -228,7 +219,7 @@ over l g b h p = test_eq (nat_le l ((g - 1) / b)) (nat_lt (l * b) g) there back
 
     there : nat_le l ((g - 1) / b) ≡ true → nat_lt (l * b) g ≡ true
     there t =
-        let m : b * l ≤ b * ((g - 1) / b) = mul-le-mul_left b (le_is l ((g - 1) / b) t) in
+        let m : b * l ≤ b * ((g - 1) / b) = mul-le-mul_left b (leb-true l ((g - 1) / b) t) in
         let c = mul_comm b l in
         let d = mul_comm b ((g - 1) / b) in
         lt-ltb (l * b) g (omega (arith, m, c, d, is, p))
@@ -237,7 +228,7 @@ over l g b h p = test_eq (nat_le l ((g - 1) / b)) (nat_lt (l * b) g) there back
     back t =
         let u = ltb-true (l * b) g t in
         let not_below : ((g - 1) / b < l → ⊥) = λ (q : (g - 1) / b < l). (let m = times_up ((g - 1) / b) l b q in omega (arith, m, u, is, small)) in
-        is_le l ((g - 1) / b) (omega (arith, not_below))
+        le-leb l ((g - 1) / b) (omega (arith, not_below))
 
 over_is : (l : ℕ) (n : ℤ) (b : ℕ) → 0 < b → pos 0 <ℤ n → nat_le l ((unsigned_abs n - 1) / b) ≡ int_lt (pos (l * b)) n
 over_is l (pos g) b h p = over l g b h (omega (arith, ints, p))

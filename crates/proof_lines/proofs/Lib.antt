@@ -4,3 +4,4 @@ pub mod Sound
 pub mod Certificates
 pub mod Gap
 pub mod Points
+pub mod LineRows

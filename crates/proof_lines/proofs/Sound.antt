@@ -77,7 +77,7 @@ row-true m atoms a r h = by_kind (slice_get atoms a) h
     by_kind (Some Plain) h = absurd cc
     by_kind None h = absurd cc
 
-row-good : (atoms : List AtomKind) (a : ℕ) (r : Row) → atom_row atoms a ≡ Some r → list_all has_good_row atoms ≡ true → is_row r ≡ true
+pub row-good : (atoms : List AtomKind) (a : ℕ) (r : Row) → atom_row atoms a ≡ Some r → list_all has_good_row atoms ≡ true → is_row r ≡ true
 row-good [] a r h g = absurd cc
 row-good (Plain ∷ atoms) zero r h g = absurd cc
 row-good (OfRow q ∷ atoms) zero r h g = subst (λ (z : Row). is_row z ≡ true) (some_is h) (and_parts (is_row q) (list_all has_good_row atoms) g).0
@@ -129,7 +129,7 @@ step-good x rows s r g h = by_case (nat_lt s.left (length rows) && nat_lt s.righ
     not_negative a h = omega (arith, ints, h)
 
     by_case : (p a b : Bool) (o : Option Row) → is_negative s.first ≡ a → is_negative s.second ≡ b → row_sum (row_at rows s.left) s.first (row_at rows s.right) s.second ≡ o
-        → cond p (cond (a || b) (Err Multiplier) (or_broken Range o)) (Err Place) ≡ Ok r → good x r ≡ true
+        → cond p (cond (not (a || b)) (or_broken Range o) (Err Multiplier)) (Err Place) ≡ Ok r → good x r ≡ true
     by_case true false false (Some q) e f k h =
         let l = good_is x (row_at rows s.left) (good-at x rows s.left g) in
         let t = good_is x (row_at rows s.right) (good-at x rows s.right g) in

@@ -1,3 +1,4 @@
+-- Literals, and clauses as sets of literals: membership, what joins and resolvents are, and truth.
 use Rattle.std.specs.Prelude.{ℕ, Bool, true, false, not, cond, ◌&&◌, ◌==◌, List, [], ◌∷◌, ◌++◌, map}
 use Rattle.std.specs.List.{filter, list_any, list_all, fold}
 use Rattle.proof_lines.specs.declared.clause.Lit.{Lit}

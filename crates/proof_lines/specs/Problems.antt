@@ -1,3 +1,4 @@
+-- Problems, and the meanings that make their clauses true.
 use Rattle.std.specs.Prelude.{◌≡◌, ℕ, nat_lt, ℤ, pos, int_le, Bool, true, false, ◌&&◌, List, length, slice_index_or, slice_get, Option, Some, None}
 use Rattle.std.specs.List.{list_all}
 use Rattle.lin_rows.specs.Rows.{Row, value_at, places_below, is_row}

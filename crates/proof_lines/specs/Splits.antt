@@ -9,7 +9,7 @@ use Rattle.proof_lines.specs.declared.problem.AtomKind.TheVariants.{Plain, Row a
 use Rattle.proof_lines.specs.declared.line.RowStep.{RowStep}
 use Rattle.proof_lines.specs.declared.line.Why.{Why}
 use Rattle.proof_lines.specs.declared.line.Why.TheVariants.{Place, Range, SplitCause}
-use Rattle.proof_lines.specs.Refusals.{then_}
+use Rattle.proof_lines.specs.Refusals.{need, then_}
 use Rattle.proof_lines.specs.Steps.{row_at, is_negative, is_positive, held_rows}
 
 -- THE CAUSE OF A SPLIT: with values for their other names, one row says `place >= p` and another `place <= q`, and both fractions
@@ -65,7 +65,7 @@ in_gap at place low rest_low high rest_high =
     is_in_gap at (rest_low -ℤ low.bound) (size_at low place) && is_in_gap at (high.bound -ℤ rest_high) (size_at high place)
 
 abbrev pub with_rests : ℤ → ℕ → Row → Option ℤ → Row → Option ℤ → Result (Unit {0}) Why
-with_rests at place low (Some l) high (Some h) = cond (in_gap at place low l high h) (Ok tt) (Err SplitCause)
+with_rests at place low (Some l) high (Some h) = need (in_gap at place low l high h) SplitCause (Ok tt)
 with_rests at place low (Some l) high None = Err Range
 with_rests at place low None high h = Err Range
 
@@ -77,9 +77,8 @@ split_point place low high values = point (other_names place (low ∷ high ∷ [
 -- the range of a row. SplitCause: the fractions don't lie strictly between `at` and the next whole number
 abbrev pub split_cause : ℕ → ℤ → Row → Row → List ℤ → Result (Unit {0}) Why
 split_cause place at low high values =
-    cond (is_negative (coefficient_at low.terms place) && is_positive (coefficient_at high.terms place))
+    need (is_negative (coefficient_at low.terms place) && is_positive (coefficient_at high.terms place)) SplitCause
     (with_rests at place low (rest_at (split_point place low high values) low) high (rest_at (split_point place low high values) high))
-    (Err SplitCause)
 
 -- `low` and `high` are rows, and there is one value for each name other than the place in the two rows
 abbrev pub split_fits : List Row → ℕ → ℕ → ℕ → List ℤ → Bool
@@ -89,7 +88,7 @@ split_fits rows place low high values =
 -- the rule of a Split over given rows, but for what it says of atoms and of the number of integer names
 abbrev pub splits : List Row → List RowStep → ℕ → ℤ → ℕ → ℕ → List ℤ → Result (Unit {0}) Why
 splits given steps place at low high values =
-    then_ (held_rows given steps) (λ rows. cond (split_fits rows place low high values) (split_cause place at (row_at rows low) (row_at rows high) values) (Err Place))
+    then_ (held_rows given steps) (λ rows. need (split_fits rows place low high values) Place (split_cause place at (row_at rows low) (row_at rows high) values))
 
 -- THE ROW OF A SPLIT.
 

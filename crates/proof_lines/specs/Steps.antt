@@ -1,5 +1,5 @@
 -- The rows of a line: those of its used literals and those of its steps; and what makes them contradict one another.
-use Rattle.std.specs.Prelude.{ℕ, ◌-◌, nat_lt, ℤ, pos, int_lt, Bool, true, false, cond, ◌&&◌, ◌||◌, List, [], ◌∷◌, ◌++◌, length, map, slice_get, slice_index_or, Option, Some, None, Result, Ok, Err, is_some}
+use Rattle.std.specs.Prelude.{ℕ, ◌-◌, nat_lt, ℤ, pos, int_lt, Bool, true, false, not, cond, ◌&&◌, ◌||◌, List, [], ◌∷◌, ◌++◌, length, map, slice_get, slice_index_or, Option, Some, None, Result, Ok, Err, is_some}
 use Rattle.std.specs.List.{list_all}
 use Rattle.std.specs.Option.{option_and_then, option_map}
 use Rattle.lin_rows.specs.Rows.{Row, is_contradiction, negated}
@@ -11,7 +11,7 @@ use Rattle.proof_lines.specs.declared.problem.AtomKind.TheVariants.{Plain, Row a
 use Rattle.proof_lines.specs.declared.line.RowStep.{RowStep}
 use Rattle.proof_lines.specs.declared.line.Why.{Why}
 use Rattle.proof_lines.specs.declared.line.Why.TheVariants.{Place, Multiplier, Range}
-use Rattle.proof_lines.specs.Refusals.{then_, or_broken}
+use Rattle.proof_lines.specs.Refusals.{need, then_, or_broken}
 
 -- THE ROWS OF A LINE: those of its used literals, tightened, then those of its steps.
 
@@ -48,7 +48,7 @@ is_some_literal (l ∷ ls) = true
 -- the rows of the used literals. Place: none is used, or a used atom doesn't exist or has no row. Range: a negation leaves
 -- the range of a row
 abbrev pub used_rows : List AtomKind → List Lit → Result (List Row) Why
-used_rows atoms used = cond (is_some_literal used && list_all (has_row atoms) used) (or_broken Range (lit_rows atoms used)) (Err Place)
+used_rows atoms used = need (is_some_literal used && list_all (has_row atoms) used) Place (or_broken Range (lit_rows atoms used))
 
 abbrev pub no_row : Row
 no_row = record { terms = []; bound = pos 0 }
@@ -66,11 +66,9 @@ is_positive a = int_lt (pos 0) a
 -- product or sum leaves the range of a row
 abbrev pub step_row : List Row → RowStep → Result Row Why
 step_row rows s =
-    cond (nat_lt s.left (length rows) && nat_lt s.right (length rows))
-    (cond (is_negative s.first || is_negative s.second)
-    (Err Multiplier)
+    need (nat_lt s.left (length rows) && nat_lt s.right (length rows)) Place
+    (need (not (is_negative s.first || is_negative s.second)) Multiplier
     (or_broken Range (row_sum (row_at rows s.left) s.first (row_at rows s.right) s.second)))
-    (Err Place)
 
 -- rows, and after them the row of each step
 abbrev pub with_steps : List Row → List RowStep → Result (List Row) Why

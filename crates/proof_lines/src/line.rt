@@ -1,6 +1,9 @@
 // The lines of a log, and the rules that a line may break.
+ghost use Rattle.std.specs.Prelude.{◌≡◌, IfOk};
+
 use crate::clause::Lit;
 use items::Items;
+use std::alloc::{AllocError, Global};
 
 /// A new row from two earlier ones: `first` times row `left` plus `second` times row `right`, tightened.
 #[derive(Clone, Copy, PartialEq, Eq, Debug)]
@@ -112,4 +115,122 @@ pub enum RangeWhat {
         place: u32,
         values: Items<i128>,
     },
+}
+
+impl Line {
+    /// A copy of this line.
+    pub fn copy(&self, alloc: Global) -> Result<Line, AllocError>
+        ensures { IfOk result (λ line. line ≡ self.now) }
+    {
+        match self {
+            Line::Resolve { left, right, pivot } => Ok(Line::Resolve {
+                left: *left,
+                right: *right,
+                pivot: *pivot,
+            }),
+            Line::Farkas { used, steps } => {
+                let used = Items::from_slice(alloc, used.as_slice())?;
+                let steps = Items::from_slice(alloc, steps.as_slice())?;
+                Ok(Line::Farkas { used, steps })
+            }
+            Line::Split {
+                place,
+                at,
+                used,
+                steps,
+                low,
+                high,
+                values,
+            } => {
+                let used = Items::from_slice(alloc, used.as_slice())?;
+                let steps = Items::from_slice(alloc, steps.as_slice())?;
+                let values = Items::from_slice(alloc, values.as_slice())?;
+                Ok(Line::Split {
+                    place: *place,
+                    at: *at,
+                    used,
+                    steps,
+                    low: *low,
+                    high: *high,
+                    values,
+                })
+            }
+            Line::Drop { clauses } => {
+                let clauses = Items::from_slice(alloc, clauses.as_slice())?;
+                Ok(Line::Drop { clauses })
+            }
+        }
+    }
+}
+
+/// A copy of some lines.
+pub fn copy_lines(alloc: Global, lines: &[Line]) -> Result<Items<Line>, AllocError>
+    ensures { IfOk result (λ out. out ≡ lines.now) }
+{
+    let mut out = Items::new(alloc);
+    for line in lines {
+        out.push(line.copy(alloc)?)?;
+    }
+    Ok(out)
+}
+
+impl RangeWhat {
+    /// A copy of this place.
+    pub fn copy(&self, alloc: Global) -> Result<RangeWhat, AllocError>
+        ensures { IfOk result (λ what. what ≡ self.now) }
+    {
+        match self {
+            RangeWhat::Product { left, right, place } => Ok(RangeWhat::Product {
+                left: *left,
+                right: *right,
+                place: *place,
+            }),
+            RangeWhat::Value { row, place, values } => {
+                let values = Items::from_slice(alloc, values.as_slice())?;
+                Ok(RangeWhat::Value {
+                    row: *row,
+                    place: *place,
+                    values,
+                })
+            }
+            RangeWhat::Sum { row, place, values } => {
+                let values = Items::from_slice(alloc, values.as_slice())?;
+                Ok(RangeWhat::Sum {
+                    row: *row,
+                    place: *place,
+                    values,
+                })
+            }
+        }
+    }
+}
+
+impl RowsEvidence {
+    /// A copy of this evidence.
+    pub fn copy(&self, alloc: Global) -> Result<RowsEvidence, AllocError>
+        ensures { IfOk result (λ evidence. evidence ≡ self.now) }
+    {
+        let used = Items::from_slice(alloc, self.used.as_slice())?;
+        let steps = Items::from_slice(alloc, self.steps.as_slice())?;
+        let log = copy_lines(alloc, self.log.as_slice())?;
+        Ok(RowsEvidence { log, used, steps })
+    }
+}
+
+impl RangeEvidence {
+    /// A copy of this evidence.
+    pub fn copy(&self, alloc: Global) -> Result<RangeEvidence, AllocError>
+        ensures { IfOk result (λ evidence. evidence ≡ self.now) }
+    {
+        let used = Items::from_slice(alloc, self.used.as_slice())?;
+        let steps = Items::from_slice(alloc, self.steps.as_slice())?;
+        let what = self.what.copy(alloc)?;
+        let log = copy_lines(alloc, self.log.as_slice())?;
+        Ok(RangeEvidence {
+            log,
+            used,
+            steps,
+            what,
+        })
+    }
 }

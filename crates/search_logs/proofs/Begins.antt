@@ -1,7 +1,7 @@
 use Rattle.std.proofs.Common.{◌≡◌, ℕ, zero, suc, ◌<◌, ◌≤◌, Bool, true, false, not, inl, inr, List, [], ◌∷◌, ◌++◌, length, get_or, refl, sym, subst, arith}
 use Rattle.proof_lines.specs.declared.clause.Lit.{Lit}
 use Rattle.proof_lines.specs.Clauses.{has, sub, distinct, flip}
-use Rattle.std.proofs.lemmas.Bool.{and_parts}
+use Rattle.std.proofs.lemmas.Bool.{and_parts, not-true}
 use Rattle.search_logs.specs.declared.trail.Entry.{Entry}
 use Rattle.search_logs.specs.Trails.{is_false, Settled, NoneFalse, open_in, before_last, has_decision, IsTrail, older}
 use Rattle.search_logs.proofs.Trails.{zero-open, within-false, false-one_way, settled-before, trail-before}
@@ -23,10 +23,7 @@ level_of (suc n) cs t c l f w s h = by_case (has_decision t) (is_false (before_l
     by_case false b p q k = (t, record { trail = w; settled = s; now = h; not_before = λ d. absurd (let y = d in cc) })
 
 none_false : (cs : List (List Lit)) (t : List Entry) → Settled t cs → NoneFalse t cs
-none_false cs t s = λ k l. one (is_false t (get_or cs k [])) (and_parts (not (is_false t (get_or cs k []))) _ (s k l)).0
-  where
-    one : (b : Bool) → not b ≡ true → b ≡ false
-    one b g = grind arith
+none_false cs t s = λ k l. not-true (is_false t (get_or cs k [])) (and_parts (not (is_false t (get_or cs k []))) _ (s k l)).0
 
 -- the chain begins with that clause as with any conflict
 pub begin_theory : (cs : List (List Lit)) (t : List Entry) (c : List Lit) → Begins cs t c → distinct c ≡ true → Explaining cs t (cs ++ c ∷ []) t (length cs)

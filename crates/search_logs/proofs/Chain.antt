@@ -3,7 +3,7 @@ use Rattle.std.specs.Prelude.{is_none, nat_le}
 use Rattle.std.proofs.lemmas.Bool.Decides.{nat_tests}
 use Rattle.proof_lines.specs.declared.clause.Lit.{Lit}
 use Rattle.proof_lines.specs.Clauses.{has, sub, distinct, same_lit, flip, lit_of}
-use Rattle.std.proofs.lemmas.Bool.{and_parts}
+use Rattle.std.proofs.lemmas.Bool.{and_parts, cases_eq, cases_lt, not-true, not_from_false, not_from_true}
 use Rattle.proof_lines.proofs.Sets.{has-resolvent, resolvent-left, resolvent-right, distinct-resolvent}
 use Rattle.search_logs.specs.declared.trail.Entry.{Entry}
 use Rattle.search_logs.specs.Trails.{named, is_false, lone, is_unit, quiet, NoneFalse, open_in, after, before_last, is_decision, has_decision, IsStep, IsTrail, older, IsCalm, is_done, from_last}
@@ -51,11 +51,8 @@ grow_trail start cs (e ∷ t) g a w = (w.0, grow_step e.reason refl w.1, grow_tr
 
     grow_step : (r : Option ℕ) → e.reason ≡ r → IsStep start t e.lit r → IsStep cs t e.lit r
     grow_step (Some r) q s = let l = g.long in (omega arith, subst (λ (c : List Lit). is_unit t c e.lit ≡ true) (sym (g.same r s.0)) s.1)
-    grow_step None q s = λ k h. by_place k h (before_it k (length start))
+    grow_step None q s = λ k h. by_place k h (cases_lt k (length start))
       where
-        before_it : (a b : ℕ) → (a < b) ⊎ (b ≤ a)
-        before_it a b = grind arith
-
         by_place : (k : ℕ) → k < length cs → (k < length start) ⊎ (length start ≤ k) → quiet t (get_or cs k []) ≡ true
         by_place k h (inl x) = subst (λ (c : List Lit). quiet t c ≡ true) (sym (g.same k x)) (s k x)
         by_place k h (inr x) = open-quiet t (get_or cs k []) (a k x h).set (with_none (a k x h).two)
@@ -107,9 +104,6 @@ false-before t c h = zero-open t c (let z = open_zero (before_last t) c h in let
 pub none-before : (t : List Entry) (cs : List (List Lit)) → NoneFalse t cs → NoneFalse (before_last t) cs
 none-before t cs h = λ k l. turn_false (is_false (before_last t) (get_or cs k [])) (is_false t (get_or cs k [])) (false-before t (get_or cs k [])) (h k l)
 
-same_or_not : (a b : ℕ) → (a ≡ b) ⊎ (a ≢ b)
-same_or_not a b = grind arith
-
 pub begin_chain : (cs : List (List Lit)) (t : List Entry) (i : ℕ) → i < length cs → is_false t (get_or cs i []) ≡ true → distinct (get_or cs i []) ≡ true → IsTrail cs t → IsCalm cs t → Explaining cs t cs t i
 begin_chain cs t i l f d w n = record {
   there = l;
@@ -156,13 +150,7 @@ pop_step start t0 cs e t i x n = by_reason e.reason refl
         }
       where
         unheld : (c : List Lit) → is_false t c ≡ true → has c (flip e.lit) ≡ false
-        unheld c g = turn_false (has c (flip e.lit)) (not (is_false t c)) (λ h. not_false (is_false t c) (held-open e t c x.trail.0 h)) (false_not (is_false t c) g)
-          where
-            not_false : (b : Bool) → b ≡ false → not b ≡ true
-            not_false b h = grind arith
-
-            false_not : (b : Bool) → b ≡ true → not b ≡ false
-            false_not b h = grind arith
+        unheld c g = turn_false (has c (flip e.lit)) (not (is_false t c)) (λ h. not_from_false (is_false t c) (held-open e t c x.trail.0 h)) (not_from_true (is_false t c) g)
 
 -- what a chain that isn't done has
 pub two_left : (t : List Entry) (c : List Lit) → is_done t c ≡ false → has_decision t ≡ true → 2 ≤ open_in (before_last t) c
@@ -173,7 +161,7 @@ two_left t c n h = above (open_in (before_last t) c) (ap (λ b. cond b (nat_le (
 
 -- no clause is false before the literal that is resolved on
 pub none_here : (start : List (List Lit)) (t0 : List Entry) (cs : List (List Lit)) (e : Entry) (t : List Entry) (i : ℕ) → Explaining start t0 cs (e ∷ t) i → has (get_or cs i []) (flip e.lit) ≡ true → NoneFalse t cs
-none_here start t0 cs e t i x h = λ k l. by_case k l (same_or_not k i)
+none_here start t0 cs e t i x h = λ k l. by_case k l (cases_eq k i)
   where
     by_case : (k : ℕ) → k < length cs → (k ≡ i) ⊎ (k ≢ i) → is_false t (get_or cs k []) ≡ false
     by_case k l (inl q) = subst (λ (j : ℕ). is_false t (get_or cs j []) ≡ false) (sym q) (held-open e t (get_or cs i []) x.trail.0 h)
@@ -222,7 +210,7 @@ module _ (start : List (List Lit)) (t0 : List Entry) (cs : List (List Lit)) (e :
       positive (suc m) z = omega arith
 
   kept_two : (k : ℕ) → length start ≤ k → k < length cs → Added t (get_or cs k [])
-  kept_two k a l = by_case (same_or_not k i)
+  kept_two k a l = by_case (cases_eq k i)
     where
       by_case : (k ≡ i) ⊎ (k ≢ i) → Added t (get_or cs k [])
       by_case (inl q) = subst (λ (j : ℕ). Added t (get_or cs j [])) (sym q) (record { set = x.set; two = λ d. subst (λ (s : List Entry). 2 ≤ open_in s (get_or cs i [])) same_before (two_left (e ∷ t) (get_or cs i []) n (same_has ∙ d)) })
@@ -302,12 +290,9 @@ first_cut start t0 cs t i x h = record {
   grows = x.grows;
   added = λ k a l q. two-before t (get_or cs k []) (x.added k a l q) h;
   set = x.set;
-  none_false = λ k l. by_case k l (same_or_not k i) (before_it k (length start));
+  none_false = λ k l. by_case k l (cases_eq k i) (cases_lt k (length start));
 }
   where
-    before_it : (a b : ℕ) → (a < b) ⊎ (b ≤ a)
-    before_it a b = grind arith
-
     not_zero : (c : List Lit) → 1 ≤ open_in (before_last t) c → is_false (before_last t) c ≡ false
     not_zero c o = turn_false (is_false (before_last t) c) false (λ f. absurd (let z = open_zero (before_last t) c f in omega arith)) refl
 
@@ -316,10 +301,7 @@ first_cut start t0 cs t i x h = record {
     by_case k l (inr q) (inl o) = subst (λ (c : List Lit). is_false (before_last t) c ≡ false) (sym (x.grows.same k o)) (quiet_open (settled-before start t x.trail h k o))
       where
         quiet_open : quiet (before_last t) (get_or start k []) ≡ true → is_false (before_last t) (get_or start k []) ≡ false
-        quiet_open m = one (is_false (before_last t) (get_or start k [])) (and_parts (not (is_false (before_last t) (get_or start k []))) _ m).0
-          where
-            one : (b : Bool) → not b ≡ true → b ≡ false
-            one b g = grind arith
+        quiet_open m = not-true (is_false (before_last t) (get_or start k [])) (and_parts (not (is_false (before_last t) (get_or start k []))) _ m).0
     by_case k l (inr q) (inr o) = not_zero (get_or cs k []) (let y = (x.added k o l q).two h in omega arith)
 
 pub more_cut : (start cs : List (List Lit)) (t : List Entry) (i : ℕ) → Cutting start cs t i → has_decision t ≡ true → Cutting start cs (before_last t) i
@@ -336,7 +318,7 @@ pub last_cut : (start cs : List (List Lit)) (t : List Entry) (i : ℕ) → Cutti
 last_cut start cs t i x h = (grow_trail start cs t x.grows all_two x.trail, λ k l. false-older_than t (get_or cs k []) (x.none_false k l))
   where
     all_two : (k : ℕ) → length start ≤ k → k < length cs → Added t (get_or cs k [])
-    all_two k a l = by_case (same_or_not k i)
+    all_two k a l = by_case (cases_eq k i)
       where
         by_case : (k ≡ i) ⊎ (k ≢ i) → Added t (get_or cs k [])
         by_case (inl q) = subst (λ (j : ℕ). Added t (get_or cs j [])) (sym q) (record { set = x.set; two = h })

@@ -3,7 +3,7 @@ use Rattle.std.specs.List.{list_any}
 use Rattle.proof_lines.specs.declared.clause.Lit.{Lit}
 use Rattle.proof_lines.specs.Clauses.{has, same_lit, flip, lit_of, is_empty}
 use Rattle.proof_lines.specs.Forced.{Forced, by_clause}
-use Rattle.std.proofs.lemmas.Bool.{and_parts, or_cases, or_left, or_right, eqb-true, and_from}
+use Rattle.std.proofs.lemmas.Bool.{and_parts, or_cases, or_left, or_right, eqb-true, and_from, not-true, not_from_false}
 use Rattle.proof_lines.proofs.Sets.{same_lit-is, same_lit-refl}
 use Rattle.search_logs.specs.declared.trail.Entry.{Entry}
 use Rattle.search_logs.specs.Trails.{in_trail, negated, named, is_false, is_unit, quiet, lone, has_decision, before_last, after, Settled, NoneFalse, IsTrail}
@@ -39,12 +39,6 @@ forced_here t c l h o q f = by_case (negated t l) (named t l.atom) refl refl
     or_last : (a b : Bool) → (a || b) ≡ true → a ≡ false → b ≡ true
     or_last a b p q = grind arith
 
-    off : (a : Bool) → not a ≡ true → a ≡ false
-    off a h = grind arith
-
-    on : (a : Bool) → a ≡ false → not a ≡ true
-    on a h = grind arith
-
     signs : (a : ℕ) (p : Bool) → negated t (lit_of a p) ≡ false → (in_trail t (lit_of a true) ≡ true) ⊎ (in_trail t (lit_of a false) ≡ true) → in_trail t (lit_of a p) ≡ true
     signs a true n (inl m) = m
     signs a true n (inr m) = absurd cc
@@ -58,9 +52,9 @@ forced_here t c l h o q f = by_case (negated t l) (named t l.atom) refl refl
         each x k true e = subst (λ (z : Lit). negated t z ≡ true) (sym (same_lit-is x l e)) p
         each x k false e = or_last (same_lit x l) (negated t x) (all_has (λ y. same_lit y l || negated t y) c x o k) e
     by_case false false p r = absurd (
-        let u = and_from (has c l) (lone t c l && not (named t l.atom)) h (and_from (lone t c l) (not (named t l.atom)) o (on (named t l.atom) r)) in
+        let u = and_from (has c l) (lone t c l && not (named t l.atom)) h (and_from (lone t c l) (not (named t l.atom)) o (not_from_false (named t l.atom) r)) in
         let m = any_there (is_unit t c) c l h u in
-        let v = off (list_any (is_unit t c) c) (and_parts (not (is_false t c)) (not (list_any (is_unit t c) c)) q).1 in cc)
+        let v = not-true (list_any (is_unit t c) c) (and_parts (not (is_false t c)) (not (list_any (is_unit t c) c)) q).1 in cc)
     by_case false true p r = signs l.atom l.positive p (named_one t l.atom r)
 
 -- a settled trail holds what is forced
@@ -98,10 +92,7 @@ pub conflict_free : (cs : List (List Lit)) (t : List Entry) (i : ℕ) → IsTrai
 conflict_free cs t i w s f b n = by_case (has_decision t) refl
   where
     none_of : (u : List Entry) → Settled u cs → NoneFalse u cs
-    none_of u g = λ k l. one (is_false u (get_or cs k [])) (and_parts (not (is_false u (get_or cs k []))) _ (g k l)).0
-      where
-        one : (b : Bool) → not b ≡ true → b ≡ false
-        one b g = grind arith
+    none_of u g = λ k l. not-true (is_false u (get_or cs k [])) (and_parts (not (is_false u (get_or cs k []))) _ (g k l)).0
 
     by_case : (d : Bool) → has_decision t ≡ d → ⊥
     by_case false d = s.0 (i, b, λ l h. f d (flip l) (all_has (negated t) (get_or cs i []) l n h))
@@ -128,10 +119,7 @@ empty_unsat cs h s = let r = find_empty cs h in s.0 (r.0, r.1, λ l k. absurd (n
 
 -- a forced literal
 pub unit_parts : (t : List Entry) (c : List Lit) (l : Lit) → is_unit t c l ≡ true → (has c l ≡ true) × (named t l.atom ≡ false)
-unit_parts t c l h = let p = and_parts (has c l) _ h in let q = and_parts _ (not (named t l.atom)) p.1 in (p.0, not_true (named t l.atom) q.1)
-  where
-    not_true : (a : Bool) → not a ≡ true → a ≡ false
-    not_true a h = grind arith
+unit_parts t c l h = let p = and_parts (has c l) _ h in let q = and_parts _ (not (named t l.atom)) p.1 in (p.0, not-true (named t l.atom) q.1)
 
 pub some_open : (t : List Entry) (c : List Lit) → is_false t c ≡ false → (l : Lit) × (has c l ≡ true) × (negated t l ≡ false)
 some_open t [] h = absurd cc

@@ -18,7 +18,7 @@ use Rattle.proof_kernel.specs.Rules.{State, live_of, run}
 use Rattle.proof_kernel.specs.Evidence.{is_new, each_new, is_fresh, rows_hold, range_holds}
 use Rattle.proof_lines.specs.Evidence.{rows_shown, range_shown}
 use Rattle.proof_kernel.specs.Answers.{judged, lines_judged, rows_judged, range_judged}
-use Rattle.std.proofs.lemmas.Bool.{and_parts, and_from, lt-ltb}
+use Rattle.std.proofs.lemmas.Bool.{and_parts, and_from, lt-ltb, false_from_ne_true}
 use Rattle.proof_lines.proofs.Sets.{flip_twice, distinct-join}
 use Rattle.proof_lines.proofs.Names.{all-join}
 use Rattle.proof_kernel.proofs.States.{live_of-map}
@@ -71,12 +71,8 @@ each_new-all (suc n) g cs e f =
     subst (λ (z : List (List Lit)). each_new (take g cs) z ≡ true) (sym (drop-cons cs g [] l))
     (and_from (is_new (take g cs) (get_or cs g [])) (each_new (take g cs ++ get_or cs g [] ∷ []) (drop (suc g) cs)) (f g (omega arith) l) after)
 
-off : (b : Bool) → (b ≡ true → ⊥) → b ≡ false
-off true f = absurd (f refl)
-off false f = refl
-
 one_way-clause : (c : List Lit) → ((l : Lit) → has c l ≡ true → has c (flip l) ≡ false) → holds_both_ways c ≡ false
-one_way-clause c f = off (holds_both_ways c) (λ h. (let r = any_has (λ l. has c (flip l)) c h in let g = f r.0 r.1 in let k = r.2 in absurd cc))
+one_way-clause c f = false_from_ne_true (holds_both_ways c) (λ h. (let r = any_has (λ l. has c (flip l)) c h in let g = f r.0 r.1 in let k = r.2 in absurd cc))
 
 -- a fresh log by the proof kernel's test
 pub standing-fresh : (first : ℕ) (q : PlainProblem) → first ≤ length q.clauses → IsFresh first q.clauses → ((k : ℕ) → first ≤ k → k < length q.clauses → is_empty (get_or q.clauses k []) ≡ false) → is_fresh (standing first q) ≡ true
@@ -118,7 +114,7 @@ false-below n t c f b = has_all (λ l. nat_lt l.atom n) c (λ l h. lt-ltb l.atom
 
 -- literals of a trail don't stand in it both ways
 pub trail_one_way : (cs : List (List Lit)) (t : List Entry) (used : List Lit) → IsTrail cs t → list_all (in_trail t) used ≡ true → holds_both_ways used ≡ false
-trail_one_way cs t used w h = one_way-clause used (λ l k. off (has used (flip l)) (λ m. (let a = one-way cs t l w (all_has (in_trail t) used l h k) in let b = all_has (in_trail t) used (flip l) h m in absurd cc)))
+trail_one_way cs t used w h = one_way-clause used (λ l k. false_from_ne_true (has used (flip l)) (λ m. (let a = one-way cs t l w (all_has (in_trail t) used l h k) in let b = all_has (in_trail t) used (flip l) h m in absurd cc)))
 
 pub splits-push : (ls : List Line) (l : Line) (b : Bool) → is_split l ≡ b → splits (ls ++ l ∷ []) ≡ cond b (1 + splits ls) (splits ls)
 splits-push [] l b h = λ i. cond (h i) 1 0

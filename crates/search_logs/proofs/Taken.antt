@@ -1,4 +1,4 @@
-use Rattle.std.proofs.Common.{◌≡◌, ℕ, zero, suc, ◌+◌, ◌<◌, ℤ, Bool, true, false, cond, ◌&&◌, ◌||◌, List, [], ◌∷◌, ◌++◌, length, map, get_or, refl, sym, ◌∙◌, ap, subst, arith, Option, Some, None, Result, Ok, Err, is_some, nat_lt}
+use Rattle.std.proofs.Common.{◌≡◌, ℕ, zero, suc, ◌+◌, ◌<◌, ℤ, Bool, true, false, not, cond, ◌&&◌, ◌||◌, List, [], ◌∷◌, ◌++◌, length, map, get_or, refl, sym, ◌∙◌, ap, subst, arith, Option, Some, None, Result, Ok, Err, is_some, nat_lt}
 use Rattle.std.specs.List.{list_any, list_all}
 use Rattle.proof_lines.specs.declared.clause.Lit.{Lit}
 use Rattle.proof_lines.specs.declared.line.RowStep.{RowStep}
@@ -129,8 +129,8 @@ split_taken g q lits rows place at used steps low high values s c n =
     by_cause (Err w) h = absurd cc
 
     by_fits : (all : List Row) (f : Bool) → cond f (split_cause place at (row_at all low) (row_at all high) values) (Err Place) ≡ Ok tt
-        → cond f (cond (list_any (is_at_most place at) q.atoms) (Err SplitAgain) (then_ (split_cause place at (row_at all low) (row_at all high) values) (λ _. Ok (named (standing g q) (at_most place at))))) (Err Place) ≡ Ok (standing g (with_row q (at_most place at)))
-    by_fits all true h = (λ i. cond (n i) (Err SplitAgain) (then_ (split_cause place at (row_at all low) (row_at all high) values) (λ _. Ok (named (standing g q) (at_most place at))))) ∙ by_cause (split_cause place at (row_at all low) (row_at all high) values) h
+        → cond f (cond (not (list_any (is_at_most place at) q.atoms)) (then_ (split_cause place at (row_at all low) (row_at all high) values) (λ _. Ok (named (standing g q) (at_most place at)))) (Err SplitAgain)) (Err Place) ≡ Ok (standing g (with_row q (at_most place at)))
+    by_fits all true h = (λ i. cond (not (n i)) (then_ (split_cause place at (row_at all low) (row_at all high) values) (λ _. Ok (named (standing g q) (at_most place at)))) (Err SplitAgain)) ∙ by_cause (split_cause place at (row_at all low) (row_at all high) values) h
     by_fits all false h = absurd cc
 
     by_rows : (o : Result (List Row) Why) → then_ o (λ all. cond (split_fits all place low high values) (split_cause place at (row_at all low) (row_at all high) values) (Err Place)) ≡ Ok tt

@@ -3,19 +3,13 @@ use Rattle.std.specs.List.{list_any, list_all, count_by}
 use Rattle.std.proofs.lemmas.List.Recursion.{is_count_by}
 use Rattle.proof_lines.specs.declared.clause.Lit.{Lit}
 use Rattle.proof_lines.specs.Clauses.{has, sub, distinct, same_lit, flip}
-use Rattle.std.proofs.lemmas.Bool.{and_parts, or_cases, or_parts, or_left, or_right, and_from}
+use Rattle.std.proofs.lemmas.Bool.{and_parts, or_cases, or_parts, or_left, or_right, and_from, not-true, not_from_false}
 use Rattle.proof_lines.proofs.Sets.{same_lit-is, same_lit-refl, flip_twice, flip-apart, has-cases}
 use Rattle.search_logs.specs.declared.trail.Entry.{Entry}
 use Rattle.search_logs.specs.Trails.{in_trail, negated, named, is_false, lone, is_unit, quiet, Settled, open_in, after, before_last, is_decision, has_decision, IsStep, IsTrail}
 
 or_last : (a b : Bool) → (a || b) ≡ true → a ≡ false → b ≡ true
 or_last a b p q = grind arith
-
-not_true : (a : Bool) → not a ≡ true → a ≡ false
-not_true a h = grind arith
-
-true-not : (a : Bool) → a ≡ false → not a ≡ true
-true-not a h = grind arith
 
 -- a test on each literal of a clause
 pub all_has : (p : Lit → Bool) (c : List Lit) (l : Lit) → list_all p c ≡ true → has c l ≡ true → p l ≡ true
@@ -133,13 +127,13 @@ open_two t (y ∷ c) x d h = by_case (open_two t c x p.1) (negated t y) (same_li
     by_case ih false false e f h = record { lit = y; held = or_left (same_lit y y) (has c y) (same_lit-refl y); other = f; still = e }
     by_case ih false true e f h =
         let q = same_lit-is y x f in
-        let n : has c x ≡ false = subst (λ (z : Lit). has c z ≡ false) q (not_true (has c y) p.0) in
+        let n : has c x ≡ false = subst (λ (z : Lit). has c z ≡ false) q (not-true (has c y) p.0) in
         let r = open_one t c x (omega arith) n in
         record { lit = r.lit; held = or_right (same_lit y r.lit) (has c r.lit) r.held; other = r.other; still = r.still }
 
 -- two open literals keep a clause from being unit or false
 pub open-quiet : (t : List Entry) (c : List Lit) → distinct c ≡ true → 2 ≤ open_in t c → quiet t c ≡ true
-open-quiet t c d h = and_from (not (is_false t c)) (not (list_any (is_unit t c) c)) (true-not (is_false t c) (no_false (is_false t c) refl)) (true-not (list_any (is_unit t c) c) (no_unit (list_any (is_unit t c) c) refl))
+open-quiet t c d h = and_from (not (is_false t c)) (not (list_any (is_unit t c) c)) (not_from_false (is_false t c) (no_false (is_false t c) refl)) (not_from_false (list_any (is_unit t c) c) (no_unit (list_any (is_unit t c) c) refl))
   where
     no_false : (b : Bool) → is_false t c ≡ b → b ≡ false
     no_false true f = absurd (let z = open_zero t c f in omega arith)
@@ -246,14 +240,14 @@ starts-open cs t c w f q = by_size (open_in (before_last t) c) refl
     there (x ∷ d) p l h k = elim (has-cases x d l h) [ inl e ↦ or_left (p x) (list_any p d) (subst (λ (z : Lit). p z ≡ true) (sym e) k) | inr e ↦ or_right (p x) (list_any p d) (there d p l e k) ]
 
     by_size : (n : ℕ) → open_in (before_last t) c ≡ n → 2 ≤ n
-    by_size zero e = absurd (let z = zero-open (before_last t) c e in let y = not_true (is_false (before_last t) c) p.0 in cc)
+    by_size zero e = absurd (let z = zero-open (before_last t) c e in let y = not-true (is_false (before_last t) c) p.0 in cc)
     by_size (suc zero) e = absurd (
         let a = open_alone (before_last t) c e in
         let n = all_has (negated t) c a.lit f a.held in
         let u = unnamed-before cs t a.lit w n a.still in
-        let m = and_from (has c a.lit) (lone (before_last t) c a.lit && not (named (before_last t) a.lit.atom)) a.held (and_from (lone (before_last t) c a.lit) (not (named (before_last t) a.lit.atom)) a.rest (true-not (named (before_last t) a.lit.atom) u)) in
+        let m = and_from (has c a.lit) (lone (before_last t) c a.lit && not (named (before_last t) a.lit.atom)) a.held (and_from (lone (before_last t) c a.lit) (not (named (before_last t) a.lit.atom)) a.rest (not_from_false (named (before_last t) a.lit.atom) u)) in
         let k = there c (is_unit (before_last t) c) a.lit a.held m in
-        let y = not_true (list_any (is_unit (before_last t) c) c) p.1 in cc)
+        let y = not-true (list_any (is_unit (before_last t) c) c) p.1 in cc)
     by_size (suc (suc n)) e = omega arith
 
 -- the literal to resolve on has a reason

@@ -15,7 +15,7 @@ use Rattle.proof_lines.specs.Problems.{row_true}
 use Rattle.proof_lines.specs.Steps.{row_of_kind, atom_row, lit_row}
 use Rattle.proof_lines.specs.Splits.{at_most, is_alone, is_at_most}
 use Rattle.proof_lines.specs.Evidence.{same_row}
-use Rattle.std.proofs.lemmas.Bool.{and_parts, or_cases, or_left, or_right, eqb-true}
+use Rattle.std.proofs.lemmas.Bool.{and_parts, or_cases, or_left, or_right, eqb-true, not-true}
 use Rattle.proof_lines.proofs.Certificates.{same_row-refl}
 use Rattle.theory_api.specs.Laws.{all_satisfied, settles, is_that}
 use Rattle.theory_api.proofs.Standing.{Stand}
@@ -128,8 +128,4 @@ no_atom atoms lits rows place at s c n = by_case (list_any (is_at_most place at)
     by_case true e = absurd (
         let m = named_at place at atoms e in
         let f = sided (λ l. true) (λ r. not (settles place at r)) atoms lits rows m.0 m.1 s (all_yes lits) (none_settles place at rows n) (ap row_of_kind m.2) (c m.0 m.1 m.2) in
-        by_sign f.0 f.1 (not_true (settles place at f.0) f.2.row) (subst (λ (z : Row). cond f.1 (Some z) (opposite z) ≡ Some f.0) m.3 f.2.is))
-      where
-        not_true : (b : Bool) → not b ≡ true → b ≡ false
-        not_true true h = absurd cc
-        not_true false h = refl
+        by_sign f.0 f.1 (not-true (settles place at f.0) f.2.row) (subst (λ (z : Row). cond f.1 (Some z) (opposite z) ≡ Some f.0) m.3 f.2.is))

@@ -1,3 +1,4 @@
+-- Codes of trail entries, which the model of a trail asks for.
 use Rattle.std.specs.Prelude.{ℕ, refl, Option, Bool}
 use Rattle.std.specs.Coded.{Coded, code_by, coded×, coded_ℕ, coded_option, coded_bool}
 use Rattle.proof_lines.specs.declared.clause.Lit.{Lit}

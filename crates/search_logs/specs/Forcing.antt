@@ -1,3 +1,4 @@
+-- What follows by forced literals alone.
 use Rattle.std.specs.Prelude.{◌≡◌, ℕ, ◌<◌, Bool, true, false, List, [], length, slice_index_or}
 use Rattle.std.specs.List.{list_all}
 use Rattle.proof_lines.specs.declared.clause.Lit.{Lit}

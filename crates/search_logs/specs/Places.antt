@@ -1,3 +1,4 @@
+-- Where the literals of a trail stand; it mirrors the index of src/places.rt.
 use Rattle.std.specs.Prelude.{◌≡◌, ℕ, nat_lt, nat_le, Bool, true, false, cond, List, [], ◌∷◌, length, slice_index_or, Option, Some, None}
 use Rattle.std.specs.Option.{option_or}
 use Rattle.proof_lines.specs.declared.clause.Lit.{Lit}

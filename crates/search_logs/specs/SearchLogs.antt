@@ -1,3 +1,4 @@
+-- The logs of a search: Split lines, and chains of resolvents along a trail.
 use Rattle.std.specs.Prelude.{◌≡◌, ℕ, ◌+◌, ◌<◌, ℤ, Bool, true, false, cond, List, [], ◌∷◌, ◌++◌, length, map, slice_index_or, Option, Some, None, Ok}
 use Rattle.std.specs.List.{list_any, list_all}
 use Rattle.lin_rows.specs.Rows.{Row}

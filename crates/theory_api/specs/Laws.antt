@@ -1,3 +1,4 @@
+-- What each answer of a solver of rows promises.
 use Rattle.std.specs.Prelude.{◌≡◌, ℕ, ◌+◌, ◌<◌, nat_lt, ℤ, Bool, true, false, ◌&&◌, ◌||◌, List, [], ◌∷◌, length, map, Option, Some, None, Ok}
 use Rattle.std.specs.List.{list_any, list_all}
 use Rattle.lin_rows.specs.Rows.{Row, negated, places_below, point_of}

@@ -1,6 +1,7 @@
 // The trait of solvers, and the solver of problems without integer names.
 ghost use Rattle.std.specs.Prelude.{◌≡◌, ℕ, Bool, true, false, List, []};
 ghost use Rattle.lin_rows.specs.Rows.{Row as RowView};
+ghost use Rattle.theory_api.specs.declared.answer.TheoryAnswer.TheVariants.{Model};
 ghost use Rattle.theory_api.specs.Laws.{IsAnswer, all_below};
 
 use crate::answer::TheoryAnswer;
@@ -50,7 +51,11 @@ impl Theory for NoInts {
 
     const MAY_STOP: bool = false;
 
-    fn check(&mut self, alloc: Global, rows: &[Row], ints: u32) -> TheoryAnswer {
+    fn check(&mut self, alloc: Global, rows: &[Row], ints: u32) -> TheoryAnswer
+        requires { (rows.now ≡ []) × (ints ≡ 0) }
+        ensures promised { IsAnswer false false ints rows.now result }
+        ensures empty { result ≡ Model [] }
+    {
         TheoryAnswer::Model(Items::new(alloc))
     }
 

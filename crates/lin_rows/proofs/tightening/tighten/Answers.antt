@@ -9,7 +9,7 @@ use Rattle.lin_rows.proofs.tightening.tighten.Goals as goal
 pub new-requires : goal.new-requires
 new-requires c =
     let n : has_no_terms c.args.row.now.terms ≡ false = search rules in
-    let made : Row = record { terms = c.in_ok-terms.terms; bound = to_z w128 (of_z w128 c.div_euclid.result) } in
+    let made : Row = record { terms = c.in_ok-terms.terms; bound = to_z w128 (of_z w128 c.rounded_down.result) } in
     let e : made ≡ divided (pos (divisor_of c.args.row.now.terms)) c.args.row.now = search rules in
     subst (λ (z : Row). is_row z ≡ true) (sym e) (is_row-divided c.args.row.now n c.terms.ensures.row)
 

@@ -1,4 +1,5 @@
 use Rattle.std.proofs.Common.{◌≡◌, ℕ, ◌-◌, refl, sym, ◌∙◌, arith, true, false, not, get_or, Bool}
+use Rattle.std.proofs.lemmas.Bool.{not-false}
 use Rattle.std.specs.Prelude.{nat_eq}
 use Rattle.std.specs.HashSet.{contains}
 use Rattle.proof_kernel.proofs.States.{different-stop, different-drop}
@@ -9,9 +10,5 @@ returns-in-Ok-false c =
     let ns = c.args.numbers.now in
     let i = c.loop-i.i in
     let n : ℕ = get_or ns (i - 1) 0 in
-    let there : contains nat_eq c.loop-i.seen n ≡ true = not_false (contains nat_eq c.loop-i.seen n) (sym c.in-Ok-false.ensures.added ∙ c.in-Ok-false.field-0-test) in
+    let there : contains nat_eq c.loop-i.seen n ≡ true = not-false (contains nat_eq c.loop-i.seen n) (sym c.in-Ok-false.ensures.added ∙ c.in-Ok-false.field-0-test) in
     sym (different-drop ns (i - 1) (different-stop ns (i - 1) i (omega (arith, c.loop-i-test.true)) (omega (arith, c.loop-i-test.true, c.loop-i.invariant.within)) (sym (c.loop-i.invariant.seen n) ∙ there)))
-  where
-    not_false : (b : Bool) → not b ≡ false → b ≡ true
-    not_false true h = refl
-    not_false false h = absurd cc
