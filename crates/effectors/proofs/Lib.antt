@@ -1,7 +1,6 @@
 pub mod Reading
 pub mod Sizes
 pub mod Fitting
-pub mod Members
 pub mod Whole
 pub mod AfterCall
 pub mod Reached
@@ -10,3 +9,5 @@ pub mod Ranges
 pub mod Sized
 pub mod Steps
 pub mod Outsides
+pub mod FirstBeyond
+pub mod Agreeing

@@ -5,7 +5,8 @@ use Rattle.spec_core.specs.declared.world.World.{World}
 use Rattle.spec_core.specs.declared.spec.Counter.{Counter}
 use Rattle.spec_core.specs.World.{tuples}
 use Rattle.effectors.specs.declared.outside.Outside.{Outside}
-use Rattle.effectors.specs.Effect.{numbered, first_beyond}
+use Rattle.effectors.specs.Effect.{numbered}
+use Rattle.effectors.specs.Beyond.{first_beyond}
 use Rattle.effectors.specs.Outside.{outside_or}
 
 pub head_rest : {X : Type 0} (xs : List X) (x : X) → 1 ≤ length xs → x ≡ get_or xs 0 x → xs ≡ x ∷ take (length xs - 1) (drop 1 xs)

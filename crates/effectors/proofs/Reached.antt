@@ -1,5 +1,6 @@
 -- What updates reach, and readings that are taken from another state there.
 use Rattle.std.proofs.Common.{◌≡◌, ℕ, zero, suc, ◌+◌, ◌<◌, ◌≤◌, ℤ, pos, Bool, true, false, cond, not, ◌&&◌, ◌||◌, ◌==◌, nat_lt, ◌⊎◌, inl, inr, List, [], ◌∷◌, ◌++◌, map, length, refl, sym, ◌∙◌, ap, subst, append_assoc, add-one, arith}
+use Rattle.std.proofs.lemmas.Bool.{and_parts, cases_Bool, or_parts, eqb-true}
 use Rattle.std.specs.Str.{bytes_eq}
 use Rattle.std.specs.List.{list_all, list_any}
 use Rattle.std.proofs.lemmas.Bool.Decides.{nat_tests}
@@ -15,23 +16,10 @@ use Rattle.spec_core.specs.World.{size_of, below, each_before}
 use Rattle.spec_core.specs.State.{Reads, is_in, with_has, with_count}
 use Rattle.spec_core.specs.Truth.{elem_of, truth}
 use Rattle.spec_core.specs.Fits.{fits_places, elem_exists, spots_fit, change_fits, update_fits}
-use Rattle.spec_core.proofs.Lists.{both, tell}
 use Rattle.spec_core.proofs.States.{list_all-from_is_in}
 use Rattle.effectors.specs.Effect.{spots_match, is_thing, has_changed, count_changed, has_after, count_after}
 use Rattle.effectors.specs.Reaching.{matching, reached, with_tuples, with_keys, with_thing, with_updates}
-use Rattle.effectors.proofs.Members.{cons_in-each_before, nil_in-each_before, in_below}
-
-each_before-append : (es fs : List ℕ) (ts : List (List ℕ)) → each_before (es ++ fs) ts ≡ each_before es ts ++ each_before fs ts
-each_before-append [] fs ts = refl
-each_before-append (e ∷ es) fs ts = ap (λ l. map (λ t. e ∷ t) ts ++ l) (each_before-append es fs ts) ∙ sym (append_assoc (map (λ t. e ∷ t) ts) (each_before es ts) (each_before fs ts))
-
-append_nil : {X : Type 0} (xs : List X) → xs ++ [] ≡ xs
-append_nil [] = refl
-append_nil (x ∷ xs) = ap (λ l. x ∷ l) (append_nil xs)
-
-pub each_before-below_more : (n : ℕ) (ts : List (List ℕ)) → each_before (below (n + 1)) ts ≡ each_before (below n) ts ++ map (λ t. n ∷ t) ts
-each_before-below_more n ts =
-    ap (λ k. each_before (below k) ts) (add-one n) ∙ each_before-append (below n) (n ∷ []) ts ∙ ap (λ l. each_before (below n) ts ++ l) (append_nil (map (λ t. n ∷ t) ts))
+use Rattle.spec_core.proofs.Members.{cons_in-each_before, nil_in-each_before, in_below}
 
 -- ---- the matching tuples are those that fit and that the spots match
 
@@ -60,8 +48,8 @@ is_in-matching w args (s ∷ ss) (Every ∷ xs) h (k ∷ ks) =
     ∙ every_step (nat_lt k (size_of w s)) (fits_places w ss ks) (spots_match w args xs ks)
 is_in-matching w args (s ∷ ss) (One e ∷ xs) h [] = nil_in-each_before (elem_of w args [] e ∷ []) (matching w args ss xs)
 is_in-matching w args (s ∷ ss) (One e ∷ xs) h (k ∷ ks) =
-    let p = both (elem_exists w args [] e && nat_lt (elem_of w args [] e) (size_of w s)) (spots_fit w args ss xs) h in
-    let lt = (both (elem_exists w args [] e) (nat_lt (elem_of w args [] e) (size_of w s)) p.0).1 in
+    let p = and_parts (elem_exists w args [] e && nat_lt (elem_of w args [] e) (size_of w s)) (spots_fit w args ss xs) h in
+    let lt = (and_parts (elem_exists w args [] e) (nat_lt (elem_of w args [] e) (size_of w s)) p.0).1 in
     cons_in-each_before k ks (elem_of w args [] e ∷ []) (matching w args ss xs)
     ∙ ap (λ b. ((k == elem_of w args [] e) || false) && b) (is_in-matching w args ss xs p.1 ks)
     ∙ one_step k (elem_of w args [] e) (size_of w s) (fits_places w ss ks) (spots_match w args xs ks) lt
@@ -69,10 +57,7 @@ is_in-matching w args (s ∷ ss) (One e ∷ xs) h (k ∷ ks) =
 -- ---- one tuple or key more
 
 pub matching_fit : (w : World) (args : List ℤ) (ss : List ℕ) (xs : List Spot) → spots_fit w args ss xs ≡ true → list_all (fits_places w ss) (matching w args ss xs) ≡ true
-matching_fit w args ss xs h = list_all-from_is_in (fits_places w ss) (matching w args ss xs) (λ q m. (both (fits_places w ss q) (spots_match w args xs q) (sym (is_in-matching w args ss xs h q) ∙ m)).0)
-
-pub same_number : (j k : ℕ) → (j == k) ≡ true → j ≡ k
-same_number j k h = grind (arith, nat_tests)
+matching_fit w args ss xs h = list_all-from_is_in (fits_places w ss) (matching w args ss xs) (λ q m. (and_parts (fits_places w ss q) (spots_match w args xs q) (sym (is_in-matching w args ss xs h q) ∙ m)).0)
 
 write_step : {X : Type 0} (a b c : Bool) (x y z : X) → (a ≡ true → b ≡ true → y ≡ x) → cond (a && c) x (cond (a && b) y z) ≡ cond (a && (b || c)) x z
 write_step true true true x y z h = refl
@@ -85,13 +70,13 @@ pub with_tuples-cons : (k : ℕ) (t : List ℕ) (ts : List (List ℕ)) (n r : Re
 with_tuples-cons k t ts n r = λ i. record { has = λ j q. at j q i; count = r.count }
   where
     at : (j : ℕ) (q : List ℕ) → cond ((j == k) && is_in q ts) (n.has j q) (cond ((j == k) && bytes_eq q t) (n.has k t) (r.has j q)) ≡ cond ((j == k) && (bytes_eq q t || is_in q ts)) (n.has j q) (r.has j q)
-    at j q = write_step (j == k) (bytes_eq q t) (is_in q ts) (n.has j q) (n.has k t) (r.has j q) (λ a b. sym ((λ i. n.has (same_number j k a i) q) ∙ ap (n.has k) ((bytes_eq-Decides q t).0 b)))
+    at j q = write_step (j == k) (bytes_eq q t) (is_in q ts) (n.has j q) (n.has k t) (r.has j q) (λ a b. sym ((λ i. n.has (eqb-true j k a i) q) ∙ ap (n.has k) ((bytes_eq-Decides q t).0 b)))
 
 pub with_keys-cons : (k : ℕ) (t : List ℕ) (ts : List (List ℕ)) (n r : Reads) → with_keys k ts n (with_count r k t (n.count k t)) ≡ with_keys k (t ∷ ts) n r
 with_keys-cons k t ts n r = λ i. record { has = r.has; count = λ j q. at j q i }
   where
     at : (j : ℕ) (q : List ℕ) → cond ((j == k) && is_in q ts) (n.count j q) (cond ((j == k) && bytes_eq q t) (n.count k t) (r.count j q)) ≡ cond ((j == k) && (bytes_eq q t || is_in q ts)) (n.count j q) (r.count j q)
-    at j q = write_step (j == k) (bytes_eq q t) (is_in q ts) (n.count j q) (n.count k t) (r.count j q) (λ a b. sym ((λ i. n.count (same_number j k a i) q) ∙ ap (n.count k) ((bytes_eq-Decides q t).0 b)))
+    at j q = write_step (j == k) (bytes_eq q t) (is_in q ts) (n.count j q) (n.count k t) (r.count j q) (λ a b. sym ((λ i. n.count (eqb-true j k a i) q) ∙ ap (n.count k) ((bytes_eq-Decides q t).0 b)))
 
 no_one : {X : Type 0} (a : Bool) (x z : X) → cond (a && false) x z ≡ z
 no_one true x z = refl
@@ -143,12 +128,9 @@ module _ (d : Specification) (w : World) (args : List ℤ) (n : Reads) where
 
 -- ---- what isn't reached stays
 
-neither : (a b : Bool) → (a || b) ≡ false → (a ≡ false) × (b ≡ false)
-neither a b h = grind arith
-
 module _ (d : Specification) (w : World) (r : Reads) (args : List ℤ) where
   pub spots_of : (u : UpdateLine) → update_fits d w args u ≡ true → spots_fit w args (places_of d u.thing) u.at ≡ true
-  spots_of u f = (both (change_fits d w args u.thing u.change) (spots_fit w args (places_of d u.thing) u.at) (both _ _ f).0).1
+  spots_of u f = (and_parts (change_fits d w args u.thing u.change) (spots_fit w args (places_of d u.thing) u.at) (and_parts _ _ f).0).1
 
   not_acting_has : (x : Thing) (at : List Spot) (g : Bool) (k : ℕ) (q : List ℕ) → spots_fit w args (places_of d x) at ≡ true → fits_places w (relation_places d k) q ≡ true
       → (is_thing x (thing.Relation k) && is_in q (matching w args (places_of d x) at)) ≡ false → (is_thing x (thing.Relation k) && (spots_match w args at q && g)) ≡ false
@@ -160,7 +142,7 @@ module _ (d : Specification) (w : World) (r : Reads) (args : List ℤ) where
 
       by : (b : Bool) → (j == k) ≡ b → ((j == k) && (spots_match w args at q && g)) ≡ false
       by true e =
-          (let fits : fits_places w (relation_places d j) q ≡ true = ap (λ m. fits_places w (relation_places d m) q) (same_number j k e) ∙ p in
+          (let fits : fits_places w (relation_places d j) q ≡ true = ap (λ m. fits_places w (relation_places d m) q) (eqb-true j k e) ∙ p in
           let out : is_in q (matching w args (relation_places d j) at) ≡ false = (let l : (true && is_in q (matching w args (relation_places d j) at)) ≡ false = ap (λ (b : Bool). b && is_in q (matching w args (relation_places d j) at)) (sym e) ∙ h in l) in
           ap (λ (b : Bool). b && (spots_match w args at q && g)) e ∙ none (is_in q (matching w args (relation_places d j) at)) (fits_places w (relation_places d j) q) (spots_match w args at q) fits (is_in-matching w args (relation_places d j) at f q) out)
       by false e = ap (λ (b : Bool). b && (spots_match w args at q && g)) e
@@ -175,7 +157,7 @@ module _ (d : Specification) (w : World) (r : Reads) (args : List ℤ) where
 
       by : (b : Bool) → (j == k) ≡ b → ((j == k) && (spots_match w args at q && g)) ≡ false
       by true e =
-          (let fits : fits_places w (counter_keys d j) q ≡ true = ap (λ m. fits_places w (counter_keys d m) q) (same_number j k e) ∙ p in
+          (let fits : fits_places w (counter_keys d j) q ≡ true = ap (λ m. fits_places w (counter_keys d m) q) (eqb-true j k e) ∙ p in
           let out : is_in q (matching w args (counter_keys d j) at) ≡ false = (let l : (true && is_in q (matching w args (counter_keys d j) at)) ≡ false = ap (λ (b : Bool). b && is_in q (matching w args (counter_keys d j) at)) (sym e) ∙ h in l) in
           ap (λ (b : Bool). b && (spots_match w args at q && g)) e ∙ none (is_in q (matching w args (counter_keys d j) at)) (fits_places w (counter_keys d j) q) (spots_match w args at q) fits (is_in-matching w args (counter_keys d j) at f q) out)
       by false e = ap (λ (b : Bool). b && (spots_match w args at q && g)) e
@@ -184,8 +166,8 @@ module _ (d : Specification) (w : World) (r : Reads) (args : List ℤ) where
       → reaches d w args us (thing.Relation k) q ≡ false → has_after w r args k q us b ≡ b
   unreached_has [] k q b f p h = refl
   unreached_has (u ∷ us) k q b f p h =
-      let f2 = both _ _ f in
-      let h2 = neither (is_thing u.thing (thing.Relation k) && is_in q (reached d w args u)) (reaches d w args us (thing.Relation k) q) h in
+      let f2 = and_parts _ _ f in
+      let h2 = or_parts (is_thing u.thing (thing.Relation k) && is_in q (reached d w args u)) (reaches d w args us (thing.Relation k) q) h in
       ap (λ (x : Bool). has_after w r args k q us (cond x (has_changed u.change b) b)) (not_acting_has u.thing u.at (truth w r args [] u.guard) k q (spots_of u f2.0) p h2.0)
       ∙ unreached_has us k q b f2.1 p h2.1
 
@@ -193,7 +175,7 @@ module _ (d : Specification) (w : World) (r : Reads) (args : List ℤ) where
       → reaches d w args us (thing.Counter k) q ≡ false → count_after w r args k q us v ≡ v
   unreached_count [] k q v f p h = refl
   unreached_count (u ∷ us) k q v f p h =
-      let f2 = both _ _ f in
-      let h2 = neither (is_thing u.thing (thing.Counter k) && is_in q (reached d w args u)) (reaches d w args us (thing.Counter k) q) h in
+      let f2 = and_parts _ _ f in
+      let h2 = or_parts (is_thing u.thing (thing.Counter k) && is_in q (reached d w args u)) (reaches d w args us (thing.Counter k) q) h in
       ap (λ (x : Bool). count_after w r args k q us (cond x (count_changed w r args u.change v) v)) (not_acting_count u.thing u.at (truth w r args [] u.guard) k q (spots_of u f2.0) p h2.0)
       ∙ unreached_count us k q v f2.1 p h2.1

@@ -1,5 +1,6 @@
 -- What a call leaves: its effect reads, in each tuple and key of the world, as the updates say, and gives a state again.
 use Rattle.std.proofs.Common.{◌≡◌, ℕ, zero, suc, ◌+◌, ◌<◌, ◌≤◌, ℤ, pos, Bool, true, false, cond, ◌&&◌, ◌||◌, List, [], ◌∷◌, map, length, get_or, refl, sym, ◌∙◌, ap, arith}
+use Rattle.std.proofs.lemmas.Bool.{and_parts, and_from, or_parts}
 use Rattle.std.specs.Prelude.{nat_lt}
 use Rattle.std.specs.List.{list_all, list_any, filter}
 use Rattle.std.specs.Str.{bytes_eq}
@@ -56,42 +57,33 @@ count_in_map f (u ∷ us) q = at_test (bytes_eq q u) (λ e. ap f (sym ((bytes_eq
     at_test false h ih = ih
 
 -- ---- tuples fit
-both : (a b : Bool) → a ≡ true → b ≡ true → (a && b) ≡ true
-both a b p q = grind arith
-
-first : (a b : Bool) → (a && b) ≡ true → a ≡ true
-first a b e = grind arith
-
-rest : (a b : Bool) → (a && b) ≡ true → b ≡ true
-rest a b e = grind arith
-
 all_filter : {X : Type 0} (q p : X → Bool) (xs : List X) → list_all q xs ≡ true → list_all q (filter p xs) ≡ true
 all_filter q p [] h = refl
-all_filter q p (x ∷ xs) h = kept_or_not (p x) (first (q x) (list_all q xs) h) (all_filter q p xs (rest (q x) (list_all q xs) h))
+all_filter q p (x ∷ xs) h = kept_or_not (p x) ((and_parts (q x) (list_all q xs) h).0) (all_filter q p xs ((and_parts (q x) (list_all q xs) h).1))
   where
     kept_or_not : (b : Bool) → q x ≡ true → list_all q (filter p xs) ≡ true → list_all q (cond b (x ∷ filter p xs) (filter p xs)) ≡ true
-    kept_or_not true i k = both (q x) (list_all q (filter p xs)) i k
+    kept_or_not true i k = and_from (q x) (list_all q (filter p xs)) i k
     kept_or_not false i k = k
 
 with_first : (w : World) (ss : List ℕ) (b : Bool) (ts : List (List ℕ)) → b ≡ true → list_all (fits_places w ss) ts ≡ true → list_all (λ t. b && fits_places w ss t) ts ≡ true
 with_first w ss b [] q k = refl
-with_first w ss b (t ∷ ts) q k = both (b && fits_places w ss t) (list_all (λ t. b && fits_places w ss t) ts)
-    (both b (fits_places w ss t) q (first (fits_places w ss t) (list_all (fits_places w ss) ts) k))
-    (with_first w ss b ts q (rest (fits_places w ss t) (list_all (fits_places w ss) ts) k))
+with_first w ss b (t ∷ ts) q k = and_from (b && fits_places w ss t) (list_all (λ t. b && fits_places w ss t) ts)
+    (and_from b (fits_places w ss t) q ((and_parts (fits_places w ss t) (list_all (fits_places w ss) ts) k).0))
+    (with_first w ss b ts q ((and_parts (fits_places w ss t) (list_all (fits_places w ss) ts) k).1))
 
 all_each_before : (w : World) (s : ℕ) (ss es : List ℕ) (ts : List (List ℕ)) → list_all (λ e. nat_lt e (size_of w s)) es ≡ true → list_all (fits_places w ss) ts ≡ true → list_all (fits_places w (s ∷ ss)) (each_before es ts) ≡ true
 all_each_before w s ss [] ts h k = refl
 all_each_before w s ss (e ∷ es) ts h k =
     list_all-append (fits_places w (s ∷ ss)) (map (λ t. e ∷ t) ts) (each_before es ts)
-    ∙ both (list_all (fits_places w (s ∷ ss)) (map (λ t. e ∷ t) ts)) (list_all (fits_places w (s ∷ ss)) (each_before es ts))
-    (list_all-map (fits_places w (s ∷ ss)) (λ t. e ∷ t) ts ∙ with_first w ss (nat_lt e (size_of w s)) ts (first (nat_lt e (size_of w s)) (list_all (λ e. nat_lt e (size_of w s)) es) h) k)
-    (all_each_before w s ss es ts (rest (nat_lt e (size_of w s)) (list_all (λ e. nat_lt e (size_of w s)) es) h) k)
+    ∙ and_from (list_all (fits_places w (s ∷ ss)) (map (λ t. e ∷ t) ts)) (list_all (fits_places w (s ∷ ss)) (each_before es ts))
+    (list_all-map (fits_places w (s ∷ ss)) (λ t. e ∷ t) ts ∙ with_first w ss (nat_lt e (size_of w s)) ts ((and_parts (nat_lt e (size_of w s)) (list_all (λ e. nat_lt e (size_of w s)) es) h).0) k)
+    (all_each_before w s ss es ts ((and_parts (nat_lt e (size_of w s)) (list_all (λ e. nat_lt e (size_of w s)) es) h).1) k)
 
 all_below : (n m : ℕ) → n ≤ m → list_all (λ e. nat_lt e m) (below n) ≡ true
 all_below zero m h = refl
 all_below (suc n) m h =
     list_all-append (λ e. nat_lt e m) (below n) (n ∷ [])
-    ∙ both (list_all (λ e. nat_lt e m) (below n)) (nat_lt n m && true) (all_below n m (omega (arith, h))) (let lt : n < m = omega (arith, h) in grind (arith, nat_tests))
+    ∙ and_from (list_all (λ e. nat_lt e m) (below n)) (nat_lt n m && true) (all_below n m (omega (arith, h))) (let lt : n < m = omega (arith, h) in grind (arith, nat_tests))
 
 pub tuples_fit : (w : World) (ss : List ℕ) → list_all (fits_places w ss) (tuples w ss) ≡ true
 tuples_fit w [] = refl
@@ -101,25 +93,22 @@ pub values_from : (w : World) (keys : List ℕ) (f : List ℕ → ℤ) (ts : Lis
 values_from w keys f ts h = list_all-map (λ (e : List ℕ × ℤ). fits_places w keys e.0) (λ t. (t, f t)) ts ∙ h
 
 -- ---- a call's effect
-neither : (a b : Bool) → (a || b) ≡ false → (a ≡ false) × (b ≡ false)
-neither a b h = grind arith
-
 relations_after : (d : Specification) (w : World) (c : Call) (r : Reads) (n : ℕ) (rs : List Relation)
     → lists_fit w rs (numbered (λ k x. filter (λ t. has_after w r c.args k t (op_of d c.op).updates (r.has k t)) (tuples w x.places)) n rs) ≡ true
 relations_after d w c r n [] = refl
-relations_after d w c r n (x ∷ xs) = both _ _ (all_filter (fits_places w x.places) (λ t. has_after w r c.args n t (op_of d c.op).updates (r.has n t)) (tuples w x.places) (tuples_fit w x.places)) (relations_after d w c r (suc n) xs)
+relations_after d w c r n (x ∷ xs) = and_from _ _ (all_filter (fits_places w x.places) (λ t. has_after w r c.args n t (op_of d c.op).updates (r.has n t)) (tuples w x.places) (tuples_fit w x.places)) (relations_after d w c r (suc n) xs)
 
 counters_after : (d : Specification) (w : World) (c : Call) (r : Reads) (n : ℕ) (cs : List Counter)
     → values_fit w cs (numbered (λ k x. map (λ t. (t, count_after w r c.args k t (op_of d c.op).updates (r.count k t))) (tuples w x.keys)) n cs) ≡ true
 counters_after d w c r n [] = refl
-counters_after d w c r n (x ∷ xs) = both _ _ (values_from w x.keys (λ t. count_after w r c.args n t (op_of d c.op).updates (r.count n t)) (tuples w x.keys) (tuples_fit w x.keys)) (counters_after d w c r (suc n) xs)
+counters_after d w c r n (x ∷ xs) = and_from _ _ (values_from w x.keys (λ t. count_after w r c.args n t (op_of d c.op).updates (r.count n t)) (tuples w x.keys) (tuples_fit w x.keys)) (counters_after d w c r (suc n) xs)
 
 pub after_is_state : (d : Specification) (w : World) (c : Call) (r : Reads) → is_state d w (after_call d w c r) ≡ true
-after_is_state d w c r = both _ _ (relations_after d w c r 0 d.relations) (counters_after d w c r 0 d.counters)
+after_is_state d w c r = and_from _ _ (relations_after d w c r 0 d.relations) (counters_after d w c r 0 d.counters)
 
 initial_relations : (w : World) (rs : List Relation) → lists_fit w rs (map (λ r. cond r.initial (tuples w r.places) []) rs) ≡ true
 initial_relations w [] = refl
-initial_relations w (x ∷ xs) = both _ _ (at_initial x.initial) (initial_relations w xs)
+initial_relations w (x ∷ xs) = and_from _ _ (at_initial x.initial) (initial_relations w xs)
   where
     at_initial : (b : Bool) → list_all (λ tuple. fits_places w x.places tuple) (cond b (tuples w x.places) []) ≡ true
     at_initial true = tuples_fit w x.places
@@ -127,10 +116,10 @@ initial_relations w (x ∷ xs) = both _ _ (at_initial x.initial) (initial_relati
 
 initial_counters : (w : World) (cs : List Counter) → values_fit w cs (map (λ c. map (λ key. (key, c.initial)) (tuples w c.keys)) cs) ≡ true
 initial_counters w [] = refl
-initial_counters w (x ∷ xs) = both _ _ (values_from w x.keys (λ key. x.initial) (tuples w x.keys) (tuples_fit w x.keys)) (initial_counters w xs)
+initial_counters w (x ∷ xs) = and_from _ _ (values_from w x.keys (λ key. x.initial) (tuples w x.keys) (tuples_fit w x.keys)) (initial_counters w xs)
 
 pub initial_is_state : (d : Specification) (w : World) → is_state d w (initial d w) ≡ true
-initial_is_state d w = both _ _ (initial_relations w d.relations) (initial_counters w d.counters)
+initial_is_state d w = and_from _ _ (initial_relations w d.relations) (initial_counters w d.counters)
 
 module _ (d : Specification) (w : World) where
   pub has_in_world : (c : Call) (r : Reads) (k : ℕ) (t : List ℕ) → k < length d.relations
@@ -158,13 +147,13 @@ module _ (d : Specification) (w : World) where
   has_unwritten : (r : Reads) (args : List ℤ) (k : ℕ) (t : List ℕ) (us : List UpdateLine) (b : Bool) → list_any (λ u. is_thing u.thing (thing.Relation k)) us ≡ false → has_after w r args k t us b ≡ b
   has_unwritten r args k t [] b h = refl
   has_unwritten r args k t (u ∷ us) b h =
-      let p = neither (is_thing u.thing (thing.Relation k)) (list_any (λ u. is_thing u.thing (thing.Relation k)) us) h in
+      let p = or_parts (is_thing u.thing (thing.Relation k)) (list_any (λ u. is_thing u.thing (thing.Relation k)) us) h in
       ap (has_after w r args k t us) (ap (λ (x : Bool). cond (x && (spots_match w args u.at t && truth w r args [] u.guard)) (has_changed u.change b) b) p.0) ∙ has_unwritten r args k t us b p.1
 
   count_unwritten : (r : Reads) (args : List ℤ) (k : ℕ) (t : List ℕ) (us : List UpdateLine) (v : ℤ) → list_any (λ u. is_thing u.thing (thing.Counter k)) us ≡ false → count_after w r args k t us v ≡ v
   count_unwritten r args k t [] v h = refl
   count_unwritten r args k t (u ∷ us) v h =
-      let p = neither (is_thing u.thing (thing.Counter k)) (list_any (λ u. is_thing u.thing (thing.Counter k)) us) h in
+      let p = or_parts (is_thing u.thing (thing.Counter k)) (list_any (λ u. is_thing u.thing (thing.Counter k)) us) h in
       ap (count_after w r args k t us) (ap (λ (x : Bool). cond (x && (spots_match w args u.at t && truth w r args [] u.guard)) (count_changed w r args u.change v) v) p.0) ∙ count_unwritten r args k t us v p.1
 
   -- a tuple that isn't of the world reads false

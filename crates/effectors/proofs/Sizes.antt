@@ -1,5 +1,6 @@
 -- How large the values after one call of a state are.
 use Rattle.std.proofs.Common.{◌≡◌, Bool, true, false, cond, nat_le, ℕ, ℤ, pos, List, [], ◌∷◌, length, slice_index_or, ◌≤◌, ◌*◌, ◌^◌, ◌+◌, ◌+ℤ◌, ◌*ℤ◌, unsigned_abs, arith, zero, suc}
+use Rattle.std.proofs.lemmas.Bool.{and_parts, leb-true}
 use Rattle.std.specs.List.{list_all}
 use Rattle.std.proofs.lemmas.Bool.Decides.{nat_tests}
 use Rattle.std.proofs.lemmas.Int.{ints, unsigned_abs-mul}
@@ -17,7 +18,6 @@ use Rattle.spec_core.specs.UpdateLine.{UpdateLine}
 use Rattle.spec_core.specs.State.{Reads}
 use Rattle.spec_core.specs.Truth.{elems_of, body_of, sum_of, term_of}
 use Rattle.spec_core.specs.Fits.{in_state_range, summand_fits, term_fits, change_fits, update_fits}
-use Rattle.spec_core.proofs.Lists.{both}
 use Rattle.effectors.specs.Effect.{acts, count_changed, count_after}
 
 product : (a b : ℤ) (m n : ℕ) → unsigned_abs a ≤ m → unsigned_abs b ≤ n → unsigned_abs (a *ℤ b) ≤ m * n
@@ -26,17 +26,14 @@ product a b m n h k = let e = unsigned_abs-mul a b in grind arith
 plus : (a b : ℤ) (m n : ℕ) → unsigned_abs a ≤ m → unsigned_abs b ≤ n → unsigned_abs (a +ℤ b) ≤ m + n
 plus a b m n h k = omega (arith, ints)
 
-test : (m n : ℕ) → nat_le m n ≡ true → m ≤ n
-test m n h = grind (arith, nat_tests)
-
 -- every reading is in the range of a state
 abbrev pub InRange : Reads → Type 0
 InRange r = (k : ℕ) (t : List ℕ) → unsigned_abs (r.count k t) ≤ 10 ^ 15
 
 argument_within : (args : List ℤ) → list_all in_state_range args ≡ true → (n : ℕ) → unsigned_abs (slice_index_or args n (pos 0)) ≤ 10 ^ 15
 argument_within [] h n = omega arith
-argument_within (a ∷ args) h zero = test (unsigned_abs a) (10 ^ 15) (both _ _ h).0
-argument_within (a ∷ args) h (suc n) = argument_within args (both _ _ h).1 n
+argument_within (a ∷ args) h zero = leb-true (unsigned_abs a) (10 ^ 15) (and_parts _ _ h).0
+argument_within (a ∷ args) h (suc n) = argument_within args (and_parts _ _ h).1 n
 
 body_within : (w : World) (r : Reads) (args : List ℤ) (vars : List ℕ) (y : Body) → InRange r → list_all in_state_range args ≡ true → unsigned_abs (body_of w r args vars y) ≤ 10 ^ 15
 body_within w r args vars body.One i h = omega arith
@@ -47,8 +44,8 @@ sum_within : (d : Specification) (w : World) (r : Reads) (args : List ℤ) (vars
     → list_all (summand_fits d w args vars) ss ≡ true → unsigned_abs (sum_of w r args vars ss) ≤ length ss * (10 ^ 9 * 10 ^ 15)
 sum_within d w r args vars [] i h f = omega arith
 sum_within d w r args vars (s ∷ ss) i h f =
-    let parts = both _ _ f in
-    let coef = test (unsigned_abs s.coef) (10 ^ 9) (both _ _ parts.0).0 in
+    let parts = and_parts _ _ f in
+    let coef = leb-true (unsigned_abs s.coef) (10 ^ 9) (and_parts _ _ parts.0).0 in
     let one = product s.coef (body_of w r args vars s.body) (10 ^ 9) (10 ^ 15) coef (body_within w r args vars s.body i h) in
     let rest = sum_within d w r args vars ss i h parts.1 in
     let all = plus (s.coef *ℤ body_of w r args vars s.body) (sum_of w r args vars ss) _ _ one rest in
@@ -57,8 +54,8 @@ sum_within d w r args vars (s ∷ ss) i h f =
 term_within : (d : Specification) (w : World) (r : Reads) (args : List ℤ) (vars : List ℕ) (t : Term) → InRange r → list_all in_state_range args ≡ true
     → term_fits d w args vars t ≡ true → unsigned_abs (term_of w r args vars t) ≤ 16 * (10 ^ 9 * 10 ^ 15)
 term_within d w r args vars t i h f =
-    let parts = both _ _ f in
-    let few = test (length t.summands) 16 parts.0 in
+    let parts = and_parts _ _ f in
+    let few = leb-true (length t.summands) 16 parts.0 in
     let sum = sum_within d w r args vars t.summands i h parts.1 in
     omega arith
 
@@ -73,16 +70,16 @@ module _ (d : Specification) (w : World) (r : Reads) (args : List ℤ) (i : InRa
   change_within (thing.Relation k) (Add t) v f = absurd cc
   change_within (thing.Relation k) (Set t) v f = absurd cc
   change_within (thing.Counter k) (Add t) v f =
-      let amount = term_within d w r args [] t i h (both _ _ f).1 in
+      let amount = term_within d w r args [] t i h (and_parts _ _ f).1 in
       let all = plus v (term_of w r args [] t) (unsigned_abs v) _ (omega arith) amount in omega arith
-  change_within (thing.Counter k) (Set t) v f = (let amount = term_within d w r args [] t i h (both _ _ f).1 in omega arith)
+  change_within (thing.Counter k) (Set t) v f = (let amount = term_within d w r args [] t i h (and_parts _ _ f).1 in omega arith)
 
   pub count_within : (k : ℕ) (key : List ℕ) (us : List UpdateLine) (v : ℤ) → list_all (update_fits d w args) us ≡ true
       → unsigned_abs (count_after w r args k key us v) ≤ unsigned_abs v + length us * (16 * (10 ^ 9 * 10 ^ 15))
   count_within k key [] v f = omega arith
   count_within k key (u ∷ us) v f =
-      let parts = both _ _ f in
-      let change = (both _ _ (both _ _ parts.0).0).0 in
+      let parts = and_parts _ _ f in
+      let change = (and_parts _ _ (and_parts _ _ parts.0).0).0 in
       let one = cond_within (acts w r args (thing.Counter k) key u) (count_changed w r args u.change v) v (unsigned_abs v + 16 * (10 ^ 9 * 10 ^ 15)) (change_within u.thing u.change v change) (omega arith) in
       let rest = count_within k key us (cond (acts w r args (thing.Counter k) key u) (count_changed w r args u.change v) v) parts.1 in
       omega arith

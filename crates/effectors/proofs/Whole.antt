@@ -11,7 +11,7 @@ use Rattle.spec_core.specs.Fits.{fits_places}
 use Rattle.effectors.specs.Effect.{has_after, count_after, after}
 use Rattle.effectors.specs.Places.{fits_relation, fits_counter}
 use Rattle.effectors.proofs.Reading.{has_in_world, count_in_world, has_undeclared, count_undeclared}
-use Rattle.effectors.proofs.Members.{is_in-tuples}
+use Rattle.spec_core.proofs.Members.{is_in-tuples}
 
 below_or_not : (k n : ℕ) → ((k < n) × (nat_lt k n ≡ true)) ⊎ ((n ≤ k) × (nat_lt k n ≡ false))
 below_or_not k n = at (nat_lt k n) refl

@@ -2,7 +2,7 @@
 --
 -- For each tuple or key one begins with the old reading and goes through the updates of its thing in their written order. What
 -- an update's guard and amount read is the old state: no update sees what the updates before it wrote.
-use Rattle.std.specs.Prelude.{ℕ, suc, ℤ, ◌+ℤ◌, Bool, true, false, cond, ◌&&◌, ◌==◌, List, [], ◌∷◌, map, Option, None, Some}
+use Rattle.std.specs.Prelude.{ℕ, suc, ℤ, ◌+ℤ◌, Bool, true, false, cond, ◌&&◌, ◌==◌, List, [], ◌∷◌, map}
 use Rattle.std.specs.List.{filter}
 use Rattle.spec_core.specs.declared.world.World.{World}
 use Rattle.spec_core.specs.declared.world.Call.{Call}
@@ -17,7 +17,6 @@ use Rattle.spec_core.specs.UpdateLine.{UpdateLine}
 use Rattle.spec_core.specs.World.{tuples}
 use Rattle.spec_core.specs.State.{Listing, Reads, reads}
 use Rattle.spec_core.specs.Truth.{elem_of, term_of, truth}
-use Rattle.spec_core.specs.Fits.{in_state_range}
 
 -- An update's spots match a tuple or key where each is every element, or names the element that stands there.
 abbrev pub spots_match : World → List ℤ → List Spot → List ℕ → Bool
@@ -77,16 +76,3 @@ after_call d w c r = record {
 -- what the state after a call reads
 abbrev pub after : Specification → World → Call → Reads → Reads
 after d w c r = reads (after_call d w c r)
-
--- A value beyond the range of a state, and where it stands.
-pub record Beyond : Type 0 where
-  pub counter : ℕ
-  pub key : List ℕ
-  pub value : ℤ
-
--- the first of some counters, numbered on from here, whose value at some key is beyond the range of a state, and the first such key;
--- keys are listed rising
-abbrev pub first_beyond : ℕ → List (List (List ℕ × ℤ)) → Option Beyond
-first_beyond k [] = None
-first_beyond k ([] ∷ counters) = first_beyond (suc k) counters
-first_beyond k ((e ∷ es) ∷ counters) = cond (in_state_range e.1) (first_beyond k (es ∷ counters)) (Some (record { counter = k; key = e.0; value = e.1 }))

@@ -1,4 +1,5 @@
 pub mod Effect
+pub mod Beyond
 pub mod Places
 pub mod Reaching
 pub mod Outside

@@ -2,7 +2,7 @@
 use Rattle.std.specs.Prelude.{◌≡◌, Option, None, Some}
 use Rattle.effectors.specs.declared.applying.ApplyRefused.{ApplyRefused}
 use Rattle.effectors.specs.declared.applying.ApplyRefused.TheVariants.{Range, Memory}
-use Rattle.effectors.specs.Effect.{Beyond}
+use Rattle.effectors.specs.Beyond.{Beyond}
 
 -- a refusal names the value that is beyond, and there is none where none is
 abbrev pub refused_by : Option ApplyRefused → Option Beyond → Type 0

@@ -9,13 +9,13 @@ ghost use Rattle.spec_core.specs.Specification.{op_of};
 ghost use Rattle.spec_core.specs.World.{tuples};
 ghost use Rattle.spec_core.specs.State.{reads};
 ghost use Rattle.spec_core.specs.Fits.{world_fits, call_fits, is_state};
-ghost use Rattle.effectors.specs.Effect.{count_after, numbered, after_call, after, Beyond, first_beyond};
+ghost use Rattle.effectors.specs.Effect.{count_after, numbered, after_call, after};
+ghost use Rattle.effectors.specs.Beyond.{Beyond, AllInRange, IsFirstBeyond, first_beyond};
 ghost use Rattle.effectors.specs.Outside.{outside_or};
 ghost use Rattle.effectors.specs.Refusal.{refused_by};
 
-use crate::matching::all_before;
 use crate::outside::Outside;
-use crate::readings::{count_updated, updates_of};
+use crate::readings::count_updated;
 use crate::writing::{in_range, write_updates};
 use items::Items;
 use spec_core::{Call, Counter, Spec, State, World};
@@ -42,23 +42,6 @@ impl From<AllocError> for ApplyRefused {
 
     fn from(_: AllocError) -> Self {
         ApplyRefused::Memory
-    }
-}
-
-// Every list of elements of these sorts, rising.
-fn tuples(alloc: Global, world: &World, sorts: &[u8]) -> Result<Items<Items<u32>>, AllocError>
-    ensures { IfOk result (λ list. list ≡ tuples world.now sorts.now) }
-{
-    match sorts {
-        [] => {
-            let mut list = Items::new(alloc);
-            list.push(Items::new(alloc))?;
-            Ok(list)
-        }
-        [sort, sorts @ ..] => {
-            let rest = tuples(alloc, world, sorts)?;
-            all_before(alloc, world.size(*sort), rest.as_slice())
-        }
     }
 }
 
@@ -104,7 +87,7 @@ fn first_outside(
     match counters {
         [] => Ok(None),
         [it, counters @ ..] => {
-            let keys = tuples(alloc, world, it.keys.as_slice())?;
+            let keys = world.tuples(alloc, it.keys.as_slice())?;
             match first_outside_in(alloc, spec, world, state, call, counter, keys.as_slice())? {
                 Some(Outside { key, value }) => Ok(Some(ApplyRefused::Range {
                     counter,
@@ -128,7 +111,7 @@ fn why_refused(
     requires world { world_fits spec.now world.now ≡ true }
     requires call { call_fits spec.now world.now call.now ≡ true }
     requires outside { first_beyond 0 (after_call spec.now world.now call.now (reads state.now)).counters ≢ None }
-    ensures { (b : Beyond) → result ≡ ApplyRefused.Range b.counter b.key b.value → first_beyond 0 (after_call spec.now world.now call.now (reads state.now)).counters ≡ Some b }
+    ensures { (b : Beyond) → result ≡ ApplyRefused.Range b.counter b.key b.value → IsFirstBeyond (after_call spec.now world.now call.now (reads state.now)) b }
 {
     spec.well_formed();
     match first_outside(alloc, spec, world, state, call, 0, spec.counters.as_slice()) {
@@ -152,8 +135,8 @@ pub fn apply(
     requires call { call_fits spec.now world.now call.now ≡ true }
     ensures reads { IfOk result (λ s. reads s ≡ after spec.now world.now call.now (reads state.now)) }
     ensures fits { IfOk result (λ s. is_state spec.now world.now s ≡ true) }
-    ensures in_range { OnOk result (first_beyond 0 (after_call spec.now world.now call.now (reads state.now)).counters ≡ None) }
-    ensures range { (b : Beyond) → result ≡ Err (ApplyRefused.Range b.counter b.key b.value) → first_beyond 0 (after_call spec.now world.now call.now (reads state.now)).counters ≡ Some b }
+    ensures in_range { OnOk result (AllInRange (after_call spec.now world.now call.now (reads state.now))) }
+    ensures range { (b : Beyond) → result ≡ Err (ApplyRefused.Range b.counter b.key b.value) → IsFirstBeyond (after_call spec.now world.now call.now (reads state.now)) b }
 {
     spec.well_formed();
     state.stays_in_range();
@@ -165,7 +148,7 @@ pub fn apply(
         state,
         call,
         &mut new,
-        updates_of(spec, call.op),
+        spec.updates_of(call.op),
     )? {
         Ok(new)
     } else {

@@ -6,6 +6,7 @@
 
 mod after;
 mod applying;
+mod law;
 mod matching;
 mod outside;
 mod readings;
@@ -14,6 +15,6 @@ mod writing;
 
 pub use after::{After, post_count, post_has, post2_count, post2_has};
 pub use applying::{ApplyRefused, apply};
-pub use matching::places_of;
-pub use readings::{count_after_call, fits_places, has_after_call, updates_of};
+pub use law::{law_effects_that_agree, law_first_beyond};
+pub use readings::{count_after_call, has_after_call};
 pub use updates::{is_thing, spots_match};

@@ -8,7 +8,7 @@ ghost use Rattle.spec_core.specs.Fits.{fits_places, world_fits, spots_fit, updat
 ghost use Rattle.effectors.specs.Reaching.{matching, reached};
 
 use items::Items;
-use spec_core::{Call, Spec, Spot, Thing, Update, World, elem_at};
+use spec_core::{Call, Spec, Spot, Update, World, elem_at};
 use std::alloc::{AllocError, Global};
 
 // An element before a tuple.
@@ -101,22 +101,6 @@ pub fn matching(
     }
 }
 
-/// The sorts of the places of a relation or of the keys of a counter; none where there is no such thing.
-pub fn places_of(spec: &Spec, thing: Thing) -> &[u8]
-    ensures { result.now ≡ places_of spec.now thing }
-{
-    match thing {
-        Thing::Relation(k) => match spec.relations.as_slice().get(k as usize) {
-            Some(it) => it.places.as_slice(),
-            None => &[],
-        },
-        Thing::Counter(k) => match spec.counters.as_slice().get(k as usize) {
-            Some(it) => it.keys.as_slice(),
-            None => &[],
-        },
-    }
-}
-
 /// The tuples or keys that an update of a call reaches.
 pub fn reached(
     alloc: Global,
@@ -130,7 +114,7 @@ pub fn reached(
     ensures reached { IfOk result (λ list. list ≡ reached spec.now world.now call.now.args update.now) }
     ensures fits { IfOk result (λ list. list_all (fits_places world.now (places_of spec.now update.now.thing)) list ≡ true) }
 {
-    let places = places_of(spec, update.thing);
+    let places = spec.places_of(update.thing);
     let list = matching(
         alloc,
         world,

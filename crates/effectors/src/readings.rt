@@ -2,43 +2,19 @@
 
 ghost use Rattle.std.specs.Prelude.{◌≡◌, true};
 ghost use Rattle.spec_core.specs.Specification.{op_of};
-ghost use Rattle.spec_core.specs.Fits.{fits_places, world_fits, call_fits};
+ghost use Rattle.spec_core.specs.Fits.{world_fits, call_fits};
 ghost use Rattle.effectors.specs.Effect.{has_after, count_after, after};
 ghost use Rattle.effectors.specs.Places.{fits_relation, fits_counter};
 
 use crate::updates::{count_after, has_after};
-use spec_core::{Call, Readings, Spec, Update, World};
-
-/// The updates of an operation; none where there is no such operation.
-pub fn updates_of<'a>(spec: &'a Spec, op: u8) -> &'a [Update]
-    ensures { result.now ≡ (op_of spec.now op).updates }
-{
-    match spec.operations.as_slice().get(op as usize) {
-        Some(operation) => operation.updates.as_slice(),
-        None => &[],
-    }
-}
-
-/// Whether a tuple or key has an element of each of these sorts, and no more.
-pub fn fits_places(world: &World, sorts: &[u8], tuple: &[u32]) -> bool
-    ensures { result ≡ fits_places world.now sorts.now tuple.now }
-{
-    match sorts {
-        [] => tuple.is_empty(),
-        [sort, sorts @ ..] => match tuple {
-            [] => false,
-            [element, tuple @ ..] => *element < world.size(*sort)
-                && fits_places(world, sorts, tuple),
-        },
-    }
-}
+use spec_core::{Call, Readings, Spec, World};
 
 /// Whether a relation is there, and a tuple fits it.
 pub fn fits_relation(spec: &Spec, world: &World, relation: u8, tuple: &[u32]) -> bool
     ensures { result ≡ fits_relation spec.now world.now relation tuple.now }
 {
     match spec.relations.as_slice().get(relation as usize) {
-        Some(it) => fits_places(world, it.places.as_slice(), tuple),
+        Some(it) => world.has_tuple(it.places.as_slice(), tuple),
         None => false,
     }
 }
@@ -48,7 +24,7 @@ pub fn fits_counter(spec: &Spec, world: &World, counter: u8, key: &[u32]) -> boo
     ensures { result ≡ fits_counter spec.now world.now counter key.now }
 {
     match spec.counters.as_slice().get(counter as usize) {
-        Some(it) => fits_places(world, it.keys.as_slice(), key),
+        Some(it) => world.has_tuple(it.keys.as_slice(), key),
         None => false,
     }
 }
@@ -72,7 +48,7 @@ pub fn has_updated<R: Readings>(
         world,
         at,
         call.args.as_slice(),
-        updates_of(spec, call.op),
+        spec.updates_of(call.op),
         relation,
         tuple,
     )
@@ -97,7 +73,7 @@ pub fn count_updated<R: Readings>(
         world,
         at,
         call.args.as_slice(),
-        updates_of(spec, call.op),
+        spec.updates_of(call.op),
         counter,
         key,
     )

@@ -4,6 +4,7 @@
 
 ghost use Rattle.std.specs.Prelude.{◌≡◌, ◌≤◌, ◌+◌, ◌*◌, ◌^◌, unsigned_abs, true, cond, length, []};
 ghost use Rattle.std.specs.List.{list_all};
+ghost use Rattle.spec_core.specs.Limits.{most_updates};
 ghost use Rattle.spec_core.specs.Fits.{in_state_range, world_fits, change_fits, update_fits};
 ghost use Rattle.effectors.specs.Effect.{spots_match, is_thing, acts, has_changed, count_changed, has_after, count_after};
 
@@ -187,7 +188,7 @@ pub fn count_after<R: Readings>(
 ) -> i128
     requires world { world_fits spec.now world.now ≡ true }
     requires args { list_all in_state_range args.now ≡ true }
-    requires few { length updates.now ≤ 16 }
+    requires few { length updates.now ≤ most_updates }
     requires fits { list_all (update_fits spec.now world.now args.now) updates.now ≡ true }
     ensures { result ≡ count_after world.now (R.reads at.now) args.now counter key.now updates.now ((R.reads at.now).count counter key.now) }
 {

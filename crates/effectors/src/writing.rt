@@ -14,6 +14,7 @@ ghost use Rattle.effectors.specs.Reaching.{reached, with_tuples, with_keys, with
 use crate::after::{post_count, post_has};
 use crate::matching::reached;
 use items::Items;
+use spec_core::limits::GREATEST_VALUE;
 use spec_core::{Call, Spec, State, Thing, Update, World};
 use std::alloc::{AllocError, Global};
 
@@ -21,7 +22,7 @@ use std::alloc::{AllocError, Global};
 pub fn in_range(value: i128) -> bool
     ensures { result ≡ in_state_range value }
 {
-    value.unsigned_abs() <= 1_000_000_000_000_000
+    value.unsigned_abs() <= GREATEST_VALUE as u128
 }
 
 fn write_tuple(

@@ -1,5 +1,6 @@
 -- How many obligations a specification has: at most 12,208.
 use Rattle.std.proofs.Common.{◌≡◌, ℕ, zero, suc, ◌+◌, ◌-◌, ◌*◌, ◌<◌, ◌≤◌, Bool, true, false, cond, nat_le, ◌⊎◌, inl, inr, List, [], ◌∷◌, ◌++◌, map, length, refl, sym, ◌∙◌, ap, subst, arith, length-append}
+use Rattle.spec_core.specs.Limits.{most_relations, most_counters, most_invariants, most_operations}
 use Rattle.std.specs.List.{filter, flat_map}
 use Rattle.std.proofs.lemmas.Bool.{leb-true, cases_Bool}
 use Rattle.std.proofs.lemmas.Grind.{flat_map-append}
@@ -8,10 +9,9 @@ use Rattle.std.proofs.lemmas.List.Elements.{filter-append}
 use Rattle.std.proofs.lemmas.List.Sums.{length-filter, count_by-le-length}
 use Rattle.spec_core.specs.declared.update.Thing.{Thing}
 use Rattle.spec_core.specs.declared.update.Thing.TheVariants as thing
-use Rattle.spec_core.specs.Specification.{Specification, op_of, no_operation}
+use Rattle.spec_core.specs.Specification.{Specification, op_of}
 use Rattle.spec_core.specs.World.{below}
-use Rattle.spec_core.specs.Typed.{is_specification, is_operation}
-use Rattle.spec_core.proofs.Lists.{list_all-within}
+use Rattle.spec_core.specs.Typed.{is_specification}
 use Rattle.spec_core.proofs.Parts.{parts_of}
 use Rattle.obligation_list.specs.declared.obligation.Obligation.{Obligation}
 use Rattle.obligation_list.specs.declared.obligation.Obligation.TheVariants.{Init, Safety, Commute, Stable}
@@ -81,17 +81,17 @@ falling f (suc n) h =
 
 module _ (d : Specification) (well : is_specification d ≡ true) where
   few_operations : length d.operations ≤ 24
-  few_operations = leb-true (length d.operations) 24 (parts_of d well).few_operations
+  few_operations = leb-true (length d.operations) most_operations (parts_of d well).few_operations
 
   few_invariants : length d.invariants ≤ 16
-  few_invariants = leb-true (length d.invariants) 16 (parts_of d well).few_invariants
+  few_invariants = leb-true (length d.invariants) most_invariants (parts_of d well).few_invariants
 
   few_things : length (things d) ≤ 24
   few_things =
       let a = length-append (map (λ k. thing.Relation k) (below (length d.relations))) (map (λ k. thing.Counter k) (below (length d.counters))) in
       let r = length-map (below (length d.relations)) (λ k. thing.Relation k) in let c = length-map (below (length d.counters)) (λ k. thing.Counter k) in
       let rs = length-below (length d.relations) in let cs = length-below (length d.counters) in
-      let p = leb-true (length d.relations) 16 (parts_of d well).few_relations in let q = leb-true (length d.counters) 8 (parts_of d well).few_counters in
+      let p = leb-true (length d.relations) most_relations (parts_of d well).few_relations in let q = leb-true (length d.counters) most_counters (parts_of d well).few_counters in
       omega (arith, a, r, c, rs, cs, p, q)
 
   few_init : length (init_obligations d) ≤ 16
@@ -123,15 +123,15 @@ module _ (d : Specification) (well : is_specification d ≡ true) where
   few_stable_of o l =
       let m = length-map (below (length d.operations)) (λ p. Stable o l p) in let b = length-below (length d.operations) in let h = few_operations in omega (arith, m, b, h)
 
-  few_stable_from : (o : ℕ) → o < length d.operations → length (stable_from d o) ≤ 192
-  few_stable_from o lt =
+  few_stable_from : (o : ℕ) → length (stable_from d o) ≤ 192
+  few_stable_from o =
       let each = each_at_most (stable_of d o) 24 (length (op_of d o).requires_) (λ l below. few_stable_of o l) in
-      let h = leb-true (length (op_of d o).requires_) 8 (few_requires d (op_of d o) (list_all-within (is_operation d) d.operations (parts_of d well).operations o no_operation lt)) in
+      let h = few_requires d well o in
       omega (arith, each, h)
 
   few_stable : length (flat_map (stable_from d) (below (length d.operations))) ≤ 4608
   few_stable =
-      let each = each_at_most (stable_from d) 192 (length d.operations) few_stable_from in let h = few_operations in omega (arith, each, h)
+      let each = each_at_most (stable_from d) 192 (length d.operations) (λ o lt. few_stable_from o) in let h = few_operations in omega (arith, each, h)
 
   pub few_obligations : length (obligations_of d) ≤ 12208
   few_obligations =

@@ -1,5 +1,6 @@
 -- The members of the list of obligations are the obligations.
 use Rattle.std.proofs.Common.{◌≡◌, ℕ, ◌<◌, ◌≤◌, true, inl, inr, List, ◌++◌, map, length, nat_le, subst, arith}
+use Rattle.std.proofs.lemmas.Bool.{le-leb, leb-true}
 use Rattle.std.specs.List.{filter, flat_map, Contains}
 use Rattle.std.proofs.lemmas.Bool.Decides.{nat_tests}
 use Rattle.std.proofs.lemmas.List.Elements.{Contains-append_left, Contains-append_right, Contains-append_cases}
@@ -11,12 +12,6 @@ use Rattle.obligation_list.specs.declared.obligation.Obligation.{Obligation}
 use Rattle.obligation_list.specs.declared.obligation.Obligation.TheVariants.{Init, Safety, Commute, Stable}
 use Rattle.obligation_list.specs.Obligations.{either_writes, things, init_obligations, safety_of, commute_of, commute_from, stable_of, stable_from, obligations_of, IsThing, IsObligation}
 use Rattle.obligation_list.proofs.Members.{Contains-map, Contains-map_cases, Contains-filter, Contains-filter_cases, Contains-flat_map, Contains-flat_map_cases, Contains-below, Contains-below_cases}
-
-at_most : (a b : ℕ) → nat_le a b ≡ true → a ≤ b
-at_most a b h = grind (arith, nat_tests)
-
-at_most_test : (a b : ℕ) → a ≤ b → nat_le a b ≡ true
-at_most_test a b h = grind (arith, nat_tests)
 
 -- a member of one of four lists is one of all of them
 module _ {X : Type 0} (a b c e : List X) (x : X) where
@@ -59,7 +54,7 @@ module _ (d : Specification) where
       let q = Contains-filter_cases (nat_le o.0) (below (length d.operations)) p.0 p.1 in
       let x = Contains-map_cases (λ x. Commute o.0 p.0 x) (filter (either_writes d o.0 p.0) (things d)) ob p.2 in
       let y = Contains-filter_cases (either_writes d o.0 p.0) (things d) x.0 x.1 in
-      subst (IsObligation d) x.2 (at_most o.0 p.0 q.1, Contains-below_cases (length d.operations) p.0 q.0, listed_thing x.0 y.0, y.1)
+      subst (IsObligation d) x.2 (leb-true o.0 p.0 q.1, Contains-below_cases (length d.operations) p.0 q.0, listed_thing x.0 y.0, y.1)
 
   stable_listed : (ob : Obligation) → Contains (flat_map (stable_from d) (below (length d.operations))) ob → IsObligation d ob
   stable_listed ob m =
@@ -92,7 +87,7 @@ module _ (d : Specification) where
       in_third (init_obligations d) (flat_map (safety_of d) (below (length d.operations))) (flat_map (commute_from d) (below (length d.operations))) (flat_map (stable_from d) (below (length d.operations))) (Commute o p x)
       (Contains-flat_map (commute_from d) (below (length d.operations)) o (Commute o p x) (Contains-below (length d.operations) o (omega arith))
       (Contains-flat_map (commute_of d o) (filter (nat_le o) (below (length d.operations))) p (Commute o p x)
-      (Contains-filter (nat_le o) (below (length d.operations)) p (Contains-below (length d.operations) p lt) (at_most_test o p le))
+      (Contains-filter (nat_le o) (below (length d.operations)) p (Contains-below (length d.operations) p lt) (le-leb o p le))
       (Contains-map (λ x. Commute o p x) (filter (either_writes d o p) (things d)) x (Contains-filter (either_writes d o p) (things d) x (thing_listed x h.2) h.3))))
   obligation_is_listed (Stable o l p) h =
       in_fourth (init_obligations d) (flat_map (safety_of d) (below (length d.operations))) (flat_map (commute_from d) (below (length d.operations))) (flat_map (stable_from d) (below (length d.operations))) (Stable o l p)

@@ -1,8 +1,8 @@
 -- The test of a refutation says what a refutation is.
 use Rattle.std.proofs.Common.{◌≡◌, ℕ, ◌+◌, ◌<◌, ℤ, Bool, true, false, cond, not, ◌&&◌, ◌==◌, nat_le, List, [], ◌∷◌, map, length, get_or, Option, None, Some, refl, sym, ◌∙◌, ap, subst, arith}
 use Rattle.std.specs.Prelude.{is_none, is_some}
-use Rattle.std.specs.List.{list_all, position_from}
-use Rattle.std.proofs.lemmas.Bool.{and_parts, and_from, not-true, not_from_false}
+use Rattle.std.specs.List.{list_all}
+use Rattle.std.proofs.lemmas.Bool.{and_parts, and_from, not-true, not_from_false, eqb-true, eq-eqb}
 use Rattle.std.proofs.lemmas.Bool.Decides.{nat_tests}
 use Rattle.std.proofs.lemmas.List.Folds.{list_all-map}
 use Rattle.spec_core.specs.declared.world.World.{World}
@@ -16,24 +16,13 @@ use Rattle.spec_core.specs.Meaning.{invariant_line, inv, pre, broken_at}
 use Rattle.spec_core.specs.Fits.{in_state_range, fits_places, is_world, is_call, is_state, world_fits, call_fits}
 use Rattle.effectors.specs.Effect.{after}
 use Rattle.token_rules.specs.Conflict.{conflicts}
+use Rattle.spec_core.proofs.Positions.{position_none}
 use Rattle.obligation_list.specs.declared.obligation.Obligation.{Obligation}
 use Rattle.obligation_list.specs.declared.obligation.Obligation.TheVariants.{Init, Safety, Commute, Stable}
 use Rattle.obligation_list.specs.Breaking.{elements_of, requires_line, line_at, reads_same, IsCallOf, MayRunTogether, BreaksInit, BreaksSafety, BreaksCommute, BreaksStable, BreaksIn, Breaks}
 use Rattle.obligation_list.specs.Refuting.{IsRefutation, is_call_of, may_run_together, refutes_init, refutes_safety, are_together, refutes_commute, refutes_stable, refutes_in, parts_fit, refutes}
 use Rattle.obligation_list.specs.Starting.{starts}
 use Rattle.obligation_list.proofs.Begins.{starts_initial, initial_starts}
-
-first_or_none : {X : Type 0} (p : X → Bool) (n : ℕ) (xs : List X) → is_none (position_from p n xs) ≡ list_all (λ x. not (p x)) xs
-first_or_none p n [] = refl
-first_or_none p n (x ∷ xs) = at (p x) (first_or_none p (n + 1) xs)
-  where
-    at : (b : Bool) → is_none (position_from p (n + 1) xs) ≡ list_all (λ x. not (p x)) xs → is_none (cond b (Some n) (position_from p (n + 1) xs)) ≡ (not b && list_all (λ x. not (p x)) xs)
-    at true h = refl
-    at false h = h
-
-all_lines : (q : Invariant → Bool) (p : Invariant → Bool) (xs : List Invariant) → ((x : Invariant) → not (q x) ≡ p x) → list_all (λ x. not (q x)) xs ≡ list_all p xs
-all_lines q p [] h = refl
-all_lines q p (x ∷ xs) h = (λ i. h x i && all_lines q p xs h i)
 
 not_not : (b : Bool) → not (not b) ≡ b
 not_not true = refl
@@ -42,15 +31,8 @@ not_not false = refl
 -- no invariant is broken exactly where every one is true
 pub none_broken : (d : Specification) (w : World) (r : Reads) → is_none (broken_at d w r) ≡ inv d w r
 none_broken d w r =
-    first_or_none (λ i. not (line_true w r [] i.line)) 0 d.invariants
-    ∙ all_lines (λ i. not (line_true w r [] i.line)) (λ i. line_true w r [] i.line) d.invariants (λ i. not_not (line_true w r [] i.line))
+    position_none (λ (i : Invariant). line_true w r [] i.line) 0 d.invariants
     ∙ sym (list_all-map (line_true w r []) (λ (i : Invariant). i.line) d.invariants)
-
-same_number : (a b : ℕ) → (a == b) ≡ true → a ≡ b
-same_number a b h = grind (arith, nat_tests)
-
-number_same : (a b : ℕ) → a ≡ b → (a == b) ≡ true
-number_same a b h = grind (arith, nat_tests)
 
 -- the numbers of calls are in range
 abbrev NumbersFit : List Call → Type 0
@@ -66,10 +48,10 @@ module _ (d : Specification) (w : World) where
   call_from o a h =
       let p = and_parts (a.op == o) (call_fits d w a) h in
       let q = and_parts (is_call d w a) (list_all in_state_range a.args) p.1 in
-      record { of = record { operation = same_number a.op o p.0; fits = q.0 }; numbers = q.1 }
+      record { of = record { operation = eqb-true a.op o p.0; fits = q.0 }; numbers = q.1 }
 
   call_to : (o : ℕ) (a : Call) → IsCallOf d w o a → list_all in_state_range a.args ≡ true → is_call_of d w o a ≡ true
-  call_to o a c n = and_from _ _ (number_same a.op o c.operation) (and_from _ _ c.fits n)
+  call_to o a c n = and_from _ _ (eq-eqb a.op o c.operation) (and_from _ _ c.fits n)
 
   together_from : (r : Reads) (a b : Call) → may_run_together d w r a b ≡ true → MayRunTogether d w r a b
   together_from r a b h =

@@ -15,7 +15,7 @@ use crate::initial::is_initial;
 use crate::lines::{invariant_line, is_ready, line_at, requires_line};
 use crate::obligation::Obligation;
 use crate::witness::Witness;
-use effectors::{After, places_of, post2_count, post2_has};
+use effectors::{After, post2_count, post2_has};
 use spec_core::{Call, Prefix, Prefixed, Spec, State, Thing, World, invariant_broken_at};
 use token_rules::conflicts;
 
@@ -42,7 +42,7 @@ fn has_elements(spec: &Spec, world: &World, ob: &Obligation, elements: &[u32]) -
             first: _,
             second: _,
             thing,
-        } => world.has_tuple(places_of(spec, *thing), elements),
+        } => world.has_tuple(spec.places_of(*thing), elements),
         Obligation::Stable { op, line, other: _ } => fits_line(
             world,
             requires_line(spec, *op, *line),

@@ -8,7 +8,6 @@ ghost use Rattle.obligation_list.specs.Starting.{starts_at, starts_everywhere, s
 ghost use Rattle.spec_core.specs.Specification.{relation_places, counter_keys};
 
 use crate::listing::sizes_of;
-use effectors::places_of;
 use spec_core::{Spec, State, Thing, World};
 
 // The thing has its stated value at a tuple or key.
@@ -62,7 +61,7 @@ fn relations_start(spec: &Spec, world: &World, state: &State) -> bool
     spec.well_formed();
     for k in 0..sizes_of(spec).relations {
         let thing = Thing::Relation(k);
-        if !starts_behind(spec, world, state, thing, [0; 3], 0, places_of(spec, thing)) {
+        if !starts_behind(spec, world, state, thing, [0; 3], 0, spec.places_of(thing)) {
             return false;
         }
     }
@@ -76,7 +75,7 @@ fn counters_start(spec: &Spec, world: &World, state: &State) -> bool
     spec.well_formed();
     for k in 0..sizes_of(spec).counters {
         let thing = Thing::Counter(k);
-        if !starts_behind(spec, world, state, thing, [0; 3], 0, places_of(spec, thing)) {
+        if !starts_behind(spec, world, state, thing, [0; 3], 0, spec.places_of(thing)) {
             return false;
         }
     }

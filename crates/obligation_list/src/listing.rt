@@ -11,7 +11,7 @@ ghost use Rattle.obligation_list.specs.declared.obligation.Obligation.{Obligatio
 use crate::obligation::Obligation;
 use effectors::is_thing;
 use items::Items;
-use spec_core::{Operation, Spec, Thing, Update};
+use spec_core::{Spec, Thing, Update};
 use std::alloc::{AllocError, Global};
 
 // How many members the lists of a specification have.
@@ -38,15 +38,6 @@ pub fn sizes_of(spec: &Spec) -> Sizes
     }
 }
 
-fn updates_of<'a>(spec: &'a Spec, op: u8) -> &'a [Update]
-    ensures { result.now ≡ (op_of spec.now op).updates }
-{
-    match spec.operations.as_slice().get(op as usize) {
-        Some(operation) => operation.updates.as_slice(),
-        None => &[],
-    }
-}
-
 fn writes(updates: &[Update], thing: Thing) -> bool
     ensures { result ≡ writes updates.now thing }
 {
@@ -56,7 +47,7 @@ fn writes(updates: &[Update], thing: Thing) -> bool
 fn either_writes(spec: &Spec, first: u8, second: u8, thing: Thing) -> bool
     ensures { result ≡ either_writes spec.now first second thing }
 {
-    writes(updates_of(spec, first), thing) || writes(updates_of(spec, second), thing)
+    writes(spec.updates_of(first), thing) || writes(spec.updates_of(second), thing)
 }
 
 fn add_init(list: &mut Items<Obligation>, invariants: u8) -> Result<(), AllocError>
@@ -170,10 +161,7 @@ fn lines_of(spec: &Spec, op: u8) -> u8
     ensures { result ≡ length (op_of spec.now op).requires_ }
 {
     spec.well_formed();
-    match spec.operations.as_slice().get(op as usize) {
-        Some(operation) => operation.requires_.len() as u8,
-        None => 0,
-    }
+    spec.requires_of(op).len() as u8
 }
 
 fn add_stable_from(list: &mut Items<Obligation>, spec: &Spec, op: u8) -> Result<(), AllocError>

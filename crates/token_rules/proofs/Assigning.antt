@@ -1,13 +1,8 @@
 -- The test of one assignment, and the assignments themselves.
 use Rattle.std.proofs.Common.{◌≡◌, ℕ, Bool, true, false, cond, not, ◌&&◌, ◌||◌, ◌==◌, List, [], ◌∷◌, map, refl, ap, arith}
+use Rattle.std.proofs.lemmas.Bool.{and_from, and_parts}
 use Rattle.std.proofs.lemmas.Bool.Decides.{nat_tests}
 use Rattle.token_rules.specs.Assignment.{stands_for, assigned, one_assignment, Assigns}
-
-halves : (a b : Bool) → (a && b) ≡ true → (a ≡ true) × (b ≡ true)
-halves a b h = grind arith
-
-both : (a b : Bool) → a ≡ true → b ≡ true → (a && b) ≡ true
-both a b p q = grind arith
 
 joined : {x y : ℕ} {xs ys : List ℕ} → x ≡ y → xs ≡ ys → x ∷ xs ≡ y ∷ ys
 joined p q = λ i. p i ∷ q i
@@ -28,7 +23,7 @@ map-changed v e value [] [] h k = k
 map-changed v e value [] (f ∷ fs) h k = k
 map-changed v e value (u ∷ us) [] h k = absurd cc
 map-changed v e value (u ∷ us) (f ∷ fs) h k =
-    let parts = halves (not (u == v) || (f == e)) (stands_for v e us fs) h in
+    let parts = and_parts (not (u == v) || (f == e)) (stands_for v e us fs) h in
     let first : value u ≡ f = cc in
     let rest : map value us ≡ fs = cc in
     joined (here u v f e (value u) parts.0 first) (map-changed v e value us fs parts.1 rest)
@@ -39,7 +34,7 @@ assigned-found [] [] h = (λ x. x, refl)
 assigned-found [] (f ∷ fs) h = absurd cc
 assigned-found (u ∷ us) [] h = absurd cc
 assigned-found (u ∷ us) (f ∷ fs) h =
-    let parts = halves (stands_for u f us fs) (assigned us fs) h in
+    let parts = and_parts (stands_for u f us fs) (assigned us fs) h in
     let more = assigned-found us fs parts.1 in
     (changed u f more.0, joined (self u f (more.0 u)) (map-changed u f more.0 us fs parts.0 more.1))
 
@@ -49,8 +44,8 @@ one_assignment-found [] [] us fs h = let found = assigned-found us fs h in (foun
 one_assignment-found [] (e ∷ es) us fs h = absurd cc
 one_assignment-found (v ∷ vs) [] us fs h = absurd cc
 one_assignment-found (v ∷ vs) (e ∷ es) us fs h =
-    let parts = halves (stands_for v e vs es && stands_for v e us fs) (one_assignment vs es us fs) h in
-    let two = halves (stands_for v e vs es) (stands_for v e us fs) parts.0 in
+    let parts = and_parts (stands_for v e vs es && stands_for v e us fs) (one_assignment vs es us fs) h in
+    let two = and_parts (stands_for v e vs es) (stands_for v e us fs) parts.0 in
     let more = one_assignment-found vs es us fs parts.1 in (
       changed v e more.0,
       record {
@@ -73,7 +68,7 @@ stands_for-map value v e (u ∷ us) [] q k = absurd cc
 stands_for-map value v e (u ∷ us) (f ∷ fs) q k =
     let first : value u ≡ f = cc in
     let rest : map value us ≡ fs = cc in
-    both (not (u == v) || (f == e)) (stands_for v e us fs) (same_at value u v f e first q) (stands_for-map value v e us fs q rest)
+    and_from (not (u == v) || (f == e)) (stands_for v e us fs) (same_at value u v f e first q) (stands_for-map value v e us fs q rest)
 
 assigned-map : (value : ℕ → ℕ) (us fs : List ℕ) → map value us ≡ fs → assigned us fs ≡ true
 assigned-map value [] [] k = refl
@@ -82,7 +77,7 @@ assigned-map value (u ∷ us) [] k = absurd cc
 assigned-map value (u ∷ us) (f ∷ fs) k =
     let first : value u ≡ f = cc in
     let rest : map value us ≡ fs = cc in
-    both (stands_for u f us fs) (assigned us fs) (stands_for-map value u f us fs first rest) (assigned-map value us fs rest)
+    and_from (stands_for u f us fs) (assigned us fs) (stands_for-map value u f us fs first rest) (assigned-map value us fs rest)
 
 pub one_assignment-map : (vs es us fs : List ℕ) (value : ℕ → ℕ) → Assigns vs es us fs value → one_assignment vs es us fs ≡ true
 one_assignment-map [] [] us fs value a = assigned-map value us fs a.right
@@ -92,6 +87,6 @@ one_assignment-map (v ∷ vs) (e ∷ es) us fs value a =
     let k = a.left in
     let first : value v ≡ e = cc in
     let rest : map value vs ≡ es = cc in
-    both (stands_for v e vs es && stands_for v e us fs) (one_assignment vs es us fs)
-    (both (stands_for v e vs es) (stands_for v e us fs) (stands_for-map value v e vs es first rest) (stands_for-map value v e us fs first a.right))
+    and_from (stands_for v e vs es && stands_for v e us fs) (one_assignment vs es us fs)
+    (and_from (stands_for v e vs es) (stands_for v e us fs) (stands_for-map value v e vs es first rest) (stands_for-map value v e us fs first a.right))
     (one_assignment-map vs es us fs value (record { left = rest; right = a.right }))

@@ -2,21 +2,10 @@
 
 ghost use Rattle.std.specs.Prelude.{◌≡◌};
 ghost use Rattle.std.specs.List.{list_any};
-ghost use Rattle.spec_core.specs.Specification.{op_of};
 ghost use Rattle.token_rules.specs.Conflict.{lines_match, matched, conflicts};
 
 use crate::assignment::one_assignment;
 use spec_core::{Call, Rule, Spec, Take, World};
-
-// The takes lines of the operation that a call names; none where there is no such operation.
-fn takes_of<'a>(spec: &'a Spec, call: &Call) -> &'a [Take]
-    ensures { result.now ≡ (op_of spec.now call.now.op).takes }
-{
-    match spec.operations.as_slice().get(call.op as usize) {
-        Some(operation) => operation.takes.as_slice(),
-        None => &[],
-    }
-}
 
 // The rule matches the two takes lines, its left pattern at the first.
 fn lines_match(world: &World, one: &[i64], other: &[i64], rule: &Rule, t: &Take, u: &Take) -> bool
@@ -86,8 +75,8 @@ fn some_rule_matches(
 fn matched(spec: &Spec, world: &World, one: &Call, other: &Call) -> bool
     ensures { result ≡ matched spec.now world.now one.now other.now }
 {
-    let first = takes_of(spec, one);
-    let second = takes_of(spec, other);
+    let first = spec.takes_of(one.op);
+    let second = spec.takes_of(other.op);
     some_rule_matches(
         world,
         one.args.as_slice(),

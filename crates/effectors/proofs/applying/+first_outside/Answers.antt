@@ -2,7 +2,8 @@ use Rattle.std.proofs.Common.{◌≡◌, ℕ, ◌-◌, List, length, take, drop,
 use Rattle.spec_core.specs.Specification.{op_of}
 use Rattle.spec_core.specs.World.{tuples}
 use Rattle.spec_core.specs.State.{reads}
-use Rattle.effectors.specs.Effect.{count_after, Beyond}
+use Rattle.effectors.specs.Effect.{count_after}
+use Rattle.effectors.specs.Beyond.{Beyond}
 use Rattle.effectors.specs.Refusal.{refused_by}
 use Rattle.effectors.proofs.Outsides.{head_rest, outside_later}
 use Rattle.effectors.proofs.applying.+first_outside.Goals as goal

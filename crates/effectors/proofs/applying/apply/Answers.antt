@@ -3,11 +3,12 @@ use Rattle.std.specs.List.{list_all}
 use Rattle.spec_core.specs.Specification.{op_of}
 use Rattle.spec_core.specs.State.{reads}
 use Rattle.spec_core.specs.Fits.{update_fits}
-use Rattle.effectors.specs.Effect.{after, after_call, first_beyond}
+use Rattle.effectors.specs.Effect.{after, after_call}
 use Rattle.effectors.specs.Reaching.{with_updates, updates_in_range}
 use Rattle.effectors.proofs.Fitting.{call_updates}
 use Rattle.effectors.proofs.Written.{written}
-use Rattle.effectors.proofs.Ranges.{in_range_none, none_in_range}
+use Rattle.effectors.proofs.Ranges.{in_range_all, all_in_range_reached}
+use Rattle.effectors.proofs.FirstBeyond.{none_is}
 use Rattle.effectors.proofs.applying.apply.Goals as goal
 
 pub write_updates-requires-clause-updates : goal.write_updates-requires-clause-updates
@@ -22,7 +23,7 @@ why_refused-requires-clause-outside c =
     let n = after d w call (reads s) in
     let u = call_updates d w call c.well_formed-2.ensures c.requires.world c.requires.call in
     λ h.
-    let r = none_in_range d w call s c.requires.state u c.stays_in_range.ensures h in
+    let r = all_in_range_reached d w call s c.requires.state u c.stays_in_range.ensures (none_is (after_call d w call (reads s)) h) in
     let e : false ≡ true = sym c.if-branch.false ∙ c.in_ok-write_updates.ensures.range ∙ ap (λ us. updates_in_range d w call.args us n) c.updates_of.ensures ∙ r in
     cc
 
@@ -40,5 +41,5 @@ returns-then-branch-clause-in_range c =
     let d = c.args.spec.now in let w = c.args.world.now in let call = c.args.call.now in let s = c.args.state.now in
     let n = after d w call (reads s) in
     let u = call_updates d w call c.well_formed-2.ensures c.requires.world c.requires.call in
-    in_range_none d w call s c.requires.state u c.stays_in_range.ensures
+    in_range_all d w call s c.requires.state u c.stays_in_range.ensures
     (ap (λ us. updates_in_range d w call.args us n) (sym c.updates_of.ensures) ∙ sym c.in_ok-write_updates.ensures.range ∙ c.if-branch.true)

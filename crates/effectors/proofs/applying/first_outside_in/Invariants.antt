@@ -1,7 +1,8 @@
 use Rattle.std.proofs.Common.{◌≡◌, ℕ, ℤ, List, ◌∷◌, map, drop}
 use Rattle.spec_core.specs.Specification.{op_of}
 use Rattle.spec_core.specs.State.{reads}
-use Rattle.effectors.specs.Effect.{count_after, first_beyond}
+use Rattle.effectors.specs.Effect.{count_after}
+use Rattle.effectors.specs.Beyond.{first_beyond}
 use Rattle.effectors.proofs.applying.first_outside_in.Given as goal
 
 abbrev pub invariant-loop-key : goal.invariant-loop-key
