@@ -5,7 +5,7 @@ use Rattle.std.specs.Option.{option_and_then, option_map}
 use Rattle.std.proofs.lemmas.Option.{slice_get-get_or, slice_get_within}
 use Rattle.lin_rows.specs.declared.term.RowTerm.{RowTerm}
 use Rattle.lin_rows.specs.Numbers.{fit}
-use Rattle.lin_rows.specs.Rows.{Row, places_below, negated, opposite, point_of}
+use Rattle.lin_rows.specs.Rows.{Row, is_row, places_below, negated, opposite, point_of}
 use Rattle.proof_lines.specs.declared.clause.Lit.{Lit}
 use Rattle.proof_lines.specs.declared.problem.AtomKind.{AtomKind}
 use Rattle.proof_lines.specs.declared.problem.AtomKind.TheVariants.{Plain, Row as OfRow}
@@ -15,11 +15,12 @@ use Rattle.proof_lines.specs.declared.line.Line.{Line}
 use Rattle.proof_lines.specs.declared.line.Line.TheVariants.{Farkas, Split}
 use Rattle.proof_lines.specs.Clauses.{has, sub, flip, lit_of, same_bool, negations, clause_true, all_true, holds_both_ways}
 use Rattle.proof_lines.specs.Problems.{PlainProblem, Meaning, fits, names_below, row_true, atom_true, kind_true, meaning_of}
-use Rattle.proof_lines.specs.Steps.{row_of_kind, atom_row, lit_row}
+use Rattle.proof_lines.specs.Steps.{row_of_kind, atom_row, lit_row, row_at}
 use Rattle.proof_kernel.specs.Rules.{next}
 use Rattle.proof_lines.specs.Splits.{at_most, is_at_most}
-use Rattle.std.proofs.lemmas.Bool.{and_parts, or_left, or_right, and_from, ltb-true, lt-ltb}
+use Rattle.std.proofs.lemmas.Bool.{and_parts, or_left, or_right, and_from, ltb-true, lt-ltb, not-true}
 use Rattle.proof_lines.proofs.Sets.{same_nat-refl, true_by}
+use Rattle.proof_lines.proofs.LineRows.{row_at-is_row}
 use Rattle.theory_api.specs.Laws.{all_below, all_satisfied, is_some_row, are_given, rows_at, settles, IsModel, IsConflict, IsSplit, IsTooMany, IsBeyond}
 use Rattle.theory_api.proofs.Standing.{Stand, lit_at}
 use Rattle.search_logs.specs.declared.trail.Entry.{Entry}
@@ -46,12 +47,13 @@ use Rattle.sat_core.proofs.Ends.{settled_unrefuted, settled_full, searched-so}
 -- What follows from an answer of the solver of rows.
 
 pub none_false : (cs : List (List Lit)) (t : List Entry) → Settled t cs → NoneFalse t cs
-none_false cs t s = λ k l. one (is_false t (get_or cs k [])) (and_parts (not (is_false t (get_or cs k []))) _ (s k l)).0
-  where
-    one : (b : Bool) → not b ≡ true → b ≡ false
-    one b g = grind arith
+none_false cs t s = λ k l. not-true (is_false t (get_or cs k [])) (and_parts (not (is_false t (get_or cs k []))) _ (s k l)).0
 
 -- DRAWN ROWS.
+
+pub rows_at-are_rows : (rows : List Row) (used : List ℕ) → list_all is_row rows ≡ true → list_all is_row (rows_at rows used) ≡ true
+rows_at-are_rows rows [] h = refl
+rows_at-are_rows rows (u ∷ used) h = and_from (is_row (row_at rows u)) (list_all is_row (rows_at rows used)) (row_at-is_row rows u h) (rows_at-are_rows rows used h)
 
 map-push : (atoms : List AtomKind) (lits : List Lit) (rows : List Row) (l : Lit) (r : Row) → AreRowsOf atoms lits rows → lit_row atoms l ≡ Some r → AreRowsOf atoms (lits ++ l ∷ []) (rows ++ r ∷ [])
 map-push atoms [] [] l r h e = λ i. e i ∷ []

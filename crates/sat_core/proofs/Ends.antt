@@ -1,24 +1,36 @@
 use Rattle.std.proofs.Common.{◌≡◌, ◌≢◌, ℕ, zero, suc, ◌+◌, ◌<◌, ◌≤◌, Bool, true, false, cond, ◌⊎◌, inl, inr, List, [], ◌∷◌, length, get_or, refl, sym, ◌∙◌, ap, subst, arith, Ok}
 use Rattle.std.specs.Prelude.{nat_le}
-use Rattle.std.specs.List.{list_any}
+use Rattle.std.specs.List.{list_any, list_all}
 use Rattle.std.proofs.lemmas.Bool.Decides.{nat_tests}
 use Rattle.proof_lines.specs.declared.clause.Lit.{Lit}
 use Rattle.proof_lines.specs.declared.line.Line.{Line}
 use Rattle.proof_lines.specs.Clauses.{is_empty}
-use Rattle.proof_lines.specs.Problems.{PlainProblem}
+use Rattle.proof_lines.specs.Problems.{PlainProblem, fits, has_good_row}
 use Rattle.proof_kernel.specs.Rules.{run, start}
-use Rattle.std.proofs.lemmas.Bool.{or_left, or_right}
+use Rattle.proof_kernel.proofs.Runs.{run-refutes}
+use Rattle.std.proofs.lemmas.Bool.{or_left, or_right, cases_eq}
 use Rattle.search_logs.specs.declared.trail.Entry.{Entry}
 use Rattle.search_logs.specs.Trails.{is_false, open_in, before_last, has_decision, older, is_done, Settled, NoneFalse}
 use Rattle.search_logs.specs.Forcing.{AreRefuted}
 use Rattle.search_logs.specs.SearchLogs.{Phase, between, within, SearchLog, standing, IsSearched, splits}
 use Rattle.search_logs.proofs.Forcing.{refuted_none, empty_unsat}
 use Rattle.search_logs.proofs.Shown.{standing-fresh, lines_judged-so}
-use Rattle.sat_core.specs.Answers.{IsEasy, IsRefuted, IsSpent, IsShort}
+use Rattle.sat_core.specs.declared.answer.Answer.{Answer}
+use Rattle.sat_core.specs.declared.answer.Answer.TheVariants.{Unsat, Sat, Lines, Rows, Range, Memory}
+use Rattle.sat_core.specs.Answers.{IsEasy, IsRefuted, IsSpent, IsShort, IsAnswer, ShowsNone}
 use Rattle.sat_core.specs.Searching.{Aim, Keeps, InSearch, InChain}
 use Rattle.sat_core.proofs.Keeping.{short_of}
 
 -- How a search ends.
+
+-- what Unsat means
+pub shows-none : (split stop : Bool) (p : PlainProblem) (budget : ℕ) (a : Answer) → IsAnswer split stop p budget a → fits p ≡ true → list_all has_good_row p.atoms ≡ true → ShowsNone p a
+shows-none split stop p budget (Unsat log) r f g = run-refutes p log r.state f g r.runs r.empty
+shows-none split stop p budget (Sat i) r f g = tt
+shows-none split stop p budget (Lines log) r f g = tt
+shows-none split stop p budget (Rows e) r f g = tt
+shows-none split stop p budget (Range e) r f g = tt
+shows-none split stop p budget Memory r f g = tt
 
 at_empty : (cs : List (List Lit)) (k : ℕ) → k < length cs → is_empty (get_or cs k []) ≡ true → list_any is_empty cs ≡ true
 at_empty [] k l h = absurd (omega arith)
@@ -57,9 +69,6 @@ undone-full t [] h = absurd (by_case (has_decision t) h)
     by_case false h = absurd (grind (arith, nat_tests))
 undone-full t (l ∷ c) h = refl
 
-same_or_not : (a b : ℕ) → (a ≡ b) ⊎ (a ≢ b)
-same_or_not a b = grind arith
-
 -- a log with what is known of it is a fresh search log
 pub searched-so : (a : Aim) (budget : ℕ) (q : PlainProblem) (ls : List Line) (phase : Phase) → Keeps a budget q ls → SearchLog a.problem ls q phase → ((k : ℕ) → k < length q.clauses → is_empty (get_or q.clauses k []) ≡ false) → IsSearched a.problem ls q
 searched-so a budget q ls phase k s n = record {
@@ -90,7 +99,7 @@ pub chain_spends : (a : Aim) (budget before : ℕ) (q : PlainProblem) (t : List 
 chain_spends a budget before q t ls i x n b = spent-so a budget q ls (within x.start x.from (get_or q.clauses i [])) x.keeps x.search none b x.uneasy hard
   where
     none : (k : ℕ) → k < length q.clauses → is_empty (get_or q.clauses k []) ≡ false
-    none k l = by_case (same_or_not k i)
+    none k l = by_case (cases_eq k i)
       where
         by_case : (k ≡ i) ⊎ (k ≢ i) → is_empty (get_or q.clauses k []) ≡ false
         by_case (inl e) = subst (λ (j : ℕ). is_empty (get_or q.clauses j []) ≡ false) (sym e) (undone-full t (get_or q.clauses i []) n)

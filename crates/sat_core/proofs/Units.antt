@@ -2,7 +2,7 @@ use Rattle.std.proofs.Common.{◌≡◌, Bool, true, false, not, ◌&&◌, ◌||
 use Rattle.std.specs.List.{list_any}
 use Rattle.proof_lines.specs.declared.clause.Lit.{Lit}
 use Rattle.proof_lines.specs.Clauses.{has, same_lit, flip}
-use Rattle.std.proofs.lemmas.Bool.{and_parts, or_left, or_right}
+use Rattle.std.proofs.lemmas.Bool.{and_parts, or_left, or_right, false_from_ne_true, not-true}
 use Rattle.proof_lines.proofs.Sets.{same_lit-is, same_lit-refl}
 use Rattle.search_logs.specs.declared.trail.Entry.{Entry}
 use Rattle.search_logs.specs.Trails.{negated, named, is_false, lone, is_unit}
@@ -10,27 +10,19 @@ use Rattle.search_logs.proofs.Trails.{any_has, all_has, in_named}
 
 -- Which literal may make a clause unit.
 
-off : (b : Bool) → (b ≡ true → ⊥) → b ≡ false
-off true f = absurd (f refl)
-off false f = refl
-
 -- a literal that makes a clause unit isn't negated
 unit-open : (t : List Entry) (c : List Lit) (l : Lit) → is_unit t c l ≡ true → negated t l ≡ true → ⊥
 unit-open t c l u n = absurd (
     let p = and_parts (has c l) (lone t c l && not (named t l.atom)) u in
     let q = and_parts (lone t c l) (not (named t l.atom)) p.1 in
     let m = in_named t (flip l) n in
-    let k = not_true (named t l.atom) q.1 in cc)
-  where
-    not_true : (b : Bool) → not b ≡ true → b ≡ false
-    not_true true h = absurd cc
-    not_true false h = refl
+    let k = not-true (named t l.atom) q.1 in cc)
 
 none_open : (t : List Entry) (c : List Lit) → is_false t c ≡ true → list_any (is_unit t c) c ≡ false
-none_open t c f = off (list_any (is_unit t c) c) (λ h. (let r = any_has (is_unit t c) c h in unit-open t c r.0 r.2 (all_has (negated t) c r.0 f r.1)))
+none_open t c f = false_from_ne_true (list_any (is_unit t c) c) (λ h. (let r = any_has (is_unit t c) c h in unit-open t c r.0 r.2 (all_has (negated t) c r.0 f r.1)))
 
 first_open : (t : List Entry) (c : List Lit) (l : Lit) → has c l ≡ true → negated t l ≡ false → is_unit t c l ≡ false → list_any (is_unit t c) c ≡ false
-first_open t c l h n u = off (list_any (is_unit t c) c) (λ k. (let r = any_has (is_unit t c) c k in by_case r.0 r.2 (same_lit l r.0) refl))
+first_open t c l h n u = false_from_ne_true (list_any (is_unit t c) c) (λ k. (let r = any_has (is_unit t c) c k in by_case r.0 r.2 (same_lit l r.0) refl))
   where
     or_last : (a b : Bool) → (a || b) ≡ true → a ≡ false → b ≡ true
     or_last a b p q = grind arith

@@ -1,3 +1,4 @@
+-- What the search answers, and what each answer promises.
 use Rattle.std.specs.Prelude.{◌≡◌, ℕ, ◌+◌, ◌^◌, ◌<◌, ◌≤◌, ℤ, Bool, true, false, List, length, map, slice_index_or, Option, Some, None, Ok}
 use Rattle.std.specs.List.{list_all}
 use Rattle.lin_rows.specs.Rows.{Row}
@@ -9,7 +10,7 @@ use Rattle.proof_lines.specs.declared.line.RangeWhat.{RangeWhat}
 use Rattle.proof_lines.specs.declared.line.Line.{Line}
 use Rattle.proof_lines.specs.declared.line.RowsEvidence.{RowsEvidence}
 use Rattle.proof_lines.specs.declared.line.RangeEvidence.{RangeEvidence}
-use Rattle.proof_lines.specs.Problems.{PlainProblem, meaning_of, makes_true, atom_true}
+use Rattle.proof_lines.specs.Problems.{PlainProblem, HasNoInterpretation, meaning_of, makes_true, atom_true}
 use Rattle.proof_lines.specs.Steps.{lit_row}
 use Rattle.proof_kernel.specs.Rules.{State, run}
 use Rattle.proof_lines.specs.Evidence.{in_state}
@@ -91,6 +92,15 @@ pub record IsTooLarge (split : Bool) (p : PlainProblem) (budget : ℕ) (e : Rang
   pub held : List Row
   pub stopped : IsStopped split p budget e.log e.used e.steps (Some e.what) held
   pub chosen : HasChosen held e.what
+
+-- Unsat says that no interpretation makes all clauses of the problem true
+abbrev pub ShowsNone : PlainProblem → Answer → Type 0
+ShowsNone p (Unsat log) = HasNoInterpretation p
+ShowsNone p (Sat i) = Unit {0}
+ShowsNone p (Lines log) = Unit {0}
+ShowsNone p (Rows e) = Unit {0}
+ShowsNone p (Range e) = Unit {0}
+ShowsNone p Memory = Unit {0}
 
 -- what an answer promises; want of memory may come at any time
 abbrev pub IsAnswer : Bool → Bool → PlainProblem → ℕ → Answer → Type 0

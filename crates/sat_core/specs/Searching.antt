@@ -1,14 +1,16 @@
-use Rattle.std.specs.Prelude.{◌≡◌, ℕ, ◌+◌, ◌-◌, ◌*◌, ◌^◌, ◌<◌, ◌≤◌, Bool, true, false, List, [], length, slice_index_or, slice_get, Some, Ok, ◌==◌}
+-- Where a search stands: the states of its private functions, which a reader of its answers passes by.
+use Rattle.std.specs.Prelude.{◌≡◌, ℕ, ◌+◌, ◌-◌, ◌*◌, ◌^◌, ◌<◌, ◌≤◌, Bool, true, false, not, List, [], length, slice_index_or, slice_get, Some, Ok, ◌==◌}
 use Rattle.std.specs.List.{list_all, list_any}
 use Rattle.proof_lines.specs.declared.clause.Lit.{Lit}
 use Rattle.proof_lines.specs.declared.line.Line.{Line}
 use Rattle.lin_rows.specs.Rows.{Row}
 use Rattle.proof_lines.specs.declared.problem.AtomKind.{AtomKind}
-use Rattle.proof_lines.specs.declared.problem.AtomKind.TheVariants.{Row as OfRow}
+use Rattle.proof_lines.specs.declared.problem.AtomKind.TheVariants.{Plain, Row as OfRow}
 use Rattle.proof_lines.specs.declared.line.RowStep.{RowStep}
 use Rattle.proof_lines.specs.declared.line.Line.TheVariants.{Farkas}
 use Rattle.proof_lines.specs.Clauses.{negations, distinct}
 use Rattle.proof_lines.specs.Forced.{Forced}
+use Rattle.proof_lines.specs.Steps.{is_negative}
 use Rattle.proof_lines.specs.Problems.{PlainProblem, fits}
 use Rattle.proof_kernel.specs.Rules.{run, next}
 use Rattle.search_logs.specs.declared.trail.Entry.{Entry}
@@ -138,3 +140,8 @@ IsLearned Empty budget q t ls r u ms = (a : Aim) → InSearch a budget q t ls �
 IsLearned Cut budget q t ls r u ms = (a : Aim) → InSearch a budget q t ls → InSearch a budget r u ms × (length ls < length ms)
 IsLearned SpentThere budget q t ls r u ms = (a : Aim) → InSearch a budget q t ls → IsSpent a.split a.problem budget ms
 IsLearned NoMemory budget q t ls r u ms = Unit {0}
+
+-- THE SIGN OF A DECISION: an atom's row is decided by its truth where all numbers are 0, and a plain atom to true.
+abbrev pub is_true_at_zero : AtomKind → Bool
+is_true_at_zero Plain = true
+is_true_at_zero (OfRow r) = not (is_negative r.bound)

@@ -1,5 +1,6 @@
 // What follows for a search from what its solver says of the rows of a complete trail.
 ghost use Rattle.std.specs.Prelude.{◌≡◌, ◌<◌, ◌≤◌, ◌^◌, ◌++◌, ◌∷◌, [], ℕ, List, true, false, length, OnOk, IfOk};
+ghost use Rattle.lin_rows.specs.Numbers.{in_range};
 ghost use Rattle.lin_rows.specs.Rows.{Row as PlainRow};
 ghost use Rattle.proof_lines.specs.declared.clause.Lit.{Lit as PlainLit};
 ghost use Rattle.proof_lines.specs.declared.line.Line.TheVariants.{Split};
@@ -81,7 +82,7 @@ fn refute(
     explain(alloc, grown, trail, log, start, budget)
 }
 
-// Writes a Split line and adds its atom. The number -2^127 is no bound of a row and is answered as want of memory.
+// Writes a Split line and adds its atom.
 fn split(
     alloc: Global,
     grown: &mut Problem,
@@ -90,12 +91,10 @@ fn split(
     at: &i128,
     cause: Cause,
 ) -> Result<(), AllocError>
-    requires { place < grown.old.ints }
+    requires place { place < grown.old.ints }
+    requires fits { in_range at.now ≡ true }
     ensures { OnOk result ((grown.new ≡ with_row grown.old (at_most place at.now)) × (log.new ≡ log.old ++ Split place at.now cause.used cause.steps cause.low cause.high cause.values ∷ []) × (length grown.new.atoms < 2 ^ 32)) }
 {
-    if *at == i128::MIN {
-        return Err(AllocError);
-    }
     let row = at_most(alloc, place, at)?;
     let Cause {
         used,
@@ -174,6 +173,7 @@ pub(crate) fn ask<T: Theory>(
                 high,
                 values,
             };
+            drawn.law_rows();
             split(alloc, grown, log, place, &at, cause)?;
             Ok(Outcome::Goes)
         }

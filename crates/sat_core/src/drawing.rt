@@ -1,7 +1,7 @@
 // The rows that the literals of a trail stand for.
 ghost use Rattle.std.specs.Prelude.{◌≡◌, ◌<◌, ◌^◌, nat_lt, ℕ, cond, true, false, map, length, slice_index_or, Some, IfOk, OnOk, ◌+◌};
 ghost use Rattle.std.specs.List.{list_all};
-ghost use Rattle.lin_rows.specs.Rows.{negated};
+ghost use Rattle.lin_rows.specs.Rows.{is_row, negated};
 ghost use Rattle.proof_lines.specs.Clauses.{lit_of};
 ghost use Rattle.search_logs.specs.Trails.{in_trail, named};
 ghost use Rattle.sat_core.specs.Searching.{IsDrawn, lit_at};
@@ -18,6 +18,15 @@ use std::alloc::{AllocError, Global};
 pub(crate) struct Drawn {
     pub lits: Items<Lit>,
     pub rows: Items<Row>,
+}
+
+impl Drawn {
+    /// The fact that the rows keep what their type keeps.
+    pub(crate) fn law_rows(&self)
+        ensures { list_all is_row self.now.rows ≡ true }
+    {
+        theory_api::law_rows(self.rows.as_slice());
+    }
 }
 
 // The row of a literal over an atom with a row. A negation beyond the range of a row is answered as want of memory.

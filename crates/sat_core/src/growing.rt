@@ -3,9 +3,12 @@ ghost use Rattle.std.specs.Prelude.{◌≡◌, ◌<◌, ◌^◌, ◌∷◌, [], 
 ghost use Rattle.lin_rows.specs.Rows.{places_below};
 ghost use Rattle.proof_lines.specs.Clauses.{distinct};
 ghost use Rattle.proof_lines.specs.Problems.{atoms_below};
+ghost use Rattle.proof_lines.specs.declared.problem.AtomKind.TheVariants.{Plain};
 ghost use Rattle.search_logs.specs.SearchLogs.{with_clause, with_row};
+ghost use Rattle.sat_core.specs.Searching.{is_true_at_zero};
 
 use lin_rows::Row;
+use proof_lines::splitting::is_negative;
 use proof_lines::{AtomKind, Clause, Lit, Problem};
 use std::alloc::AllocError;
 
@@ -42,6 +45,24 @@ pub(crate) fn atom_count(problem: &Problem) -> u32
     ensures { result ≡ length problem.now.atoms }
 {
     problem.atoms.len() as u32
+}
+
+// The truth of an atom's row where all numbers are 0; a plain atom counts as true.
+fn is_true_at_zero(atom: &AtomKind) -> bool
+    ensures { result ≡ is_true_at_zero atom.now }
+{
+    match atom {
+        AtomKind::Plain => true,
+        AtomKind::Row(row) => !is_negative(&row.bound()),
+    }
+}
+
+/// The sign with which an atom is decided.
+pub(crate) fn sign_of(problem: &Problem, atom: u32) -> bool
+    requires { atom < length problem.now.atoms }
+    ensures { result ≡ is_true_at_zero (slice_index_or problem.now.atoms atom Plain) }
+{
+    is_true_at_zero(&problem.atoms.as_slice()[atom as usize])
 }
 
 /// Adds a clause, and answers its number. With 2^32 - 1 clauses a further one is answered as want of memory.

@@ -4,7 +4,7 @@ ghost use Rattle.std.specs.List.{list_any};
 ghost use Rattle.lin_rows.specs.Rows.{Row as PlainRow};
 ghost use Rattle.proof_lines.specs.declared.clause.Lit.{Lit as PlainLit};
 ghost use Rattle.proof_lines.specs.Clauses.{is_empty};
-ghost use Rattle.sat_core.specs.Answers.{AreRowsOf, IsAnswer};
+ghost use Rattle.sat_core.specs.Answers.{AreRowsOf, IsAnswer, ShowsNone};
 ghost use Rattle.sat_core.specs.Searching.{InSearch};
 ghost use Rattle.sat_core.specs.Outcomes.{IsOutcome, IsPushed};
 
@@ -12,8 +12,9 @@ use crate::answer::Answer;
 use crate::asking::{Outcome, ask};
 use crate::explaining::explain;
 use crate::finding::{Found, find, unnamed};
-use crate::growing::atom_count;
+use crate::growing::{atom_count, sign_of};
 use items::Items;
+use proof_lines::problem::law_rows;
 use proof_lines::{Line, Lit, Problem, RangeEvidence, RowsEvidence};
 use search_logs::{Entry, Trail};
 use std::alloc::Global;
@@ -28,8 +29,8 @@ fn push(trail: &mut Trail, lit: Lit, reason: Option<u32>) -> Outcome
     }
 }
 
-// One step: a conflict is explained at once; then what is forced is taken to be true; then an atom is decided; and where all
-// atoms have values, the solver of rows is asked.
+// One step: a conflict is explained at once; then what is forced is taken to be true; then an atom is decided, a row by its truth
+// where all numbers are 0; and where all atoms have values, the solver of rows is asked.
 fn advance<T: Theory>(
     alloc: Global,
     theory: &mut T,
@@ -51,7 +52,7 @@ fn advance<T: Theory>(
                 trail,
                 Lit {
                     atom,
-                    positive: true,
+                    positive: sign_of(grown, atom),
                 },
                 None,
             ),
@@ -69,14 +70,8 @@ fn holds_empty(problem: &Problem) -> bool
     problem.clauses.iter().any(|clause| clause.is_empty())
 }
 
-/// Searches for an interpretation that makes all clauses of a problem true, or for a log of at most `budget` lines that shows
-/// that there is none. A row of the problem with the bound 2^127 - 1 has no negation, and may be answered as want of memory.
-pub fn solve_plain<T: Theory>(
-    alloc: Global,
-    problem: &Problem,
-    theory: &mut T,
-    budget: u32,
-) -> Answer
+// The search, without the fact that its Unsat means that there is no interpretation.
+fn search<T: Theory>(alloc: Global, problem: &Problem, theory: &mut T, budget: u32) -> Answer
     requires taken { T.MAY_SPLIT ≡ false → (lits : List PlainLit) (rows : List PlainRow) → AreRowsOf problem.now.atoms lits rows → T.takes rows problem.now.ints }
     ensures { IsAnswer T.MAY_SPLIT T.MAY_STOP problem.now budget result }
 {
@@ -113,4 +108,21 @@ pub fn solve_plain<T: Theory>(
             Outcome::Memory => return Answer::Memory,
         }
     }
+}
+
+/// Searches for an interpretation that makes all clauses of a problem true, or for a log of at most `budget` lines that shows
+/// that there is none. A row of the problem with the bound 2^127 - 1 has no negation, and may be answered as want of memory.
+pub fn solve_plain<T: Theory>(
+    alloc: Global,
+    problem: &Problem,
+    theory: &mut T,
+    budget: u32,
+) -> Answer
+    requires taken { T.MAY_SPLIT ≡ false → (lits : List PlainLit) (rows : List PlainRow) → AreRowsOf problem.now.atoms lits rows → T.takes rows problem.now.ints }
+    ensures promised { IsAnswer T.MAY_SPLIT T.MAY_STOP problem.now budget result }
+    ensures none { ShowsNone problem.now result }
+{
+    problem.law_fits();
+    law_rows(problem.atoms.as_slice());
+    search(alloc, problem, theory, budget)
 }

@@ -4,11 +4,12 @@ use Rattle.std.proofs.Common.{rules, FitsSigned, ◌≡◌, ℕ, ◌<◌, ◌≤
 use Rattle.lin_rows.specs.Rows.{Row}
 use Rattle.proof_lines.specs.declared.clause.Lit.{Lit}
 use Rattle.proof_lines.specs.Problems.{PlainProblem, fits}
-use Rattle.theory_api.specs.Laws.{are_given, IsModel, IsConflict, IsSplit, IsTooMany, IsBeyond}
+use Rattle.proof_lines.proofs.LineRows.{splits-in_range}
+use Rattle.theory_api.specs.Laws.{rows_at, are_given, IsModel, IsConflict, IsSplit, IsTooMany, IsBeyond}
 use Rattle.theory_api.proofs.Standing.{lit_at}
 use Rattle.sat_core.specs.declared.asking.Outcome.{Outcome}
 use Rattle.sat_core.specs.Outcomes.{IsOutcome}
-use Rattle.sat_core.proofs.Asked.{none_false, model_of, uneasy_given}
+use Rattle.sat_core.proofs.Asked.{rows_at-are_rows, none_false, model_of, uneasy_given}
 use Rattle.sat_core.proofs.Ends.{search_spends}
 use Rattle.sat_core.proofs.Outcomes.{aim_of, places-so, takes-so, picks-so, refutation-so, split-so, rows-so, range-so, learned-outcome}
 use Rattle.sat_core.proofs.asking.ask.Goals as goal
@@ -63,6 +64,13 @@ returns-then-len-budget g c =
     let b : c.args.budget ≤ length c.args.log.now = omega (arith, c.len-in-Split.ensures, c.if-len-budget.true) in
     search_spends a c.args.budget c.args.grown.now c.args.trail.now c.args.log.now c.requires.search c.requires.settled (none_false c.args.grown.now.clauses c.args.trail.now c.requires.settled) b
     (uneasy_given a c.args.budget c.args.grown.now c.args.trail.now c.args.log.now c.in_ok-drawn.drawn.lits c.in_ok-drawn.drawn.rows c.in-Split.used c.requires.search c.requires.settled c.in_ok-drawn.ensures given)
+
+pub split-requires-clause-fits : goal.split-requires-clause-fits
+split-requires-clause-fits g c =
+    let s = subst (λ (z : List Row). IsSplit c.grown.inside.ints z c.in-Split.place c.in-Split.at c.in-Split.used c.in-Split.steps c.in-Split.low c.in-Split.high c.in-Split.values) c.as_slice.ensures c.in-Split.ensures.1 in
+    let f : FitsSigned w128 c.in-Split.at = search rules in
+    let h = splits-in_range (rows_at c.in_ok-drawn.drawn.rows c.in-Split.used) c.in-Split.steps c.in-Split.place c.in-Split.at c.in-Split.low c.in-Split.high c.in-Split.values (rows_at-are_rows c.in_ok-drawn.drawn.rows c.in-Split.used c.law_rows.ensures) s.cause in
+    simp to_z-of_z h
 
 pub returns-in-Split : goal.returns-in-Split
 returns-in-Split g c =

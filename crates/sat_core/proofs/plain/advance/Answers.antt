@@ -29,10 +29,13 @@ returns-in-Forced g c =
     pushed-outcome c.push.result g.T.Theory.MAY_SPLIT g.T.Theory.MAY_STOP c.args.problem.now c.args.budget c.args.grown.now c.args.trail.now c.args.log.now c.in-Forced.lit (Some c.in-Forced.reason) c.push.new.trail
     c.requires.search h.2 f.0 f.1 (h.0, h.1) c.push.ensures
 
+pub sign_of-requires : goal.sign_of-requires
+sign_of-requires g c = subst (λ (n : ℕ). c.in-Some.atom < n) c.atom_count.ensures c.in-Some.ensures.0
+
 pub returns-in-Some : goal.returns-in-Some
 returns-in-Some g c =
     let h = c.in-Nothing.ensures in
     let u = c.in-Some.ensures in
     let b : c.in-Some.atom < length c.args.grown.now.atoms = subst (λ (n : ℕ). c.in-Some.atom < n) c.atom_count.ensures u.0 in
-    pushed-outcome c.push-in-Some.result g.T.Theory.MAY_SPLIT g.T.Theory.MAY_STOP c.args.problem.now c.args.budget c.args.grown.now c.args.trail.now c.args.log.now (lit_of c.in-Some.atom true) None c.push-in-Some.new.trail
+    pushed-outcome c.push-in-Some.result g.T.Theory.MAY_SPLIT g.T.Theory.MAY_STOP c.args.problem.now c.args.budget c.args.grown.now c.args.trail.now c.args.log.now (lit_of c.in-Some.atom c.sign_of.result) None c.push-in-Some.new.trail
     c.requires.search h.1 u.1 b h.0 c.push-in-Some.ensures

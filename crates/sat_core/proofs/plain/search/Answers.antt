@@ -7,7 +7,7 @@ use Rattle.search_logs.specs.declared.trail.Entry.{Entry}
 use Rattle.sat_core.specs.Searching.{InSearch}
 use Rattle.sat_core.proofs.Ends.{at_once}
 use Rattle.sat_core.proofs.Outcomes.{aim_of, search_begins}
-use Rattle.sat_core.proofs.plain.solve_plain.Goals as goal
+use Rattle.sat_core.proofs.plain.search.Goals as goal
 
 pub returns-then-holds_empty : goal.returns-then-holds_empty
 returns-then-holds_empty g c = at_once g.T.Theory.MAY_SPLIT c.args.problem.now c.args.budget c.new-log.result c.new-log.ensures (sym c.holds_empty.ensures ∙ c.if-holds_empty.true)
