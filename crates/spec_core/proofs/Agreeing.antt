@@ -1,6 +1,6 @@
 -- What a specification means at readings depends on the readings at fitting tuples and keys alone.
-use Rattle.std.proofs.Common.{◌≡◌, ℕ, ◌<◌, ℤ, pos, Bool, true, not, cond, ◌&&◌, ◌||◌, ◌+ℤ◌, ◌*ℤ◌, nat_lt, zero, suc, List, [], ◌∷◌, ◌++◌, length, get_or, map, Some, ◌+◌, refl, sym, ◌∙◌, ap, arith}
-use Rattle.std.proofs.lemmas.Bool.{and_parts, and_from}
+use Rattle.std.proofs.Common.{◌≡◌, ℕ, ◌<◌, ℤ, Bool, true, not, cond, ◌&&◌, ◌||◌, ◌+ℤ◌, ◌*ℤ◌, nat_lt, suc, List, [], ◌∷◌, ◌++◌, length, get_or, map, Some, ◌+◌, refl, sym, ◌∙◌, ap, arith}
+use Rattle.std.proofs.lemmas.Bool.{and_parts}
 use Rattle.std.proofs.lemmas.Bool.Decides.{nat_tests}
 use Rattle.std.proofs.lemmas.List.Folds.{list_all-map}
 use Rattle.std.specs.List.{list_all, list_any, position_from, filter, flat_map}
@@ -15,12 +15,11 @@ use Rattle.spec_core.specs.declared.spec.Invariant.{Invariant}
 use Rattle.spec_core.specs.declared.world.World.{World}
 use Rattle.spec_core.specs.declared.world.Call.{Call}
 use Rattle.spec_core.specs.Form.{Form, true_form, false_form, not_form, and_form, or_form, implies_form, has_form, same_form, differ_form, compare_form}
-use Rattle.spec_core.specs.Limits.{most_summands}
 use Rattle.spec_core.specs.Line.{Line}
 use Rattle.spec_core.specs.Specification.{Specification, no_relation, no_counter, relation_places, counter_keys, op_of}
 use Rattle.spec_core.specs.State.{Reads}
 use Rattle.spec_core.specs.World.{tuples}
-use Rattle.spec_core.specs.Truth.{elem_of, elems_of, body_of, sum_of, term_of, compare_of, truth, is_exists, line_true, lines_true}
+use Rattle.spec_core.specs.Truth.{elems_of, body_of, sum_of, term_of, compare_of, truth, is_exists, line_true, lines_true}
 use Rattle.spec_core.specs.Meaning.{inv, pre, observed, broken_at, first_false}
 use Rattle.spec_core.specs.StateText.{true_line, count_line, relation_lines, counter_lines, state_text}
 use Rattle.spec_core.specs.Fits.{fits_places, is_world, is_call, in_literal_range, elem_exists, elems_fit, body_fits, summand_fits, term_fits, form_fits, vars_fit, line_fits, AgreeOn}

@@ -16,14 +16,13 @@ use Rattle.spec_core.specs.declared.update.Change.TheVariants.{Insert, Remove, A
 use Rattle.spec_core.specs.declared.world.World.{World}
 use Rattle.spec_core.specs.declared.world.Call.{Call}
 use Rattle.spec_core.specs.Limits.{most_requires, most_updates, most_takes, most_observes}
-use Rattle.spec_core.specs.Line.{Line}
 use Rattle.spec_core.specs.UpdateLine.{UpdateLine}
 use Rattle.spec_core.specs.Specification.{Specification, no_operation, op_of, places_of, token_places}
 use Rattle.spec_core.specs.Truth.{is_exists}
 use Rattle.spec_core.specs.Fits.{in_state_range, is_world, are_arguments, is_call, world_fits, call_fits, line_fits, spots_fit, change_fits, update_fits, take_fits, OperationFits}
 use Rattle.spec_core.specs.Typed.{is_sort, sort_of, elems_typed, spots_typed, change_typed, is_update, is_take, is_formula, is_line, is_invariant, is_operation, is_specification}
 use Rattle.spec_core.proofs.Lists.{list_all-within, list_all-mono}
-use Rattle.spec_core.proofs.Parts.{parts_of, OperationParts, operation_parts}
+use Rattle.spec_core.proofs.Parts.{parts_of, operation_parts}
 use Rattle.spec_core.proofs.Fitting.{stands, elems_fit_typed, term_fits_typed, formula_fits, line_fits_typed}
 
 module _ (d : Specification) (w : World) (world : is_world d w ≡ true) (params : List Parameter) (args : List ℤ) (fit : are_arguments w params args ≡ true) where

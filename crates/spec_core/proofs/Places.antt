@@ -16,11 +16,11 @@ pub length-fits_places : (w : World) (ss es : List ℕ) → fits_places w ss es 
 length-fits_places w [] [] h = refl
 length-fits_places w [] (e ∷ es) h = absurd cc
 length-fits_places w (s ∷ ss) [] h = absurd cc
-length-fits_places w (s ∷ ss) (e ∷ es) h = let p = length-fits_places w ss es (and_parts _ _ h).1 in omega arith
+length-fits_places w (s ∷ ss) (e ∷ es) h = let p : length es ≡ length ss = length-fits_places w ss es (and_parts (nat_lt e (size_of w s)) (fits_places w ss es) h).1 in omega arith
 
 -- a sort has few elements
 pub size_at_most : (d : Specification) (w : World) → world_fits d w ≡ true → (s : ℕ) → size_of w s ≤ most_elements
-size_at_most d w h s = let p = list_all-get_or (λ n. nat_le n most_elements) w.sizes (and_parts _ _ h).1 s 0 refl in grind (arith, nat_tests)
+size_at_most d w h s = let p : nat_le (size_of w s) most_elements ≡ true = list_all-get_or (λ n. nat_le n most_elements) w.sizes (and_parts _ _ h).1 s 0 refl in grind (arith, nat_tests)
 
 below_small : (e n : ℕ) → nat_lt e n ≡ true → n ≤ most_elements → nat_lt e (2 ^ 32) ≡ true
 below_small e n h le = grind (arith, nat_tests)
@@ -42,4 +42,4 @@ pub elems_small : (d : Specification) (w : World) → world_fits d w ≡ true �
 elems_small d w fit args vars ss es h = small-fits_places d w fit args vars ss es (and_parts _ _ h).1
 
 pub elems_few : (w : World) (args : List ℤ) (vars : List ℕ) (ss : List ℕ) (es : List Elem) (n : ℕ) → length ss ≤ n → elems_fit w args vars ss es ≡ true → length es ≤ n
-elems_few w args vars ss es n le h = let p = length-fits_places w ss (elems_of w args vars es) (and_parts _ _ h).1 in let q = length-elems_of w args vars es in omega arith
+elems_few w args vars ss es n le h = let p : length (elems_of w args vars es) ≡ length ss = length-fits_places w ss (elems_of w args vars es) (and_parts _ _ h).1 in let q : length (elems_of w args vars es) ≡ length es = length-elems_of w args vars es in omega arith

@@ -53,8 +53,8 @@ count_in_range (e ∷ es) q h = let a = and_parts _ _ h in at (bytes_eq q e.0) a
 
 pub reading_in_range : (s : Listing) → is_listing s ≡ true → (k : ℕ) (t : List ℕ) → unsigned_abs ((reads s).count k t) ≤ greatest_value
 reading_in_range s h k t =
-    let a = list_all-get_or is_counts s.counters (and_parts _ _ h).1 k [] refl in
-    let b = count_in_range (get_or s.counters k []) t (and_parts _ _ a).1 in
+    let a : is_counts (get_or s.counters k []) ≡ true = list_all-get_or is_counts s.counters (and_parts _ _ h).1 k [] refl in
+    let b : in_state_range ((reads s).count k t) ≡ true = count_in_range (get_or s.counters k []) t (and_parts _ _ a).1 in
     grind (arith, nat_tests)
 
 -- ---- states that fit

@@ -51,6 +51,7 @@ abbrev pub is_argument : World → Kind → ℤ → Bool
 is_argument w (Sort s) n = int_le (pos 0) n && nat_lt (unsigned_abs n) (size_of w s)
 is_argument w Int n = true
 
+-- an argument for each parameter
 abbrev pub are_arguments : World → List Parameter → List ℤ → Bool
 are_arguments w [] [] = true
 are_arguments w [] (n ∷ ns) = false
@@ -61,12 +62,14 @@ are_arguments w (p ∷ ps) (n ∷ ns) = is_argument w p.kind n && are_arguments 
 abbrev pub is_call : Specification → World → Call → Bool
 is_call d w c = nat_lt c.op (length d.operations) && are_arguments w (op_of d c.op).params c.args
 
+-- for each relation a list, of tuples that hold elements of its places
 abbrev pub lists_fit : World → List Relation → List (List (List ℕ)) → Bool
 lists_fit w [] [] = true
 lists_fit w [] (l ∷ ls) = false
 lists_fit w (r ∷ rs) [] = false
 lists_fit w (r ∷ rs) (l ∷ ls) = list_all (λ tuple. fits_places w r.places tuple) l && lists_fit w rs ls
 
+-- for each counter a list, of keys that hold elements of its sorts
 abbrev pub values_fit : World → List Counter → List (List (List ℕ × ℤ)) → Bool
 values_fit w [] [] = true
 values_fit w [] (l ∷ ls) = false
@@ -105,6 +108,7 @@ call_fits d w c = is_call d w c && list_all in_state_range c.args
 abbrev pub in_literal_range : ℤ → Bool
 in_literal_range n = nat_le (unsigned_abs n) greatest_literal
 
+-- the constant, argument or variable exists
 abbrev pub elem_exists : World → List ℤ → List ℕ → Elem → Bool
 elem_exists w args vars (Const n) = nat_lt n (length w.consts)
 elem_exists w args vars (Param n) = nat_lt n (length args)
@@ -114,14 +118,17 @@ elem_exists w args vars (Var n) = nat_lt n (length vars)
 abbrev pub elems_fit : World → List ℤ → List ℕ → List ℕ → List Elem → Bool
 elems_fit w args vars places es = list_all (elem_exists w args vars) es && fits_places w places (elems_of w args vars es)
 
+-- the argument exists, or the counter does and its keys fit
 abbrev pub body_fits : Specification → World → List ℤ → List ℕ → Body → Bool
 body_fits d w args vars body.One = true
 body_fits d w args vars (body.Param n) = nat_lt n (length args)
 body_fits d w args vars (body.Count k es) = nat_lt k (length d.counters) && elems_fit w args vars (counter_keys d k) es
 
+-- a coefficient in range, and a body that fits
 abbrev pub summand_fits : Specification → World → List ℤ → List ℕ → Summand → Bool
 summand_fits d w args vars s = in_literal_range s.coef && body_fits d w args vars s.body
 
+-- few summands, each of which fits
 abbrev pub term_fits : Specification → World → List ℤ → List ℕ → Term → Bool
 term_fits d w args vars t = nat_le (length t.summands) most_summands && list_all (summand_fits d w args vars) t.summands
 
@@ -139,6 +146,7 @@ form_fits d w args vars (same_form a b) = elem_exists w args vars a && elem_exis
 form_fits d w args vars (differ_form a b) = elem_exists w args vars a && elem_exists w args vars b
 form_fits d w args vars (compare_form t c u) = term_fits d w args vars t && term_fits d w args vars u
 
+-- a line without a quantifier
 abbrev pub is_plain : Prefix → Bool
 is_plain Plain = true
 is_plain Forall = false
@@ -162,6 +170,7 @@ spots_fit w args (s ∷ ss) [] = false
 spots_fit w args (s ∷ ss) (Every ∷ xs) = spots_fit w args ss xs
 spots_fit w args (s ∷ ss) (One e ∷ xs) = elem_exists w args [] e && nat_lt (elem_of w args [] e) (size_of w s) && spots_fit w args ss xs
 
+-- relations are inserted into and removed from; counters are added to and set, by terms that fit
 abbrev pub change_fits : Specification → World → List ℤ → Thing → Change → Bool
 change_fits d w args (thing.Relation k) Insert = nat_lt k (length d.relations)
 change_fits d w args (thing.Relation k) Remove = nat_lt k (length d.relations)

@@ -1,5 +1,5 @@
 -- The lines that show a state.
-use Rattle.std.specs.Prelude.{ℕ, suc, ℤ, pos, Bool, cond, List, [], ◌∷◌, ◌++◌, codes}
+use Rattle.std.specs.Prelude.{ℕ, suc, ℤ, pos, cond, List, [], ◌∷◌, ◌++◌, codes}
 use Rattle.std.specs.Fmt.{decimal, signed_decimal}
 use Rattle.std.specs.List.{filter, flat_map}
 use Rattle.spec_core.specs.declared.spec.Relation.{Relation}
@@ -40,11 +40,13 @@ state_text d w r = relation_lines w r 0 d.relations ++ counter_lines w r 0 d.cou
 
 -- ---- the text of what is listed, as a program writes it
 
+-- a line for each tuple, relation by relation
 abbrev pub true_lines : List Relation → List (List (List ℕ)) → List ℕ
 true_lines [] ls = []
 true_lines (r ∷ rs) [] = []
 true_lines (r ∷ rs) (l ∷ ls) = flat_map (true_line r.name) l ++ true_lines rs ls
 
+-- a line for each key whose value isn't 0, counter by counter
 abbrev pub count_lines : List Counter → List (List (List ℕ × ℤ)) → List ℕ
 count_lines [] ls = []
 count_lines (c ∷ cs) [] = []

@@ -23,6 +23,7 @@ elem_of w args vars (Const n) = slice_index w.consts n
 elem_of w args vars (Param n) = unsigned_abs (slice_index_or args n (pos 0))
 elem_of w args vars (Var n) = slice_index vars n
 
+-- the elements that stand at some places
 abbrev pub elems_of : World → List ℤ → List ℕ → List Elem → List ℕ
 elems_of w args vars es = map (elem_of w args vars) es
 
@@ -37,12 +38,15 @@ abbrev pub sum_of : World → Reads → List ℤ → List ℕ → List Summand �
 sum_of w r args vars [] = pos 0
 sum_of w r args vars (s ∷ ss) = s.coef *ℤ body_of w r args vars s.body +ℤ sum_of w r args vars ss
 
+-- the value of a term
 abbrev pub term_of : World → Reads → List ℤ → List ℕ → Term → ℤ
 term_of w r args vars t = sum_of w r args vars t.summands
 
+-- whether two whole numbers are equal
 abbrev pub int_eq : ℤ → ℤ → Bool
 int_eq a b = int_le a b && int_le b a
 
+-- what a comparison says of two whole numbers
 abbrev pub compare_of : Cmp → ℤ → ℤ → Bool
 compare_of Less a b = int_lt a b
 compare_of AtMost a b = int_le a b
@@ -76,5 +80,6 @@ line_true w r args l = cond (is_exists l.prefix)
     (list_any (λ vars. truth w r args vars l.body) (tuples w l.vars))
     (list_all (λ vars. truth w r args vars l.body) (tuples w l.vars))
 
+-- whether all these lines are true
 abbrev pub lines_true : World → Reads → List ℤ → List Line → Bool
 lines_true w r args lines = list_all (line_true w r args) lines

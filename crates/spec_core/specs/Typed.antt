@@ -42,6 +42,7 @@ abbrev pub sort_of_kind : Kind → Option ℕ
 sort_of_kind (Sort s) = Some s
 sort_of_kind Int = None
 
+-- none where there is no such parameter or it is a number
 abbrev pub sort_of_param : Option Parameter → Option ℕ
 sort_of_param None = None
 sort_of_param (Some p) = sort_of_kind p.kind
@@ -52,10 +53,12 @@ sort_of d params vars (Const n) = option_map (λ c. c.sort) (slice_get d.consts 
 sort_of d params vars (Param n) = sort_of_param (slice_get params n)
 sort_of d params vars (Var n) = slice_get vars n
 
+-- whether there is a sort, and it is this one
 abbrev pub is_sort : Option ℕ → ℕ → Bool
 is_sort None s = false
 is_sort (Some t) s = t == s
 
+-- whether both are there and are one sort
 abbrev pub same_sort : Option ℕ → Option ℕ → Bool
 same_sort None o = false
 same_sort (Some s) o = is_sort o s
@@ -78,11 +81,13 @@ abbrev pub is_number : Option Parameter → Bool
 is_number None = false
 is_number (Some p) = is_int p.kind
 
+-- the parameter is a number, or the counter exists and its keys are of their sorts
 abbrev pub body_typed : Specification → List Parameter → List ℕ → Body → Bool
 body_typed d params vars body.One = true
 body_typed d params vars (body.Param n) = is_number (slice_get params n)
 body_typed d params vars (body.Count k es) = nat_lt k (length d.counters) && elems_typed d params vars (counter_keys d k) es
 
+-- a coefficient in range, and a typed body
 abbrev pub summand_typed : Specification → List Parameter → List ℕ → Summand → Bool
 summand_typed d params vars s = in_literal_range s.coef && body_typed d params vars s.body
 
@@ -90,6 +95,7 @@ summand_typed d params vars s = in_literal_range s.coef && body_typed d params v
 abbrev pub term_typed : Specification → List Parameter → List ℕ → Term → Bool
 term_typed d params vars t = nat_le (length t.summands) most_summands && list_all (summand_typed d params vars) t.summands
 
+-- what a formula names exists, and what stands at each place is of its sort; compared elements are of one sort
 abbrev pub form_typed : Specification → List Parameter → List ℕ → Form → Bool
 form_typed d params vars true_form = true
 form_typed d params vars false_form = true
@@ -142,6 +148,7 @@ is_line d params l = are_sorts d (if is_plain l.prefix then 0 else most_variable
 
 -- ---- operations
 
+-- a sort that exists, or a number
 abbrev pub is_kind : Specification → Kind → Bool
 is_kind d (Sort s) = nat_lt s (length d.sorts)
 is_kind d Int = true
@@ -150,6 +157,7 @@ is_kind d Int = true
 abbrev pub is_parameter : Specification → Parameter → Bool
 is_parameter d p = is_kind d p.kind && is_word_name p.name
 
+-- the names of parameters, in their order
 abbrev pub parameter_names : List Parameter → List (List ℕ)
 parameter_names ps = map (λ p. p.name) ps
 
@@ -180,6 +188,7 @@ change_typed d params (thing.Counter k) Remove = false
 change_typed d params (thing.Counter k) (Add t) = nat_lt k (length d.counters) && term_typed d params [] t
 change_typed d params (thing.Counter k) (Set t) = nat_lt k (length d.counters) && term_typed d params [] t
 
+-- a change, spots and a guard that are typed
 abbrev pub is_update : Specification → List Parameter → UpdateLine → Bool
 is_update d params u = change_typed d params u.thing u.change && spots_typed d params (places_of d u.thing) u.at && is_formula d params [] u.guard
 
@@ -199,15 +208,19 @@ is_operation d o =
 
 -- ---- the other parts
 
+-- few places, of sorts that exist
 abbrev pub is_relation : Specification → Relation → Bool
 is_relation d r = are_sorts d most_places r.places
 
+-- few keys, of sorts that exist, and a literal to begin with
 abbrev pub is_counter : Specification → Counter → Bool
 is_counter d c = are_sorts d most_keys c.keys && in_literal_range c.initial
 
+-- few places, of sorts that exist
 abbrev pub is_token : Specification → Token → Bool
 is_token d t = are_sorts d most_places t.places
 
+-- a token that exists, and a variable for each of its places
 abbrev pub is_pattern : Specification → Pattern → Bool
 is_pattern d p = nat_lt p.token (length d.tokens) && (length p.vars == length (token_places d p.token))
 
@@ -219,6 +232,7 @@ agree_on xs x = list_all (λ y. not (x.0 == y.0) || (x.1 == y.1)) xs
 abbrev pub sorts_of_vars : Specification → Rule → List (ℕ × ℕ)
 sorts_of_vars d r = zip r.left.vars (token_places d r.left.token) ++ zip r.right.vars (token_places d r.right.token)
 
+-- two patterns, in which no variable stands at places of two sorts
 abbrev pub is_rule : Specification → Rule → Bool
 is_rule d r = is_pattern d r.left && is_pattern d r.right
     && list_all (agree_on (sorts_of_vars d r)) (sorts_of_vars d r)

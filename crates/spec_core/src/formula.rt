@@ -3,7 +3,7 @@
 use items::Items;
 
 /// What stands for an element: a constant, a parameter of the operation or a variable of the prefix, each by its place.
-#[derive(Clone, Copy, PartialEq, Eq, Debug)]
+#[derive(Clone, Copy)]
 pub enum Elem {
     Const(u8),
     Param(u8),
@@ -11,7 +11,7 @@ pub enum Elem {
 }
 
 /// A comparison of two terms.
-#[derive(Clone, Copy, PartialEq, Eq, Debug)]
+#[derive(Clone, Copy)]
 pub enum Cmp {
     Less,
     AtMost,

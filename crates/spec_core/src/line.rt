@@ -5,7 +5,7 @@ use items::Items;
 use std::marker::Model;
 
 /// How the variables of a line are bound.
-#[derive(Clone, Copy, PartialEq, Eq, Debug)]
+#[derive(Clone, Copy)]
 pub enum Prefix {
     Plain,
     Forall,

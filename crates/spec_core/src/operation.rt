@@ -7,7 +7,7 @@ use crate::update::Update;
 use items::Items;
 
 /// What an argument is: an element of a sort, or a whole number.
-#[derive(Clone, Copy, PartialEq, Eq, Debug)]
+#[derive(Clone, Copy)]
 pub enum Kind {
     Sort(u8),
     Int,

@@ -12,7 +12,7 @@ pub enum Thing {
 }
 
 /// Which elements of one place an update reaches.
-#[derive(Clone, Copy, PartialEq, Eq, Debug)]
+#[derive(Clone, Copy)]
 pub enum Spot {
     Every,
     One(Elem),

@@ -1,5 +1,5 @@
 -- The tests of a draft, as loops compute them.
-use Rattle.std.proofs.Common.{◌≡◌, ◌≢◌, ℕ, zero, suc, ◌+◌, ◌-◌, ◌<◌, ◌≤◌, Bool, true, false, not, ◌&&◌, ◌||◌, ◌⊎◌, inl, inr, List, [], ◌∷◌, ◌++◌, Option, Some, None, length, get_or, drop, refl, sym, ◌∙◌, ap, arith, length-append}
+use Rattle.std.proofs.Common.{◌≡◌, ◌≢◌, ℕ, zero, suc, ◌+◌, ◌-◌, ◌<◌, ◌≤◌, Bool, true, false, not, ◌&&◌, ◌||◌, ◌⊎◌, inl, inr, List, [], ◌∷◌, ◌++◌, Some, None, length, get_or, drop, refl, sym, ◌∙◌, ap, arith, length-append}
 use Rattle.std.specs.Prelude.{slice_get, map}
 use Rattle.std.specs.List.{list_all}
 use Rattle.std.specs.Str.{bytes_eq}
@@ -17,7 +17,6 @@ use Rattle.spec_core.specs.declared.spec.Counter.{Counter}
 use Rattle.spec_core.specs.declared.spec.Token.{Token}
 use Rattle.spec_core.specs.declared.spec.Invariant.{Invariant}
 use Rattle.spec_core.specs.declared.update.Spot.{Spot}
-use Rattle.spec_core.specs.declared.update.Spot.TheVariants.{Every, One}
 use Rattle.spec_core.specs.Specification.{Specification}
 use Rattle.spec_core.specs.Typed.{sort_of, is_sort, elems_typed, spot_typed, spots_typed, names_from_invariants, names_from_tokens, names_from_counters, names_from_relations, names_from_consts, global_names, all_distinct}
 

@@ -1,4 +1,4 @@
-use Rattle.std.proofs.Common.{◌≡◌, not, length, sym, ◌∙◌, ap, arith}
+use Rattle.std.proofs.Common.{not, sym, ◌∙◌, ap, arith}
 use Rattle.spec_core.specs.Line.{Line}
 use Rattle.spec_core.specs.Truth.{line_true}
 use Rattle.spec_core.specs.Fits.{line_fits}

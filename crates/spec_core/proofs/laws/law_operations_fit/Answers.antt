@@ -1,4 +1,4 @@
-use Rattle.spec_core.proofs.Operations.{CallParts, call_parts}
+use Rattle.spec_core.proofs.Operations.{call_parts}
 use Rattle.spec_core.proofs.laws.law_operations_fit.Goals as goal
 
 pub returns : goal.returns

@@ -1,4 +1,4 @@
-use Rattle.std.proofs.Common.{◌≡◌, ℕ, ◌<◌, length, ap, sym, ◌∙◌, arith}
+use Rattle.std.proofs.Common.{◌≡◌, ◌<◌, length, ap, sym, ◌∙◌, arith}
 use Rattle.std.specs.Prelude.{nat_le, count_by, ◌==◌}
 use Rattle.spec_core.specs.declared.spec.Const.{Const}
 use Rattle.spec_core.specs.Specification.{Specification}
