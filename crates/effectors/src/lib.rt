@@ -1,7 +1,8 @@
 // The effect of a call: the state after it, as a whole and reading by reading.
 //
 // It stands on `spec_core`. The definition is in specs/Effect: for each tuple or key, the updates of its thing in written order,
-// whose guards and amounts read the old state.
+// whose guards and amounts read the old state. specs/Beyond says which value a refusal names. `Places`, `Reaching`, `Outside` and
+// `Refusal` serve the proofs of the code alone.
 #![tactic(auto)]
 
 mod after;

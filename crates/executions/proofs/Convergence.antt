@@ -10,7 +10,8 @@
 -- They rest on `move`: an event that no later one has seen may be taken last, with the same result, since it commutes with
 -- each of the later ones; that these are ready, and that the invariant holds, is known of the smaller orders.
 use Rattle.std.proofs.Common.{◌≡◌, ◌≢◌, ℕ, zero, suc, ◌+◌, ◌<◌, ◌≤◌, Bool, true, false, ◌⊎◌, inl, inr, List, [], ◌∷◌, ◌++◌, length, refl, sym, ◌∙◌, ap, subst, arith, length-append}
-use Rattle.executions.proofs.Lists.{mem, IsIn, AllIn, tell, not_both, in_first, in_rest, first_or_rest, in_none, in_but_middle, in_with_middle, not_middle, not_with_middle, in_front, cut_at, all_or_cut}
+use Rattle.std.proofs.lemmas.Bool.{cases_Bool}
+use Rattle.executions.proofs.Lists.{mem, IsIn, AllIn, not_both, in_first, in_rest, first_or_rest, in_none, in_but_middle, in_with_middle, not_middle, not_with_middle, in_front, cut_at, all_or_cut}
 
 -- different events of which neither has seen the other
 pub record Concurrent (seen : ℕ → List ℕ) (a b : ℕ) : Type 0 where
@@ -105,7 +106,7 @@ module _
         let concurrent : Concurrent seen f x = record {
           different = λ e. fresh.0 (sym e);
           first = unseen;
-          second = elim (tell (mem x (seen f))) [ inl h ↦ absurd (not_both _ (m.may.after x h) fresh.1) | inr h ↦ h ];
+          second = elim (cases_Bool (mem x (seen f))) [ inl h ↦ absurd (not_both _ (m.may.after x h) fresh.1) | inr h ↦ h ];
         } in
         record {
           may = record {
@@ -145,7 +146,7 @@ module _
 
         unseen : (l : List ℕ) (f : ℕ) (a b : List ℕ) → Taken (f ∷ l) → AllIn (a ++ b) l → NoneSaw f a
         unseen l f a b t down x h =
-            elim (tell (mem f (seen x))) [
+            elim (cases_Bool (mem f (seen x))) [
               | inl i ↦ absurd (not_both _ (seen_taken l t.1 x (down x (in_front x a b h)) f i) t.0.new)
               | inr o ↦ o
             ]
@@ -167,7 +168,7 @@ module _
               let o = rule.origin e may.exists in
               let t' : Taken (c.front ++ f ∷ c.back) = subst Taken c.is t in
               let size : length (c.front ++ c.back) < k = omega (arith, ap length c.is, length-append c.front (f ∷ c.back), length-append c.front c.back) in
-              let none : NoneSaw f c.front = λ x h. elim (tell (mem f (seen x))) [
+              let none : NoneSaw f c.front = λ x h. elim (cases_Bool (mem f (seen x))) [
                 | inl i ↦ absurd (not_both _ (o.within f (seen_taken o.past o.taken x (o.whole x (c.before x h)) f i)) c.out)
                 | inr out ↦ out
               ] in
@@ -180,7 +181,7 @@ module _
               } in
               let concurrent : Concurrent seen e f = record {
                 different = fresh.0;
-                first = elim (tell (mem e (seen f))) [ inl h ↦ absurd (not_both _ (m.may.after e h) fresh.1) | inr h ↦ h ];
+                first = elim (cases_Bool (mem e (seen f))) [ inl h ↦ absurd (not_both _ (m.may.after e h) fresh.1) | inr h ↦ h ];
                 second = c.out;
               } in
               subst (Ready e) (sym m.same ∙ ap after (sym c.is))

@@ -1,6 +1,7 @@
 -- Lists of event numbers: membership, and cutting a list at one of its members.
 use Rattle.std.specs.Prelude.{Contains, slice_get, Option, Some, None}
 use Rattle.std.proofs.Common.{◌≡◌, ◌≢◌, ℕ, zero, suc, ◌+◌, ◌<◌, ◌≤◌, Bool, true, false, ◌||◌, ◌⊎◌, inl, inr, List, [], ◌∷◌, ◌++◌, length, get_or, take, eqb, refl, sym, ◌∙◌, ap, subst, arith}
+use Rattle.std.proofs.lemmas.Bool.{cases_Bool}
 use Rattle.std.proofs.lemmas.Bool.Decides.{nat_tests, eqb_tells}
 use Rattle.std.proofs.lemmas.Option.{slice_get_within, get_or_from_slice_get}
 
@@ -15,10 +16,6 @@ IsIn x xs = mem x xs ≡ true
 -- each member of the first list is a member of the second
 abbrev pub AllIn : List ℕ → List ℕ → Type 0
 AllIn xs ys = (x : ℕ) → IsIn x xs → IsIn x ys
-
-pub tell : (b : Bool) → (b ≡ true) ⊎ (b ≡ false)
-tell true = inl refl
-tell false = inr refl
 
 pub not_both : (b : Bool) → b ≡ true → b ≡ false → ⊥
 not_both b p q = cc
@@ -92,7 +89,7 @@ pub record CutOutside (p l : List ℕ) : Type 0 where
 pub all_or_cut : (p l : List ℕ) → AllIn l p ⊎ CutOutside p l
 all_or_cut p [] = inl (λ x h. absurd (in_none x h))
 all_or_cut p (y ∷ l) =
-    elim (tell (mem y p)) [
+    elim (cases_Bool (mem y p)) [
       | inr o ↦ inr (record { at = y; front = []; back = l; is = refl; out = o; before = λ x h. absurd (in_none x h) })
       | inl i ↦ elim (all_or_cut p l) [
         | inl all ↦ inl (first_and_rest y l p i all)
@@ -121,4 +118,4 @@ pub contains_mem : (x : ℕ) (xs : List ℕ) → Contains xs x → IsIn x xs
 contains_mem x xs c = at_mem x xs c.0 c.1 c.2
 
 pub lacks_mem : (x : ℕ) (xs : List ℕ) → ¬ Contains xs x → mem x xs ≡ false
-lacks_mem x xs no_x = elim (tell (mem x xs)) [ inl h ↦ absurd (no_x (mem_contains x xs h)) | inr h ↦ h ]
+lacks_mem x xs no_x = elim (cases_Bool (mem x xs)) [ inl h ↦ absurd (no_x (mem_contains x xs h)) | inr h ↦ h ]

@@ -1,10 +1,11 @@
 -- A safe system converges: its executions and delivery orders, in the words of `Convergence`.
 use Rattle.std.specs.Prelude.{Contains, slice_get, Option, None, Some, fold}
 use Rattle.std.proofs.Common.{◌≡◌, ◌≢◌, ℕ, zero, suc, ◌<◌, ◌≤◌, Bool, true, false, ◌⊎◌, inl, inr, List, [], ◌∷◌, length, take, refl, sym, ◌∙◌, ap, subst, arith}
+use Rattle.std.proofs.lemmas.Bool.{cases_Bool}
 use Rattle.std.proofs.lemmas.Option.{slice_get_within, slice_get_cases}
 use Rattle.executions.specs.Orders.{Event, AreIn, MayFollow, IsOrder}
 use Rattle.executions.specs.Executions.{System, IsSystem, IsSafe, with_event, state_after, Happens, IsExecution, Agree, SystemConverges}
-use Rattle.executions.proofs.Lists.{mem, IsIn, AllIn, tell, not_both, in_none, in_first, in_rest, first_or_rest, mem_contains, contains_mem, lacks_mem}
+use Rattle.executions.proofs.Lists.{mem, IsIn, AllIn, not_both, in_none, in_first, in_rest, first_or_rest, mem_contains, contains_mem, lacks_mem}
 use Rattle.executions.proofs.Convergence.{Concurrent, MayTake, after, Taken, Rule, converge}
 
 seen_in : {C : Type 0} → Option (Event C) → List ℕ
@@ -16,7 +17,7 @@ seen_of : {C : Type 0} → List (Event C) → ℕ → List ℕ
 seen_of events e = seen_in (slice_get events e)
 
 -- an event below the number of events is there
-event_at : {X : Type 0} (xs : List X) (i : ℕ) → i < length xs → (x : X) × (slice_get xs i ≡ Some x)
+pub event_at : {X : Type 0} (xs : List X) (i : ℕ) → i < length xs → (x : X) × (slice_get xs i ≡ Some x)
 event_at {X} xs i h = elim (slice_get_cases xs i).1 [ inl p ↦ (p.0, p.2) | inr q ↦ absurd (let le = q.0 in omega (arith, le, h)) ]
 
 -- newest first, onto what was taken before
@@ -84,7 +85,7 @@ module _ (s : System) (events : List (Event s.Call)) where
   may_take : (taken : List ℕ) (e : ℕ) → MayFollow events taken e → (l : List ℕ) → AllIn taken l → AllIn l taken → MayTake (length events) (seen_of events) l e
   may_take taken e m l up down = record {
     exists = slice_get_within events e m.event m.exists;
-    new = elim (tell (mem e l)) [ inl h ↦ absurd (not_both _ (down e h) (lacks_mem e taken m.new)) | inr h ↦ h ];
+    new = elim (cases_Bool (mem e l)) [ inl h ↦ absurd (not_both _ (down e h) (lacks_mem e taken m.new)) | inr h ↦ h ];
     after = λ x h. up x (all_in m.event.seen taken m.after x (subst (IsIn x) (seen_event e m.event m.exists) h));
   }
 

@@ -1,7 +1,13 @@
-// Why checking obligations is enough.
+// Why checking obligations is enough, and which sets of events have delivery orders.
 
+ghost use Rattle.std.specs.Prelude.{ℕ, List};
+ghost use Rattle.spec_core.specs.declared.world.World.{World};
+ghost use Rattle.spec_core.specs.declared.world.Call.{Call};
+ghost use Rattle.spec_core.specs.Specification.{Specification};
 ghost use Rattle.obligation_list.specs.Breaking.{Safe};
-ghost use Rattle.executions.specs.Convergence.{Converges};
+ghost use Rattle.executions.specs.Orders.{Event, IsOrder, IsClosed, IsOrderOf};
+ghost use Rattle.executions.specs.Executions.{IsExecution};
+ghost use Rattle.executions.specs.Convergence.{system_of, Converges};
 
 use spec_core::Spec;
 
@@ -11,4 +17,11 @@ use spec_core::Spec;
 pub fn law_converges(spec: &Spec)
     requires { Safe spec.now }
     ensures { Converges spec.now }
+{}
+
+/// The members of a delivery order are a causally closed set, and in an execution each causally closed set of events has a
+/// delivery order.
+pub fn law_closed_sets()
+    ensures closed { (events : List (Event Call)) (order : List ℕ) → IsOrder events order → IsClosed events order }
+    ensures has_order { (d : Specification) (w : World) (events : List (Event Call)) → IsExecution (system_of d w) events → (set : List ℕ) → IsClosed events set → (order : List ℕ) × IsOrderOf events set order }
 {}

@@ -13,9 +13,6 @@ mod order;
 mod state;
 
 pub use event::Event;
-pub use law::law_converges;
-pub use order::is_order;
+pub use law::{law_closed_sets, law_converges};
+pub use order::{is_order, may_follow};
 pub use state::state_after;
-
-#[cfg(test)]
-mod tests;

@@ -17,7 +17,7 @@ pub fn is_order(events: &[Event], order: &[u32]) -> bool
     true
 }
 
-/// Whether the event may be taken next, after those of the list.
+/// Whether the event may be taken next, after those of the list: it exists, it isn't one of them, and all that it has seen is.
 pub fn may_follow(events: &[Event], taken: &[u32], event: u32) -> bool
     ensures { IsTrue result ↔ MayFollow events.now taken.now event }
 {

@@ -1,14 +1,13 @@
 // The state after an order.
 
-ghost use Rattle.std.specs.Prelude.{◌≡◌, ◌<◌, ℕ, true, Option, None, Some, length, All, IfOk, OnOk};
+ghost use Rattle.std.specs.Prelude.{◌≡◌, ◌<◌, true, length, All, IfOk, OnOk, Err};
 ghost use Rattle.std.specs.List.{list_all};
 ghost use Rattle.spec_core.specs.State.{reads};
-ghost use Rattle.spec_core.specs.Meaning.{initial as initial_of};
 ghost use Rattle.spec_core.specs.Fits.{is_state, world_fits, call_fits};
-ghost use Rattle.effectors.specs.Effect.{Beyond};
+ghost use Rattle.effectors.specs.Beyond.{Beyond};
 ghost use Rattle.executions.specs.Executions.{state_after as state_after_of};
 ghost use Rattle.executions.specs.Convergence.{system_of};
-ghost use Rattle.executions.specs.Ranges.{order_beyond};
+ghost use Rattle.executions.specs.Ranges.{StayInRange, IsFirstBeyondIn};
 
 use crate::event::Event;
 use effectors::{ApplyRefused, apply};
@@ -17,7 +16,8 @@ use std::alloc::Global;
 
 /// The state after an order: the effects of its events' calls, one after the other, from the initial state.
 ///
-/// It is refused where an effect leads beyond the range of a state, at the first event that does, and where memory ends.
+/// It is refused as `Range` where an effect leads beyond the range of a state, with the first such value of the first event that
+/// does, and as `Memory` where memory ends.
 pub fn state_after(
     alloc: Global,
     spec: &Spec,
@@ -30,10 +30,8 @@ pub fn state_after(
     requires events { All (λ event. event < length events.now) order.now }
     ensures state { IfOk result (λ state. reads state ≡ state_after_of (system_of spec.now world.now) events.now order.now) }
     ensures fits { IfOk result (λ state. is_state spec.now world.now state ≡ true) }
-    ensures in_range { OnOk result (order_beyond spec.now world.now events.now (reads (initial_of spec.now world.now)) order.now ≡ None) }
-
-    // The value is that of the first event whose effect leads beyond the range, at the first counter and the least key.
-    ensures range { (beyond : Beyond) → result ≡ Err (ApplyRefused.Range beyond.counter beyond.key beyond.value) → order_beyond spec.now world.now events.now (reads (initial_of spec.now world.now)) order.now ≡ Some beyond }
+    ensures in_range { OnOk result (StayInRange spec.now world.now events.now order.now (length order.now)) }
+    ensures range { (b : Beyond) → result ≡ Err (ApplyRefused.Range b.counter b.key b.value) → IsFirstBeyondIn spec.now world.now events.now order.now b }
 {
     let mut state = State::initial(alloc, spec, world)?;
     for number in order {

@@ -1,7 +1,8 @@
 // The obligations of a specification, and what breaks them.
 //
 // It stands on `spec_core`, `effectors` and `token_rules`. The definitions are in specs/: `Obligations` (the list, in its order)
-// and `Breaking` (when values break an obligation, when it holds, and when a specification is safe).
+// and `Breaking` (when values break an obligation, by its kind, when it holds, and when a specification is safe). `Refuting` says
+// which witnesses `breaks` accepts, and `Starting` serves the proofs of the code alone.
 #![tactic(auto)]
 
 mod breaking;
