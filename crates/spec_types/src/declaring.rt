@@ -9,6 +9,9 @@ ghost use Rattle.spec_types.specs.Views.{known_of};
 
 use crate::known::{Known, heading_fault, scope_in, sort_numbers, sorts_fault};
 use crate::refusal::Stop;
+use spec_core::limits::{
+    MOST_CONSTANTS, MOST_COUNTERS, MOST_KEYS, MOST_PLACES, MOST_RELATIONS, MOST_SORTS, MOST_TOKENS,
+};
 use spec_core::{Const, Counter, Name, Relation, Token};
 use spec_draft::Draft;
 use spec_reader::Mark;
@@ -38,7 +41,7 @@ pub fn type_sort<'t>(
     ensures { Makes (typed_item (known_of known.old) (sort_form word mark.now)) (known_of known.new) result }
 {
     let count = known.draft.sorts.len();
-    if let Some(fault) = heading_fault(known, Which::Sorts, 8, count, mark) {
+    if let Some(fault) = heading_fault(known, Which::Sorts, MOST_SORTS, count, mark) {
         return Err(Stop::Fault(fault));
     }
     add_sort(alloc, known, mark)?;
@@ -59,7 +62,7 @@ fn few_consts_fault<'t>(draft: &Draft, mark: &'t Mark, sort: Option<u8>) -> Opti
     match sort {
         Some(sort) => {
             let count = count_of_sort(draft.consts.as_slice(), sort);
-            limit_at(Which::Constants, 4, count, mark.word)
+            limit_at(Which::Constants, MOST_CONSTANTS, count, mark.word)
         }
         None => None,
     }
@@ -148,10 +151,10 @@ pub fn type_relation<'t>(
     ensures { Makes (typed_item (known_of known.old) (relation_form word mark.now marks.now)) (known_of known.new) result }
 {
     let count = known.draft.relations.len();
-    if let Some(fault) = heading_fault(known, Which::Relations, 16, count, mark) {
+    if let Some(fault) = heading_fault(known, Which::Relations, MOST_RELATIONS, count, mark) {
         return Err(Stop::Fault(fault));
     }
-    if let Some(fault) = sorts_fault(&scope_in(known), mark.text.bytes(), 3, marks) {
+    if let Some(fault) = sorts_fault(&scope_in(known), mark.text.bytes(), MOST_PLACES, marks) {
         return Err(Stop::Fault(fault));
     }
     add_relation(alloc, known, mark, marks)?;
@@ -190,10 +193,10 @@ pub fn type_counter<'t>(
     ensures { Makes (typed_item (known_of known.old) (counter_form word mark.now marks.now)) (known_of known.new) result }
 {
     let count = known.draft.counters.len();
-    if let Some(fault) = heading_fault(known, Which::Counters, 8, count, mark) {
+    if let Some(fault) = heading_fault(known, Which::Counters, MOST_COUNTERS, count, mark) {
         return Err(Stop::Fault(fault));
     }
-    if let Some(fault) = sorts_fault(&scope_in(known), mark.text.bytes(), 2, marks) {
+    if let Some(fault) = sorts_fault(&scope_in(known), mark.text.bytes(), MOST_KEYS, marks) {
         return Err(Stop::Fault(fault));
     }
     add_counter(alloc, known, mark, marks)?;
@@ -228,10 +231,10 @@ pub fn type_token<'t>(
     ensures { Makes (typed_item (known_of known.old) (token_form word mark.now marks.now)) (known_of known.new) result }
 {
     let count = known.draft.tokens.len();
-    if let Some(fault) = heading_fault(known, Which::Tokens, 16, count, mark) {
+    if let Some(fault) = heading_fault(known, Which::Tokens, MOST_TOKENS, count, mark) {
         return Err(Stop::Fault(fault));
     }
-    if let Some(fault) = sorts_fault(&scope_in(known), mark.text.bytes(), 3, marks) {
+    if let Some(fault) = sorts_fault(&scope_in(known), mark.text.bytes(), MOST_PLACES, marks) {
         return Err(Stop::Fault(fault));
     }
     add_token(alloc, known, mark, marks)?;

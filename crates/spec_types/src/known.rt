@@ -37,7 +37,7 @@ pub fn scope_in<'d, 't>(known: &'d Known) -> Scope<'d, 't>
 pub fn heading_fault<'t>(
     known: &Known,
     which: Which,
-    most: u8,
+    most: usize,
     count: usize,
     mark: &'t Mark,
 ) -> Option<Fault<'t>>
@@ -53,7 +53,7 @@ pub fn heading_fault<'t>(
 fn place_fault<'t>(
     scope: &Scope<'_, '_>,
     own: &[u8],
-    most: u8,
+    most: usize,
     place: usize,
     mark: &'t Mark,
 ) -> Option<Fault<'t>>
@@ -69,7 +69,7 @@ fn place_fault<'t>(
 pub fn sorts_fault<'t>(
     scope: &Scope<'_, '_>,
     own: &[u8],
-    most: u8,
+    most: usize,
     marks: &'t [Mark],
 ) -> Option<Fault<'t>>
     ensures { faulted result ≡ sorts_fault_of (scope_of scope.now) own.now most marks.now }

@@ -15,6 +15,7 @@ use crate::making::sentence_of;
 use crate::making_lines::add_line;
 use crate::refusal::Stop;
 use items::Items;
+use spec_core::limits::{MOST_INVARIANTS, MOST_OPERATIONS, MOST_PARAMETERS};
 use spec_core::{Invariant, Kind, Name, Operation};
 use spec_reader as tree;
 use spec_reader::{Line, Mark, Param, ParamKind, Prefix, Prefixed, Quantifier};
@@ -87,7 +88,7 @@ pub fn type_invariant<'t>(
     ensures { Makes (typed_item (known_of known.old) (invariant_form word mark.now (sentence_of sentence.now))) (known_of known.new) result }
 {
     let count = known.draft.invariants.len();
-    if let Some(fault) = heading_fault(known, Which::Invariants, 16, count, mark) {
+    if let Some(fault) = heading_fault(known, Which::Invariants, MOST_INVARIANTS, count, mark) {
         return Err(Stop::Fault(fault));
     }
     known.names.add(mark.text.bytes(), Meaning::Invariant)?;
@@ -123,7 +124,7 @@ fn param_fault<'t>(scope: &Scope<'_, '_>, place: usize, param: &'t Param) -> Opt
     if let Some(fault) = declared_fault(scope, &param.name) {
         return Some(fault);
     }
-    if let Some(fault) = limit_at(Which::Parameters, 6, place, param.name.word) {
+    if let Some(fault) = limit_at(Which::Parameters, MOST_PARAMETERS, place, param.name.word) {
         return Some(fault);
     }
     param_kind_fault(scope, param.name.text.bytes(), &param.kind)
@@ -255,7 +256,7 @@ pub fn type_operation<'t>(
     ensures { Makes (typed_item (known_of known.old) (operation_form word mark.now params.now (map line_of lines.now))) (known_of known.new) result }
 {
     let count = known.draft.operations.len();
-    if let Some(fault) = heading_fault(known, Which::Operations, 24, count, mark) {
+    if let Some(fault) = heading_fault(known, Which::Operations, MOST_OPERATIONS, count, mark) {
         return Err(Stop::Fault(fault));
     }
     known.names.add(mark.text.bytes(), Meaning::Operation)?;

@@ -12,6 +12,7 @@ ghost use Rattle.spec_types.specs.Views.{known_of};
 use crate::known::{Known, scope_in};
 use crate::refusal::Stop;
 use items::Items;
+use spec_core::limits::MOST_RULES;
 use spec_core::{Pattern, Rule};
 use spec_reader::{Mark, Reading};
 use std::alloc::{AllocError, Global};
@@ -121,7 +122,7 @@ fn conflict_fault<'t>(
 ) -> Option<Fault<'t>>
     ensures { faulted result ≡ conflict_fault_of (known_of known.now) word left.now right.now }
 {
-    if let Some(fault) = limit_at(Which::Conflicts, 32, known.draft.rules.len(), word) {
+    if let Some(fault) = limit_at(Which::Conflicts, MOST_RULES, known.draft.rules.len(), word) {
         return Some(fault);
     }
     if let Some(fault) = pattern_fault(known, left, right, left) {

@@ -3,6 +3,7 @@
 ghost use Rattle.std.specs.Prelude.{◌≡◌, map, false, Ok, IfOk, IfErr, MatchOption};
 ghost use Rattle.spec_core.specs.Typed.{is_specification};
 ghost use Rattle.spec_reader.specs.Form.{item_of, tree_of};
+ghost use Rattle.spec_reader.specs.Trees.{IsTree};
 ghost use Rattle.typing_rules.specs.Items.{typed_item, typed_items, typing};
 ghost use Rattle.spec_types.specs.Refusals.{IsTypeRefusal, Makes};
 ghost use Rattle.spec_types.specs.Views.{known_of};
@@ -59,9 +60,9 @@ fn finished(known: Known) -> Option<Spec>
     known.draft.into_spec()
 }
 
-/// The specification that a tree is, or the first thing that is wrong with it: the fault with the least word, and at one word
-/// the first in the order of the variants of `TypeRefused`.
+/// The specification that a tree of the grammar is, or the first thing that is wrong with it; `TypeRefused` says which that is.
 pub fn type_tree(alloc: Global, tree: &Tree) -> Result<Spec, TypeRefused>
+    requires { IsTree (tree_of tree.now) }
     ensures ok { IfOk result (λ spec. typing (tree_of tree.now) ≡ Ok spec) }
     ensures err { IfErr result (IsTypeRefusal (typing (tree_of tree.now))) }
 {

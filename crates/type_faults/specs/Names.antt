@@ -1,4 +1,4 @@
--- Names with what they mean, as a program holds them.
+-- The tie from the code to the definitions of typing: names with what they mean, as a program holds them.
 use Rattle.std.specs.Prelude.{ℕ, if◌then◌else◌, List, [], ◌∷◌, Option, None, Some}
 use Rattle.std.specs.Str.{bytes_eq}
 use Rattle.typing_rules.specs.declared.meaning.Meaning.{Meaning}

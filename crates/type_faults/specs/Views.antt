@@ -1,4 +1,4 @@
--- Faults and scopes of the definitions, as a program holds them.
+-- The tie from the code to the definitions of typing: faults and scopes, as a program holds them.
 use Rattle.std.specs.Prelude.{◌≡◌, Option, None, Some, option_map, Result, Ok, Err, codes}
 use Rattle.std.specs.Borrow.{Bor}
 use Rattle.spec_reader.specs.declared.tree.Mark.{Mark}

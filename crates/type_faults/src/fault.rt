@@ -20,11 +20,11 @@ pub enum Fault<'t> {
 }
 
 /// One more is one too many, where there are as many as there may be.
-pub fn limit_at<'t>(which: Which, most: u8, count: usize, word: u32) -> Option<Fault<'t>>
+pub fn limit_at<'t>(which: Which, most: usize, count: usize, word: u32) -> Option<Fault<'t>>
     ensures gives { faulted result ≡ limit_at which most count word }
     ensures few { IfNone result (count < most) }
 {
-    if count < most as usize {
+    if count < most {
         None
     } else {
         Some(Fault::Limit(which, most as u128 + 1, word))

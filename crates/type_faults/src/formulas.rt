@@ -10,6 +10,7 @@ use crate::elements::{args_fault, is_of_sort, sort_named};
 use crate::fault::Fault;
 use crate::scope::{Scope, stranger_fault};
 use crate::terms::term_fault;
+use spec_core::limits::MOST_NODES;
 use spec_reader::{Comparison, Formula, Mark, Product, Reading, Term};
 use typing_rules::Which;
 
@@ -187,14 +188,14 @@ fn nodes_fault<'t>(formula: &Formula) -> Option<Fault<'t>>
     ensures { faulted result ≡ nodes_fault_of (form_of formula.now) }
 {
     let nodes = nodes_up_to(formula);
-    if nodes <= 200 {
+    if nodes <= MOST_NODES as u64 {
         None
     } else {
         Some(Fault::Limit(Which::Nodes, nodes as u128, first_word(formula)))
     }
 }
 
-/// A formula of at most 200 nodes.
+/// A formula, which has few nodes.
 pub fn formula_fault<'t>(scope: &Scope<'_, '_>, formula: &'t Formula) -> Option<Fault<'t>>
     ensures { faulted result ≡ formula_fault_of (scope_of scope.now) (form_of formula.now) }
 {

@@ -1,12 +1,13 @@
 // What is wrong with the lines of operations.
 
 ghost use Rattle.std.specs.Prelude.{◌≡◌, length};
+ghost use Rattle.spec_core.specs.Limits.{most_updates};
 ghost use Rattle.spec_core.specs.Specification.{token_places as token_places_of};
 ghost use Rattle.spec_reader.specs.Form.{guard_of, line_of};
 ghost use Rattle.typing_rules.specs.declared.which.Which.TheVariants.{Updates};
 ghost use Rattle.typing_rules.specs.Fault.{◌otherwise◌, limit_at as limit_at_of};
 ghost use Rattle.typing_rules.specs.Terms.{term_fault as term_fault_of};
-ghost use Rattle.typing_rules.specs.Lines.{spot_fault as spot_fault_of, spots_fault as spots_fault_of, target_fault_at, relation_target_fault as relation_target_fault_of, counter_target_fault as counter_target_fault_of, guard_fault as guard_fault_of, taking_fault as taking_fault_of, most_observes as most_observes_of, line_fault as line_fault_of};
+ghost use Rattle.typing_rules.specs.Lines.{spot_fault as spot_fault_of, spots_fault as spots_fault_of, target_fault_at, relation_target_fault as relation_target_fault_of, counter_target_fault as counter_target_fault_of, guard_fault as guard_fault_of, taking_fault as taking_fault_of, most_observed as most_observed_of, line_fault as line_fault_of};
 ghost use Rattle.type_faults.specs.Views.{faulted, scope_of};
 
 use crate::elements::{args_fault, elem_fault, places_fault};
@@ -16,6 +17,7 @@ use crate::scope::{Scope, stranger_fault};
 use crate::sentences::sentence_fault;
 use crate::terms::{counter_keys, term_fault};
 use spec_core::Operation;
+use spec_core::limits::{MOST_OBSERVES, MOST_REQUIRES, MOST_TAKES, MOST_UPDATES};
 use spec_draft::Draft;
 use spec_reader::{Formula, Line, Mark, Reading, Spot, Term};
 use typing_rules::Which;
@@ -116,10 +118,10 @@ fn taking_fault<'t>(scope: &Scope<'_, '_>, reading: &'t Reading) -> Option<Fault
     }
 }
 
-fn most_observes(draft: &Draft) -> u8
-    ensures { result ≡ most_observes_of draft.now }
+fn most_observed(draft: &Draft) -> usize
+    ensures { result ≡ most_observed_of draft.now }
 {
-    if draft.version == 2 { 8 } else { 0 }
+    if draft.version == 2 { MOST_OBSERVES } else { 0 }
 }
 
 fn insert_fault<'t>(
@@ -155,9 +157,9 @@ fn amount_fault<'t>(
 }
 
 fn update_limit<'t>(operation: &Operation, word: u32) -> Option<Fault<'t>>
-    ensures { faulted result ≡ limit_at_of Updates 16 (length operation.now.updates) word }
+    ensures { faulted result ≡ limit_at_of Updates most_updates (length operation.now.updates) word }
 {
-    limit_at(Which::Updates, 16, operation.updates.len(), word)
+    limit_at(Which::Updates, MOST_UPDATES, operation.updates.len(), word)
 }
 
 /// A line of an operation that has these lines before it.
@@ -171,7 +173,7 @@ pub fn line_fault<'t>(
     match line {
         Line::Requires(word, sentence) => {
             let count = operation.requires_.len();
-            if let Some(fault) = limit_at(Which::Requires, 8, count, *word) {
+            if let Some(fault) = limit_at(Which::Requires, MOST_REQUIRES, count, *word) {
                 return Some(fault);
             }
             sentence_fault(scope, sentence)
@@ -202,14 +204,14 @@ pub fn line_fault<'t>(
         }
         Line::Takes(word, reading, _) => {
             let count = operation.takes.len();
-            if let Some(fault) = limit_at(Which::Takes, 4, count, *word) {
+            if let Some(fault) = limit_at(Which::Takes, MOST_TAKES, count, *word) {
                 return Some(fault);
             }
             taking_fault(scope, reading)
         }
         Line::Observes(word, sentence) => {
             let count = operation.observes.len();
-            let most = most_observes(scope.draft);
+            let most = most_observed(scope.draft);
             if let Some(fault) = limit_at(Which::Observes, most, count, *word) {
                 return Some(fault);
             }

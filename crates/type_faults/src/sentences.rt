@@ -8,6 +8,7 @@ ghost use Rattle.type_faults.specs.Views.{faulted, scope_of};
 use crate::fault::{Fault, limit_at};
 use crate::formulas::formula_fault;
 use crate::scope::{Scope, declared_fault, sort_fault};
+use spec_core::limits::MOST_VARIABLES;
 use spec_reader::{Prefix, Prefixed, Variable};
 use typing_rules::Which;
 
@@ -34,7 +35,7 @@ fn variable_fault<'t>(
     if let Some(fault) = declared_fault(scope, &variable.name) {
         return Some(fault);
     }
-    if let Some(fault) = limit_at(Which::Variables, 3, place, variable.name.word) {
+    if let Some(fault) = limit_at(Which::Variables, MOST_VARIABLES, place, variable.name.word) {
         return Some(fault);
     }
     sort_fault(scope, variable.name.text.bytes(), &variable.sort)

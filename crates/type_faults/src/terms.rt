@@ -10,14 +10,15 @@ ghost use Rattle.type_faults.specs.Views.{faulted, scope_of};
 use crate::elements::{args_fault, small};
 use crate::fault::{Fault, limit_at};
 use crate::scope::{Scope, stranger_fault};
+use spec_core::limits::{GREATEST_LITERAL, MOST_SUMMANDS};
 use spec_reader::{Figure, Mark, Param, ParamKind, Product, Reading, Signed, Term};
 use typing_rules::Which;
 
-/// A literal or a coefficient, at most 10^9.
+/// A literal or a coefficient.
 pub fn literal_fault<'t>(figure: &Figure) -> Option<Fault<'t>>
     ensures { faulted result ≡ literal_fault_of figure.now }
 {
-    if figure.value <= 1_000_000_000 {
+    if figure.value <= GREATEST_LITERAL as u128 {
         None
     } else {
         Some(Fault::Limit(Which::Literal, figure.value, figure.word))
@@ -127,7 +128,12 @@ fn signed_fault<'t>(scope: &Scope<'_, '_>, place: usize, signed: &'t Signed) -> 
     requires { place < 2 ^ 64 - 1 }
     ensures { faulted result ≡ signed_fault_of (scope_of scope.now) place signed.now }
 {
-    if let Some(fault) = limit_at(Which::Summands, 16, place + 1, signed.summand.word) {
+    if let Some(fault) = limit_at(
+        Which::Summands,
+        MOST_SUMMANDS,
+        place + 1,
+        signed.summand.word,
+    ) {
         return Some(fault);
     }
     product_fault(scope, &signed.summand.product)

@@ -1,10 +1,10 @@
 -- Tests over lists, and what the lack of a fault says.
 use Rattle.std.proofs.Common.{◌≡◌, ℕ, ◌+◌, ◌<◌, ◌≤◌, Bool, true, false, ◌&&◌, ◌==◌, nat_lt, nat_le, if◌then◌else◌, List, [], ◌∷◌, ◌++◌, length, Option, None, Some, Result, Ok, refl, ◌∙◌, ap, arith}
+use Rattle.std.proofs.lemmas.Bool.{and_from, and_parts}
 use Rattle.std.proofs.lemmas.Bool.Decides.{nat_tests}
 use Rattle.std.proofs.lemmas.List.{length-append}
 use Rattle.std.proofs.lemmas.List.Folds.{list_all-append}
 use Rattle.std.specs.List.{list_all}
-use Rattle.spec_core.proofs.Lists.{both, and_true}
 use Rattle.spec_core.specs.Typed.{is_sort, same_sort}
 use Rattle.typing_rules.specs.declared.which.Which.{Which}
 use Rattle.typing_rules.specs.Fault.{Fault, limit_fault, ◌otherwise◌, first_fault, limit_at}
@@ -13,11 +13,18 @@ use Rattle.typing_rules.specs.Lines.{unless}
 -- ---- tests
 
 pub and_both : (a b c d : Bool) → (a ≡ true → c ≡ true) → (b ≡ true → d ≡ true) → (a && b) ≡ true → (c && d) ≡ true
-and_both a b c d f g h = let p = both a b h in and_true c d (f p.0) (g p.1)
+and_both a b c d f g h = let p = and_parts a b h in and_from c d (f p.0) (g p.1)
 
 pub list_all-mono : {X : Type 0} (p q : X → Bool) → ((x : X) → p x ≡ true → q x ≡ true) → (xs : List X) → list_all p xs ≡ true → list_all q xs ≡ true
 list_all-mono p q f [] h = refl
 list_all-mono p q f (x ∷ xs) h = and_both (p x) (list_all p xs) (q x) (list_all q xs) (f x) (list_all-mono p q f xs) h
+
+pub all_both : {X : Type 0} (p q : X → Bool) (xs : List X) → list_all p xs ≡ true → list_all q xs ≡ true → list_all (λ x. p x && q x) xs ≡ true
+all_both p q [] h k = refl
+all_both p q (x ∷ xs) h k =
+    let a = and_parts (p x) (list_all p xs) h in
+    let b = and_parts (q x) (list_all q xs) k in
+    and_from (p x && q x) (list_all (λ x. p x && q x) xs) (and_from (p x) (q x) a.0 b.0) (all_both p q xs a.1 b.1)
 
 pub test : (a n : ℕ) → a < n → nat_lt a n ≡ true
 test a n h = grind (arith, nat_tests)
@@ -82,7 +89,7 @@ pub first_none : {X : Type 0} (fault : ℕ → X → Option Fault) (p : X → Bo
 first_none fault p f n [] h = refl
 first_none fault p f n (x ∷ xs) h =
     let q = otherwise_none (fault n x) (first_fault fault (n + 1) xs) h in
-    and_true (p x) (list_all p xs) (f n x q.0) (first_none fault p f (n + 1) xs q.1)
+    and_from (p x) (list_all p xs) (f n x q.0) (first_none fault p f (n + 1) xs q.1)
 
 pub first_few : {X : Type 0} (fault : ℕ → X → Option Fault) (most : ℕ) → ((n : ℕ) (x : X) → fault n x ≡ None → n < most) → (n : ℕ) (xs : List X) → n ≤ most → first_fault fault n xs ≡ None → n + length xs ≤ most
 first_few fault most f n [] le h = omega arith
@@ -95,7 +102,7 @@ first_few fault most f n (x ∷ xs) le h =
 -- ---- one more at the end of a list
 
 pub list_all-more : {X : Type 0} (p : X → Bool) (xs : List X) (x : X) → list_all p xs ≡ true → p x ≡ true → list_all p (xs ++ x ∷ []) ≡ true
-list_all-more p xs x h k = list_all-append p xs (x ∷ []) ∙ and_true (list_all p xs) (p x && true) h (and_true (p x) true k refl)
+list_all-more p xs x h k = list_all-append p xs (x ∷ []) ∙ and_from (list_all p xs) (p x && true) h (and_from (p x) true k refl)
 
 pub few_more : {X : Type 0} (xs : List X) (x : X) (most : ℕ) → length xs < most → nat_le (length (xs ++ x ∷ [])) most ≡ true
 few_more xs x most lt = test_le (length (xs ++ x ∷ [])) most (let e = length-append xs (x ∷ []) in omega arith)

@@ -1,5 +1,6 @@
 -- Conflict rules without a fault are well formed.
 use Rattle.std.proofs.Common.{◌≡◌, ℕ, suc, ◌+◌, ◌<◌, ◌≤◌, Bool, true, false, not, ◌&&◌, ◌||◌, ◌==◌, nat_lt, if◌then◌else◌, List, [], ◌∷◌, ◌++◌, length, get_or, map, Option, None, Some, refl, sym, ◌∙◌, ap, arith}
+use Rattle.std.proofs.lemmas.Bool.{and_from, and_parts, or_left, or_right}
 use Rattle.std.proofs.lemmas.List.{length-append, length-map}
 use Rattle.std.proofs.lemmas.List.Folds.{list_all-append, list_any-append}
 use Rattle.std.proofs.lemmas.List.Quantifiers.{position-Some}
@@ -8,7 +9,6 @@ use Rattle.std.specs.List.{list_all, list_any, zip, position_or_len}
 use Rattle.std.specs.Str.{bytes_eq}
 use Rattle.spec_core.specs.Specification.{token_places}
 use Rattle.spec_core.specs.Typed.{is_sort, is_pattern, agree_on, sorts_of_vars, is_rule}
-use Rattle.spec_core.proofs.Lists.{both, and_true}
 use Rattle.spec_reader.specs.declared.tree.Mark.{Mark}
 use Rattle.spec_reader.specs.declared.tree.Reading.{Reading}
 use Rattle.typing_rules.specs.declared.which.Which.TheVariants as which
@@ -58,14 +58,6 @@ found p xs h = (position_or_len p xs, ap (λ b. if b then Some (position_or_len 
 small_some : (o : Option ℕ) (i : ℕ) → o ≡ Some i → i < 256 → small o ≡ Some i
 small_some o i h lt = ap small h ∙ ap (λ b. if b then Some i else None) (test i 256 lt)
 
-or_left : (a b : Bool) → a ≡ true → (a || b) ≡ true
-or_left true b h = refl
-or_left false b h = absurd cc
-
-or_right : (a b : Bool) → b ≡ true → (a || b) ≡ true
-or_right true b h = refl
-or_right false b h = h
-
 module _ (k : Known) (p q : Reading) where
   -- the sort of the variable that is first at a place of the rule
   numbered_sort : ℕ → Option ℕ
@@ -81,7 +73,7 @@ module _ (k : Known) (p q : Reading) where
       ap (λ n. (get_or (p.args ++ q.args) n no_mark).text) e ∙ same_text (get_or (p.args ++ q.args) f.0 no_mark).text m.text g.1
 
   variable_is : (s : ℕ) (m : Mark) → rule_variable_fault k p q s m ≡ None → is_sort (rule_sort k p q m.text) s ≡ true
-  variable_is s m h = (both (is_none (k.names m.text)) (is_sort (rule_sort k p q m.text) s) (by (is_none (k.names m.text) && is_sort (rule_sort k p q m.text) s) h)).1
+  variable_is s m h = (and_parts (is_none (k.names m.text)) (is_sort (rule_sort k p q m.text) s) (by (is_none (k.names m.text) && is_sort (rule_sort k p q m.text) s) h)).1
     where
       by : (b : Bool) → (if b then None else kind_at m) ≡ None → b ≡ true
       by true h = refl
@@ -97,7 +89,7 @@ module _ (k : Known) (p q : Reading) where
   variables_are few (s ∷ ss) (m ∷ ms) has h =
       let f = otherwise_none (rule_variable_fault k p q s m) (rule_variables_fault k p q ss ms) h in
       let e = numbered m few (has m (or_left (bytes_eq m.text m.text) (among m.text ms) (text_self m.text))) in
-      and_true (is_sort (numbered_sort (variable_number p q m)) s) (list_all (λ (x : ℕ × ℕ). is_sort (numbered_sort x.0) x.1) (zip (map (variable_number p q) ms) ss))
+      and_from (is_sort (numbered_sort (variable_number p q m)) s) (list_all (λ (x : ℕ × ℕ). is_sort (numbered_sort x.0) x.1) (zip (map (variable_number p q) ms) ss))
       (ap (λ name. is_sort (rule_sort k p q name) s) e ∙ variable_is s m f.0)
       (variables_are few ss ms (λ o g. has o (or_right (bytes_eq m.text o.text) (among o.text ms) g)) f.1)
 
@@ -116,7 +108,7 @@ module _ (k : Known) (p q : Reading) where
   pattern_is : (r : Reading) → Patterned r (token_meant (k.names r.name.text)) → is_pattern k.design (pattern_of k p q r) ≡ true
   pattern_is r f =
       let e : length (map (variable_number p q) r.args) ≡ length (token_places k.design (unwrap_or (token_meant (k.names r.name.text)) 0)) = length-map r.args (variable_number p q) ∙ sym f.long in
-      and_true (nat_lt (unwrap_or (token_meant (k.names r.name.text)) 0) (length k.design.tokens)) (length (map (variable_number p q) r.args) == length (token_places k.design (unwrap_or (token_meant (k.names r.name.text)) 0)))
+      and_from (nat_lt (unwrap_or (token_meant (k.names r.name.text)) 0) (length k.design.tokens)) (length (map (variable_number p q) r.args) == length (token_places k.design (unwrap_or (token_meant (k.names r.name.text)) 0)))
       f.token (ap (λ n. n == length (token_places k.design (unwrap_or (token_meant (k.names r.name.text)) 0))) e ∙ equal_self (length (token_places k.design (unwrap_or (token_meant (k.names r.name.text)) 0))))
 
   -- a rule, where tokens have few places
@@ -136,9 +128,9 @@ module _ (k : Known) (p q : Reading) where
       let in_right = λ (m : Mark) (x : among m.text q.args ≡ true). list_any-append (λ o. bytes_eq o.text m.text) p.args q.args ∙ or_right (among m.text p.args) (among m.text q.args) x in
       let left = variables_are lt (token_places k.design (unwrap_or (token_meant (k.names p.name.text)) 0)) p.args in_left a.sorted in
       let right = variables_are lt (token_places k.design (unwrap_or (token_meant (k.names q.name.text)) 0)) q.args in_right b.sorted in
-      and_true (is_pattern k.design (pattern_of k p q p) && is_pattern k.design (pattern_of k p q q)) (list_all (agree_on (sorts_of_vars k.design (rule_of k p q))) (sorts_of_vars k.design (rule_of k p q)))
-      (and_true (is_pattern k.design (pattern_of k p q p)) (is_pattern k.design (pattern_of k p q q)) (pattern_is p a) (pattern_is q b))
+      and_from (is_pattern k.design (pattern_of k p q p) && is_pattern k.design (pattern_of k p q q)) (list_all (agree_on (sorts_of_vars k.design (rule_of k p q))) (sorts_of_vars k.design (rule_of k p q)))
+      (and_from (is_pattern k.design (pattern_of k p q p)) (is_pattern k.design (pattern_of k p q q)) (pattern_is p a) (pattern_is q b))
       (agree_all numbered_sort (sorts_of_vars k.design (rule_of k p q))
       (list_all-append (λ (x : ℕ × ℕ). is_sort (numbered_sort x.0) x.1) (zip (map (variable_number p q) p.args) (token_places k.design (unwrap_or (token_meant (k.names p.name.text)) 0))) (zip (map (variable_number p q) q.args) (token_places k.design (unwrap_or (token_meant (k.names q.name.text)) 0)))
-      ∙ and_true (list_all (λ (x : ℕ × ℕ). is_sort (numbered_sort x.0) x.1) (zip (map (variable_number p q) p.args) (token_places k.design (unwrap_or (token_meant (k.names p.name.text)) 0))))
+      ∙ and_from (list_all (λ (x : ℕ × ℕ). is_sort (numbered_sort x.0) x.1) (zip (map (variable_number p q) p.args) (token_places k.design (unwrap_or (token_meant (k.names p.name.text)) 0))))
       (list_all (λ (x : ℕ × ℕ). is_sort (numbered_sort x.0) x.1) (zip (map (variable_number p q) q.args) (token_places k.design (unwrap_or (token_meant (k.names q.name.text)) 0)))) left right))

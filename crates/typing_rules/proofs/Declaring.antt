@@ -1,5 +1,6 @@
 -- Sorts, constants, relations, counters and tokens without a fault leave what is known well formed.
 use Rattle.std.proofs.Common.{◌≡◌, ℕ, zero, suc, ◌+◌, ◌<◌, ◌≤◌, Bool, true, false, ◌&&◌, ◌==◌, nat_lt, nat_le, if◌then◌else◌, List, [], ◌∷◌, ◌++◌, length, map, Option, None, Some, refl, sym, ◌∙◌, ap, subst, arith}
+use Rattle.std.proofs.lemmas.Bool.{and_from, and_parts}
 use Rattle.std.proofs.lemmas.Bool.Decides.{nat_tests}
 use Rattle.std.proofs.lemmas.List.{length-append, length-map, get_or_append_left}
 use Rattle.std.proofs.lemmas.List.Folds.{list_all-map}
@@ -10,10 +11,10 @@ use Rattle.spec_core.specs.declared.spec.Const.{Const as Constant}
 use Rattle.spec_core.specs.declared.spec.Relation.{Relation}
 use Rattle.spec_core.specs.declared.spec.Counter.{Counter}
 use Rattle.spec_core.specs.declared.spec.Token.{Token}
+use Rattle.spec_core.specs.Name.{is_word_name}
 use Rattle.spec_core.specs.Specification.{Specification, no_relation, no_counter, no_token}
 use Rattle.spec_core.specs.World.{below}
 use Rattle.spec_core.specs.Typed.{are_sorts, is_relation, is_counter, is_token, consts_typed, names_from_consts, names_from_relations, names_from_counters, names_from_tokens, names_from_invariants, global_names}
-use Rattle.spec_core.proofs.Lists.{both, and_true}
 use Rattle.spec_reader.specs.declared.tree.Mark.{Mark}
 use Rattle.typing_rules.specs.declared.meaning.Meaning.TheVariants as meaning
 use Rattle.typing_rules.specs.declared.which.Which.TheVariants as which
@@ -24,7 +25,7 @@ use Rattle.typing_rules.proofs.Basics.{list_all-mono, test_le, tested_le, below_
 use Rattle.typing_rules.proofs.Extending.{Extends}
 use Rattle.typing_rules.proofs.Formulas.{sort_is, sort_below}
 use Rattle.typing_rules.proofs.Distinct.{Inserted, put_in_front, one_more_name, one_more_named}
-use Rattle.typing_rules.proofs.Knowing.{Well, kept, fit_more, fit_named, listed_named, distinct_more, heading_parts}
+use Rattle.typing_rules.proofs.Knowing.{Well, kept, fit_more, fit_named, listed_named, words_more, distinct_more, heading_parts}
 
 longer : {X : Type 0} (xs : List X) (x : X) → length (xs ++ x ∷ []) ≡ suc (length xs)
 longer xs x = let e = length-append xs (x ∷ []) in omega arith
@@ -44,7 +45,7 @@ not_last a n h = grind (arith, nat_tests)
 count_none : (n : ℕ) (cs : List Constant) → list_all (λ (c : Constant). nat_lt c.sort n) cs ≡ true → count_by (λ (c : Constant). c.sort == n) cs ≡ 0
 count_none n [] h = refl
 count_none n (c ∷ cs) h =
-    let q = both (nat_lt c.sort n) (list_all (λ (c : Constant). nat_lt c.sort n) cs) h in
+    let q = and_parts (nat_lt c.sort n) (list_all (λ (c : Constant). nat_lt c.sort n) cs) h in
     let one = not_last c.sort n q.0 in
     let rest = count_none n cs q.1 in
     let e = sum_by-append (λ (c : Constant). if c.sort == n then 1 else 0) (c ∷ []) cs in
@@ -54,8 +55,8 @@ sorts_more : (cs : List Constant) (sorts : List (List ℕ)) (m : List ℕ)
     → (list_all (λ (c : Constant). nat_lt c.sort (length sorts)) cs && list_all (λ s. nat_le (count_by (λ (c : Constant). c.sort == s) cs) 4) (below (length sorts))) ≡ true
     → (list_all (λ (c : Constant). nat_lt c.sort (length (sorts ++ m ∷ []))) cs && list_all (λ s. nat_le (count_by (λ (c : Constant). c.sort == s) cs) 4) (below (length (sorts ++ m ∷ [])))) ≡ true
 sorts_more cs sorts m h =
-    let q = both (list_all (λ (c : Constant). nat_lt c.sort (length sorts)) cs) (list_all (λ s. nat_le (count_by (λ (c : Constant). c.sort == s) cs) 4) (below (length sorts))) h in
-    and_true (list_all (λ (c : Constant). nat_lt c.sort (length (sorts ++ m ∷ []))) cs) (list_all (λ s. nat_le (count_by (λ (c : Constant). c.sort == s) cs) 4) (below (length (sorts ++ m ∷ []))))
+    let q = and_parts (list_all (λ (c : Constant). nat_lt c.sort (length sorts)) cs) (list_all (λ s. nat_le (count_by (λ (c : Constant). c.sort == s) cs) 4) (below (length sorts))) h in
+    and_from (list_all (λ (c : Constant). nat_lt c.sort (length (sorts ++ m ∷ []))) cs) (list_all (λ s. nat_le (count_by (λ (c : Constant). c.sort == s) cs) 4) (below (length (sorts ++ m ∷ []))))
     (list_all-mono (λ (c : Constant). nat_lt c.sort (length sorts)) (λ (c : Constant). nat_lt c.sort (length (sorts ++ m ∷ []))) (λ c. below_more c.sort (length sorts) (length (sorts ++ m ∷ [])) (no_shorter sorts m)) cs q.0)
     (subst (λ n. list_all (λ s. nat_le (count_by (λ (c : Constant). c.sort == s) cs) 4) (below n) ≡ true) (sym (longer sorts m))
     (list_all-more (λ s. nat_le (count_by (λ (c : Constant). c.sort == s) cs) 4) (below (length sorts)) (length sorts) q.1
@@ -75,8 +76,8 @@ module _ (k : Known) (m : Mark) where
     tokens = λ n lt. refl;
   }
 
-  pub sort_well : Well k → sort_item_fault k m ≡ None → Well (with_sort k m)
-  sort_well w h =
+  pub sort_well : Well k → is_word_name m.text ≡ true → sort_item_fault k m ≡ None → Well (with_sort k m)
+  sort_well w word h =
       let q = heading_parts k which.Sorts 8 (length k.design.sorts) m h in
       let p = w.parts in
       let old = kept k.design (with_sort k m).design sort_extends p in
@@ -98,6 +99,7 @@ module _ (k : Known) (m : Mark) where
           invariants = old.invariants;
           few_operations = p.few_operations;
           operations = old.operations;
+          words = words_more k m (with_sort k m).design w word i;
           distinct = distinct_more k m (with_sort k m).design w q.0 i;
         };
         fit = fit_named (with_sort k m).design k.names m.text (meaning.Sort (length k.design.sorts)) (fit_more k.design (with_sort k m).design sort_extends k.names w.fit)
@@ -123,8 +125,8 @@ count_more cs c s lt h = test_le (count_by (λ (x : Constant). x.sort == s) (cs 
 consts_typed_more : (d : Specification) (c : Constant) → consts_typed d ≡ true → nat_lt c.sort (length d.sorts) ≡ true → count_by (λ (x : Constant). x.sort == c.sort) d.consts < 4
     → consts_typed (record d { consts = d.consts ++ c ∷ [] }) ≡ true
 consts_typed_more d c h there lt =
-    let q = both (list_all (λ (c : Constant). nat_lt c.sort (length d.sorts)) d.consts) (list_all (λ s. nat_le (count_by (λ (c : Constant). c.sort == s) d.consts) 4) (below (length d.sorts))) h in
-    and_true (list_all (λ (c : Constant). nat_lt c.sort (length d.sorts)) (d.consts ++ c ∷ [])) (list_all (λ s. nat_le (count_by (λ (x : Constant). x.sort == s) (d.consts ++ c ∷ [])) 4) (below (length d.sorts)))
+    let q = and_parts (list_all (λ (c : Constant). nat_lt c.sort (length d.sorts)) d.consts) (list_all (λ s. nat_le (count_by (λ (c : Constant). c.sort == s) d.consts) 4) (below (length d.sorts))) h in
+    and_from (list_all (λ (c : Constant). nat_lt c.sort (length d.sorts)) (d.consts ++ c ∷ [])) (list_all (λ s. nat_le (count_by (λ (x : Constant). x.sort == s) (d.consts ++ c ∷ [])) 4) (below (length d.sorts)))
     (list_all-more (λ (c : Constant). nat_lt c.sort (length d.sorts)) d.consts c q.0 there)
     (list_all-mono (λ s. nat_le (count_by (λ (x : Constant). x.sort == s) d.consts) 4) (λ s. nat_le (count_by (λ (x : Constant). x.sort == s) (d.consts ++ c ∷ [])) 4) (λ s. count_more d.consts c s lt) (below (length d.sorts)) q.1)
 
@@ -146,8 +148,8 @@ module _ (k : Known) (m s : Mark) where
     tokens = λ n lt. refl;
   }
 
-  pub const_well : Well k → const_fault k m s ≡ None → Well (with_const k m s)
-  const_well w h =
+  pub const_well : Well k → is_word_name m.text ≡ true → const_fault k m s ≡ None → Well (with_const k m s)
+  const_well w word h =
       let q = otherwise_none (declared_fault (scope_in k) m) (few_consts_fault k.design m (sort_meant (k.names s.text)) otherwise sort_fault (scope_in k) m.text s) h in
       let r = otherwise_none (few_consts_fault k.design m (sort_meant (k.names s.text))) (sort_fault (scope_in k) m.text s) q.1 in
       let sort = sort_is (scope_in k) m.text s r.1 in
@@ -171,6 +173,7 @@ module _ (k : Known) (m s : Mark) where
           invariants = old.invariants;
           few_operations = p.few_operations;
           operations = old.operations;
+          words = words_more k m (with_const k m s).design w word i;
           distinct = distinct_more k m (with_const k m s).design w q.0 i;
         };
         fit = fit_named (with_const k m s).design k.names m.text (meaning.Const (place_number (length k.design.consts))) (fit_more k.design (with_const k m s).design const_extends k.names w.fit)
@@ -192,7 +195,7 @@ places_typed : (k : Known) → Well k → (own : List ℕ) (most : ℕ) (ms : Li
 places_typed k w own most ms h =
     let few : 0 + length ms ≤ most = first_few (place_fault (scope_in k) own most) most (place_few (scope_in k) own most) 0 ms (omega arith) h in
     let long : length (sort_numbers k.names ms) ≡ length ms = length-map ms (sort_number k.names) in
-    and_true (nat_le (length (sort_numbers k.names ms)) most) (list_all (λ s. nat_lt s (length k.design.sorts)) (sort_numbers k.names ms))
+    and_from (nat_le (length (sort_numbers k.names ms)) most) (list_all (λ s. nat_lt s (length k.design.sorts)) (sort_numbers k.names ms))
     (test_le (length (sort_numbers k.names ms)) most (omega arith))
     (list_all-map (λ s. nat_lt s (length k.design.sorts)) (sort_number k.names) ms
     ∙ first_none (place_fault (scope_in k) own most) (λ m. nat_lt (sort_number k.names m) (length k.design.sorts)) (place_sorted k w own most) 0 ms h)
@@ -211,8 +214,8 @@ module _ (k : Known) (m : Mark) (ps : List Mark) where
     tokens = λ n lt. refl;
   }
 
-  pub relation_well : Well k → relation_fault k m ps ≡ None → Well (with_relation k m ps)
-  relation_well w h =
+  pub relation_well : Well k → is_word_name m.text ≡ true → relation_fault k m ps ≡ None → Well (with_relation k m ps)
+  relation_well w word h =
       let a = otherwise_none (heading_fault k which.Relations 16 (length k.design.relations) m) (sorts_fault (scope_in k) m.text 3 ps) h in
       let q = heading_parts k which.Relations 16 (length k.design.relations) m a.0 in
       let p = w.parts in
@@ -236,6 +239,7 @@ module _ (k : Known) (m : Mark) (ps : List Mark) where
           invariants = old.invariants;
           few_operations = p.few_operations;
           operations = old.operations;
+          words = words_more k m e w word i;
           distinct = distinct_more k m e w q.0 i;
         };
         fit = fit_named e k.names m.text (meaning.Relation (length k.design.relations)) (fit_more k.design e relation_extends k.names w.fit)
@@ -256,8 +260,8 @@ module _ (k : Known) (m : Mark) (ps : List Mark) where
     tokens = λ n lt. refl;
   }
 
-  pub counter_well : Well k → counter_fault k m ps ≡ None → Well (with_counter k m ps)
-  counter_well w h =
+  pub counter_well : Well k → is_word_name m.text ≡ true → counter_fault k m ps ≡ None → Well (with_counter k m ps)
+  counter_well w word h =
       let a = otherwise_none (heading_fault k which.Counters 8 (length k.design.counters) m) (sorts_fault (scope_in k) m.text 2 ps) h in
       let q = heading_parts k which.Counters 8 (length k.design.counters) m a.0 in
       let p = w.parts in
@@ -273,7 +277,7 @@ module _ (k : Known) (m : Mark) (ps : List Mark) where
           few_relations = p.few_relations;
           relations = old.relations;
           few_counters = few_more k.design.counters (counter_of k m ps) 8 q.1;
-          counters = list_all-more (is_counter e) k.design.counters (counter_of k m ps) old.counters (and_true (are_sorts k.design 2 (sort_numbers k.names ps)) true (places_typed k w m.text 2 ps a.1) refl);
+          counters = list_all-more (is_counter e) k.design.counters (counter_of k m ps) old.counters (and_from (are_sorts k.design 2 (sort_numbers k.names ps)) true (places_typed k w m.text 2 ps a.1) refl);
           few_tokens = p.few_tokens;
           tokens = old.tokens;
           few_rules = p.few_rules;
@@ -282,6 +286,7 @@ module _ (k : Known) (m : Mark) (ps : List Mark) where
           invariants = old.invariants;
           few_operations = p.few_operations;
           operations = old.operations;
+          words = words_more k m e w word i;
           distinct = distinct_more k m e w q.0 i;
         };
         fit = fit_named e k.names m.text (meaning.Counter (length k.design.counters)) (fit_more k.design e counter_extends k.names w.fit)
@@ -302,8 +307,8 @@ module _ (k : Known) (m : Mark) (ps : List Mark) where
     tokens = λ n lt. ap (λ (t : Token). t.places) (sym (get_or_append_left k.design.tokens (token_of k m ps ∷ []) no_token n lt));
   }
 
-  pub token_well : Well k → token_fault k m ps ≡ None → Well (with_token k m ps)
-  token_well w h =
+  pub token_well : Well k → is_word_name m.text ≡ true → token_fault k m ps ≡ None → Well (with_token k m ps)
+  token_well w word h =
       let a = otherwise_none (heading_fault k which.Tokens 16 (length k.design.tokens) m) (sorts_fault (scope_in k) m.text 3 ps) h in
       let q = heading_parts k which.Tokens 16 (length k.design.tokens) m a.0 in
       let p = w.parts in
@@ -328,6 +333,7 @@ module _ (k : Known) (m : Mark) (ps : List Mark) where
           invariants = old.invariants;
           few_operations = p.few_operations;
           operations = old.operations;
+          words = words_more k m e w word i;
           distinct = distinct_more k m e w q.0 i;
         };
         fit = fit_named e k.names m.text (meaning.Token (length k.design.tokens)) (fit_more k.design e token_extends k.names w.fit)

@@ -1,5 +1,6 @@
 -- Elements and terms without a fault are typed.
 use Rattle.std.proofs.Common.{◌≡◌, ℕ, ◌+◌, ◌<◌, ◌≤◌, pos, ◌-ℤ◌, Bool, true, false, ◌&&◌, ◌==◌, nat_lt, nat_le, if◌then◌else◌, List, [], ◌∷◌, length, get_or, map, Option, None, Some, refl, sym, ◌∙◌, ap, subst, arith}
+use Rattle.std.proofs.lemmas.Bool.{and_from, and_parts}
 use Rattle.std.proofs.lemmas.Bool.Decides.{nat_tests}
 use Rattle.std.proofs.lemmas.List.Folds.{list_all-map}
 use Rattle.std.proofs.lemmas.List.{length-map}
@@ -14,7 +15,6 @@ use Rattle.spec_core.specs.declared.formula.Body.TheVariants as body
 use Rattle.spec_core.specs.Specification.{Specification, counter_keys}
 use Rattle.spec_core.specs.Fits.{in_literal_range}
 use Rattle.spec_core.specs.Typed.{sort_of, is_sort, elems_typed, is_number, body_typed, summand_typed, term_typed}
-use Rattle.spec_core.proofs.Lists.{both, and_true}
 use Rattle.spec_reader.specs.declared.tree.Mark.{Mark}
 use Rattle.spec_reader.specs.declared.tree.Figure.{Figure}
 use Rattle.spec_reader.specs.declared.tree.Reading.{Reading}
@@ -110,7 +110,7 @@ module _ (sc : Scope) where
       let q = position_get (λ p. bytes_eq p.name.text name && is_whole p.kind) sc.params no_param n (small_is (position (λ p. bytes_eq p.name.text name && is_whole p.kind) sc.params) n h) in
       let p = get_or sc.params n no_param in
       let e : slice_get (params_of sc.names sc.params) n ≡ Some (param_of sc.names p) = slice_get-map (param_of sc.names) sc.params n ∙ ap (option_map (param_of sc.names)) q.0 in
-      ap is_number e ∙ whole_number sc.names p (both (bytes_eq p.name.text name) (is_whole p.kind) q.1).1
+      ap is_number e ∙ whole_number sc.names p (and_parts (bytes_eq p.name.text name) (is_whole p.kind) q.1).1
 
   -- ---- elements
 
@@ -134,7 +134,7 @@ module _ (sc : Scope) where
   elems_typed_at (s ∷ ss) [] e h = absurd (omega arith)
   elems_typed_at (s ∷ ss) (m ∷ ms) e h =
       let q = otherwise_none (elem_fault sc s m) (elems_fault sc ss ms) h in
-      and_true (is_sort (sort_of sc.design (params_of sc.names sc.params) (var_sorts sc.names sc.vars) (elem_of sc m)) s) (elems_typed sc.design (params_of sc.names sc.params) (var_sorts sc.names sc.vars) ss (elems_of sc ms))
+      and_from (is_sort (sort_of sc.design (params_of sc.names sc.params) (var_sorts sc.names sc.vars) (elem_of sc m)) s) (elems_typed sc.design (params_of sc.names sc.params) (var_sorts sc.names sc.vars) ss (elems_of sc ms))
       (elem_typed s m q.0) (elems_typed_at ss ms (omega arith) q.1)
 
   pub args_typed : (r : Reading) (places : List ℕ) → args_fault sc r places ≡ None → elems_typed sc.design (params_of sc.names sc.params) (var_sorts sc.names sc.vars) places (elems_of sc r.args) ≡ true
@@ -149,7 +149,7 @@ module _ (sc : Scope) where
         → body_typed sc.design (params_of sc.names sc.params) (var_sorts sc.names sc.vars) (body.Count (unwrap_or o 0) (elems_of sc r.args)) ≡ true
     count_typed r None e h = absurd (stranger sc r.name h)
     count_typed r (Some k) e h =
-        and_true (nat_lt k (length sc.design.counters)) (elems_typed sc.design (params_of sc.names sc.params) (var_sorts sc.names sc.vars) (counter_keys sc.design k) (elems_of sc r.args))
+        and_from (nat_lt k (length sc.design.counters)) (elems_typed sc.design (params_of sc.names sc.params) (var_sorts sc.names sc.vars) (counter_keys sc.design k) (elems_of sc r.args))
         (test k (length sc.design.counters) (fit.counters r.name.text k e)) (args_typed r (counter_keys sc.design k) h)
 
     none_typed : (ss : List ℕ) → (length ss == 0) ≡ true → elems_typed sc.design (params_of sc.names sc.params) (var_sorts sc.names sc.vars) ss [] ≡ true
@@ -169,7 +169,7 @@ module _ (sc : Scope) where
     lone_typed r none None (Some k) e f h =
         subst (λ (q : Option ℕ). body_typed sc.design (params_of sc.names sc.params) (var_sorts sc.names sc.vars) (body.Count (unwrap_or q 0) (elems_of sc r.args)) ≡ true) (sym f)
         (subst (λ ms. body_typed sc.design (params_of sc.names sc.params) (var_sorts sc.names sc.vars) (body.Count k (elems_of sc ms)) ≡ true) (sym none)
-        (and_true (nat_lt k (length sc.design.counters)) (elems_typed sc.design (params_of sc.names sc.params) (var_sorts sc.names sc.vars) (counter_keys sc.design k) [])
+        (and_from (nat_lt k (length sc.design.counters)) (elems_typed sc.design (params_of sc.names sc.params) (var_sorts sc.names sc.vars) (counter_keys sc.design k) [])
         (test k (length sc.design.counters) (fit.counters r.name.text k f)) (none_typed (counter_keys sc.design k) (lone_counter r.name k h))))
     lone_typed r none None None e f h = absurd (stranger sc r.name h)
 
@@ -184,7 +184,7 @@ module _ (sc : Scope) where
 
     summand_is_typed : (minus : Bool) (p : Product) → product_fault sc p ≡ None → summand_typed sc.design (params_of sc.names sc.params) (var_sorts sc.names sc.vars) (summand_of sc minus p) ≡ true
     summand_is_typed minus p h =
-        and_true (in_literal_range (coef_of minus p)) (body_typed sc.design (params_of sc.names sc.params) (var_sorts sc.names sc.vars) (body_of sc p)) (coef_range minus p) (product_typed p h)
+        and_from (in_literal_range (coef_of minus p)) (body_typed sc.design (params_of sc.names sc.params) (var_sorts sc.names sc.vars) (body_of sc p)) (coef_range minus p) (product_typed p h)
 
     signed_few : (n : ℕ) (s : Signed) → signed_fault sc n s ≡ None → n < 15
     signed_few n s h =
@@ -199,9 +199,9 @@ module _ (sc : Scope) where
         let q = otherwise_none (product_fault sc t.first.product) (first_fault (signed_fault sc) 0 t.more) h in
         let few : 0 + length t.more ≤ 15 = first_few (signed_fault sc) 15 signed_few 0 t.more (omega arith) q.1 in
         let long : length (map (signed_of sc) t.more) ≡ length t.more = length-map t.more (signed_of sc) in
-        and_true (nat_le (length (term_of sc t).summands) 16) (list_all (summand_typed sc.design (params_of sc.names sc.params) (var_sorts sc.names sc.vars)) (term_of sc t).summands)
+        and_from (nat_le (length (term_of sc t).summands) 16) (list_all (summand_typed sc.design (params_of sc.names sc.params) (var_sorts sc.names sc.vars)) (term_of sc t).summands)
         (test_le (length (term_of sc t).summands) 16 (omega arith))
-        (and_true (summand_typed sc.design (params_of sc.names sc.params) (var_sorts sc.names sc.vars) (summand_of sc t.minus t.first.product)) (list_all (summand_typed sc.design (params_of sc.names sc.params) (var_sorts sc.names sc.vars)) (map (signed_of sc) t.more))
+        (and_from (summand_typed sc.design (params_of sc.names sc.params) (var_sorts sc.names sc.vars) (summand_of sc t.minus t.first.product)) (list_all (summand_typed sc.design (params_of sc.names sc.params) (var_sorts sc.names sc.vars)) (map (signed_of sc) t.more))
         (summand_is_typed t.minus t.first.product q.0)
         (list_all-map (summand_typed sc.design (params_of sc.names sc.params) (var_sorts sc.names sc.vars)) (signed_of sc) t.more
         ∙ first_none (signed_fault sc) (λ s. summand_typed sc.design (params_of sc.names sc.params) (var_sorts sc.names sc.vars) (signed_of sc s)) signed_typed 0 t.more q.1))

@@ -1,5 +1,6 @@
 -- What is typed in a specification is typed in one that has more.
 use Rattle.std.proofs.Common.{◌≡◌, ℕ, ◌<◌, ◌≤◌, true, not, ◌&&◌, ◌||◌, ◌==◌, nat_lt, nat_le, if◌then◌else◌, List, [], ◌∷◌, ◌++◌, length, Option, Some, refl, ◌∙◌, ap, subst}
+use Rattle.std.proofs.lemmas.Bool.{and_from, and_parts}
 use Rattle.std.specs.Prelude.{slice_get, option_map}
 use Rattle.std.specs.List.{list_all, zip}
 use Rattle.spec_core.specs.declared.formula.Elem.{Elem}
@@ -29,11 +30,11 @@ use Rattle.spec_core.specs.declared.spec.Invariant.{Invariant}
 use Rattle.spec_core.specs.Form.{Form, true_form, false_form, not_form, and_form, or_form, implies_form, has_form, same_form, differ_form, compare_form}
 use Rattle.spec_core.specs.Line.{Line}
 use Rattle.spec_core.specs.UpdateLine.{UpdateLine}
+use Rattle.spec_core.specs.Name.{is_word_name}
 use Rattle.spec_core.specs.Specification.{Specification, relation_places, counter_keys, token_places, places_of}
 use Rattle.spec_core.specs.Truth.{is_exists}
 use Rattle.spec_core.specs.Fits.{in_literal_range, is_plain}
 use Rattle.spec_core.specs.Typed.{sort_of, is_sort, same_sort, elems_typed, body_typed, summand_typed, term_typed, form_typed, nodes, depth, is_formula, are_sorts, is_line, is_kind, is_parameter, spot_typed, spots_typed, change_typed, is_update, is_take, is_operation, is_relation, is_counter, is_token, is_pattern, agree_on, sorts_of_vars, is_rule, is_invariant}
-use Rattle.spec_core.proofs.Lists.{both, and_true}
 use Rattle.typing_rules.proofs.Basics.{and_both, list_all-mono, tested, below_more, sort_some, some_sort, same_some, some_same}
 
 -- the sort of a constant
@@ -83,8 +84,8 @@ module _ (d e : Specification) (ext : Extends d e) where
   reading_extends : (params : List Parameter) (vars : List ℕ) (n m : ℕ) (ss ts : List ℕ) (k : ℕ) (xs : List Elem) → n ≤ m → (k < n → ss ≡ ts)
       → (nat_lt k n && elems_typed d params vars ss xs) ≡ true → (nat_lt k m && elems_typed e params vars ts xs) ≡ true
   reading_extends params vars n m ss ts k xs le same h =
-      let p = both (nat_lt k n) (elems_typed d params vars ss xs) h in
-      and_true (nat_lt k m) (elems_typed e params vars ts xs) (below_more k n m le p.0)
+      let p = and_parts (nat_lt k n) (elems_typed d params vars ss xs) h in
+      and_from (nat_lt k m) (elems_typed e params vars ts xs) (below_more k n m le p.0)
       (subst (λ us. elems_typed e params vars us xs ≡ true) (same (tested k n p.0)) (elems_extend params vars ss xs p.1))
 
   body_extends : (params : List Parameter) (vars : List ℕ) (b : Body) → body_typed d params vars b ≡ true → body_typed e params vars b ≡ true
@@ -163,15 +164,15 @@ module _ (d e : Specification) (ext : Extends d e) where
   places_kept params (thing.Relation k) (Set t) h = absurd cc
   places_kept params (thing.Counter k) Insert h = absurd cc
   places_kept params (thing.Counter k) Remove h = absurd cc
-  places_kept params (thing.Counter k) (Add t) h = ext.counters k (tested k (length d.counters) (both (nat_lt k (length d.counters)) (term_typed d params [] t) h).0)
-  places_kept params (thing.Counter k) (Set t) h = ext.counters k (tested k (length d.counters) (both (nat_lt k (length d.counters)) (term_typed d params [] t) h).0)
+  places_kept params (thing.Counter k) (Add t) h = ext.counters k (tested k (length d.counters) (and_parts (nat_lt k (length d.counters)) (term_typed d params [] t) h).0)
+  places_kept params (thing.Counter k) (Set t) h = ext.counters k (tested k (length d.counters) (and_parts (nat_lt k (length d.counters)) (term_typed d params [] t) h).0)
 
   update_extends : (params : List Parameter) (u : UpdateLine) → is_update d params u ≡ true → is_update e params u ≡ true
   update_extends params u h =
-      let p = both (change_typed d params u.thing u.change && spots_typed d params (places_of d u.thing) u.at) (is_formula d params [] u.guard) h in
-      let q = both (change_typed d params u.thing u.change) (spots_typed d params (places_of d u.thing) u.at) p.0 in
-      and_true (change_typed e params u.thing u.change && spots_typed e params (places_of e u.thing) u.at) (is_formula e params [] u.guard)
-      (and_true (change_typed e params u.thing u.change) (spots_typed e params (places_of e u.thing) u.at)
+      let p = and_parts (change_typed d params u.thing u.change && spots_typed d params (places_of d u.thing) u.at) (is_formula d params [] u.guard) h in
+      let q = and_parts (change_typed d params u.thing u.change) (spots_typed d params (places_of d u.thing) u.at) p.0 in
+      and_from (change_typed e params u.thing u.change && spots_typed e params (places_of e u.thing) u.at) (is_formula e params [] u.guard)
+      (and_from (change_typed e params u.thing u.change) (spots_typed e params (places_of e u.thing) u.at)
       (change_extends params u.thing u.change q.0)
       (subst (λ ss. spots_typed e params ss u.at ≡ true) (places_kept params u.thing u.change q.0) (spots_extend params (places_of d u.thing) u.at q.1)))
       (formula_extends params [] u.guard p.1)
@@ -183,10 +184,14 @@ module _ (d e : Specification) (ext : Extends d e) where
       (reading_extends params [] (length d.tokens) (length e.tokens) (token_places d t.token) (token_places e t.token) t.token t.args ext.few_tokens (ext.tokens t.token))
       (λ k. subst (λ v. (not t.shared || (v == 2)) ≡ true) ext.version k) h
 
+  parameter_extends : (p : Parameter) → is_parameter d p ≡ true → is_parameter e p ≡ true
+  parameter_extends p h = and_both (is_kind d p.kind) (is_word_name p.name) (is_kind e p.kind) (is_word_name p.name) (kind_extends p.kind) (λ k. k) h
+
   pub operation_extends : (o : Operation) → is_operation d o ≡ true → is_operation e o ≡ true
   operation_extends o h =
-      and_both _ _ _ _ (and_both _ _ _ _ (and_both _ _ _ _ (and_both _ _ _ _ (and_both _ _ _ _ (and_both _ _ _ _ (and_both _ _ _ _ (and_both _ _ _ _ (and_both _ _ _ _
-      (λ k. k) (list_all-mono (is_parameter d) (is_parameter e) (λ p. kind_extends p.kind) o.params))
+      and_both _ _ _ _ (and_both _ _ _ _ (and_both _ _ _ _ (and_both _ _ _ _ (and_both _ _ _ _ (and_both _ _ _ _ (and_both _ _ _ _ (and_both _ _ _ _ (and_both _ _ _ _ (and_both _ _ _ _
+      (λ k. k) (list_all-mono (is_parameter d) (is_parameter e) parameter_extends o.params))
+      (λ k. k))
       (λ k. k)) (list_all-mono (is_line d o.params) (is_line e o.params) (line_extends o.params) o.requires_))
       (λ k. k)) (list_all-mono (is_update d o.params) (is_update e o.params) (update_extends o.params) o.updates))
       (λ k. k)) (list_all-mono (is_take d o.params) (is_take e o.params) (take_extends o.params) o.takes))
@@ -204,7 +209,7 @@ module _ (d e : Specification) (ext : Extends d e) where
   token_extends t h = sorts_extend 3 t.places h
 
   pattern_places : (p : Pattern) → is_pattern d p ≡ true → token_places d p.token ≡ token_places e p.token
-  pattern_places p h = ext.tokens p.token (tested p.token (length d.tokens) (both (nat_lt p.token (length d.tokens)) (length p.vars == length (token_places d p.token)) h).0)
+  pattern_places p h = ext.tokens p.token (tested p.token (length d.tokens) (and_parts (nat_lt p.token (length d.tokens)) (length p.vars == length (token_places d p.token)) h).0)
 
   pattern_extends : (p : Pattern) → is_pattern d p ≡ true → is_pattern e p ≡ true
   pattern_extends p h =
@@ -213,13 +218,13 @@ module _ (d e : Specification) (ext : Extends d e) where
 
   pub rule_extends : (r : Rule) → is_rule d r ≡ true → is_rule e r ≡ true
   rule_extends r h =
-      let p = both (is_pattern d r.left && is_pattern d r.right) (list_all (agree_on (sorts_of_vars d r)) (sorts_of_vars d r)) h in
-      let q = both (is_pattern d r.left) (is_pattern d r.right) p.0 in
+      let p = and_parts (is_pattern d r.left && is_pattern d r.right) (list_all (agree_on (sorts_of_vars d r)) (sorts_of_vars d r)) h in
+      let q = and_parts (is_pattern d r.left) (is_pattern d r.right) p.0 in
       let same : sorts_of_vars d r ≡ sorts_of_vars e r =
       ap (λ ss. zip r.left.vars ss ++ zip r.right.vars (token_places d r.right.token)) (pattern_places r.left q.0)
       ∙ ap (λ ss. zip r.left.vars (token_places e r.left.token) ++ zip r.right.vars ss) (pattern_places r.right q.1) in
-      and_true (is_pattern e r.left && is_pattern e r.right) (list_all (agree_on (sorts_of_vars e r)) (sorts_of_vars e r))
-      (and_true (is_pattern e r.left) (is_pattern e r.right) (pattern_extends r.left q.0) (pattern_extends r.right q.1))
+      and_from (is_pattern e r.left && is_pattern e r.right) (list_all (agree_on (sorts_of_vars e r)) (sorts_of_vars e r))
+      (and_from (is_pattern e r.left) (is_pattern e r.right) (pattern_extends r.left q.0) (pattern_extends r.right q.1))
       (subst (λ xs. list_all (agree_on xs) xs ≡ true) same p.1)
 
   pub invariant_extends : (i : Invariant) → is_invariant d i ≡ true → is_invariant e i ≡ true

@@ -1,5 +1,6 @@
 -- Formulas without a fault are typed, and so are formulas with their variables.
 use Rattle.std.proofs.Common.{◌≡◌, ℕ, ◌+◌, ◌<◌, ◌≤◌, Bool, true, false, ◌&&◌, nat_lt, nat_le, if◌then◌else◌, List, length, take, Option, None, Some, refl, sym, ◌∙◌, ap, subst, arith}
+use Rattle.std.proofs.lemmas.Bool.{and_from}
 use Rattle.std.proofs.lemmas.List.Folds.{list_all-map}
 use Rattle.std.proofs.lemmas.List.{length-map}
 use Rattle.std.specs.Prelude.{unwrap_or}
@@ -10,7 +11,6 @@ use Rattle.spec_core.specs.Form as core
 use Rattle.spec_core.specs.Specification.{Specification, relation_places}
 use Rattle.spec_core.specs.Fits.{is_plain}
 use Rattle.spec_core.specs.Typed.{sort_of, same_sort, elems_typed, term_typed, form_typed, nodes, depth, is_formula, are_sorts, is_line}
-use Rattle.spec_core.proofs.Lists.{and_true}
 use Rattle.spec_reader.specs.declared.tree.Mark.{Mark}
 use Rattle.spec_reader.specs.declared.tree.Reading.{Reading}
 use Rattle.spec_reader.specs.declared.tree.Term.{Term}
@@ -95,15 +95,15 @@ sort_below d names fit m k h = subst (λ (o : Option ℕ). nat_lt (unwrap_or o 0
 module _ (sc : Scope) (fit : NamesFit sc.design sc.names) where
   connected_typed : (c : Connective) (f g : core.Form) → form_typed sc.design (params_of sc.names sc.params) (var_sorts sc.names sc.vars) f ≡ true
       → form_typed sc.design (params_of sc.names sc.params) (var_sorts sc.names sc.vars) g ≡ true → form_typed sc.design (params_of sc.names sc.params) (var_sorts sc.names sc.vars) (connected_of c f g) ≡ true
-  connected_typed connectives.And f g h k = and_true _ _ h k
-  connected_typed connectives.Or f g h k = and_true _ _ h k
-  connected_typed connectives.Implies f g h k = and_true _ _ h k
+  connected_typed connectives.And f g h k = and_from _ _ h k
+  connected_typed connectives.Or f g h k = and_from _ _ h k
+  connected_typed connectives.Implies f g h k = and_from _ _ h k
 
   atom_typed : (r : Reading) (o : Option ℕ) → relation_meant (sc.names r.name.text) ≡ o → atom_fault_at sc r o ≡ None
       → form_typed sc.design (params_of sc.names sc.params) (var_sorts sc.names sc.vars) (core.has_form (unwrap_or o 0) (elems_of sc r.args)) ≡ true
   atom_typed r None e h = absurd (stranger sc r.name h)
   atom_typed r (Some k) e h =
-      and_true (nat_lt k (length sc.design.relations)) (elems_typed sc.design (params_of sc.names sc.params) (var_sorts sc.names sc.vars) (relation_places sc.design k) (elems_of sc r.args))
+      and_from (nat_lt k (length sc.design.relations)) (elems_typed sc.design (params_of sc.names sc.params) (var_sorts sc.names sc.vars) (relation_places sc.design k) (elems_of sc r.args))
       (test k (length sc.design.relations) (fit.relations r.name.text k e)) (args_typed sc r (relation_places sc.design k) h)
 
   same_or_differ : (b : Bool) (x y : Elem) → same_sort (sort_of sc.design (params_of sc.names sc.params) (var_sorts sc.names sc.vars) x) (sort_of sc.design (params_of sc.names sc.params) (var_sorts sc.names sc.vars) y) ≡ true
@@ -125,7 +125,7 @@ module _ (sc : Scope) (fit : NamesFit sc.design sc.names) where
       → (term_typed sc.design (params_of sc.names sc.params) (var_sorts sc.names sc.vars) (term_of sc s) && term_typed sc.design (params_of sc.names sc.params) (var_sorts sc.names sc.vars) (term_of sc t)) ≡ true
   numbers_typed s t h =
       let q = otherwise_none (term_fault sc s) (term_fault sc t) h in
-      and_true _ _ (term_is_typed sc fit s q.0) (term_is_typed sc fit t q.1)
+      and_from _ _ (term_is_typed sc fit s q.0) (term_is_typed sc fit t q.1)
 
   compared_typed : (s : Term) (c : Comparison) (t : Term) (a b : Option Mark) → compared_fault sc s t a b ≡ None
       → form_typed sc.design (params_of sc.names sc.params) (var_sorts sc.names sc.vars) (compared_of sc s c t a b) ≡ true
@@ -150,8 +150,8 @@ module _ (sc : Scope) (fit : NamesFit sc.design sc.names) where
       let few : node_count f ≤ 200 = tested_le (node_count f) 200 (few_nodes f q.0) in
       let same = formula_nodes sc f in
       let deep = shallow (formula_of sc f) in
-      and_true (nat_le (nodes (formula_of sc f)) 200 && nat_le (depth (formula_of sc f)) 200) (form_typed sc.design (params_of sc.names sc.params) (var_sorts sc.names sc.vars) (formula_of sc f))
-      (and_true (nat_le (nodes (formula_of sc f)) 200) (nat_le (depth (formula_of sc f)) 200) (test_le (nodes (formula_of sc f)) 200 (omega arith)) (test_le (depth (formula_of sc f)) 200 (omega arith)))
+      and_from (nat_le (nodes (formula_of sc f)) 200 && nat_le (depth (formula_of sc f)) 200) (form_typed sc.design (params_of sc.names sc.params) (var_sorts sc.names sc.vars) (formula_of sc f))
+      (and_from (nat_le (nodes (formula_of sc f)) 200) (nat_le (depth (formula_of sc f)) 200) (test_le (nodes (formula_of sc f)) 200 (omega arith)) (test_le (depth (formula_of sc f)) 200 (omega arith)))
       (parts_typed f q.1)
 
   -- ---- formulas with their variables
@@ -171,7 +171,7 @@ module _ (sc : Scope) (fit : NamesFit sc.design sc.names) where
   variables_typed vs h =
       let few : 0 + length vs ≤ 3 = first_few (λ n v. variable_fault (with_vars sc (take n vs)) n v) 3 (variable_few vs) 0 vs (omega arith) h in
       let long : length (var_sorts sc.names vs) ≡ length vs = length-map vs (var_sort sc.names) in
-      and_true (nat_le (length (var_sorts sc.names vs)) 3) (list_all (λ s. nat_lt s (length sc.design.sorts)) (var_sorts sc.names vs))
+      and_from (nat_le (length (var_sorts sc.names vs)) 3) (list_all (λ s. nat_lt s (length sc.design.sorts)) (var_sorts sc.names vs))
       (test_le (length (var_sorts sc.names vs)) 3 (omega arith))
       (list_all-map (λ s. nat_lt s (length sc.design.sorts)) (var_sort sc.names) vs
       ∙ first_none (λ n v. variable_fault (with_vars sc (take n vs)) n v) (λ v. nat_lt (var_sort sc.names v) (length sc.design.sorts)) (variable_sorted vs) 0 vs h)
@@ -188,5 +188,5 @@ module _ (sc : Scope) (fit : NamesFit sc.design sc.names) where
 pub sentence_is_typed : (sc : Scope) → NamesFit sc.design sc.names → (s : Sentence) → sentence_fault sc s ≡ None → is_line sc.design (params_of sc.names sc.params) (sentence_of sc s) ≡ true
 sentence_is_typed sc fit s h =
     let q = otherwise_none (variables_fault sc (vars_of s.prefix)) (formula_fault (with_vars sc (vars_of s.prefix)) s.body) h in
-    and_true (are_sorts sc.design (if is_plain (prefix_of s.prefix) then 0 else 3) (var_sorts sc.names (vars_of s.prefix))) (is_formula sc.design (params_of sc.names sc.params) (var_sorts sc.names (vars_of s.prefix)) (formula_of (with_vars sc (vars_of s.prefix)) s.body))
+    and_from (are_sorts sc.design (if is_plain (prefix_of s.prefix) then 0 else 3) (var_sorts sc.names (vars_of s.prefix))) (is_formula sc.design (params_of sc.names sc.params) (var_sorts sc.names (vars_of s.prefix)) (formula_of (with_vars sc (vars_of s.prefix)) s.body))
     (sentence_sorts sc fit s.prefix q.0) (formula_is_typed (with_vars sc (vars_of s.prefix)) fit s.body q.1)

@@ -1,12 +1,13 @@
 -- What is known behind some items is well formed, and how it stays so where it grows.
 use Rattle.std.proofs.Common.{◌≡◌, ℕ, ◌<◌, ◌≤◌, Bool, true, false, ◌||◌, if◌then◌else◌, List, length, Option, None, Some, refl, sym, ◌∙◌, arith}
+use Rattle.std.proofs.lemmas.Bool.{and_from}
 use Rattle.std.specs.Prelude.{is_some}
 use Rattle.std.specs.List.{list_all}
 use Rattle.std.specs.Str.{bytes_eq}
+use Rattle.spec_core.specs.Name.{is_word_name}
 use Rattle.spec_core.specs.Specification.{Specification, token_places}
 use Rattle.spec_core.specs.State.{is_in}
 use Rattle.spec_core.specs.Typed.{is_relation, is_counter, is_token, is_rule, is_invariant, is_operation, all_distinct, global_names, is_specification}
-use Rattle.spec_core.proofs.Lists.{and_true}
 use Rattle.spec_core.proofs.Parts.{Parts, few_token_places}
 use Rattle.spec_reader.specs.declared.tree.Mark.{Mark}
 use Rattle.typing_rules.specs.declared.meaning.Meaning.{Meaning}
@@ -17,7 +18,7 @@ use Rattle.typing_rules.specs.Items.{Known, scope_in, heading_fault}
 use Rattle.typing_rules.proofs.Basics.{list_all-mono, otherwise_none, limit_none}
 use Rattle.typing_rules.proofs.Extending.{Extends, relation_extends, counter_extends, token_extends, rule_extends, invariant_extends, operation_extends}
 use Rattle.typing_rules.proofs.Elements.{NamesFit}
-use Rattle.typing_rules.proofs.Distinct.{Inserted, in_inserted, distinct_inserted}
+use Rattle.typing_rules.proofs.Distinct.{Inserted, in_inserted, distinct_inserted, all_inserted}
 
 -- What is known is a well-formed specification; names mean what it has, and each name that it has means something.
 pub record Well (k : Known) : Type 0 where
@@ -27,8 +28,8 @@ pub record Well (k : Known) : Type 0 where
 
 pub whole_of : (d : Specification) → Parts d → is_specification d ≡ true
 whole_of d p =
-    and_true _ _ (and_true _ _ (and_true _ _ (and_true _ _ (and_true _ _ (and_true _ _ (and_true _ _ (and_true _ _ (and_true _ _ (and_true _ _ (and_true _ _ (and_true _ _ (and_true _ _ (and_true _ _ (and_true _ _
-    p.version p.sorts) p.consts) p.few_relations) p.relations) p.few_counters) p.counters) p.few_tokens) p.tokens) p.few_rules) p.rules) p.few_invariants) p.invariants) p.few_operations) p.operations) p.distinct
+    and_from _ _ (and_from _ _ (and_from _ _ (and_from _ _ (and_from _ _ (and_from _ _ (and_from _ _ (and_from _ _ (and_from _ _ (and_from _ _ (and_from _ _ (and_from _ _ (and_from _ _ (and_from _ _ (and_from _ _ (and_from _ _
+    p.version p.sorts) p.consts) p.few_relations) p.relations) p.few_counters) p.counters) p.few_tokens) p.tokens) p.few_rules) p.rules) p.few_invariants) p.invariants) p.few_operations) p.operations) p.words) p.distinct
 
 pub few_places_of : (d : Specification) → Parts d → (t : ℕ) → length (token_places d t) ≤ 3
 few_places_of d p t = few_token_places d (whole_of d p) t
@@ -112,6 +113,9 @@ fresh k m w h = by (is_in m.text (global_names k.design)) refl
 
 pub distinct_more : (k : Known) (m : Mark) (e : Specification) → Well k → declared_fault (scope_in k) m ≡ None → Inserted m.text (global_names k.design) (global_names e) → all_distinct (global_names e) ≡ true
 distinct_more k m e w h i = distinct_inserted i w.parts.distinct (fresh k m w h)
+
+pub words_more : (k : Known) (m : Mark) (e : Specification) → Well k → is_word_name m.text ≡ true → Inserted m.text (global_names k.design) (global_names e) → list_all is_word_name (global_names e) ≡ true
+words_more k m e w h i = all_inserted is_word_name i w.parts.words h
 
 pub heading_parts : (k : Known) (which : Which) (most count : ℕ) (m : Mark) → heading_fault k which most count m ≡ None → (declared_fault (scope_in k) m ≡ None) × (count < most)
 heading_parts k which most count m h =

@@ -4,6 +4,7 @@ pub mod Elements
 pub mod Formulas
 pub mod Lines
 pub mod Distinct
+pub mod Naming
 pub mod Conflicts
 pub mod Knowing
 pub mod Declaring

@@ -1,5 +1,6 @@
 -- Lines without a fault are typed, and so is the operation that they are.
 use Rattle.std.proofs.Common.{◌≡◌, ℕ, ◌<◌, Bool, true, false, not, ◌&&◌, ◌||◌, ◌==◌, nat_lt, nat_le, if◌then◌else◌, List, [], ◌∷◌, ◌++◌, length, Option, None, Some, Ok, refl, sym, ◌∙◌, ap, subst, arith}
+use Rattle.std.proofs.lemmas.Bool.{and_from, and_parts}
 use Rattle.std.specs.Prelude.{unwrap_or}
 use Rattle.std.specs.List.{list_all}
 use Rattle.spec_core.specs.declared.operation.Param.{Param as Parameter}
@@ -7,8 +8,7 @@ use Rattle.spec_core.specs.declared.operation.Operation.{Operation}
 use Rattle.spec_core.specs.declared.update.Change.TheVariants as change
 use Rattle.spec_core.specs.UpdateLine.{UpdateLine}
 use Rattle.spec_core.specs.Specification.{Specification, relation_places, counter_keys, token_places}
-use Rattle.spec_core.specs.Typed.{elems_typed, is_formula, is_line, is_parameter, spot_typed, spots_typed, is_update, is_take, is_operation}
-use Rattle.spec_core.proofs.Lists.{both, and_true}
+use Rattle.spec_core.specs.Typed.{elems_typed, is_formula, is_line, is_parameter, parameter_names, all_distinct, spot_typed, spots_typed, is_update, is_take, is_operation}
 use Rattle.spec_reader.specs.declared.tree.Mark.{Mark}
 use Rattle.spec_reader.specs.declared.tree.Reading.{Reading}
 use Rattle.spec_reader.specs.declared.tree.Term.{Term}
@@ -22,7 +22,7 @@ use Rattle.typing_rules.specs.Fault.{◌otherwise◌, limit_at}
 use Rattle.typing_rules.specs.Scope.{Names, Scope, relation_meant, counter_meant, token_meant, params_of}
 use Rattle.typing_rules.specs.Terms.{elems_of, places_fault, term_fault, term_of}
 use Rattle.typing_rules.specs.Formulas.{sentence_fault, sentence_of}
-use Rattle.typing_rules.specs.Lines.{spot_fault, spots_fault, spot_of, spots_of, target_fault_at, relation_fault_at, counter_fault_at, relation_target_fault, counter_target_fault, guard_fault, guard_formula, relation_target, counter_target, update_of, taking_fault_at, taking_fault, is_shared, take_of, most_observes, line_fault, with_line, typed_lines}
+use Rattle.typing_rules.specs.Lines.{spot_fault, spots_fault, spot_of, spots_of, target_fault_at, relation_fault_at, counter_fault_at, relation_target_fault, counter_target_fault, guard_fault, guard_formula, relation_target, counter_target, update_of, taking_fault_at, taking_fault, is_shared, take_of, most_observed, line_fault, with_line, typed_lines}
 use Rattle.typing_rules.proofs.Basics.{test, otherwise_none, unless_ok, limit_none, list_all-more, few_more}
 use Rattle.typing_rules.proofs.Elements.{NamesFit, stranger, places_none, elem_typed, args_typed, term_is_typed}
 use Rattle.typing_rules.proofs.Formulas.{formula_is_typed, sentence_is_typed}
@@ -36,6 +36,7 @@ pub record OperationParts (d : Specification) (params : List Parameter) (o : Ope
   pub same : o.params ≡ params
   pub few_params : nat_le (length params) 6 ≡ true
   pub kinds : list_all (is_parameter d) params ≡ true
+  pub apart : all_distinct (parameter_names params) ≡ true
   pub few_requires : nat_le (length o.requires_) 8 ≡ true
   pub requires_typed : list_all (is_line d params) o.requires_ ≡ true
   pub few_updates : nat_le (length o.updates) 16 ≡ true
@@ -47,8 +48,8 @@ pub record OperationParts (d : Specification) (params : List Parameter) (o : Ope
 
 whole_operation : (d : Specification) (o : Operation) → OperationParts d o.params o → is_operation d o ≡ true
 whole_operation d o p =
-    and_true _ _ (and_true _ _ (and_true _ _ (and_true _ _ (and_true _ _ (and_true _ _ (and_true _ _ (and_true _ _ (and_true _ _
-    p.few_params p.kinds) p.few_requires) p.requires_typed) p.few_updates) p.updates_typed) p.few_takes) p.takes_typed) p.few_observes) p.observes_typed
+    and_from _ _ (and_from _ _ (and_from _ _ (and_from _ _ (and_from _ _ (and_from _ _ (and_from _ _ (and_from _ _ (and_from _ _ (and_from _ _
+    p.few_params p.kinds) p.apart) p.few_requires) p.requires_typed) p.few_updates) p.updates_typed) p.few_takes) p.takes_typed) p.few_observes) p.observes_typed
 
 pub operation_is_typed : (d : Specification) (params : List Parameter) (o : Operation) → OperationParts d params o → is_operation d o ≡ true
 operation_is_typed d params o p = whole_operation d o (subst (λ ps. OperationParts d ps o) (sym p.same) p)
@@ -66,7 +67,7 @@ module _ (d : Specification) (names : Names) (fit : NamesFit d names) (ps : List
   spots_are_typed (s ∷ ss) [] e h = absurd (omega arith)
   spots_are_typed (s ∷ ss) (x ∷ xs) e h =
       let q = otherwise_none (spot_fault (lines_scope d names ps) s x) (spots_fault (lines_scope d names ps) ss xs) h in
-      and_true (spot_typed d (params_of names ps) s (spot_of (lines_scope d names ps) x)) (spots_typed d (params_of names ps) ss (spots_of (lines_scope d names ps) xs))
+      and_from (spot_typed d (params_of names ps) s (spot_of (lines_scope d names ps) x)) (spots_typed d (params_of names ps) ss (spots_of (lines_scope d names ps) xs))
       (spot_is_typed s x q.0) (spots_are_typed ss xs (omega arith) q.1)
 
   target_typed : (m : Mark) (xs : List Spot) (places : List ℕ) → target_fault_at (lines_scope d names ps) m xs places ≡ None → spots_typed d (params_of names ps) places (spots_of (lines_scope d names ps) xs) ≡ true
@@ -77,12 +78,12 @@ module _ (d : Specification) (names : Names) (fit : NamesFit d names) (ps : List
   relation_typed : (m : Mark) (xs : List Spot) (o : Option ℕ) → relation_meant (names m.text) ≡ o → relation_fault_at (lines_scope d names ps) m xs o ≡ None
       → (nat_lt (unwrap_or o 0) (length d.relations) && spots_typed d (params_of names ps) (relation_places d (unwrap_or o 0)) (spots_of (lines_scope d names ps) xs)) ≡ true
   relation_typed m xs None e h = absurd (stranger (lines_scope d names ps) m h)
-  relation_typed m xs (Some k) e h = and_true _ _ (test k (length d.relations) (fit.relations m.text k e)) (target_typed m xs (relation_places d k) h)
+  relation_typed m xs (Some k) e h = and_from _ _ (test k (length d.relations) (fit.relations m.text k e)) (target_typed m xs (relation_places d k) h)
 
   counter_typed : (m : Mark) (xs : List Spot) (o : Option ℕ) → counter_meant (names m.text) ≡ o → counter_fault_at (lines_scope d names ps) m xs o ≡ None
       → (nat_lt (unwrap_or o 0) (length d.counters) && spots_typed d (params_of names ps) (counter_keys d (unwrap_or o 0)) (spots_of (lines_scope d names ps) xs)) ≡ true
   counter_typed m xs None e h = absurd (stranger (lines_scope d names ps) m h)
-  counter_typed m xs (Some k) e h = and_true _ _ (test k (length d.counters) (fit.counters m.text k e)) (target_typed m xs (counter_keys d k) h)
+  counter_typed m xs (Some k) e h = and_from _ _ (test k (length d.counters) (fit.counters m.text k e)) (target_typed m xs (counter_keys d k) h)
 
   guard_typed : (g : Option Form) → guard_fault (lines_scope d names ps) g ≡ None → is_formula d (params_of names ps) [] (guard_formula (lines_scope d names ps) g) ≡ true
   guard_typed None h = refl
@@ -90,22 +91,22 @@ module _ (d : Specification) (names : Names) (fit : NamesFit d names) (ps : List
 
   insert_typed : (m : Mark) (xs : List Spot) (g : Option Form) → relation_target_fault (lines_scope d names ps) m xs ≡ None → guard_fault (lines_scope d names ps) g ≡ None
       → is_update d (params_of names ps) (update_of (lines_scope d names ps) (relation_target (lines_scope d names ps) m) xs change.Insert g) ≡ true
-  insert_typed m xs g h k = and_true _ _ (relation_typed m xs (relation_meant (names m.text)) refl h) (guard_typed g k)
+  insert_typed m xs g h k = and_from _ _ (relation_typed m xs (relation_meant (names m.text)) refl h) (guard_typed g k)
 
   remove_typed : (m : Mark) (xs : List Spot) (g : Option Form) → relation_target_fault (lines_scope d names ps) m xs ≡ None → guard_fault (lines_scope d names ps) g ≡ None
       → is_update d (params_of names ps) (update_of (lines_scope d names ps) (relation_target (lines_scope d names ps) m) xs change.Remove g) ≡ true
-  remove_typed m xs g h k = and_true _ _ (relation_typed m xs (relation_meant (names m.text)) refl h) (guard_typed g k)
+  remove_typed m xs g h k = and_from _ _ (relation_typed m xs (relation_meant (names m.text)) refl h) (guard_typed g k)
 
   between : (a b c : Bool) → (a && b) ≡ true → c ≡ true → ((a && c) && b) ≡ true
-  between a b c h k = let p = both a b h in and_true (a && c) b (and_true a c p.0 k) p.1
+  between a b c h k = let p = and_parts a b h in and_from (a && c) b (and_from a c p.0 k) p.1
 
   add_typed : (m : Mark) (xs : List Spot) (t : Term) (g : Option Form) → counter_target_fault (lines_scope d names ps) m xs ≡ None → term_fault (lines_scope d names ps) t ≡ None → guard_fault (lines_scope d names ps) g ≡ None
       → is_update d (params_of names ps) (update_of (lines_scope d names ps) (counter_target (lines_scope d names ps) m) xs (change.Add (term_of (lines_scope d names ps) t)) g) ≡ true
-  add_typed m xs t g h i k = and_true _ _ (between _ _ _ (counter_typed m xs (counter_meant (names m.text)) refl h) (term_is_typed (lines_scope d names ps) fit t i)) (guard_typed g k)
+  add_typed m xs t g h i k = and_from _ _ (between _ _ _ (counter_typed m xs (counter_meant (names m.text)) refl h) (term_is_typed (lines_scope d names ps) fit t i)) (guard_typed g k)
 
   set_typed : (m : Mark) (xs : List Spot) (t : Term) (g : Option Form) → counter_target_fault (lines_scope d names ps) m xs ≡ None → term_fault (lines_scope d names ps) t ≡ None → guard_fault (lines_scope d names ps) g ≡ None
       → is_update d (params_of names ps) (update_of (lines_scope d names ps) (counter_target (lines_scope d names ps) m) xs (change.Set (term_of (lines_scope d names ps) t)) g) ≡ true
-  set_typed m xs t g h i k = and_true _ _ (between _ _ _ (counter_typed m xs (counter_meant (names m.text)) refl h) (term_is_typed (lines_scope d names ps) fit t i)) (guard_typed g k)
+  set_typed m xs t g h i k = and_from _ _ (between _ _ _ (counter_typed m xs (counter_meant (names m.text)) refl h) (term_is_typed (lines_scope d names ps) fit t i)) (guard_typed g k)
 
   -- ---- takings
 
@@ -117,10 +118,10 @@ module _ (d : Specification) (names : Names) (fit : NamesFit d names) (ps : List
   taken_typed : (r : Reading) (o : Option ℕ) → token_meant (names r.name.text) ≡ o → taking_fault_at (lines_scope d names ps) r o ≡ None
       → (nat_lt (unwrap_or o 0) (length d.tokens) && elems_typed d (params_of names ps) [] (token_places d (unwrap_or o 0)) (elems_of (lines_scope d names ps) r.args)) ≡ true
   taken_typed r None e h = absurd (stranger (lines_scope d names ps) r.name h)
-  taken_typed r (Some k) e h = and_true _ _ (test k (length d.tokens) (fit.tokens r.name.text k e)) (args_typed (lines_scope d names ps) r (token_places d k) h)
+  taken_typed r (Some k) e h = and_from _ _ (test k (length d.tokens) (fit.tokens r.name.text k e)) (args_typed (lines_scope d names ps) r (token_places d k) h)
 
   take_typed : (r : Reading) (m : Mode) → taking_fault (lines_scope d names ps) r ≡ None → is_take d (params_of names ps) (take_of (lines_scope d names ps) r m) ≡ true
-  take_typed r m h = and_true _ _ (taken_typed r (token_meant (names r.name.text)) refl h) (shared_typed (is_shared m) (d.version == 2))
+  take_typed r m h = and_from _ _ (taken_typed r (token_meant (names r.name.text)) refl h) (shared_typed (is_shared m) (d.version == 2))
 
   -- ---- lines
 
@@ -132,6 +133,7 @@ module _ (d : Specification) (names : Names) (fit : NamesFit d names) (ps : List
         same = p.same;
         few_params = p.few_params;
         kinds = p.kinds;
+        apart = p.apart;
         few_requires = few_more o.requires_ (sentence_of (lines_scope d names ps) s) 8 (limit_none Requires 8 (length o.requires_) w q.0);
         requires_typed = list_all-more (is_line d (params_of names ps)) o.requires_ (sentence_of (lines_scope d names ps) s) p.requires_typed (sentence_is_typed (lines_scope d names ps) fit s q.1);
         few_updates = p.few_updates;
@@ -145,18 +147,19 @@ module _ (d : Specification) (names : Names) (fit : NamesFit d names) (ps : List
   with_observes : (o : Operation) (s : Sentence) (w : ℕ) → OperationParts d (params_of names ps) o → line_fault (lines_scope d names ps) o (observes_form w s) ≡ None
       → OperationParts d (params_of names ps) (with_line (lines_scope d names ps) o (observes_form w s))
   with_observes o s w p h =
-      let q = otherwise_none (limit_at Observes (most_observes d) (length o.observes) w) (sentence_fault (lines_scope d names ps) s) h in
+      let q = otherwise_none (limit_at Observes (most_observed d) (length o.observes) w) (sentence_fault (lines_scope d names ps) s) h in
       record {
         same = p.same;
         few_params = p.few_params;
         kinds = p.kinds;
+        apart = p.apart;
         few_requires = p.few_requires;
         requires_typed = p.requires_typed;
         few_updates = p.few_updates;
         updates_typed = p.updates_typed;
         few_takes = p.few_takes;
         takes_typed = p.takes_typed;
-        few_observes = few_more o.observes (sentence_of (lines_scope d names ps) s) (most_observes d) (limit_none Observes (most_observes d) (length o.observes) w q.0);
+        few_observes = few_more o.observes (sentence_of (lines_scope d names ps) s) (most_observed d) (limit_none Observes (most_observed d) (length o.observes) w q.0);
         observes_typed = list_all-more (is_line d (params_of names ps)) o.observes (sentence_of (lines_scope d names ps) s) p.observes_typed (sentence_is_typed (lines_scope d names ps) fit s q.1);
       }
 
@@ -168,6 +171,7 @@ module _ (d : Specification) (names : Names) (fit : NamesFit d names) (ps : List
         same = p.same;
         few_params = p.few_params;
         kinds = p.kinds;
+        apart = p.apart;
         few_requires = p.few_requires;
         requires_typed = p.requires_typed;
         few_updates = p.few_updates;
@@ -185,6 +189,7 @@ module _ (d : Specification) (names : Names) (fit : NamesFit d names) (ps : List
         same = p.same;
         few_params = p.few_params;
         kinds = p.kinds;
+        apart = p.apart;
         few_requires = p.few_requires;
         requires_typed = p.requires_typed;
         few_updates = few_more o.updates u 16 lt;

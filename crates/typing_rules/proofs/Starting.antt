@@ -1,5 +1,6 @@
 -- Initial values without a fault leave what is known well formed.
 use Rattle.std.proofs.Common.{◌≡◌, ℕ, ◌-◌, ℤ, Bool, true, false, ◌==◌, if◌then◌else◌, List, [], ◌∷◌, ◌++◌, length, get_or, map, Option, None, Some, refl, sym, ◌∙◌, ap, arith}
+use Rattle.std.proofs.lemmas.Bool.{and_from, and_parts}
 use Rattle.std.proofs.lemmas.List.{length-map}
 use Rattle.std.proofs.Math.ListN.{get_or-map}
 use Rattle.std.specs.Prelude.{is_some}
@@ -7,11 +8,11 @@ use Rattle.std.specs.List.{list_all}
 use Rattle.spec_core.specs.declared.spec.Const.{Const as Constant}
 use Rattle.spec_core.specs.declared.spec.Relation.{Relation}
 use Rattle.spec_core.specs.declared.spec.Counter.{Counter}
+use Rattle.spec_core.specs.Name.{is_word_name}
 use Rattle.spec_core.specs.Specification.{Specification, no_relation, no_counter}
 use Rattle.spec_core.specs.State.{is_in}
 use Rattle.spec_core.specs.Fits.{in_literal_range}
 use Rattle.spec_core.specs.Typed.{are_sorts, is_relation, is_counter, all_distinct, names_from_counters, names_from_tokens, global_names}
-use Rattle.spec_core.proofs.Lists.{both, and_true}
 use Rattle.spec_reader.specs.declared.tree.Mark.{Mark}
 use Rattle.spec_reader.specs.declared.tree.Value.{Value}
 use Rattle.spec_reader.specs.declared.tree.Value.TheVariants as values
@@ -39,11 +40,11 @@ truth_all p still [] n b h = refl
 truth_all p still (r ∷ rs) n b h = by (n == 0) (truth_all p still rs (n - 1) b q.1)
   where
     q : (p r ≡ true) × (list_all p rs ≡ true)
-    q = both (p r) (list_all p rs) h
+    q = and_parts (p r) (list_all p rs) h
 
     by : (c : Bool) → list_all p (initial_truth rs (n - 1) b) ≡ true → list_all p (if c then record r { initial = b } ∷ rs else r ∷ initial_truth rs (n - 1) b) ≡ true
-    by true rest = and_true (p (record r { initial = b })) (list_all p rs) (still r b q.0) q.1
-    by false rest = and_true (p r) (list_all p (initial_truth rs (n - 1) b)) q.0 rest
+    by true rest = and_from (p (record r { initial = b })) (list_all p rs) (still r b q.0) q.1
+    by false rest = and_from (p r) (list_all p (initial_truth rs (n - 1) b)) q.0 rest
 
 truth_length : (rs : List Relation) (n : ℕ) (b : Bool) → length (initial_truth rs n b) ≡ length rs
 truth_length rs n b =
@@ -70,11 +71,11 @@ number_all p v still [] n h = refl
 number_all p v still (c ∷ cs) n h = by (n == 0) (number_all p v still cs (n - 1) q.1)
   where
     q : (p c ≡ true) × (list_all p cs ≡ true)
-    q = both (p c) (list_all p cs) h
+    q = and_parts (p c) (list_all p cs) h
 
     by : (b : Bool) → list_all p (initial_number cs (n - 1) v) ≡ true → list_all p (if b then record c { initial = v } ∷ cs else c ∷ initial_number cs (n - 1) v) ≡ true
-    by true rest = and_true (p (record c { initial = v })) (list_all p cs) (still c q.0) q.1
-    by false rest = and_true (p c) (list_all p (initial_number cs (n - 1) v)) q.0 rest
+    by true rest = and_from (p (record c { initial = v })) (list_all p cs) (still c q.0) q.1
+    by false rest = and_from (p c) (list_all p (initial_number cs (n - 1) v)) q.0 rest
 
 number_length : (cs : List Counter) (n : ℕ) (v : ℤ) → length (initial_number cs n v) ≡ length cs
 number_length cs n v =
@@ -144,6 +145,7 @@ module _ (k : Known) (stated : Names) (n : ℕ) where
           invariants = old.invariants;
           few_operations = p.few_operations;
           operations = old.operations;
+          words = ap (list_all is_word_name) (truth_names b) ∙ p.words;
           distinct = ap all_distinct (truth_names b) ∙ p.distinct;
         };
         fit = fit_more k.design e (truth_extends b) k.names w.fit;
@@ -186,7 +188,7 @@ module _ (k : Known) (stated : Names) (n : ℕ) where
           few_relations = p.few_relations;
           relations = old.relations;
           few_counters = (let few = tested_le (length k.design.counters) 8 p.few_counters in test_le (length (initial_number k.design.counters n v)) 8 (omega arith));
-          counters = number_all (is_counter e) v (λ c h. and_true (are_sorts e 2 c.keys) (in_literal_range v) (both (are_sorts e 2 c.keys) (in_literal_range c.initial) h).0 range) k.design.counters n old.counters;
+          counters = number_all (is_counter e) v (λ c h. and_from (are_sorts e 2 c.keys) (in_literal_range v) (and_parts (are_sorts e 2 c.keys) (in_literal_range c.initial) h).0 range) k.design.counters n old.counters;
           few_tokens = p.few_tokens;
           tokens = old.tokens;
           few_rules = p.few_rules;
@@ -195,6 +197,7 @@ module _ (k : Known) (stated : Names) (n : ℕ) where
           invariants = old.invariants;
           few_operations = p.few_operations;
           operations = old.operations;
+          words = ap (list_all is_word_name) (number_names v) ∙ p.words;
           distinct = ap all_distinct (number_names v) ∙ p.distinct;
         };
         fit = fit_more k.design e (number_extends v) k.names w.fit;

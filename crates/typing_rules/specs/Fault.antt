@@ -13,8 +13,9 @@ pub data Fault : Type 0 where
   limit_fault : Which → ℕ → ℕ → Fault
 
 infixr 3 ◌otherwise◌
--- The first of two faults. The one that is asked first stands at an earlier word; or at the same word, and then it comes first
--- in the order unknown, twice, kind, count, limit. So what is answered is the fault with the least word.
+-- The first of two faults. In a tree whose places are those of its words, as each tree that is read, the one that is asked
+-- first stands at an earlier word; or at the same word, and then it comes first in the order unknown, twice, kind, count, limit.
+-- So what is answered of such a tree is the fault with the least word; of another tree, the first that is met.
 abbrev pub ◌otherwise◌ : Option Fault → Option Fault → Option Fault
 None otherwise g = g
 Some f otherwise g = Some f

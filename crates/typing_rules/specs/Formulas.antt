@@ -8,6 +8,7 @@ use Rattle.spec_core.specs.declared.line.Prefix.TheVariants as prefixes
 use Rattle.spec_core.specs.Form.{true_form as true_of, false_form as false_of, not_form as not_of, and_form, or_form, implies_form, has_form as has_of, same_form, differ_form, compare_form as compare_of}
 use Rattle.spec_core.specs.Form as core
 use Rattle.spec_core.specs.Line.{Line}
+use Rattle.spec_core.specs.Limits.{most_variables, most_nodes}
 use Rattle.spec_core.specs.Specification.{relation_places}
 use Rattle.spec_core.specs.Typed.{same_sort}
 use Rattle.spec_reader.specs.declared.tree.Mark.{Mark}
@@ -124,9 +125,9 @@ first_word (connect_form w f c g) = w
 first_word (has_form w r) = w
 first_word (compare_form w s c t) = w
 
--- at most 200 nodes; words are numbered below 2^32, so no text has more than 2^32 nodes
+-- few nodes; words are numbered below 2^32, so no text has more than 2^32 nodes
 abbrev pub nodes_fault : Form → Option Fault
-nodes_fault f = if nat_le (node_count f) 200 then None else Some (limit_fault Nodes (min (node_count f) 4294967296) (first_word f))
+nodes_fault f = if nat_le (node_count f) most_nodes then None else Some (limit_fault Nodes (min (node_count f) 4294967296) (first_word f))
 
 abbrev pub formula_fault : Scope → Form → Option Fault
 formula_fault sc f = nodes_fault f otherwise parts_fault sc f
@@ -182,7 +183,7 @@ with_vars sc vs = record sc { vars = vs }
 
 -- a variable, where those before it are in scope
 abbrev pub variable_fault : Scope → ℕ → Variable → Option Fault
-variable_fault sc n v = declared_fault sc v.name otherwise limit_at Variables 3 n v.name.word otherwise sort_fault sc v.name.text v.sort
+variable_fault sc n v = declared_fault sc v.name otherwise limit_at Variables most_variables n v.name.word otherwise sort_fault sc v.name.text v.sort
 
 abbrev pub variables_fault : Scope → List Variable → Option Fault
 variables_fault sc vs = first_fault (λ n v. variable_fault (with_vars sc (take n vs)) n v) 0 vs

@@ -12,6 +12,7 @@ use Rattle.spec_core.specs.declared.spec.Pattern.{Pattern}
 use Rattle.spec_core.specs.declared.spec.Rule.{Rule}
 use Rattle.spec_core.specs.declared.spec.Invariant.{Invariant}
 use Rattle.spec_core.specs.declared.operation.Operation.{Operation}
+use Rattle.spec_core.specs.Limits.{most_sorts, most_constants, most_relations, most_places, most_counters, most_keys, most_tokens, most_rules, most_invariants, most_operations, most_parameters}
 use Rattle.spec_core.specs.Specification.{Specification, token_places}
 use Rattle.spec_core.specs.Typed.{is_sort}
 use Rattle.spec_reader.specs.declared.tree.Mark.{Mark}
@@ -63,7 +64,7 @@ sort_numbers names ms = map (sort_number names) ms
 -- ---- sorts, constants, relations, counters and tokens
 
 abbrev pub sort_item_fault : Known → Mark → Option Fault
-sort_item_fault k m = heading_fault k which.Sorts 8 (length k.design.sorts) m
+sort_item_fault k m = heading_fault k which.Sorts most_sorts (length k.design.sorts) m
 
 abbrev pub with_sort : Known → Mark → Known
 with_sort k m = record k {
@@ -71,15 +72,15 @@ with_sort k m = record k {
   names = with_name k.names m.text (meaning.Sort (length k.design.sorts));
 }
 
--- at most four constants of one sort
+-- few constants of one sort
 abbrev pub few_consts_fault : Specification → Mark → Option ℕ → Option Fault
 few_consts_fault d m None = None
-few_consts_fault d m (Some s) = limit_at which.Constants 4 (count_by (λ c. c.sort == s) d.consts) m.word
+few_consts_fault d m (Some s) = limit_at which.Constants most_constants (count_by (λ c. c.sort == s) d.consts) m.word
 
 abbrev pub const_fault : Known → Mark → Mark → Option Fault
 const_fault k m s = declared_fault (scope_in k) m otherwise few_consts_fault k.design m (sort_meant (k.names s.text)) otherwise sort_fault (scope_in k) m.text s
 
--- a place as a byte numbers it: four constants of each of eight sorts are far fewer
+-- a place as a byte numbers it: a specification has far fewer constants
 abbrev pub place_number : ℕ → ℕ
 place_number n = if nat_lt n 256 then n else 0
 
@@ -93,7 +94,7 @@ with_const k m s = record k {
 }
 
 abbrev pub relation_fault : Known → Mark → List Mark → Option Fault
-relation_fault k m ps = heading_fault k which.Relations 16 (length k.design.relations) m otherwise sorts_fault (scope_in k) m.text 3 ps
+relation_fault k m ps = heading_fault k which.Relations most_relations (length k.design.relations) m otherwise sorts_fault (scope_in k) m.text most_places ps
 
 abbrev pub relation_of : Known → Mark → List Mark → Relation
 relation_of k m ps = record { name = m.text; places = sort_numbers k.names ps; initial = false }
@@ -105,7 +106,7 @@ with_relation k m ps = record k {
 }
 
 abbrev pub counter_fault : Known → Mark → List Mark → Option Fault
-counter_fault k m ps = heading_fault k which.Counters 8 (length k.design.counters) m otherwise sorts_fault (scope_in k) m.text 2 ps
+counter_fault k m ps = heading_fault k which.Counters most_counters (length k.design.counters) m otherwise sorts_fault (scope_in k) m.text most_keys ps
 
 abbrev pub counter_of : Known → Mark → List Mark → Counter
 counter_of k m ps = record { name = m.text; keys = sort_numbers k.names ps; initial = pos 0 }
@@ -117,7 +118,7 @@ with_counter k m ps = record k {
 }
 
 abbrev pub token_fault : Known → Mark → List Mark → Option Fault
-token_fault k m ps = heading_fault k which.Tokens 16 (length k.design.tokens) m otherwise sorts_fault (scope_in k) m.text 3 ps
+token_fault k m ps = heading_fault k which.Tokens most_tokens (length k.design.tokens) m otherwise sorts_fault (scope_in k) m.text most_places ps
 
 abbrev pub token_of : Known → Mark → List Mark → Token
 token_of k m ps = record { name = m.text; places = sort_numbers k.names ps }
@@ -200,7 +201,7 @@ abbrev pub pattern_fault : Known → Reading → Reading → Reading → Option 
 pattern_fault k p q r = pattern_fault_at k p q r (token_meant (k.names r.name.text))
 
 abbrev pub conflict_fault : Known → ℕ → Reading → Reading → Option Fault
-conflict_fault k w p q = limit_at which.Conflicts 32 (length k.design.rules) w otherwise pattern_fault k p q p otherwise pattern_fault k p q q
+conflict_fault k w p q = limit_at which.Conflicts most_rules (length k.design.rules) w otherwise pattern_fault k p q p otherwise pattern_fault k p q q
 
 -- a variable is numbered by the first place at which it stands in the rule
 abbrev pub variable_number : Reading → Reading → Mark → ℕ
@@ -253,7 +254,7 @@ param_kind_fault sc own kinds.Int = None
 
 -- a parameter, where those before it are in scope
 abbrev pub param_fault : Scope → ℕ → Param → Option Fault
-param_fault sc n p = declared_fault sc p.name otherwise limit_at which.Parameters 6 n p.name.word otherwise param_kind_fault sc p.name.text p.kind
+param_fault sc n p = declared_fault sc p.name otherwise limit_at which.Parameters most_parameters n p.name.word otherwise param_kind_fault sc p.name.text p.kind
 
 abbrev pub params_fault : Scope → List Param → Option Fault
 params_fault sc ps = first_fault (λ n p. param_fault (with_params sc (take n ps)) n p) 0 ps
@@ -279,15 +280,15 @@ typed_item k (counter_form w m ps) = unless (counter_fault k m ps) (Ok (with_cou
 typed_item k (initially_form w m v) = unless (initially_fault k m v) (Ok (with_initial k m v))
 typed_item k (token_form w m ps) = unless (token_fault k m ps) (Ok (with_token k m ps))
 typed_item k (conflict_form w p q) = unless (conflict_fault k w p q) (Ok (with_rule k p q))
-typed_item k (invariant_form w m s) = unless (heading_fault k which.Invariants 16 (length k.design.invariants) m) (typed_invariant (with_heading k m meaning.Invariant) m s)
-typed_item k (operation_form w m ps ls) = unless (heading_fault k which.Operations 24 (length k.design.operations) m) (typed_operation (with_heading k m meaning.Operation) m ps ls)
+typed_item k (invariant_form w m s) = unless (heading_fault k which.Invariants most_invariants (length k.design.invariants) m) (typed_invariant (with_heading k m meaning.Invariant) m s)
+typed_item k (operation_form w m ps ls) = unless (heading_fault k which.Operations most_operations (length k.design.operations) m) (typed_operation (with_heading k m meaning.Operation) m ps ls)
 
 abbrev pub going_on : Result Known Fault → (Known → Result Specification Fault) → Result Specification Fault
 going_on (Ok k) more = more k
 going_on (Err f) more = Err f
 
--- The items are taken in their order, as names come in scope. The first that has a fault ends it: its words come before those
--- of later items.
+-- The items are taken in their order, as names come in scope. The first that has a fault ends it: in a tree that is read, its
+-- words come before those of later items.
 abbrev pub typed_items : Known → List ItemForm → Result Specification Fault
 typed_items k [] = Ok k.design
 typed_items k (i ∷ is) = going_on (typed_item k i) (λ j. typed_items j is)

@@ -11,6 +11,7 @@ use Rattle.spec_core.specs.declared.update.Change.TheVariants as change
 use Rattle.spec_core.specs.Form.{true_form as true_of}
 use Rattle.spec_core.specs.Form as core
 use Rattle.spec_core.specs.UpdateLine.{UpdateLine}
+use Rattle.spec_core.specs.Limits.{most_requires, most_updates, most_takes, most_observes}
 use Rattle.spec_core.specs.Specification.{Specification, relation_places, counter_keys, token_places}
 use Rattle.spec_reader.specs.declared.tree.Mark.{Mark}
 use Rattle.spec_reader.specs.declared.tree.Reading.{Reading}
@@ -103,19 +104,18 @@ take_of sc r m = record { token = unwrap_or (token_meant (sc.names r.name.text))
 -- ---- lines
 
 -- language version 1 has no observes lines
-abbrev pub most_observes : Specification → ℕ
-most_observes d = if d.version == 2 then 8 else 0
+abbrev pub most_observed : Specification → ℕ
+most_observed d = if d.version == 2 then most_observes else 0
 
--- A line of an operation that has these lines before it: at most 8 requires lines, 16 updates, 4 takes lines and 8 observes
--- lines.
+-- A line of an operation that has these lines before it, of each kind of which there may be so many.
 abbrev pub line_fault : Scope → Operation → LineForm → Option Fault
-line_fault sc o (requires_form w s) = limit_at Requires 8 (length o.requires_) w otherwise sentence_fault sc s
-line_fault sc o (insert_form w m xs g) = limit_at Updates 16 (length o.updates) w otherwise relation_target_fault sc m xs otherwise guard_fault sc g
-line_fault sc o (remove_form w m xs g) = limit_at Updates 16 (length o.updates) w otherwise relation_target_fault sc m xs otherwise guard_fault sc g
-line_fault sc o (add_form w m xs t g) = limit_at Updates 16 (length o.updates) w otherwise counter_target_fault sc m xs otherwise term_fault sc t otherwise guard_fault sc g
-line_fault sc o (set_form w m xs t g) = limit_at Updates 16 (length o.updates) w otherwise counter_target_fault sc m xs otherwise term_fault sc t otherwise guard_fault sc g
-line_fault sc o (takes_form w r m) = limit_at Takes 4 (length o.takes) w otherwise taking_fault sc r
-line_fault sc o (observes_form w s) = limit_at Observes (most_observes sc.design) (length o.observes) w otherwise sentence_fault sc s
+line_fault sc o (requires_form w s) = limit_at Requires most_requires (length o.requires_) w otherwise sentence_fault sc s
+line_fault sc o (insert_form w m xs g) = limit_at Updates most_updates (length o.updates) w otherwise relation_target_fault sc m xs otherwise guard_fault sc g
+line_fault sc o (remove_form w m xs g) = limit_at Updates most_updates (length o.updates) w otherwise relation_target_fault sc m xs otherwise guard_fault sc g
+line_fault sc o (add_form w m xs t g) = limit_at Updates most_updates (length o.updates) w otherwise counter_target_fault sc m xs otherwise term_fault sc t otherwise guard_fault sc g
+line_fault sc o (set_form w m xs t g) = limit_at Updates most_updates (length o.updates) w otherwise counter_target_fault sc m xs otherwise term_fault sc t otherwise guard_fault sc g
+line_fault sc o (takes_form w r m) = limit_at Takes most_takes (length o.takes) w otherwise taking_fault sc r
+line_fault sc o (observes_form w s) = limit_at Observes (most_observed sc.design) (length o.observes) w otherwise sentence_fault sc s
 
 abbrev pub with_update : Operation → UpdateLine → Operation
 with_update o u = record o { updates = o.updates ++ u ∷ [] }
@@ -135,7 +135,8 @@ abbrev pub unless : {A : Type 0} → Option Fault → Result A Fault → Result 
 unless None r = r
 unless (Some f) r = Err f
 
--- The lines are taken in their order. The first that has a fault ends it: its words come before those of later lines.
+-- The lines are taken in their order. The first that has a fault ends it: in a tree that is read, its words come before those of
+-- later lines.
 abbrev pub typed_lines : Scope → Operation → List LineForm → Result Operation Fault
 typed_lines sc o [] = Ok o
 typed_lines sc o (l ∷ ls) = unless (line_fault sc o l) (typed_lines sc (with_line sc o l) ls)

@@ -7,6 +7,7 @@ use Rattle.spec_core.specs.declared.formula.Body.{Body}
 use Rattle.spec_core.specs.declared.formula.Body.TheVariants as body
 use Rattle.spec_core.specs.declared.formula.Summand.{Summand as CoreSummand}
 use Rattle.spec_core.specs.declared.formula.Term.{Term as CoreTerm}
+use Rattle.spec_core.specs.Limits.{most_summands, greatest_literal}
 use Rattle.spec_core.specs.Specification.{Specification, counter_keys}
 use Rattle.spec_core.specs.Typed.{sort_of, is_sort}
 use Rattle.spec_reader.specs.declared.tree.Mark.{Mark}
@@ -77,13 +78,13 @@ args_fault sc r places = places_fault r.name places (length r.args) otherwise el
 
 -- ---- terms
 
--- literals and coefficients are at most 10^9
+-- literals and coefficients have a greatest size
 abbrev pub literal_fault : Figure → Option Fault
-literal_fault f = if nat_le f.value 1000000000 then None else Some (limit_fault Literal f.value f.word)
+literal_fault f = if nat_le f.value greatest_literal then None else Some (limit_fault Literal f.value f.word)
 
 -- what is too large stands for 0, and is refused
 abbrev pub literal_of : Bool → Figure → ℤ
-literal_of minus f = if nat_le f.value 1000000000 then (if minus then pos 0 -ℤ pos f.value else pos f.value) else pos 0
+literal_of minus f = if nat_le f.value greatest_literal then (if minus then pos 0 -ℤ pos f.value else pos f.value) else pos 0
 
 abbrev pub is_whole : ParamKind → Bool
 is_whole (kinds.Sort m) = false
@@ -117,9 +118,9 @@ product_fault sc (products.Number f) = literal_fault f
 product_fault sc (products.Times f r) = literal_fault f otherwise amount_fault sc r
 product_fault sc (products.Reading r) = amount_fault sc r
 
--- a summand behind the first, which is numbered 0: a term has at most 16
+-- a summand behind the first, which is numbered 0
 abbrev pub signed_fault : Scope → ℕ → Signed → Option Fault
-signed_fault sc n s = limit_at Summands 16 (n + 1) s.summand.word otherwise product_fault sc s.summand.product
+signed_fault sc n s = limit_at Summands most_summands (n + 1) s.summand.word otherwise product_fault sc s.summand.product
 
 abbrev pub term_fault : Scope → Term → Option Fault
 term_fault sc t = product_fault sc t.first.product otherwise first_fault (signed_fault sc) 0 t.more

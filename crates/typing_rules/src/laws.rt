@@ -1,12 +1,13 @@
-//! The law of typing.
+// The law of typing.
 
 ghost use Rattle.std.specs.Prelude.{◌≡◌, true, Ok};
 ghost use Rattle.spec_core.specs.Specification.{Specification};
 ghost use Rattle.spec_core.specs.Typed.{is_specification};
 ghost use Rattle.spec_reader.specs.Form.{TreeForm};
+ghost use Rattle.spec_reader.specs.Trees.{IsTree};
 ghost use Rattle.typing_rules.specs.Items.{typing};
 
-/// What a tree without faults declares is a well-formed specification.
+/// What a tree of the grammar without faults declares is a well-formed specification.
 pub fn law_typed_is_well_formed()
-    ensures { (t : TreeForm) (d : Specification) → typing t ≡ Ok d → is_specification d ≡ true }
+    ensures { (t : TreeForm) (d : Specification) → IsTree t → typing t ≡ Ok d → is_specification d ≡ true }
 {}

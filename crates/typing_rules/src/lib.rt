@@ -3,8 +3,8 @@
 // It stands on `spec_reader`, whose trees are typed, and on `spec_core`, whose specifications they give. The definitions are in
 // specs/, over plain data, in this order: `Fault` (what is wrong at a word), `Scope` (what a name means where it stands),
 // `Terms` (elements and amounts), `Formulas` (formulas and their prefixes), `Lines` (what operations do) and `Items` (the
-// declarations, and the whole). Each part of a tree has the first of its faults, in the order of the words, and what it is in
-// the specification.
+// declarations, and the whole). Each part of a tree has the first of its faults, and what it is in the specification. Where the
+// places in the tree are those of its words, as in each tree that is read, faults come in the order of the words.
 #![tactic(auto)]
 
 mod laws;

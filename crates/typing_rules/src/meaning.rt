@@ -1,4 +1,4 @@
-//! What a name that is declared for the whole specification means.
+// What a name that is declared for the whole specification means.
 
 /// What a name means, with its place among those of its kind.
 #[derive(Clone, Copy, PartialEq, Eq, Debug)]

@@ -11,7 +11,7 @@ unreachable-requires c =
     ap (λ k. typed_items k (map item_of c.args.tree.now.items)) (sym c.nothing_known-known.ensures)
     ∙ ap (λ xs. typed_items (known_of c.nothing_known-known.result) (map item_of xs)) (sym c.as_slice.ensures)
     ∙ c.in-Ok.ensures in
-    let formed : is_specification c.type_items.new.known.draft ≡ true = c.law_typed_is_well_formed.ensures (tree_of c.args.tree.now) c.type_items.new.known.draft e in
+    let formed : is_specification c.type_items.new.known.draft ≡ true = c.law_typed_is_well_formed.ensures (tree_of c.args.tree.now) c.type_items.new.known.draft c.requires e in
     let ill : is_specification c.type_items.new.known.draft ≡ false = c.in-None.ensures in
     let absurd_case : true ≡ false = sym formed ∙ ill in
     cc
