@@ -1,5 +1,6 @@
 -- The parts of the grammar from comparisons to formulas.
 use Rattle.std.proofs.Common.{◌≡◌, ℕ, zero, suc, Bool, true, false, cond, ◌||◌, List, [], ◌∷◌, ◌++◌, ◌⊎◌, inl, inr, refl, sym, ap, ◌∙◌, append_assoc}
+use Rattle.std.proofs.lemmas.Bool.{or_from}
 use Rattle.std.specs.Prelude.{not}
 use Rattle.std.specs.List.{AllByRecursion}
 use Rattle.token_readers.specs.declared.token.Key.{Key}
@@ -15,7 +16,7 @@ use Rattle.token_readers.specs.Texts.{AreWords}
 use Rattle.token_readers.specs.Read.{Read, both, only}
 use Rattle.token_readers.proofs.Part.{Part, then_part, viewed_part, fits_part, placed_part, regroup}
 use Rattle.token_readers.proofs.Choice.{word_part, either_part, only_part, sum_same, sum_of, clash}
-use Rattle.token_readers.proofs.Many.{list_on_false, false_or}
+use Rattle.token_readers.proofs.Many.{list_on_false}
 use Rattle.token_readers.proofs.Pieces.{symbol_key, name_not_key, name_kind_cases, number_kind_cases, key_part, sign_part, group_off}
 use Rattle.spec_reader.specs.declared.tree.Reading.{Reading}
 use Rattle.spec_reader.specs.declared.tree.Product.{Product}
@@ -156,7 +157,7 @@ pub term_off : (t : Term) (k : Kind) → is_key keys.Open k ≡ false → is_key
 term_off t k h g s = by t.first t.more
   where
     by : (x : Summand) (xs : List Signed) → sum_on x xs k ≡ false
-    by x [] = false_or (summand_on x k) (is_sign k) (product_off x.product k h g) s
+    by x [] = or_from (summand_on x k) (is_sign k) (product_off x.product k h g) s
     by x (y ∷ ys) = list_on_false is_sign signed_on (y ∷ ys) k s (λ z. product_off z.summand.product k h g)
 
 abbrev pub inside : Inside → List Spelt

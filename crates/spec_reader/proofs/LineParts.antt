@@ -1,5 +1,6 @@
 -- The parts of the grammar from variables to the lines of an operation.
 use Rattle.std.proofs.Common.{◌≡◌, ℕ, Bool, true, false, cond, ◌||◌, List, [], ◌∷◌, ◌++◌, Option, Some, None, Ok, ◌⊎◌, inl, inr, refl, sym, ap, subst, ◌∙◌}
+use Rattle.std.proofs.lemmas.Bool.{or_from, or_parts}
 use Rattle.std.specs.List.{AllByRecursion}
 use Rattle.std.specs.Str.{bytes_eq}
 use Rattle.std.proofs.lemmas.Slice.Eq.{bytes_eq-Decides}
@@ -17,7 +18,7 @@ use Rattle.token_readers.specs.Texts.{AreWords}
 use Rattle.token_readers.specs.Read.{Read, second, word_at}
 use Rattle.token_readers.proofs.Part.{Part, Joins, both_part, then_part, viewed_part, shaped_part, fits_part, ok_is, regroup}
 use Rattle.token_readers.proofs.Choice.{word_part, either_part, perhaps_part, sum_same, sum_of, option_same, option_of, clash}
-use Rattle.token_readers.proofs.Many.{many_part, list_on, list_on_false, or_false, false_or}
+use Rattle.token_readers.proofs.Many.{many_part, list_on, list_on_false}
 use Rattle.token_readers.proofs.TextFacts.{shared_word, observes_word}
 use Rattle.token_readers.proofs.Pieces.{symbol_key, name_kind_cases, number_kind_cases, name_not_key, key_part, sign_part, listed_part, group_part, group_on, group_off, perhaps_on, perhaps_joins}
 use Rattle.spec_reader.specs.declared.tree.Mark.{Mark}
@@ -407,17 +408,17 @@ mode_not_open v = record { second = later; first = first; end = end }
     other version.Second k = refl
 
     later : (a : Reading) (m : Mode) (k : Kind) → takes_on v a m k ≡ false → mode_on v m k ≡ false
-    later a modes.Missing k h = (or_false (reading_on a k) (mode_on v modes.Missing k) h).1
+    later a modes.Missing k h = (or_parts (reading_on a k) (mode_on v modes.Missing k) h).1
     later a modes.Shared k h = off v k
     later a modes.Exclusive k h = other v k
 
     first : (a : Reading) (m : Mode) (u : List Symbol) → ReadingFits v a → ModeFits v m → takes_on v a m (next u) ≡ false → reading_on a (next (plain (mode m) ++ u)) ≡ false
-    first a modes.Missing u f g h = (or_false (reading_on a (next u)) (mode_on v modes.Missing (next u)) h).0
+    first a modes.Missing u f g h = (or_parts (reading_on a (next u)) (mode_on v modes.Missing (next u)) h).0
     first a modes.Shared u f g h = group_off a.args kind.Shared refl
     first a modes.Exclusive u f g h = group_off a.args kind.Exclusive refl
 
     end : (a : Reading) (m : Mode) (u : List Symbol) → reading_on a (next (plain (mode m) ++ u)) ≡ false → mode_on v m (next u) ≡ false → takes_on v a m (next u) ≡ false
-    end a modes.Missing u h k = false_or (reading_on a (next u)) (mode_on v modes.Missing (next u)) h k
+    end a modes.Missing u h k = or_from (reading_on a (next u)) (mode_on v modes.Missing (next u)) h k
     end a modes.Shared u h k = refl
     end a modes.Exclusive u h k = refl
 
@@ -805,11 +806,11 @@ line_part version.Second d = viewed_part to_line back (either_part is_observes (
 -- ---- lines one after the other
 
 guarded_off : {A : Type 0} (oA : A → Kind → Bool) (a : A) (g : Option Form) (k : Kind) → oA a k ≡ false → is_key keys.When k ≡ false → is_key keys.Open k ≡ false → guarded_on oA a g k ≡ false
-guarded_off oA a None k h w o = false_or (oA a k) (is_key keys.When k) h w
+guarded_off oA a None k h w o = or_from (oA a k) (is_key keys.When k) h w
 guarded_off oA a (Some f) k h w o = form_off f k o
 
 takes_off : (v : Version) (r : Reading) (m : Mode) (k : Kind) → is_key keys.Open k ≡ false → is_mode k ≡ false → takes_on v r m k ≡ false
-takes_off v r modes.Missing k h i = false_or (reading_on r k) (mode_on v modes.Missing k) (group_off r.args k h) (by v)
+takes_off v r modes.Missing k h i = or_from (reading_on r k) (mode_on v modes.Missing k) (group_off r.args k h) (by v)
   where
     by : (v : Version) → mode_on v modes.Missing k ≡ false
     by version.First = refl

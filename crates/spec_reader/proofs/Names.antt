@@ -3,8 +3,7 @@ use Rattle.std.proofs.Common.{◌≡◌, ◌≤◌, Bool, true, false, cond, ◌
 use Rattle.std.specs.Prelude.{◌==◌, nat_lt}
 use Rattle.std.specs.Str.{bytes_eq}
 use Rattle.std.proofs.lemmas.Slice.Eq.{bytes_eq-Decides}
-use Rattle.std.proofs.lemmas.Bool.{ltb-false}
-use Rattle.token_readers.proofs.Many.{or_false}
+use Rattle.std.proofs.lemmas.Bool.{ltb-false, or_parts}
 use Rattle.token_readers.specs.declared.token.Symbol.{Symbol}
 use Rattle.token_readers.specs.declared.token.Symbol.TheVariants as symbol
 use Rattle.token_readers.specs.declared.token.Kind.TheVariants as kind
@@ -20,7 +19,7 @@ equal_long text other h k = subst IsLong (sym ((bytes_eq-Decides text other).0 h
 
 not_short : (n : ℕ) → ((n == 0) || nat_lt 32 n) ≡ false → (1 ≤ n) × (n ≤ 32)
 not_short zero h = absurd cc
-not_short (suc n) h = (omega arith, ltb-false 32 (suc n) (or_false (suc n == 0) (nat_lt 32 (suc n)) h).1)
+not_short (suc n) h = (omega arith, ltb-false 32 (suc n) (or_parts (suc n == 0) (nat_lt 32 (suc n)) h).1)
 
 pub name_long : (v : Version) (s : Symbol) → is_name v (kind_of s) ≡ true → IsLong (name_of s)
 name_long v (symbol.Name text) h = by (bytes_eq text shared_text) (bytes_eq text exclusive_text) (bytes_eq text observes_text) ((length text == 0) || nat_lt 32 (length text)) refl refl refl refl h

@@ -4,7 +4,7 @@ use Rattle.std.specs.Prelude.{◌==◌}
 use Rattle.std.specs.List.{AllByRecursion, list_all, list_any}
 use Rattle.std.specs.Str.{bytes_eq}
 use Rattle.std.specs.Fmt.{decimal}
-use Rattle.std.proofs.lemmas.Bool.{false≢true, lt-leb, ltb-true}
+use Rattle.std.proofs.lemmas.Bool.{and_from, and_parts, cases_Bool, false≢true, lt-leb, ltb-true, not-true, or_cases}
 use Rattle.std.proofs.lemmas.Bool.Decides.{nat_tests}
 use Rattle.std.proofs.lemmas.Fmt.{length-decimal-le_wide}
 use Rattle.std.proofs.lemmas.List.Folds.{list_all-append}
@@ -28,21 +28,6 @@ use Rattle.spec_reader.specs.Trees.{IsTree, SameTree}
 use Rattle.spec_reader.specs.Layout.{begins_line, begins_indented, before, behind, laid_out, text_of_tree}
 use Rattle.spec_reader.specs.Place.{texts_of, IsRead}
 use Rattle.spec_reader.proofs.Bytes.{one_spelling}
-
-and_left : (a b : Bool) → (a && b) ≡ true → a ≡ true
-and_left true b h = refl
-and_left false b h = absurd cc
-
-and_right : (a b : Bool) → (a && b) ≡ true → b ≡ true
-and_right true b h = h
-and_right false b h = absurd cc
-
-both_true : (a b : Bool) → a ≡ true → b ≡ true → (a && b) ≡ true
-both_true a b h k = rw h k
-
-tell : (b : Bool) → (b ≡ true) ⊎ (b ≡ false)
-tell true = inl refl
-tell false = inr refl
 
 -- ---- no word has white space in it
 
@@ -75,11 +60,11 @@ equal_not_space b h = grind (arith, nat_tests)
 
 all_through : (p : ℕ → Bool) → ((b : ℕ) → p b ≡ true → not_space b ≡ true) → (bs : List ℕ) → list_all p bs ≡ true → list_all not_space bs ≡ true
 all_through p f [] h = refl
-all_through p f (b ∷ bs) h = both_true (not_space b) (list_all not_space bs) (f b (and_left (p b) (list_all p bs) h)) (all_through p f bs (and_right (p b) (list_all p bs) h))
+all_through p f (b ∷ bs) h = and_from (not_space b) (list_all not_space bs) (f b (and_parts (p b) (list_all p bs) h).0) (all_through p f bs (and_parts (p b) (list_all p bs) h).1)
 
 name_dense : (text : List ℕ) → is_name text ≡ true → list_all not_space text ≡ true
 name_dense [] h = refl
-name_dense (b ∷ bs) h = both_true (not_space b) (list_all not_space bs) (letter_not_space b (and_left (is_letter b) (list_all is_name_byte bs) h)) (all_through is_name_byte name_byte_not_space bs (and_right (is_letter b) (list_all is_name_byte bs) h))
+name_dense (b ∷ bs) h = and_from (not_space b) (list_all not_space bs) (letter_not_space b (and_parts (is_letter b) (list_all is_name_byte bs) h).0) (all_through is_name_byte name_byte_not_space bs (and_parts (is_letter b) (list_all is_name_byte bs) h).1)
 
 number_dense : (text : List ℕ) → is_number text ≡ true → list_all not_space text ≡ true
 number_dense [] h = refl
@@ -93,23 +78,19 @@ number_dense (b ∷ bs) h = by (b == 48) refl h
     zero_not_space e = digit_not_space b (grind (arith, nat_tests))
 
     by : (z : Bool) → (b == 48) ≡ z → cond z (is_empty bs) (is_digit b && list_all is_digit bs) ≡ true → list_all not_space (b ∷ bs) ≡ true
-    by true e k = both_true (not_space b) (list_all not_space bs) (zero_not_space e) (alone bs k)
-    by false e k = both_true (not_space b) (list_all not_space bs) (digit_not_space b (and_left (is_digit b) (list_all is_digit bs) k)) (all_through is_digit digit_not_space bs (and_right (is_digit b) (list_all is_digit bs) k))
+    by true e k = and_from (not_space b) (list_all not_space bs) (zero_not_space e) (alone bs k)
+    by false e k = and_from (not_space b) (list_all not_space bs) (digit_not_space b (and_parts (is_digit b) (list_all is_digit bs) k).0) (all_through is_digit digit_not_space bs (and_parts (is_digit b) (list_all is_digit bs) k).1)
 
 sign_dense : (text : List ℕ) → is_sign text ≡ true → list_all not_space text ≡ true
 sign_dense [] h = refl
-sign_dense (b ∷ []) h = both_true (not_space b) true (single_not_space b h) refl
-sign_dense (b ∷ c ∷ []) h = both_true (not_space b) (not_space c && true) (double_not_space b (and_left (is_double_sign b) (c == 61) h)) (both_true (not_space c) true (equal_not_space c (and_right (is_double_sign b) (c == 61) h)) refl)
+sign_dense (b ∷ []) h = and_from (not_space b) true (single_not_space b h) refl
+sign_dense (b ∷ c ∷ []) h = and_from (not_space b) (not_space c && true) (double_not_space b (and_parts (is_double_sign b) (c == 61) h).0) (and_from (not_space c) true (equal_not_space c (and_parts (is_double_sign b) (c == 61) h).1) refl)
 sign_dense (b ∷ c ∷ d ∷ bs) h = absurd cc
 
-or_true : (a b : Bool) → (a || b) ≡ true → (a ≡ true) ⊎ (b ≡ true)
-or_true true b h = inl refl
-or_true false b h = inr h
-
 word_dense : (text : List ℕ) → is_word text ≡ true → list_all not_space text ≡ true
-word_dense text h = elim (or_true (is_name text) (is_number text || is_sign text) h) [
+word_dense text h = elim (or_cases (is_name text) (is_number text || is_sign text) h) [
   | inl k ↦ name_dense text k
-  | inr k ↦ elim (or_true (is_number text) (is_sign text) k) [
+  | inr k ↦ elim (or_cases (is_number text) (is_sign text) k) [
     | inl l ↦ number_dense text l
     | inr l ↦ sign_dense text l
   ]
@@ -133,7 +114,7 @@ none_longer text rest one s = record { is_one = one; no_longer = λ more after e
     by (m ∷ ms) after e h =
         let dense = word_dense (text ++ m ∷ ms) h in
         let parts : (list_all not_space text && list_all not_space (m ∷ ms)) ≡ true = sym (list_all-append not_space text (m ∷ ms)) ∙ dense in
-        let there = and_left (not_space m) (list_all not_space ms) (and_right (list_all not_space text) (list_all not_space (m ∷ ms)) parts) in
+        let there = (and_parts (not_space m) (list_all not_space ms) (and_parts (list_all not_space text) (list_all not_space (m ∷ ms)) parts).1).0 in
         let space : is_space m ≡ true = space_in rest ((m ∷ ms) ++ after) e s in
         let no : false ≡ true = rw space at there in
         absurd (false≢true no)
@@ -188,28 +169,24 @@ key_cuts keys.Or = record { one = refl; name = refl; number = refl }
 key_cuts keys.Implies = record { one = refl; name = refl; number = refl }
 key_cuts keys.Int = record { one = refl; name = refl; number = refl }
 
-not_true : (b : Bool) → not b ≡ true → b ≡ false
-not_true true h = absurd cc
-not_true false h = refl
-
 name_not_number : (text : List ℕ) → is_name text ≡ true → is_number text ≡ false
 name_not_number [] h = absurd cc
 name_not_number (b ∷ bs) h =
-    let letter = and_left (is_letter b) _ h in
+    let letter = (and_parts (is_letter b) _ h).0 in
     let zero_not : (b == 48) ≡ false = grind (arith, nat_tests) in
     let digit_not : is_digit b ≡ false = grind (arith, nat_tests) in
     rw (zero_not, digit_not) refl
 
 number_not_name : (text : List ℕ) → is_number text ≡ true → is_name text ≡ false
-number_not_name text h = elim (tell (is_name text)) [
+number_not_name text h = elim (cases_Bool (is_name text)) [
   | inl e ↦ absurd (false≢true (sym (name_not_number text e) ∙ h))
   | inr e ↦ e
 ]
 
 name_cuts : (text : List ℕ) → IsWord (symbol.Name text) → Cuts text
 name_cuts text h =
-    let name = and_left (is_name text) _ h in
-    let short = not_true (is_long_name text) (and_right (not (is_reserved text)) (not (is_long_name text)) (and_right (is_name text) _ h)) in
+    let name = (and_parts (is_name text) _ h).0 in
+    let short = not-true (is_long_name text) ((and_parts (not (is_reserved text)) (not (is_long_name text)) (and_parts (is_name text) _ h).1).1) in
     let number = name_not_number text name in
     record { one = rw name refl; name = short; number = rw number refl }
 

@@ -1,5 +1,6 @@
 -- The parts of the grammar up to terms.
 use Rattle.std.proofs.Common.{◌≡◌, ℕ, Bool, true, false, cond, ◌||◌, List, [], ◌∷◌, ◌++◌, Option, Some, None, ◌⊎◌, inl, inr, refl, sym, ap, ◌∙◌}
+use Rattle.std.proofs.lemmas.Bool.{or_from, or_parts}
 use Rattle.std.specs.List.{AllByRecursion}
 use Rattle.token_readers.specs.declared.token.Key.{Key}
 use Rattle.token_readers.specs.declared.token.Key.TheVariants as keys
@@ -26,7 +27,7 @@ use Rattle.token_readers.specs.Read.{Read, second}
 use Rattle.spec_reader.specs.Reading.{name_at, figure_at, args_at, to_reading, reading_at, to_product, times_at, product_at, to_summand, summand_at, is_sign, sign_of, plus_at, to_signed, signed_at, is_some, minus_at, to_term, more_at, term_at}
 use Rattle.token_readers.proofs.Part.{Part, Joins, both_part, then_part, mapped_part, shaped_part, viewed_part, placed_part, regroup}
 use Rattle.token_readers.proofs.Choice.{word_part, either_part, perhaps_part, sum_same, sum_of, option_same, option_of}
-use Rattle.token_readers.proofs.Many.{many_part, list_on, list_on_tail, list_on_false, or_false, false_or}
+use Rattle.token_readers.proofs.Many.{many_part, list_on, list_on_tail, list_on_false}
 use Rattle.token_readers.proofs.TextFacts.{a_word}
 use Rattle.token_readers.proofs.Pieces.{symbol_key, symbol_name, symbol_number, number_not_key, name_not_key, name_not_number, number_is, key_part, sign_part, group_part, group_on, group_off, perhaps_on, perhaps_joins}
 
@@ -250,15 +251,15 @@ pub sum_joins : (v : Version) → Joins (SummandFits v) summand_on (AllByRecursi
 sum_joins v = record { second = later; first = first; end = end }
   where
     later : (a : Summand) (b : List Signed) (k : Kind) → sum_on a b k ≡ false → more_on b k ≡ false
-    later a [] k h = (or_false (summand_on a k) (is_sign k) h).1
+    later a [] k h = (or_parts (summand_on a k) (is_sign k) h).1
     later a (x ∷ xs) k h = h
 
     first : (a : Summand) (b : List Signed) (u : List Symbol) → SummandFits v a → AllByRecursion (SignedFits v) b → sum_on a b (next u) ≡ false → summand_on a (next (plain (each signed b) ++ u)) ≡ false
-    first a [] u f g h = (or_false (summand_on a (next u)) (is_sign (next u)) h).0
+    first a [] u f g h = (or_parts (summand_on a (next u)) (is_sign (next u)) h).0
     first a (x ∷ xs) u f g h = sign_cases (λ k. summand_on a k ≡ false) x.sign (product_off a.product (kind.Key keys.Plus) refl refl) (product_off a.product (kind.Key keys.Minus) refl refl)
 
     end : (a : Summand) (b : List Signed) (u : List Symbol) → summand_on a (next (plain (each signed b) ++ u)) ≡ false → more_on b (next u) ≡ false → sum_on a b (next u) ≡ false
-    end a [] u h k = false_or (summand_on a (next u)) (is_sign (next u)) h k
+    end a [] u h k = or_from (summand_on a (next u)) (is_sign (next u)) h k
     end a (x ∷ xs) u h k = k
 
 abbrev pub minus_on : Bool → Kind → Bool

@@ -1,4 +1,4 @@
--- Reading each part of the grammar.
+-- The readers of each part of the grammar, which mirror the code; what reading means is said in `Place`.
 use Rattle.std.specs.Prelude.{◌==◌, ℕ, zero, suc, Bool, true, false, ◌||◌, not, if◌then◌else◌, List, [], ◌∷◌, length, Option, Some, None, Result, Ok, Err, ◌⊎◌}
 use Rattle.std.proofs.Common.{inl, inr}
 use Rattle.token_readers.specs.declared.token.Key.{Key}

@@ -1,5 +1,5 @@
-//! Reading formulas. Behind a bracket a comparison or a connective may stand: the next word says which, and behind a name
-//! what follows the reading does, so nothing is read twice.
+// Reading formulas. Behind a bracket a comparison or a connective may stand: the next word says which, and behind a name
+// what follows the reading does, so nothing is read twice.
 
 ghost use Rattle.std.specs.Prelude.{◌≡◌, ◌<◌, ◌-◌, length};
 ghost use Rattle.token_readers.specs.Gives.{Gives};

@@ -1,4 +1,4 @@
-//! Reading the items of a specification.
+// Reading the items of a specification.
 
 ghost use Rattle.std.specs.Prelude.{◌≡◌, length, map};
 ghost use Rattle.token_readers.specs.Gives.{Gives};

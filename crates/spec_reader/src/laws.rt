@@ -1,4 +1,4 @@
-//! Laws of reading and spelling.
+// Laws of reading and spelling.
 
 ghost use Rattle.std.specs.Prelude.{◌≡◌, ◌≤◌, ◌↔◌, List};
 ghost use Rattle.word_cut.specs.declared.word.Word.{Word};

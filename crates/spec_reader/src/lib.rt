@@ -30,8 +30,6 @@ mod putting;
 mod sentences;
 mod spelling;
 mod terms;
-#[cfg(test)]
-mod tests;
 mod tree;
 mod words;
 

@@ -1,4 +1,4 @@
-//! Reading the lines of an operation.
+// Reading the lines of an operation.
 
 ghost use Rattle.std.specs.Prelude.{◌≡◌, length, map};
 ghost use Rattle.token_readers.specs.Gives.{Gives};

@@ -1,4 +1,4 @@
-//! Reading the whole of a specification.
+// Reading the whole of a specification.
 
 ghost use Rattle.std.specs.Prelude.{◌≡◌, ◌≤◌, ◌<◌, length, IfOk, IfErr};
 ghost use Rattle.word_cut.specs.Words.{IsCut};

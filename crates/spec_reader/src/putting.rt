@@ -1,4 +1,4 @@
-//! The words of a tree, one after the other.
+// The words of a tree, one after the other.
 
 #![tactic(auto, using(crate::proofs::Written::putting))]
 

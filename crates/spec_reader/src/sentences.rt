@@ -1,4 +1,4 @@
-//! Reading formulas with their variables.
+// Reading formulas with their variables.
 
 ghost use Rattle.std.specs.Prelude.{◌≡◌, length};
 ghost use Rattle.token_readers.specs.Gives.{Gives};

@@ -1,4 +1,4 @@
-//! Spelling a tree: its words in the layout of spelled text.
+// Spelling a tree: its words in the layout of spelled text.
 
 #![tactic(auto, using(crate::proofs::Laying::laying))]
 

@@ -1,4 +1,4 @@
-//! Reading names with arguments, and sums.
+// Reading names with arguments, and sums.
 
 ghost use Rattle.std.specs.Prelude.{◌≡◌, length};
 ghost use Rattle.token_readers.specs.Gives.{Gives};

@@ -1,4 +1,4 @@
-//! The tree of a specification: one variant for each alternative of the grammar, with names and numbers where they stand.
+// The tree of a specification: one variant for each alternative of the grammar, with names and numbers where they stand.
 
 use items::Items;
 use spec_core::Name;

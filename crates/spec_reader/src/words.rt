@@ -1,4 +1,4 @@
-//! Reading single words: names, numbers, and the signs that stand between.
+// Reading single words: names, numbers, and the signs that stand between.
 
 ghost use Rattle.std.specs.Prelude.{◌≡◌, ◌≤◌, length, Ok};
 ghost use Rattle.token_readers.specs.Gives.{Gives};

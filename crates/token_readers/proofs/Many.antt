@@ -1,5 +1,6 @@
 -- As many as there are.
 use Rattle.std.proofs.Common.{◌≡◌, ℕ, zero, suc, ◌+◌, ◌≤◌, Bool, true, false, ◌||◌, List, [], ◌∷◌, ◌++◌, length, Ok, Err, inl, inr, refl, sym, ap, subst, ◌∙◌, append_assoc, arith}
+use Rattle.std.proofs.lemmas.Bool.{or_from, or_parts}
 use Rattle.std.specs.List.{AllByRecursion}
 use Rattle.std.proofs.lemmas.List.{append-nil, nil_from_length}
 use Rattle.token_readers.specs.declared.token.Symbol.{Symbol}
@@ -17,21 +18,13 @@ list_on starts on [] k = starts k
 list_on starts on (x ∷ []) k = on x k || starts k
 list_on starts on (x ∷ (y ∷ ys)) k = list_on starts on (y ∷ ys) k
 
-pub or_false : (a b : Bool) → (a || b) ≡ false → (a ≡ false) × (b ≡ false)
-or_false true b h = absurd cc
-or_false false b h = (refl, h)
-
-pub false_or : (a b : Bool) → a ≡ false → b ≡ false → (a || b) ≡ false
-false_or true b h k = absurd cc
-false_or false b h k = k
-
 pub list_on_tail : {A : Type 0} (starts : Kind → Bool) (on : A → Kind → Bool) (x : A) (xs : List A) (k : Kind) → list_on starts on (x ∷ xs) k ≡ false → list_on starts on xs k ≡ false
-list_on_tail starts on x [] k h = (or_false (on x k) (starts k) h).1
+list_on_tail starts on x [] k h = (or_parts (on x k) (starts k) h).1
 list_on_tail starts on x (y ∷ ys) k h = h
 
 pub list_on_false : {A : Type 0} (starts : Kind → Bool) (on : A → Kind → Bool) (xs : List A) (k : Kind) → starts k ≡ false → ((x : A) → on x k ≡ false) → list_on starts on xs k ≡ false
 list_on_false starts on [] k h f = h
-list_on_false starts on (x ∷ []) k h f = false_or (on x k) (starts k) (f x) h
+list_on_false starts on (x ∷ []) k h f = or_from (on x k) (starts k) (f x) h
 list_on_false starts on (x ∷ (y ∷ ys)) k h f = list_on_false starts on (y ∷ ys) k h f
 
 pub Matches-shorter : (xs : List Spelt) (ws rest : List Token) → Matches xs ws rest → length rest + length xs ≡ length ws
@@ -48,7 +41,7 @@ module _ {A : Type 0} {SA : A → A → Type 0} {FA : A → Type 0} {pA : A → 
     (first : (a b : A) (u : List Symbol) → FA a → FA b → oA a (next (plain (pA b) ++ u)) ≡ false)
     (not_end : starts kind.Nothing ≡ false) where
   head_on : (x : A) (xs : List A) (u : List Symbol) → FA x → AllByRecursion FA xs → list_on starts oA (x ∷ xs) (next u) ≡ false → oA x (next (plain (each pA xs) ++ u)) ≡ false
-  head_on x [] u f g h = (or_false (oA x (next u)) (starts (next u)) h).0
+  head_on x [] u f g h = (or_parts (oA x (next u)) (starts (next u)) h).0
   head_on x (y ∷ ys) u f g h = ap (λ (t : List Symbol). oA x (next t)) (regroup (pA y) (each pA ys) u) ∙ first x y (plain (each pA ys) ++ u) f g.0
 
   many_ok : (n : ℕ) (ws : List Token) (xs : List A) (rest : List Token) → length ws ≤ n → times starts rA n ws ≡ Ok (xs, rest) → Matches (each pA xs) ws rest × (list_on starts oA xs (next (seen rest)) ≡ false) × AllByRecursion FA xs
@@ -74,7 +67,7 @@ module _ {A : Type 0} {SA : A → A → Type 0} {FA : A → Type 0} {pA : A → 
       ]
     where
       last : (x : A) (xs : List A) (mid rest : List Token) → oA x (next (seen mid)) ≡ false → Matches (each pA xs) mid rest → list_on starts oA xs (next (seen rest)) ≡ false → list_on starts oA (x ∷ xs) (next (seen rest)) ≡ false
-      last x [] mid rest h m k = false_or (oA x (next (seen rest))) (starts (next (seen rest))) (ap (λ (t : List Token). oA x (next (seen t))) (sym m) ∙ h) k
+      last x [] mid rest h m k = or_from (oA x (next (seen rest))) (starts (next (seen rest))) (ap (λ (t : List Token). oA x (next (seen t))) (sym m) ∙ h) k
       last x (y ∷ ys) mid rest h m k = k
 
   dead_here : (ws : List Symbol) (n : ℕ) (s : Stuck FA pA oA ws n) → starts (next ws) ≡ true → (a : List A) (t u : List Symbol) → AllByRecursion FA a → next t ≡ next s.rest → list_on starts oA a (next u) ≡ false → s.front ++ t ≡ plain (each pA a) ++ u → ⊥

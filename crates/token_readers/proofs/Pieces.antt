@@ -1,5 +1,6 @@
 -- Single words, lists with commas, lists in brackets, and what may be missing.
 use Rattle.std.proofs.Common.{◌≡◌, ℕ, Bool, true, false, cond, ◌||◌, List, [], ◌∷◌, ◌++◌, Option, Some, None, refl, ap}
+use Rattle.std.proofs.lemmas.Bool.{or_from, or_parts}
 use Rattle.std.specs.Prelude.{◌==◌}
 use Rattle.std.specs.List.{AllByRecursion}
 use Rattle.std.specs.Str.{bytes_eq}
@@ -17,7 +18,7 @@ use Rattle.token_readers.specs.Words.{next, kind_of, Spelt, plain, Matches, shar
 use Rattle.token_readers.specs.Read.{Read, mapped, both, second, cons, key_at, sign_at, one_more, listed_at, list_of, between, group_at}
 use Rattle.token_readers.proofs.Part.{Part, Joins, both_part, then_part, mapped_part}
 use Rattle.token_readers.proofs.Choice.{word_part, perhaps_part, option_same, option_of}
-use Rattle.token_readers.proofs.Many.{many_part, list_on, list_on_tail, list_on_false, or_false, false_or}
+use Rattle.token_readers.proofs.Many.{many_part, list_on, list_on_tail, list_on_false}
 
 -- ---- kinds of words
 
@@ -115,15 +116,15 @@ pub perhaps_joins : {A B : Type 0} {FA : A → Type 0} {pB : B → List Spelt} {
 perhaps_joins {A} {B} {FA} {pB} {oA} {FB} {oB} starts apart = record { second = later; first = first; end = end }
   where
     later : (a : A) (b : Option B) (k : Kind) → perhaps_on oA starts oB (a, b) k ≡ false → option_of starts oB b k ≡ false
-    later a None k h = (or_false (oA a k) (starts k) h).1
+    later a None k h = (or_parts (oA a k) (starts k) h).1
     later a (Some b) k h = h
 
     first : (a : A) (b : Option B) (u : List Symbol) → FA a → option_of (Unit {0}) FB b → perhaps_on oA starts oB (a, b) (next u) ≡ false → oA a (next (plain (option_of [] pB b) ++ u)) ≡ false
-    first a None u f g h = (or_false (oA a (next u)) (starts (next u)) h).0
+    first a None u f g h = (or_parts (oA a (next u)) (starts (next u)) h).0
     first a (Some b) u f g h = apart a b u f g
 
     end : (a : A) (b : Option B) (u : List Symbol) → oA a (next (plain (option_of [] pB b) ++ u)) ≡ false → option_of starts oB b (next u) ≡ false → perhaps_on oA starts oB (a, b) (next u) ≡ false
-    end a None u h k = false_or (oA a (next u)) (starts (next u)) h k
+    end a None u h k = or_from (oA a (next u)) (starts (next u)) h k
     end a (Some b) u h k = k
 
 -- ---- lists with commas
@@ -171,11 +172,11 @@ module _ {A : Type 0} {SA : A → A → Type 0} {FA : A → Type 0} {pA : A → 
       back (x ∷ xs) = (x, xs)
 
       first : (a : A) (b : List A) (u : List Symbol) → FA a → AllByRecursion FA b → list_on (is_key keys.Comma) oA (a ∷ b) (next u) ≡ false → oA a (next (plain (each (λ y. sign keys.Comma ∷ pA y) b) ++ u)) ≡ false
-      first a [] u f g h = (or_false (oA a (next u)) (is_key keys.Comma (next u)) h).0
+      first a [] u f g h = (or_parts (oA a (next u)) (is_key keys.Comma (next u)) h).0
       first a (y ∷ ys) u f g h = comma a
 
       end : (a : A) (b : List A) (u : List Symbol) → oA a (next (plain (each (λ y. sign keys.Comma ∷ pA y) b) ++ u)) ≡ false → list_on (is_key keys.Comma) oA b (next u) ≡ false → list_on (is_key keys.Comma) oA (a ∷ b) (next u) ≡ false
-      end a [] u h k = false_or (oA a (next u)) (is_key keys.Comma (next u)) h k
+      end a [] u h k = or_from (oA a (next u)) (is_key keys.Comma (next u)) h k
       end a (y ∷ ys) u h k = k
 
       back_words : (b : List A) → NotEmpty b × AllByRecursion FA b → plain (pA (back b).0 ++ each (λ y. sign keys.Comma ∷ pA y) (back b).1) ≡ plain (listed pA b)

@@ -4,7 +4,7 @@ use Rattle.std.specs.Prelude.{◌==◌}
 use Rattle.std.specs.List.{AllByRecursion, list_any}
 use Rattle.std.specs.Str.{bytes_eq}
 use Rattle.std.specs.Fmt.{decimal}
-use Rattle.std.proofs.lemmas.Bool.{lt-ltb, ltb-true, false≢true}
+use Rattle.std.proofs.lemmas.Bool.{and_parts, cases_Bool, false≢true, lt-ltb, ltb-true, not-true, or_cases, or_parts}
 use Rattle.std.proofs.lemmas.Bool.Decides.{nat_tests}
 use Rattle.std.proofs.lemmas.Slice.Eq.{bytes_eq-Decides}
 use Rattle.token_readers.specs.declared.token.Key.{Key}
@@ -18,39 +18,23 @@ use Rattle.word_cut.specs.Whole.{number_of, greatest}
 use Rattle.word_cut.proofs.Numbers.{number_of-short}
 use Rattle.word_cut.proofs.Spelled.{Writes, decimal_writes, decimal_of_number}
 
-and_left : (a b : Bool) → (a && b) ≡ true → a ≡ true
-and_left true b h = refl
-and_left false b h = absurd cc
-
-and_right : (a b : Bool) → (a && b) ≡ true → b ≡ true
-and_right true b h = h
-and_right false b h = absurd cc
-
-tell : (b : Bool) → (b ≡ true) ⊎ (b ≡ false)
-tell true = inl refl
-tell false = inr refl
-
-not_true : (b : Bool) → not b ≡ true → b ≡ false
-not_true true h = absurd cc
-not_true false h = refl
-
 -- ---- texts that differ
 
 -- a test tells two texts apart
 apart : (P : List ℕ → Bool) (text other : List ℕ) → P text ≡ true → P other ≡ false → bytes_eq text other ≡ false
-apart P text other h k = elim (tell (bytes_eq text other)) [
+apart P text other h k = elim (cases_Bool (bytes_eq text other)) [
   | inl e ↦ absurd (false≢true (sym k ∙ ap P (sym ((bytes_eq-Decides text other).0 e)) ∙ h))
   | inr e ↦ e
 ]
 
 single_not : (b s : ℕ) → bytes_eq (b ∷ []) (s ∷ []) ≡ false → (b == s) ≡ false
-single_not b s h = elim (tell (b == s)) [
+single_not b s h = elim (cases_Bool (b == s)) [
   | inl e ↦ (let same : b ≡ s = grind (arith, nat_tests) in absurd (false≢true (sym h ∙ (bytes_eq-Decides (b ∷ []) (s ∷ [])).1 (ap (λ (x : ℕ). x ∷ []) same))))
   | inr e ↦ e
 ]
 
 double_not : (b c s : ℕ) → bytes_eq (b ∷ c ∷ []) (s ∷ 61 ∷ []) ≡ false → (c == 61) ≡ true → (b == s) ≡ false
-double_not b c s h k = elim (tell (b == s)) [
+double_not b c s h k = elim (cases_Bool (b == s)) [
   | inl e ↦ (let same : b ≡ s = grind (arith, nat_tests) in let also : c ≡ 61 = grind (arith, nat_tests) in absurd (false≢true (sym h ∙ (bytes_eq-Decides (b ∷ c ∷ []) (s ∷ 61 ∷ [])).1 (λ i. same i ∷ also i ∷ []))))
   | inr e ↦ e
 ]
@@ -62,14 +46,14 @@ Others text ks = AllByRecursion (λ k. bytes_eq text (key_text k) ≡ false) ks
 
 from_some : (ks : List Key) (text : List ℕ) (k : Key) → key_from ks text ≡ Some k → text ≡ key_text k
 from_some [] text k e = absurd cc
-from_some (j ∷ ks) text k e = elim (tell (bytes_eq text (key_text j))) [
+from_some (j ∷ ks) text k e = elim (cases_Bool (bytes_eq text (key_text j))) [
   | inl h ↦ (let same : Some j ≡ Some k = rw h at e in (bytes_eq-Decides text (key_text j)).0 h ∙ ap key_text (cc same))
   | inr h ↦ from_some ks text k (rw h at e)
 ]
 
 from_none : (ks : List Key) (text : List ℕ) → key_from ks text ≡ None → Others text ks
 from_none [] text e = tt
-from_none (j ∷ ks) text e = elim (tell (bytes_eq text (key_text j))) [
+from_none (j ∷ ks) text e = elim (cases_Bool (bytes_eq text (key_text j))) [
   | inl h ↦ (let no : Some j ≡ None = rw h at e in absurd (cc no))
   | inr h ↦ (h, from_none ks text (rw h at e))
 ]
@@ -78,13 +62,9 @@ none_from : (ks : List Key) (text : List ℕ) → Others text ks → key_from ks
 none_from [] text h = refl
 none_from (j ∷ ks) text h = rw h.0 (none_from ks text h.1)
 
-or_none : (a b : Bool) → (a || b) ≡ false → (a ≡ false) × (b ≡ false)
-or_none true b h = absurd cc
-or_none false b h = (refl, h)
-
 any_each : (ks : List Key) (text : List ℕ) → list_any (bytes_eq text) (map key_text ks) ≡ false → Others text ks
 any_each [] text h = tt
-any_each (k ∷ ks) text h = let p = or_none (bytes_eq text (key_text k)) (list_any (bytes_eq text) (map key_text ks)) h in (p.0, any_each ks text p.1)
+any_each (k ∷ ks) text h = let p = or_parts (bytes_eq text (key_text k)) (list_any (bytes_eq text) (map key_text ks)) h in (p.0, any_each ks text p.1)
 
 each_any : (ks : List Key) (text : List ℕ) → Others text ks → list_any (bytes_eq text) (map key_text ks) ≡ false
 each_any [] text h = refl
@@ -127,9 +107,9 @@ not_reserved text h =
 each_reserved : (text : List ℕ) → is_reserved text ≡ false → Others text reserved_keys
 unfolding is_reserved
 each_reserved text h =
-    let a = or_none (is_among item_names text) (is_among line_names text || (is_among formula_names text || is_among other_names text)) h in
-    let b = or_none (is_among line_names text) (is_among formula_names text || is_among other_names text) a.1 in
-    let c = or_none (is_among formula_names text) (is_among other_names text) b.1 in
+    let a = or_parts (is_among item_names text) (is_among line_names text || (is_among formula_names text || is_among other_names text)) h in
+    let b = or_parts (is_among line_names text) (is_among formula_names text || is_among other_names text) a.1 in
+    let c = or_parts (is_among formula_names text) (is_among other_names text) b.1 in
     let others : Others text (keys.Cise ∷ keys.When ∷ keys.Int ∷ []) = any_each (keys.Cise ∷ keys.When ∷ keys.Int ∷ []) text c.1 in
     (others.0, joined text item_keys (line_keys ++ (keys.When ∷ (formula_keys ++ (keys.Int ∷ [])))) (any_each item_keys text a.0) (joined text line_keys (keys.When ∷ (formula_keys ++ (keys.Int ∷ []))) (any_each line_keys text b.0) (others.1.0, joined text formula_keys (keys.Int ∷ []) (any_each formula_keys text c.0) others.1.1)))
 
@@ -138,7 +118,7 @@ each_reserved text h =
 name_not_number : (text : List ℕ) → is_name text ≡ true → is_number text ≡ false
 name_not_number [] h = absurd cc
 name_not_number (b ∷ bs) h =
-    let letter = and_left (is_letter b) _ h in
+    let letter = (and_parts (is_letter b) _ h).0 in
     let zero_not : (b == 48) ≡ false = grind (arith, nat_tests) in
     let digit_not : is_digit b ≡ false = grind (arith, nat_tests) in
     rw (zero_not, digit_not) refl
@@ -196,8 +176,8 @@ no_sign P text h r a b c d e f g i j k l m n o = none_from all_keys text (apart 
 
 symbol_of-name : (text : List ℕ) → IsWord (symbol.Name text) → symbol_of text ≡ symbol.Name text
 symbol_of-name text h =
-    let name = and_left (is_name text) _ h in
-    let free = not_true (is_reserved text) (and_left (not (is_reserved text)) (not (is_long_name text)) (and_right (is_name text) _ h)) in
+    let name = (and_parts (is_name text) _ h).0 in
+    let free = not-true (is_reserved text) (and_parts (not (is_reserved text)) (not (is_long_name text)) (and_parts (is_name text) _ h).1).0 in
     let none = no_sign is_name text name (each_reserved text free) refl refl refl refl refl refl refl refl refl refl refl refl refl refl in
     let number = name_not_number text name in
     rw (none, number) refl
@@ -241,18 +221,14 @@ sign_none (b ∷ []) h o =
     let no : false ≡ true = rw (e1, e2, e3, e4, e5, e6, e7, e8, e9, e10, e11) at h in
     false≢true no
 sign_none (b ∷ c ∷ []) h o =
-    let equal = and_right (is_double_sign b) (c == 61) h in
-    let double = and_left (is_double_sign b) (c == 61) h in
+    let equal = (and_parts (is_double_sign b) (c == 61) h).1 in
+    let double = (and_parts (is_double_sign b) (c == 61) h).0 in
     let e1 = double_not b c 33 o.1.1.1.1.1.1.1.1.1.0 equal in
     let e2 = double_not b c 60 o.1.1.1.1.1.1.1.1.1.1.1.0 equal in
     let e3 = double_not b c 62 o.1.1.1.1.1.1.1.1.1.1.1.1.1.0 equal in
     let no : false ≡ true = rw (e1, e2, e3) at double in
     false≢true no
 sign_none (b ∷ c ∷ d ∷ bs) h o = cc
-
-or_true : (a b : Bool) → (a || b) ≡ true → (a ≡ true) ⊎ (b ≡ true)
-or_true true b h = inl refl
-or_true false b h = inr h
 
 -- what is known of the word with a text that can be a word
 pub record Stood (text : List ℕ) : Type 0 where
@@ -263,12 +239,12 @@ abbrev StoodBy : Option Key → List ℕ → Type 0
 StoodBy k text = (text_of (symbol_by k text) ≡ text) × IsWord (symbol_by k text)
 
 stood_none : (text : List ℕ) → words.is_word text ≡ true → is_long_name text ≡ false → is_long_number text ≡ false → Others text all_keys → StoodBy None text
-stood_none text one name number o = elim (tell (is_number text)) [
+stood_none text one name number o = elim (cases_Bool (is_number text)) [
   | inl e ↦
       let small : number_of text < 100000000000000000000000000000000000000 = number_of-short text e number in
       rw e (decimal_of_number text e (omega arith), lt-ltb (number_of text) 100000000000000000000000000000000000000 small)
   | inr e ↦
-      let is : is_name text ≡ true = elim (or_true (is_name text) (is_number text || is_sign text) one) [
+      let is : is_name text ≡ true = elim (or_cases (is_name text) (is_number text || is_sign text) one) [
         | inl h ↦ h
         | inr h ↦ absurd (sign_none text (rw e at h) o)
       ] in

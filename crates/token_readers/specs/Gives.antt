@@ -1,4 +1,4 @@
--- What a reader of the code returns, seen by view, is what reading gives, unless memory runs out.
+-- The tie from the code to the readers of `Read`: what a call returns, seen by view, is what reading gives, unless memory runs out.
 use Rattle.std.specs.Prelude.{◌≡◌, ℕ, Result, Ok, Err}
 use Rattle.token_readers.specs.declared.fault.ReadError.{ReadError}
 use Rattle.token_readers.specs.declared.fault.ReadError.TheVariants as errors

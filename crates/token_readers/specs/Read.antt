@@ -1,4 +1,4 @@
--- Readers: from words to a value and the words after it, or how many words are left where reading stops.
+-- Readers, which mirror the code: from words to a value and the words after it, or how many words are left where reading stops.
 use Rattle.std.specs.Prelude.{ℕ, zero, suc, Bool, if◌then◌else◌, List, [], ◌∷◌, length, Option, Some, None, Result, Ok, Err, ◌⊎◌}
 use Rattle.std.proofs.Common.{inl, inr}
 use Rattle.token_readers.specs.declared.token.Key.{Key}

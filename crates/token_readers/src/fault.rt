@@ -1,3 +1,5 @@
+// Why words are not read.
+
 ghost use Rattle.std.specs.Prelude.{◌≡◌};
 ghost use Rattle.token_readers.specs.declared.fault.ReadError.TheVariants.{Memory};
 

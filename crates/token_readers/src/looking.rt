@@ -1,4 +1,4 @@
-//! Looking at the next word, and reading a single reserved name or sign.
+// Looking at the next word, and reading a single reserved name or sign.
 
 ghost use Rattle.std.specs.Prelude.{◌≡◌};
 ghost use Rattle.token_readers.specs.Gives.{Gives};

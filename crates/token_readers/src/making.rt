@@ -1,4 +1,4 @@
-//! From bytes and their words to tokens.
+// From bytes and their words to tokens.
 
 ghost use Rattle.std.specs.Prelude.{◌≡◌, ◌+◌, ◌≤◌, length, true, false, IfOk};
 ghost use Rattle.word_cut.specs.Texts.{is_word, is_long_number};

@@ -1,4 +1,4 @@
-//! Tokens: words with their places, as the grammar sees them.
+// Tokens: words with their places, as the grammar sees them.
 
 use items::Items;
 

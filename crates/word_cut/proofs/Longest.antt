@@ -3,18 +3,10 @@ use Rattle.std.proofs.Common.{◌≡◌, ℕ, suc, ◌-◌, ◌≤◌, Bool, tru
 use Rattle.std.specs.List.{list_all}
 use Rattle.std.proofs.lemmas.List.{take_all}
 use Rattle.std.proofs.lemmas.List.Folds.{list_all-append}
-use Rattle.std.proofs.lemmas.Bool.{false≢true}
+use Rattle.std.proofs.lemmas.Bool.{and_parts, false≢true}
 use Rattle.std.proofs.lemmas.Bool.Decides.{nat_tests}
 use Rattle.word_cut.specs.Texts.{is_letter, is_digit, is_name_byte, is_number, is_sign, is_single_sign, is_double_sign, is_word, is_empty}
 use Rattle.word_cut.specs.Fronts.{StopsAt, IsRun, IsWordFront, double_at}
-
-pub and_left : (a b : Bool) → a && b ≡ true → a ≡ true
-and_left true b e = refl
-and_left false b e = e
-
-pub and_right : (a b : Bool) → a && b ≡ true → b ≡ true
-and_right true b e = e
-and_right false b e = absurd (false≢true e)
 
 -- ---- the first byte says what kind of word it is
 
@@ -87,7 +79,7 @@ none_more : (test : ℕ → Bool) (front left more after : List ℕ) → StopsAt
 none_more test front left [] after s e p = refl
 none_more test front left (m ∷ more) after s e p =
     let q = rw (list_all-append test front (m ∷ more)) at p in
-    let r = and_left (test m) (list_all test more) (and_right (list_all test front) (list_all test (m ∷ more)) q) in
+    let r = (and_parts (test m) (list_all test more) (and_parts (list_all test front) (list_all test (m ∷ more)) q).1).0 in
     let P : List ℕ → Type 0 = StopsAt test in
     let t : test m ≡ false = subst P e s in
     absurd (false≢true (sym t ∙ r))

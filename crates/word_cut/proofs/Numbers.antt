@@ -2,10 +2,9 @@
 use Rattle.std.proofs.Common.{Bool, true, ◌≡◌, ℕ, ◌+◌, ◌*◌, ◌-◌, ◌<◌, ◌≤◌, Option, None, SomeIff, subst, sym, List, [], ◌∷◌, length, get_or, drop, ◌∙◌, arith, zero, suc, ◌^◌, false, refl, nat_eq}
 use Rattle.std.specs.List.{list_all}
 use Rattle.std.proofs.Math.Nat.{pow-suc, mul-le-mul_right}
-use Rattle.std.proofs.lemmas.Bool.{false≢true, leb-false}
+use Rattle.std.proofs.lemmas.Bool.{and_parts, false≢true, leb-false}
 use Rattle.std.proofs.lemmas.Bool.Decides.{nat_tests}
 use Rattle.std.proofs.lemmas.List.{at_drop_more}
-use Rattle.word_cut.proofs.Longest.{and_left, and_right}
 use Rattle.word_cut.specs.Texts.{is_digit, is_number, is_empty, is_long_number}
 use Rattle.word_cut.specs.Whole.{digits_behind, number_of, greatest}
 
@@ -34,8 +33,8 @@ digits_behind-bound (suc k) n [] d h =
     rw pow-suc (omega arith)
 digits_behind-bound (suc k) n (b ∷ bs) d h =
     let m = 10 * n + (b - 48) in
-    let digit : b ≤ 57 = ninth b (and_left (is_digit b) (list_all is_digit bs) d) in
-    let more = digits_behind-bound k m bs (and_right (is_digit b) (list_all is_digit bs) d) (omega arith) in
+    let digit : b ≤ 57 = ninth b (and_parts (is_digit b) (list_all is_digit bs) d).0 in
+    let more = digits_behind-bound k m bs (and_parts (is_digit b) (list_all is_digit bs) d).1 (omega arith) in
     let grow : (m + 1) * 10 ^ k ≤ (10 * (n + 1)) * 10 ^ k = mul-le-mul_right (10 ^ k) (omega arith) in
     rw pow-suc (omega arith)
   where

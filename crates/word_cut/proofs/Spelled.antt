@@ -7,11 +7,10 @@ use Rattle.std.proofs.lemmas.Fmt.{decimal_digit, decimal_step_wide, decimal_by_s
 use Rattle.std.proofs.lemmas.List.{append-nil}
 use Rattle.std.proofs.lemmas.Slice.Eq.{bytes_eq-Decides}
 use Rattle.std.proofs.lemmas.List.Folds.{list_all-append}
-use Rattle.std.proofs.lemmas.Bool.{false≢true, le-leb}
+use Rattle.std.proofs.lemmas.Bool.{and_parts, false≢true, le-leb}
 use Rattle.std.proofs.lemmas.Bool.Decides.{nat_tests}
 use Rattle.word_cut.specs.Texts.{is_digit, is_number, is_empty}
 use Rattle.word_cut.specs.Whole.{digits_behind, number_of, is_whole, whole_of, greatest, read_of}
-use Rattle.word_cut.proofs.Longest.{and_left, and_right}
 use Rattle.word_cut.proofs.Numbers.{digits_behind-grows}
 
 -- ---- from digits to the number and back
@@ -22,10 +21,10 @@ digit_bounds b e = (grind (arith, nat_tests), grind (arith, nat_tests))
 decimal_behind : (n : ℕ) (bs : List ℕ) → 1 ≤ n → list_all is_digit bs ≡ true → digits_behind n bs ≤ greatest → decimal (digits_behind n bs) ≡ decimal n ++ bs
 decimal_behind n [] h d small = sym (append-nil (decimal n))
 decimal_behind n (b ∷ bs) h d small =
-    let bounds = digit_bounds b (and_left (is_digit b) (list_all is_digit bs) d) in
+    let bounds = digit_bounds b (and_parts (is_digit b) (list_all is_digit bs) d).0 in
     let m = 10 * n + (b - 48) in
     let grows = digits_behind-grows m bs in
-    let rest = decimal_behind m bs (omega arith) (and_right (is_digit b) (list_all is_digit bs) d) small in
+    let rest = decimal_behind m bs (omega arith) (and_parts (is_digit b) (list_all is_digit bs) d).1 small in
     let step = decimal_step_wide m (omega arith) (omega arith) in
     let quotient : m / 10 ≡ n = omega arith in
     let digit : 48 + m % 10 ≡ b = omega arith in
@@ -53,12 +52,12 @@ decimal_of_number (b ∷ bs) e small = by_case (nat_eq b 48) refl
         rw (m, n) (decimal_digit 0 (omega arith))
     by_case false z =
         let k = rw z at e in
-        let digit = and_left (is_digit b) (list_all is_digit bs) k in
+        let digit = (and_parts (is_digit b) (list_all is_digit bs) k).0 in
         let bounds = digit_bounds b digit in
         let other = other_by b 48 z in
         let n = 10 * 0 + (b - 48) in
         let first : decimal n ≡ b ∷ [] = decimal_digit n (omega arith) ∙ ap (λ d. d ∷ []) (omega arith) in
-        decimal_behind n bs (omega arith) (and_right (is_digit b) (list_all is_digit bs) k) small ∙ ap (λ t. t ++ bs) first
+        decimal_behind n bs (omega arith) (and_parts (is_digit b) (list_all is_digit bs) k).1 small ∙ ap (λ t. t ++ bs) first
 
 digits_behind-last : (n : ℕ) (bs : List ℕ) (d : ℕ) → digits_behind n (bs ++ d ∷ []) ≡ 10 * digits_behind n bs + (d - 48)
 digits_behind-last n [] d = refl
@@ -77,8 +76,8 @@ is_number-last (b ∷ bs) d e some k = by_case (nat_eq b 48) refl
         absurd (omega arith)
     by_case false z =
         let h = rw z at e in
-        let first = and_left (is_digit b) (list_all is_digit bs) h in
-        let more = and_right (is_digit b) (list_all is_digit bs) h in
+        let first = (and_parts (is_digit b) (list_all is_digit bs) h).0 in
+        let more = (and_parts (is_digit b) (list_all is_digit bs) h).1 in
         let all : list_all is_digit (bs ++ d ∷ []) ≡ true = list_all-append is_digit bs (d ∷ []) ∙ rw (more, k) refl in
         rw (z, first, all) refl
 
@@ -150,8 +149,8 @@ spelled_whole (b ∷ bs) e small = by_case (nat_eq b 45) refl
     by_case true z =
         let h = rw z at e in
         let s = rw z at small in
-        let digits = and_left (is_number bs) (not (bytes_eq bs (codes "0"))) h in
-        let other = and_right (is_number bs) (not (bytes_eq bs (codes "0"))) h in
+        let digits = (and_parts (is_number bs) (not (bytes_eq bs (codes "0"))) h).0 in
+        let other = (and_parts (is_number bs) (not (bytes_eq bs (codes "0"))) h).1 in
         let size = size_minus (number_of bs) in
         let d = decimal_of_number bs digits (omega arith) in
         let some : number_of bs ≡ 0 → ⊥ = λ n. zero_text bs other (sym d ∙ ap decimal n ∙ decimal_digit 0 (omega arith)) in
@@ -191,6 +190,6 @@ read_of-spelled text z small = (forth, λ e. let P : List ℕ → Type 0 = λ t.
         by_case true b =
             let h = rw b at e in
             let v : whole_of text ≡ z = cc in
-            let whole = and_left (is_whole text) (leb (unsigned_abs (whole_of text)) greatest) b in
+            let whole = (and_parts (is_whole text) (leb (unsigned_abs (whole_of text)) greatest) b).0 in
             sym (spelled_whole text whole (rw v small)) ∙ ap signed_decimal v
         by_case false b = let h = rw b at e in cc

@@ -1,7 +1,7 @@
 -- Some bytes have one list of words, or one refusal, and never both.
 use Rattle.std.proofs.Common.{◌≡◌, ◌≢◌, ℕ, ◌+◌, Bool, true, false, not, ◌||◌, nat_eq, leb, List, [], ◌∷◌, ◌++◌, length, refl, sym, ap, subst, ◌∙◌, ◌⊎◌, inl, inr, arith}
 use Rattle.std.specs.List.{list_all}
-use Rattle.std.proofs.lemmas.Bool.{false≢true}
+use Rattle.std.proofs.lemmas.Bool.{and_parts, false≢true, or_parts}
 use Rattle.std.proofs.lemmas.Bool.Decides.{nat_tests}
 use Rattle.std.proofs.lemmas.List.{append-nil}
 use Rattle.word_cut.specs.declared.word.Word.{Word}
@@ -11,17 +11,9 @@ use Rattle.word_cut.specs.declared.cutting.CutRefused.TheVariants as refusals
 use Rattle.word_cut.specs.Texts.{kind_of, is_letter, is_digit, is_space, is_single_sign, is_double_sign, is_word, is_name, is_name_byte, is_number, is_long_name, is_long_number}
 use Rattle.word_cut.specs.Words.{is_gap, line_feeds, IsLongest, Next, Leaves, IsCut, IsReached, IsRefused, BeginsNoWord, Begins}
 use Rattle.word_cut.specs.Fronts.{StopsAt, goes_on_gap}
-use Rattle.word_cut.proofs.Longest.{and_left, and_right, sign_of_word, no_sign, letter_no_number}
+use Rattle.word_cut.proofs.Longest.{sign_of_word, no_sign, letter_no_number}
 
 -- ---- gaps
-
-left_false : (a b : Bool) → a || b ≡ false → a ≡ false
-left_false true b e = e
-left_false false b e = refl
-
-right_false : (a b : Bool) → a || b ≡ false → b ≡ false
-right_false true b e = absurd (false≢true (sym e))
-right_false false b e = e
 
 -- a gap that stops goes no further
 no_further : (c : Bool) (b : ℕ) (more rest other : List ℕ) → is_gap c [] other ≡ true → StopsAt goes_on_gap other → other ≡ b ∷ (more ++ rest) → is_gap c (b ∷ more) rest ≡ true → ⊥
@@ -31,8 +23,8 @@ no_further true b more rest other g s e h =
 no_further false b more rest other g s e h =
     let P : List ℕ → Type 0 = StopsAt goes_on_gap in
     let t : (nat_eq b 35 || is_space b) ≡ false = subst P e s in
-    let hash = left_false (nat_eq b 35) (is_space b) t in
-    let space = right_false (nat_eq b 35) (is_space b) t in
+    let hash = (or_parts (nat_eq b 35) (is_space b) t).0 in
+    let space = (or_parts (nat_eq b 35) (is_space b) t).1 in
     false≢true (rw (hash, space) at h)
 
 -- behind a byte of a gap a comment is open where the byte was #
@@ -41,7 +33,7 @@ gap_next b more rest h = by_case (nat_eq b 35) refl
   where
     by_case : (z : Bool) → nat_eq b 35 ≡ z → is_gap (nat_eq b 35) more rest ≡ true
     by_case true z = rw z (rw z at h)
-    by_case false z = rw z (and_right (is_space b) (is_gap false more rest) (rw z at h))
+    by_case false z = rw z (and_parts (is_space b) (is_gap false more rest) (rw z at h)).1
 
 gap_unique : (c : Bool) (g1 r1 g2 r2 : List ℕ) → is_gap c g1 r1 ≡ true → is_gap c g2 r2 ≡ true → StopsAt goes_on_gap r1 → StopsAt goes_on_gap r2 → g1 ++ r1 ≡ g2 ++ r2 → (g1 ≡ g2) × (r1 ≡ r2)
 gap_unique c [] r1 [] r2 h k s t e = (refl, e)
@@ -206,13 +198,13 @@ letter_or_long test bytes n b = false≢true (sym (n.no_word b.text b.rest b.is)
 
 no_name_number : (text : List ℕ) → is_name text ≡ true → is_number text ≡ true → ⊥
 no_name_number [] e f = false≢true e
-no_name_number (b ∷ bs) e f = false≢true (sym (letter_no_number b bs (and_left (is_letter b) (list_all is_name_byte bs) e)) ∙ f)
+no_name_number (b ∷ bs) e f = false≢true (sym (letter_no_number b bs (and_parts (is_letter b) (list_all is_name_byte bs) e).0) ∙ f)
 
 name_or_number : (bytes : List ℕ) → Begins is_long_name bytes → Begins is_long_number bytes → ⊥
 name_or_number bytes b c =
     let u = longest_unique b.text b.rest c.text c.rest b.longest c.longest (sym b.is ∙ c.is) in
     let long : is_long_name c.text ≡ true = rw u.0 at b.passes in
-    no_name_number c.text (and_left (is_name c.text) (leb 33 (length c.text)) long) (and_left (is_number c.text) (leb 39 (length c.text)) c.passes)
+    no_name_number c.text (and_parts (is_name c.text) (leb 33 (length c.text)) long).0 (and_parts (is_number c.text) (leb 39 (length c.text)) c.passes).0
 
 no_reach : (bytes : List ℕ) (words : List Word) (at : ℕ) (rest : List ℕ) → IsCut bytes words → IsReached bytes at rest → Ends rest → rest ≡ []
 no_reach bytes words at rest l r e = sym (leaves_unique 0 1 bytes words r.0 [] rest l r.1 Ends-nothing e).1

@@ -1,4 +1,4 @@
--- What stands at the front of some bytes: a gap, a run of bytes that pass a test, a word.
+-- What stands at the front of some bytes, as the code goes through them: a gap, a run of bytes that pass a test, a word.
 use Rattle.std.specs.Prelude.{◌≡◌, ℕ, zero, suc, ◌+◌, ◌≤◌, ◌<◌, Option, Some, None, Result, Ok, Err, Bool, true, false, ◌==◌, ◌||◌, ◌&&◌, List, [], ◌∷◌, ◌++◌, length, take, drop}
 use Rattle.std.specs.List.{list_all}
 use Rattle.word_cut.specs.declared.word.Word.{Word}

@@ -1,4 +1,4 @@
-//! Cutting bytes into words.
+// Cutting bytes into words.
 
 ghost use Rattle.std.specs.Prelude.{◌≡◌, ◌≤◌, ◌<◌, ◌+◌, length, IfOk, IfErr};
 ghost use Rattle.word_cut.specs.Words.{IsCut, IsRefused};

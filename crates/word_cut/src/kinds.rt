@@ -1,4 +1,4 @@
-//! Which kind a word is of.
+// Which kind a word is of.
 
 ghost use Rattle.std.specs.Prelude.{◌≡◌, true};
 ghost use Rattle.word_cut.specs.Texts.{is_word as word_test, is_reserved as reserved_test, kind_of as kind_for, is_long_name as long_name_test, is_long_number as long_number_test, is_among, item_names, line_names, formula_names, other_names};

@@ -1,4 +1,4 @@
-//! What follows from the definition of words.
+// What follows from the definition of words.
 
 ghost use Rattle.std.specs.Prelude.{◌≡◌, ◌≢◌, ℕ, List};
 ghost use Rattle.std.specs.List.{AllByRecursion};

@@ -1,4 +1,4 @@
-//! How many bytes a gap or a word takes at the front of some bytes.
+// How many bytes a gap or a word takes at the front of some bytes.
 
 ghost use Rattle.std.specs.Prelude.{◌≡◌, ◌≤◌, ◌∷◌, [], false, take, drop, length};
 ghost use Rattle.word_cut.specs.Texts.{is_letter as letter_test, is_digit as digit_test, is_name_byte as name_byte_test, is_space as space_test, is_single_sign as single_test, is_double_sign as double_test};

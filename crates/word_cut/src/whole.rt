@@ -1,4 +1,4 @@
-//! Reading whole numbers.
+// Reading whole numbers.
 
 ghost use Rattle.std.specs.Prelude.{◌≡◌, ◌≤◌, ◌+◌, ◌*◌, ◌↔◌, ℤ, pos, neg_ℤ, Some, true, unsigned_abs, SomeIff};
 ghost use Rattle.std.specs.Fmt.{signed_decimal};

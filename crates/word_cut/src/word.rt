@@ -1,4 +1,4 @@
-//! What a word is.
+// What a word is.
 
 /// What kind of word it is. Reserved words are spelled like names, and the language keeps them for itself.
 #[derive(Clone, Copy, PartialEq, Eq, Debug)]

@@ -1,0 +1,81 @@
+// The words of some bytes: where each stands, and where there are none.
+use std::alloc::Global;
+use word_cut::{CutRefused, Word, WordKind, cut};
+
+fn word(kind: WordKind, at: u32, len: u32, line: u32) -> Word {
+    Word {
+        kind,
+        at,
+        len,
+        line,
+    }
+}
+
+// Why some bytes have no words; None where they have some.
+fn refusal(alloc: Global, bytes: &[u8]) -> Option<CutRefused> {
+    if bytes.len() > 65536 {
+        return None;
+    }
+    cut(alloc, bytes).err()
+}
+
+// Whether the words of some bytes are these.
+fn cuts(alloc: Global, bytes: &[u8], words: &[Word]) -> bool {
+    if bytes.len() > 65536 {
+        return false;
+    }
+    match cut(alloc, bytes) {
+        Ok(found) => {
+            let same = found.as_slice() == words;
+            drop(found);
+            same
+        }
+        Err(_) => false,
+    }
+}
+
+#[test]
+fn words_stand_at_their_places(rt: HostRuntime) {
+    let words = [
+        word(WordKind::Reserved, 1, 4, 1),
+        word(WordKind::Number, 6, 1, 1),
+        word(WordKind::Number, 7, 1, 1),
+        word(WordKind::Sign, 14, 2, 2),
+        word(WordKind::Name, 16, 3, 2),
+        word(WordKind::Sign, 21, 1, 3),
+    ];
+    assert!(rt; cuts(rt.alloc(), b"\tcise 01# a $\n<=x_1\r\n-", &words));
+    let words = [
+        word(WordKind::Sign, 0, 2, 1),
+        word(WordKind::Sign, 2, 1, 1),
+        word(WordKind::Sign, 3, 2, 1),
+        word(WordKind::Sign, 5, 1, 1),
+        word(WordKind::Number, 6, 2, 1),
+        word(WordKind::Name, 8, 5, 1),
+    ];
+    assert!(rt; cuts(rt.alloc(), b"<=<!==10sort_", &words));
+    assert!(rt; cuts(rt.alloc(), b" # nothing", &[]));
+}
+
+#[test]
+fn what_is_no_word_is_refused_at_its_place(rt: HostRuntime) {
+    let cases: [(&[u8], CutRefused); 8] = [
+        (b"cise 1 relation $", CutRefused::Letter { at: 16 }),
+        (b"_up", CutRefused::Letter { at: 0 }),
+        (b"a ! = b", CutRefused::Letter { at: 2 }),
+        (b"a # $\n\xc3", CutRefused::Letter { at: 6 }),
+        (b"cise 01 # a $\n<=!=_up x_1", CutRefused::Letter { at: 18 }),
+        (b"cise 01 # a $\n<=! =", CutRefused::Letter { at: 16 }),
+        (
+            b"cise 1 sort aaaaaaaaaaaaaaaaaaaaaaaaaaaaaaaaa",
+            CutRefused::TooLongName { at: 12 },
+        ),
+        (
+            b"cise 111111111111111111111111111111111111111",
+            CutRefused::TooLongNumber { at: 5 },
+        ),
+    ];
+    for (bytes, why) in cases.iter() {
+        assert_eq!(rt; refusal(rt.alloc(), bytes), Some(*why));
+    }
+}
