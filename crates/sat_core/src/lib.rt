@@ -26,7 +26,7 @@
 // false is resolved with the clauses that forced its literals, each once, the newest first; so a log of as many lines as there are
 // atoms ends with the empty clause.
 //
-// The layer stands on `proof_kernel`, `theory_api` and `search_logs`. What is promised of a solver of rows are the trait's laws, and
+// The layer stands on `proof_lines`, `proof_kernel`, `theory_api` and `search_logs`. What is promised of a solver of rows are the trait's laws, and
 // nothing else is used. Definitions, in the order in which a reader needs them: search_logs has trails and the logs of a search,
 // specs/Answers what each answer promises; specs/Searching and specs/Outcomes are the search's own, and say where it stands between its
 // private functions.

@@ -5,7 +5,7 @@
 // trail for one literal; and in specs/ what a log shows that
 // a search wrote: each chain of resolvents begins at a clause that is false under a complete trail, goes back along the trail,
 // and stops at the first clause that holds one literal of the last level. The layer stands on `items`, `lin_rows`,
-// `proof_kernel` and `theory_api`, and knows nothing of how a search goes about its work.
+// `proof_lines`, `proof_kernel` and `theory_api`, and knows nothing of how a search goes about its work.
 //
 // Definitions, in the order in which a reader needs them: specs/Trails (what is false, unit and settled under a trail, and when
 // a list is a trail), specs/Fresh (each clause of a log is new), specs/SearchLogs (the logs of a search), specs/Forcing (what
