@@ -48,9 +48,19 @@ fn small_rows_are_no_evidence(rt: HostRuntime) {
     let missing = Err(bad(0, Why::Evidence));
     assert_eq!(rt; told_rows(alloc, &problem, &[]), missing);
     assert_eq!(rt; told_range(alloc, &problem, &used, product()), missing);
+    drop(problem);
+}
+
+#[test]
+fn a_kernel_sees_none_in_small_rows(rt: HostRuntime) {
+    let alloc = rt.alloc();
+    let problem = touching(alloc).expect(&rt, "memory");
     let kernel = Kernel::new(alloc, problem).expect(&rt, "memory");
+    let used = [lit(0, true), lit(1, true)];
     assert_eq!(rt; kernel.rows_hold(&[], &[]), Ok(false));
-    assert_eq!(rt; kernel.range_holds(&used, &[], &product()), Ok(false));
+    let what = product();
+    assert_eq!(rt; kernel.range_holds(&used, &[], &what), Ok(false));
+    drop(what);
     drop(kernel);
 }
 

@@ -117,13 +117,24 @@ pub fn many_rows(alloc: Global, count: u32) -> Result<Problem, AllocError> {
     made(kinds, 2, Items::new(alloc))
 }
 
+// The answer of a kernel to a line.
+pub fn add(kernel: &mut Kernel, line: Line) -> Result<(), LineRefused> {
+    let told = kernel.add(&line);
+    drop(line);
+    told
+}
+
 // The answer of a new kernel to a line.
 pub fn answer(alloc: Global, problem: &Problem, line: Line) -> Result<(), LineRefused> {
     let Ok(own) = problem.copy(alloc) else {
+        drop(line);
         return Err(LineRefused::Memory);
     };
     let Ok(mut kernel) = Kernel::new(alloc, own) else {
+        drop(line);
         return Err(LineRefused::Memory);
     };
-    kernel.add(&line)
+    let told = add(&mut kernel, line);
+    drop(kernel);
+    told
 }

@@ -1,6 +1,6 @@
 // Split lines over the rows `2 x0 + 3 x1 <= 1` (atom 0) and `-2 x0 - 3 x1 <= -1` (atom 1). With 0 for `x1` they say that `x0` is
 // at most and at least a half, so the atom `x0 <= 0` splits them.
-use crate::making::{answer, both, lit, row, rows};
+use crate::making::{add, answer, lit, row, rows};
 use items::Items;
 use proof_kernel::Kernel;
 use proof_lines::{Line, LineRefused, Lit, Problem, RowStep, Why};
@@ -53,18 +53,26 @@ fn told(alloc: Global, parts: Parts) -> Result<(), LineRefused> {
     }
 }
 
+// The answer of a kernel to the good line.
+fn halved(alloc: Global, kernel: &mut Kernel) -> Result<(), LineRefused> {
+    match split(alloc, &GOOD, &[lit(0, true), lit(1, true)], &[]) {
+        Ok(line) => add(kernel, line),
+        Err(_) => Err(LineRefused::Memory),
+    }
+}
+
 #[test]
 fn a_gap_is_split_once(rt: HostRuntime) {
     let alloc = rt.alloc();
     let problem = half(alloc).expect(&rt, "memory");
     let mut kernel = Kernel::new(alloc, problem).expect(&rt, "memory");
-    let line = split(alloc, &GOOD, &[lit(0, true), lit(1, true)], &[]).expect(&rt, "memory");
-    assert_eq!(rt; kernel.add(&line), Ok(()));
-    assert_eq!(rt; kernel.atom_count(), 4);
-    assert_eq!(rt; kernel.add(&line), Err(LineRefused::Bad(Why::SplitAgain)));
-    assert_eq!(rt; kernel.clause_count(), 0);
+    assert_eq!(rt; halved(alloc, &mut kernel), Ok(()));
+    assert_eq!(rt; (kernel.atom_count(), kernel.clause_count()), (4, 0));
+    assert_eq!(rt;
+        halved(alloc, &mut kernel),
+        Err(LineRefused::Bad(Why::SplitAgain))
+    );
     drop(kernel);
-    drop(line);
 }
 
 #[test]
@@ -74,6 +82,12 @@ fn places_of_a_split_are_tested(rt: HostRuntime) {
     assert_eq!(rt; told(alloc, Parts { place: 2, ..GOOD }), place);
     assert_eq!(rt; told(alloc, Parts { low: 2, ..GOOD }), place);
     assert_eq!(rt; told(alloc, Parts { high: 2, ..GOOD }), place);
+}
+
+#[test]
+fn a_split_uses_some_row(rt: HostRuntime) {
+    let alloc = rt.alloc();
+    let place = Err(LineRefused::Bad(Why::Place));
     let problem = half(alloc).expect(&rt, "memory");
     let unused = split(alloc, &GOOD, &[], &[]).expect(&rt, "memory");
     assert_eq!(rt; answer(alloc, &problem, unused), place);
@@ -97,6 +111,11 @@ fn causes_of_a_split_are_tested(rt: HostRuntime) {
     );
     assert_eq!(rt; told(alloc, Parts { at: 1, ..GOOD }), cause);
     assert_eq!(rt; told(alloc, Parts { value: 1, ..GOOD }), cause);
+}
+
+#[test]
+fn values_of_a_split_are_tested(rt: HostRuntime) {
+    let alloc = rt.alloc();
     assert_eq!(rt;
         told(
             alloc,
