@@ -1,5 +1,5 @@
 -- The names that a tree of the grammar declares are words.
-use Rattle.std.proofs.Common.{◌≡◌, ℕ, true, false, not, ◌&&◌, nat_le, List, [], ◌∷◌, ◌++◌, length, refl, subst, arith}
+use Rattle.std.proofs.Common.{◌≡◌, ℕ, true, not, ◌&&◌, nat_le, List, [], ◌∷◌, ◌++◌, length, refl, subst, arith}
 use Rattle.std.proofs.lemmas.Bool.{and_parts, and_from}
 use Rattle.std.proofs.lemmas.Bool.Decides.{nat_tests}
 use Rattle.std.specs.List.{AllByRecursion, list_all}
@@ -14,7 +14,7 @@ use Rattle.spec_core.specs.Name.{is_word_name}
 use Rattle.spec_core.specs.Name as core
 use Rattle.spec_reader.specs.declared.tree.Param.{Param}
 use Rattle.spec_reader.specs.Form.{ItemForm, sort_form, const_form, relation_form, counter_form, initially_form, token_form, conflict_form, invariant_form, operation_form, TreeForm}
-use Rattle.spec_reader.specs.Spelling.{param, line, item, tree}
+use Rattle.spec_reader.specs.Spelling.{param, line, item}
 use Rattle.spec_reader.specs.Trees.{IsTree}
 use Rattle.typing_rules.proofs.Basics.{test_le}
 
