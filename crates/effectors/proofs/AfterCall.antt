@@ -1,5 +1,5 @@
 -- After one call of a state whose values are in range, each value is at most 3 * 10^26 in size.
-use Rattle.std.proofs.Common.{◌≡◌, ℕ, ◌≤◌, ◌*◌, ◌^◌, ℤ, pos, Bool, true, cond, List, unsigned_abs, subst, sym, arith}
+use Rattle.std.proofs.Common.{ℕ, ◌≤◌, ◌*◌, ◌^◌, pos, List, unsigned_abs, subst, sym, arith}
 use Rattle.spec_core.specs.declared.world.World.{World}
 use Rattle.spec_core.specs.declared.world.Call.{Call}
 use Rattle.spec_core.specs.Specification.{Specification, op_of}

@@ -1,7 +1,7 @@
 -- The state after a call depends on the readings at fitting tuples and keys alone.
-use Rattle.std.proofs.Common.{◌≡◌, ℕ, ◌<◌, ℤ, pos, ◌+ℤ◌, Bool, true, false, cond, ◌&&◌, nat_lt, inl, inr, List, [], ◌∷◌, length, refl, sym, ◌∙◌, ap}
+use Rattle.std.proofs.Common.{◌≡◌, ℕ, ℤ, pos, ◌+ℤ◌, Bool, true, false, cond, ◌&&◌, nat_lt, List, [], ◌∷◌, length, refl, sym, ◌∙◌, ap}
 use Rattle.std.specs.List.{list_all}
-use Rattle.std.proofs.lemmas.Bool.{and_parts, cases_Bool, ltb-true}
+use Rattle.std.proofs.lemmas.Bool.{and_parts, ltb-true}
 use Rattle.spec_core.specs.declared.world.World.{World}
 use Rattle.spec_core.specs.declared.world.Call.{Call}
 use Rattle.spec_core.specs.declared.update.Thing.{Thing}

@@ -1,5 +1,5 @@
 -- The updates of an operation fit at the arguments of its calls.
-use Rattle.std.proofs.Common.{◌≡◌, ◌≤◌, ℤ, true, length}
+use Rattle.std.proofs.Common.{◌≡◌, ◌≤◌, true, length}
 use Rattle.std.specs.List.{list_all}
 use Rattle.spec_core.specs.declared.world.World.{World}
 use Rattle.spec_core.specs.declared.world.Call.{Call}

@@ -1,5 +1,5 @@
 -- The first value out of range, where the first counter has none.
-use Rattle.std.proofs.Common.{◌≡◌, ℕ, suc, ◌+◌, ◌-◌, ◌≤◌, ℤ, List, [], ◌∷◌, map, length, get_or, take, drop, Option, None, refl, sym, ◌∙◌, ap, add-one, arith}
+use Rattle.std.proofs.Common.{◌≡◌, ℕ, suc, ◌+◌, ◌-◌, ◌≤◌, ℤ, List, [], ◌∷◌, map, length, get_or, take, drop, Option, None, sym, ◌∙◌, ap, add-one, arith}
 use Rattle.std.proofs.lemmas.List.{take_all}
 use Rattle.spec_core.specs.declared.world.World.{World}
 use Rattle.spec_core.specs.declared.spec.Counter.{Counter}

@@ -1,29 +1,26 @@
 -- Where the values after a call are in the range of a state.
-use Rattle.std.proofs.Common.{◌≡◌, ℕ, zero, suc, ◌+◌, ◌≤◌, ◌<◌, ◌^◌, nat_le, ℤ, pos, unsigned_abs, Bool, true, false, cond, ◌&&◌, ◌||◌, nat_lt, ◌⊎◌, inl, inr, List, [], ◌∷◌, ◌++◌, map, length, get_or, Option, None, Some, refl, sym, ◌∙◌, ap, subst, arith}
-use Rattle.std.specs.List.{list_all, list_any}
+use Rattle.std.proofs.Common.{◌≡◌, ℕ, ◌+◌, ◌≤◌, ◌<◌, ◌^◌, ℤ, pos, unsigned_abs, Bool, true, false, cond, ◌&&◌, ◌||◌, inl, inr, List, [], ◌∷◌, map, length, get_or, refl, sym, ◌∙◌, ap, subst, arith}
+use Rattle.std.specs.List.{list_all}
 use Rattle.std.proofs.lemmas.Bool.{and_parts, and_from, cases_Bool, cases_lt, lt-ltb, le-leb, eqb-true}
 use Rattle.std.proofs.lemmas.List.Folds.{list_all-map}
 use Rattle.spec_core.specs.declared.world.World.{World}
 use Rattle.spec_core.specs.declared.world.Call.{Call}
 use Rattle.spec_core.specs.declared.update.Thing.{Thing}
 use Rattle.spec_core.specs.declared.update.Thing.TheVariants as thing
-use Rattle.spec_core.specs.declared.update.Change.{Change}
-use Rattle.spec_core.specs.declared.update.Change.TheVariants.{Insert, Remove, Add, Set}
-use Rattle.spec_core.specs.declared.spec.Counter.{Counter}
 use Rattle.spec_core.specs.UpdateLine.{UpdateLine}
-use Rattle.spec_core.specs.Specification.{Specification, op_of, counter_keys, no_counter, places_of}
+use Rattle.spec_core.specs.Specification.{Specification, op_of, counter_keys, no_counter}
 use Rattle.spec_core.specs.World.{tuples}
-use Rattle.spec_core.specs.State.{Listing, Reads, reads, is_in, count_in}
-use Rattle.spec_core.specs.Fits.{fits_places, is_state, in_state_range, spots_fit, change_fits, update_fits}
+use Rattle.spec_core.specs.State.{Listing, Reads, reads, is_in}
+use Rattle.spec_core.specs.Fits.{is_state, in_state_range, update_fits}
 use Rattle.spec_core.proofs.States.{list_all-from_is_in, list_all-is_in, count_in_range}
-use Rattle.effectors.specs.Effect.{spots_match, is_thing, count_after, numbered, after_call, after}
+use Rattle.effectors.specs.Effect.{is_thing, count_after, after_call, after}
 use Rattle.effectors.specs.Beyond.{all_in_range, AllInRange}
 use Rattle.effectors.specs.Places.{fits_counter}
-use Rattle.effectors.specs.Reaching.{matching, reached, thing_in_range, updates_in_range}
+use Rattle.effectors.specs.Reaching.{reached, thing_in_range, updates_in_range}
 use Rattle.effectors.proofs.Reading.{numbered_in, numbered_out}
 use Rattle.effectors.proofs.Fitting.{CallUpdates}
 use Rattle.spec_core.proofs.Members.{is_in-tuples}
-use Rattle.effectors.proofs.Reached.{is_in-matching, reaches}
+use Rattle.effectors.proofs.Reached.{reaches}
 use Rattle.effectors.proofs.Whole.{count-after}
 use Rattle.effectors.proofs.Written.{kept_count}
 

@@ -1,6 +1,6 @@
 -- What updates reach, and readings that are taken from another state there.
-use Rattle.std.proofs.Common.{◌≡◌, ℕ, zero, suc, ◌+◌, ◌<◌, ◌≤◌, ℤ, pos, Bool, true, false, cond, not, ◌&&◌, ◌||◌, ◌==◌, nat_lt, ◌⊎◌, inl, inr, List, [], ◌∷◌, ◌++◌, map, length, refl, sym, ◌∙◌, ap, subst, append_assoc, add-one, arith}
-use Rattle.std.proofs.lemmas.Bool.{and_parts, cases_Bool, or_parts, eqb-true}
+use Rattle.std.proofs.Common.{◌≡◌, ℕ, ℤ, Bool, true, false, cond, ◌&&◌, ◌||◌, ◌==◌, nat_lt, List, [], ◌∷◌, refl, sym, ◌∙◌, ap, arith}
+use Rattle.std.proofs.lemmas.Bool.{and_parts, or_parts, eqb-true}
 use Rattle.std.specs.Str.{bytes_eq}
 use Rattle.std.specs.List.{list_all, list_any}
 use Rattle.std.proofs.lemmas.Bool.Decides.{nat_tests}
@@ -12,7 +12,7 @@ use Rattle.spec_core.specs.declared.update.Spot.{Spot}
 use Rattle.spec_core.specs.declared.update.Spot.TheVariants.{Every, One}
 use Rattle.spec_core.specs.UpdateLine.{UpdateLine}
 use Rattle.spec_core.specs.Specification.{Specification, relation_places, counter_keys, places_of}
-use Rattle.spec_core.specs.World.{size_of, below, each_before}
+use Rattle.spec_core.specs.World.{size_of, below}
 use Rattle.spec_core.specs.State.{Reads, is_in, with_has, with_count}
 use Rattle.spec_core.specs.Truth.{elem_of, truth}
 use Rattle.spec_core.specs.Fits.{fits_places, elem_exists, spots_fit, change_fits, update_fits}

@@ -1,8 +1,7 @@
 -- How large the values after one call of a state are.
-use Rattle.std.proofs.Common.{◌≡◌, Bool, true, false, cond, nat_le, ℕ, ℤ, pos, List, [], ◌∷◌, length, slice_index_or, ◌≤◌, ◌*◌, ◌^◌, ◌+◌, ◌+ℤ◌, ◌*ℤ◌, unsigned_abs, arith, zero, suc}
+use Rattle.std.proofs.Common.{◌≡◌, Bool, true, false, cond, ℕ, ℤ, pos, List, [], ◌∷◌, length, slice_index_or, ◌≤◌, ◌*◌, ◌^◌, ◌+◌, ◌+ℤ◌, ◌*ℤ◌, unsigned_abs, arith, zero, suc}
 use Rattle.std.proofs.lemmas.Bool.{and_parts, leb-true}
 use Rattle.std.specs.List.{list_all}
-use Rattle.std.proofs.lemmas.Bool.Decides.{nat_tests}
 use Rattle.std.proofs.lemmas.Int.{ints, unsigned_abs-mul}
 use Rattle.spec_core.specs.declared.formula.Body.{Body}
 use Rattle.spec_core.specs.declared.formula.Body.TheVariants as body

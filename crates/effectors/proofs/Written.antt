@@ -1,19 +1,15 @@
 -- The old state, with what the updates of a call reach taken from the state after it, is the state after it.
-use Rattle.std.proofs.Common.{◌≡◌, ℕ, zero, suc, ◌≤◌, ◌<◌, ℤ, pos, Bool, true, false, cond, ◌&&◌, nat_lt, ◌⊎◌, inl, inr, List, [], ◌∷◌, ◌||◌, length, get_or, refl, sym, ◌∙◌, ap, arith}
+use Rattle.std.proofs.Common.{◌≡◌, ℕ, zero, suc, ◌≤◌, ℤ, pos, Bool, true, false, cond, ◌&&◌, nat_lt, inl, inr, List, [], ◌∷◌, length, get_or, refl, sym, ◌∙◌, ap, arith}
 use Rattle.spec_core.proofs.Sameness.{unlisted}
 use Rattle.std.proofs.lemmas.Bool.{and_parts, cases_Bool, and_cases, false_from_ne_true, ltb-false, true≢false}
-use Rattle.std.specs.List.{list_all}
-use Rattle.std.specs.Str.{bytes_eq}
-use Rattle.std.proofs.lemmas.Bool.Decides.{nat_tests}
 use Rattle.spec_core.specs.declared.world.World.{World}
 use Rattle.spec_core.specs.declared.world.Call.{Call}
 use Rattle.spec_core.specs.declared.update.Thing.TheVariants as thing
 use Rattle.spec_core.specs.declared.spec.Relation.{Relation}
 use Rattle.spec_core.specs.declared.spec.Counter.{Counter}
-use Rattle.spec_core.specs.UpdateLine.{UpdateLine}
-use Rattle.spec_core.specs.Specification.{Specification, op_of, relation_places, counter_keys, no_relation, no_counter}
-use Rattle.spec_core.specs.State.{Listing, Reads, reads, is_in, count_in, listed_keys}
-use Rattle.spec_core.specs.Fits.{fits_places, lists_fit, values_fit, is_state, update_fits}
+use Rattle.spec_core.specs.Specification.{Specification, op_of, relation_places, counter_keys}
+use Rattle.spec_core.specs.State.{Listing, reads, is_in, count_in, listed_keys}
+use Rattle.spec_core.specs.Fits.{fits_places, lists_fit, values_fit, is_state}
 use Rattle.spec_core.proofs.States.{lists_fit-at, values_fit-at}
 use Rattle.effectors.specs.Effect.{has_after, count_after, after}
 use Rattle.effectors.specs.Places.{fits_relation, fits_counter}

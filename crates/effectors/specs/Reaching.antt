@@ -1,6 +1,6 @@
 -- Which tuples and keys some updates reach, and a state in which only these are read from another one.
 use Rattle.std.specs.Prelude.{ℕ, ℤ, Bool, true, cond, ◌&&◌, ◌==◌, List, [], ◌∷◌}
-use Rattle.std.specs.List.{list_all, list_any}
+use Rattle.std.specs.List.{list_all}
 use Rattle.spec_core.specs.declared.world.World.{World}
 use Rattle.spec_core.specs.declared.update.Thing.{Thing}
 use Rattle.spec_core.specs.declared.update.Thing.TheVariants as thing

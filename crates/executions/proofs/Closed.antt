@@ -1,9 +1,9 @@
 -- Causally closed sets of events: the members of an order are one, and in an execution each has an order, by number.
 use Rattle.std.specs.Prelude.{Contains, slice_get, Some}
 use Rattle.std.proofs.Common.{◌≡◌, ℕ, zero, suc, ◌<◌, ◌≤◌, Bool, true, false, cond, ◌⊎◌, inl, inr, List, [], ◌∷◌, ◌++◌, length, get_or, take, refl, sym, ◌∙◌, subst, arith}
-use Rattle.std.proofs.lemmas.Bool.{cases_Bool, both_ways}
+use Rattle.std.proofs.lemmas.Bool.{both_ways}
 use Rattle.std.proofs.lemmas.List.Elements.{Contains-append_left, Contains-append_right, Contains-append_cases}
-use Rattle.executions.specs.Orders.{Event, AreIn, MayFollow, IsOrder, IsClosed, IsOrderOf}
+use Rattle.executions.specs.Orders.{Event, AreIn, IsOrder, IsClosed, IsOrderOf}
 use Rattle.executions.specs.Executions.{System, IsExecution}
 use Rattle.executions.proofs.Lists.{mem, in_none, in_first, first_or_rest, mem_contains, contains_mem}
 use Rattle.executions.proofs.Growth.{no_events, order_more, order_within}

@@ -9,7 +9,7 @@
 --   (C) an event all of whose seen events were taken is ready    `ready`
 -- They rest on `move`: an event that no later one has seen may be taken last, with the same result, since it commutes with
 -- each of the later ones; that these are ready, and that the invariant holds, is known of the smaller orders.
-use Rattle.std.proofs.Common.{◌≡◌, ◌≢◌, ℕ, zero, suc, ◌+◌, ◌<◌, ◌≤◌, Bool, true, false, ◌⊎◌, inl, inr, List, [], ◌∷◌, ◌++◌, length, refl, sym, ◌∙◌, ap, subst, arith, length-append}
+use Rattle.std.proofs.Common.{◌≡◌, ◌≢◌, ℕ, zero, suc, ◌+◌, ◌<◌, ◌≤◌, false, inl, inr, List, [], ◌∷◌, ◌++◌, length, refl, sym, ◌∙◌, ap, subst, arith, length-append}
 use Rattle.std.proofs.lemmas.Bool.{cases_Bool}
 use Rattle.executions.proofs.Lists.{mem, IsIn, AllIn, not_both, in_first, in_rest, first_or_rest, in_none, in_but_middle, in_with_middle, not_middle, not_with_middle, in_front, cut_at, all_or_cut}
 

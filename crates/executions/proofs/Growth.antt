@@ -1,11 +1,11 @@
 -- Executions grow: events and takings are added at the end, and what was an order, its state and an execution stays so.
-use Rattle.std.specs.Prelude.{Contains, slice_get, Option, None, Some, fold}
-use Rattle.std.proofs.Common.{◌≡◌, ◌≢◌, ℕ, zero, suc, ◌<◌, ◌≤◌, ◌⊎◌, inl, inr, List, [], ◌∷◌, ◌++◌, length, get_or, take, refl, sym, ◌∙◌, ap, subst, arith, length-append}
-use Rattle.std.proofs.lemmas.Option.{slice_get_within, get_or_from_slice_get}
+use Rattle.std.specs.Prelude.{Contains, slice_get, None, Some, fold}
+use Rattle.std.proofs.Common.{◌≡◌, ℕ, zero, suc, ◌<◌, ◌≤◌, ◌⊎◌, inl, inr, List, [], ◌∷◌, ◌++◌, length, get_or, take, refl, sym, ◌∙◌, ap, subst, arith}
+use Rattle.std.proofs.lemmas.Option.{slice_get_within}
 use Rattle.std.proofs.lemmas.List.{take-append-le}
 use Rattle.std.proofs.lemmas.List.Sums.{fold-append}
 use Rattle.std.proofs.Math.Seq.{take-append_seam}
-use Rattle.executions.specs.Orders.{Event, AreIn, MayFollow, IsOrder}
+use Rattle.executions.specs.Orders.{Event, MayFollow, IsOrder}
 use Rattle.executions.specs.Executions.{System, with_event, state_after, Happens, IsExecution}
 
 -- ---- places of a list that grew by one

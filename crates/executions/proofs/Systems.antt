@@ -1,10 +1,10 @@
 -- A safe system converges: its executions and delivery orders, in the words of `Convergence`.
-use Rattle.std.specs.Prelude.{Contains, slice_get, Option, None, Some, fold}
-use Rattle.std.proofs.Common.{◌≡◌, ◌≢◌, ℕ, zero, suc, ◌<◌, ◌≤◌, Bool, true, false, ◌⊎◌, inl, inr, List, [], ◌∷◌, length, take, refl, sym, ◌∙◌, ap, subst, arith}
+use Rattle.std.specs.Prelude.{slice_get, Option, None, Some, fold}
+use Rattle.std.proofs.Common.{◌≡◌, ℕ, suc, ◌<◌, ◌⊎◌, inl, inr, List, [], ◌∷◌, length, take, refl, sym, ◌∙◌, ap, subst, arith}
 use Rattle.std.proofs.lemmas.Bool.{cases_Bool}
 use Rattle.std.proofs.lemmas.Option.{slice_get_within, slice_get_cases}
 use Rattle.executions.specs.Orders.{Event, AreIn, MayFollow, IsOrder}
-use Rattle.executions.specs.Executions.{System, IsSystem, IsSafe, with_event, state_after, Happens, IsExecution, Agree, SystemConverges}
+use Rattle.executions.specs.Executions.{System, IsSystem, IsSafe, with_event, state_after, IsExecution, Agree, SystemConverges}
 use Rattle.executions.proofs.Lists.{mem, IsIn, AllIn, not_both, in_none, in_first, in_rest, first_or_rest, mem_contains, contains_mem, lacks_mem}
 use Rattle.executions.proofs.Convergence.{Concurrent, MayTake, after, Taken, Rule, converge}
 

@@ -1,5 +1,5 @@
 -- Executions of a replicated system, and what it means that it converges.
-use Rattle.std.specs.Prelude.{◌≡◌, ℕ, ◌<◌, List, slice_get, Option, None, Some, Contains, fold}
+use Rattle.std.specs.Prelude.{◌≡◌, ℕ, ◌<◌, List, slice_get, None, Some, Contains, fold}
 use Rattle.executions.specs.Orders.{Event, AreIn, IsOrder}
 
 -- A replicated system, as far as this theorem asks: states and calls, which of them there are, what a call does to a state,

@@ -1,5 +1,5 @@
 -- Delivery orders: in which orders a replica may take events.
-use Rattle.std.specs.Prelude.{◌≡◌, ℕ, ◌<◌, List, length, take, slice_get, Option, Some, Contains}
+use Rattle.std.specs.Prelude.{◌≡◌, ℕ, ◌<◌, List, length, take, slice_get, Some, Contains}
 
 -- An event: a call, and the events that its replica had taken before it, in that order. Events go by their numbers, which are
 -- their places in the list of all events.

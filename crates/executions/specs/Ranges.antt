@@ -1,5 +1,5 @@
 -- Where an order leads beyond the range of a state.
-use Rattle.std.specs.Prelude.{◌≡◌, ℕ, ◌<◌, List, take, slice_get, Option, Some}
+use Rattle.std.specs.Prelude.{◌≡◌, ℕ, ◌<◌, List, take, slice_get, Some}
 use Rattle.spec_core.specs.declared.world.World.{World}
 use Rattle.spec_core.specs.declared.world.Call.{Call}
 use Rattle.spec_core.specs.Specification.{Specification}

@@ -1,10 +1,6 @@
 -- A state that has the stated values everywhere reads as the initial one, and the initial one does.
-use Rattle.std.proofs.Common.{◌≡◌, ℕ, zero, suc, ◌+◌, ◌<◌, ◌≤◌, ℤ, pos, Bool, true, false, cond, ◌&&◌, nat_lt, ◌⊎◌, inl, inr, List, [], ◌∷◌, map, length, get_or, refl, sym, ◌∙◌, ap, subst, arith}
+use Rattle.std.proofs.Common.{◌≡◌, ℕ, zero, suc, ◌<◌, pos, Bool, true, false, cond, nat_lt, inl, inr, List, [], ◌∷◌, map, length, get_or, refl, sym, ◌∙◌, ap, arith}
 use Rattle.std.proofs.lemmas.Bool.{and_parts, and_from, cases_Bool, lt-ltb, ltb-true}
-use Rattle.std.specs.Prelude.{int_le}
-use Rattle.std.specs.List.{list_all}
-use Rattle.std.proofs.lemmas.Int.{ints}
-use Rattle.std.proofs.lemmas.Bool.Decides.{nat_tests}
 use Rattle.spec_core.specs.declared.world.World.{World}
 use Rattle.spec_core.specs.declared.update.Thing.TheVariants as thing
 use Rattle.spec_core.specs.declared.spec.Relation.{Relation}
@@ -12,7 +8,6 @@ use Rattle.spec_core.specs.declared.spec.Counter.{Counter}
 use Rattle.spec_core.specs.Specification.{Specification, no_relation, no_counter, relation_places, counter_keys}
 use Rattle.spec_core.specs.World.{tuples}
 use Rattle.spec_core.specs.State.{Listing, Reads, reads, is_in, count_in}
-use Rattle.spec_core.specs.Truth.{int_eq}
 use Rattle.spec_core.specs.Meaning.{initial}
 use Rattle.spec_core.specs.Fits.{fits_places, is_state}
 use Rattle.spec_core.specs.Choices.{all_below}

@@ -1,5 +1,5 @@
 -- How many obligations a specification has: at most 12,208.
-use Rattle.std.proofs.Common.{◌≡◌, ℕ, zero, suc, ◌+◌, ◌-◌, ◌*◌, ◌<◌, ◌≤◌, Bool, true, false, cond, nat_le, ◌⊎◌, inl, inr, List, [], ◌∷◌, ◌++◌, map, length, refl, sym, ◌∙◌, ap, subst, arith, length-append}
+use Rattle.std.proofs.Common.{◌≡◌, ℕ, zero, suc, ◌+◌, ◌-◌, ◌*◌, ◌<◌, ◌≤◌, Bool, true, cond, nat_le, inl, inr, List, [], ◌∷◌, ◌++◌, map, length, refl, sym, ap, subst, arith, length-append}
 use Rattle.spec_core.specs.Limits.{most_relations, most_counters, most_invariants, most_operations}
 use Rattle.std.specs.List.{filter, flat_map}
 use Rattle.std.proofs.lemmas.Bool.{leb-true, cases_Bool}
@@ -7,13 +7,11 @@ use Rattle.std.proofs.lemmas.Grind.{flat_map-append}
 use Rattle.std.proofs.lemmas.List.{length-map}
 use Rattle.std.proofs.lemmas.List.Elements.{filter-append}
 use Rattle.std.proofs.lemmas.List.Sums.{length-filter, count_by-le-length}
-use Rattle.spec_core.specs.declared.update.Thing.{Thing}
 use Rattle.spec_core.specs.declared.update.Thing.TheVariants as thing
 use Rattle.spec_core.specs.Specification.{Specification, op_of}
 use Rattle.spec_core.specs.World.{below}
 use Rattle.spec_core.specs.Typed.{is_specification}
 use Rattle.spec_core.proofs.Parts.{parts_of}
-use Rattle.obligation_list.specs.declared.obligation.Obligation.{Obligation}
 use Rattle.obligation_list.specs.declared.obligation.Obligation.TheVariants.{Init, Safety, Commute, Stable}
 use Rattle.obligation_list.specs.Obligations.{either_writes, things, init_obligations, safety_of, commute_of, commute_from, stable_of, stable_from, obligations_of}
 use Rattle.obligation_list.proofs.LineFits.{few_requires}

@@ -1,8 +1,7 @@
 -- The members of the list of obligations are the obligations.
-use Rattle.std.proofs.Common.{◌≡◌, ℕ, ◌<◌, ◌≤◌, true, inl, inr, List, ◌++◌, map, length, nat_le, subst, arith}
+use Rattle.std.proofs.Common.{◌<◌, ◌≤◌, inl, inr, List, ◌++◌, map, length, nat_le, subst, arith}
 use Rattle.std.proofs.lemmas.Bool.{le-leb, leb-true}
 use Rattle.std.specs.List.{filter, flat_map, Contains}
-use Rattle.std.proofs.lemmas.Bool.Decides.{nat_tests}
 use Rattle.std.proofs.lemmas.List.Elements.{Contains-append_left, Contains-append_right, Contains-append_cases}
 use Rattle.spec_core.specs.declared.update.Thing.{Thing}
 use Rattle.spec_core.specs.declared.update.Thing.TheVariants as thing

@@ -1,15 +1,13 @@
 -- The test of a refutation says what a refutation is.
-use Rattle.std.proofs.Common.{◌≡◌, ℕ, ◌+◌, ◌<◌, ℤ, Bool, true, false, cond, not, ◌&&◌, ◌==◌, nat_le, List, [], ◌∷◌, map, length, get_or, Option, None, Some, refl, sym, ◌∙◌, ap, subst, arith}
+use Rattle.std.proofs.Common.{◌≡◌, ℕ, Bool, true, false, not, ◌&&◌, ◌==◌, nat_le, List, [], ◌∷◌, length, get_or, Option, None, Some, refl, sym, ◌∙◌, ap, arith}
 use Rattle.std.specs.Prelude.{is_none, is_some}
 use Rattle.std.specs.List.{list_all}
 use Rattle.std.proofs.lemmas.Bool.{and_parts, and_from, not-true, not_from_false, eqb-true, eq-eqb}
-use Rattle.std.proofs.lemmas.Bool.Decides.{nat_tests}
 use Rattle.std.proofs.lemmas.List.Folds.{list_all-map}
 use Rattle.spec_core.specs.declared.world.World.{World}
 use Rattle.spec_core.specs.declared.world.Call.{Call}
 use Rattle.spec_core.specs.declared.spec.Invariant.{Invariant}
-use Rattle.spec_core.specs.declared.update.Thing.{Thing}
-use Rattle.spec_core.specs.Specification.{Specification, op_of}
+use Rattle.spec_core.specs.Specification.{Specification}
 use Rattle.spec_core.specs.State.{Listing, Reads, reads}
 use Rattle.spec_core.specs.Truth.{line_true}
 use Rattle.spec_core.specs.Meaning.{invariant_line, inv, pre, broken_at}
@@ -19,8 +17,8 @@ use Rattle.token_rules.specs.Conflict.{conflicts}
 use Rattle.spec_core.proofs.Positions.{position_none}
 use Rattle.obligation_list.specs.declared.obligation.Obligation.{Obligation}
 use Rattle.obligation_list.specs.declared.obligation.Obligation.TheVariants.{Init, Safety, Commute, Stable}
-use Rattle.obligation_list.specs.Breaking.{elements_of, requires_line, line_at, reads_same, IsCallOf, MayRunTogether, BreaksInit, BreaksSafety, BreaksCommute, BreaksStable, BreaksIn, Breaks}
-use Rattle.obligation_list.specs.Refuting.{IsRefutation, is_call_of, may_run_together, refutes_init, refutes_safety, are_together, refutes_commute, refutes_stable, refutes_in, parts_fit, refutes}
+use Rattle.obligation_list.specs.Breaking.{elements_of, requires_line, line_at, reads_same, IsCallOf, MayRunTogether, BreaksIn}
+use Rattle.obligation_list.specs.Refuting.{IsRefutation, is_call_of, may_run_together, are_together, refutes_in, parts_fit, refutes}
 use Rattle.obligation_list.specs.Starting.{starts}
 use Rattle.obligation_list.proofs.Begins.{starts_initial, initial_starts}
 

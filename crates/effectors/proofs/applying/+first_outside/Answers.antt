@@ -1,4 +1,4 @@
-use Rattle.std.proofs.Common.{◌≡◌, ℕ, ◌-◌, List, length, take, drop, sym, ◌∙◌, ap, subst, Option, IfOk}
+use Rattle.std.proofs.Common.{ℕ, ◌-◌, List, length, take, drop, ◌∙◌, ap, subst, Option, IfOk}
 use Rattle.spec_core.specs.Specification.{op_of}
 use Rattle.spec_core.specs.World.{tuples}
 use Rattle.spec_core.specs.State.{reads}

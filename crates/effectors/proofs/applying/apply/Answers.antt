@@ -1,6 +1,5 @@
-use Rattle.std.proofs.Common.{◌≡◌, Bool, true, false, None, sym, ◌∙◌, ap}
+use Rattle.std.proofs.Common.{◌≡◌, true, false, sym, ◌∙◌, ap}
 use Rattle.std.specs.List.{list_all}
-use Rattle.spec_core.specs.Specification.{op_of}
 use Rattle.spec_core.specs.State.{reads}
 use Rattle.spec_core.specs.Fits.{update_fits}
 use Rattle.effectors.specs.Effect.{after, after_call}

@@ -1,5 +1,4 @@
 use Rattle.std.proofs.Common.{rules, ◌≡◌, Some}
-use Rattle.std.proofs.lemmas.Grind.{common_steps}
 use Rattle.spec_core.specs.State.{reads}
 use Rattle.effectors.specs.declared.applying.ApplyRefused.TheVariants.{Range}
 use Rattle.effectors.specs.Effect.{after_call}

@@ -1,4 +1,4 @@
-use Rattle.std.proofs.Common.{◌≡◌, ◌++◌, ◌∷◌, map, sym, ◌∙◌, ap}
+use Rattle.std.proofs.Common.{◌++◌, ◌∷◌, map, sym, ◌∙◌, ap}
 use Rattle.spec_core.proofs.Choosing.{each_before-below}
 use Rattle.effectors.proofs.matching.all_before.Goals as goal
 

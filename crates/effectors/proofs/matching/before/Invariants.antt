@@ -1,4 +1,4 @@
-use Rattle.std.proofs.Common.{◌≡◌, ◌∷◌, ◌++◌, take}
+use Rattle.std.proofs.Common.{◌≡◌, ◌∷◌, take}
 use Rattle.effectors.proofs.matching.before.Given as goal
 
 abbrev pub invariant-loop-next : goal.invariant-loop-next

@@ -1,4 +1,4 @@
-use Rattle.std.proofs.Common.{◌≡◌, Bool, cond, pos, sym, ◌∙◌, ap, rules, FitsSigned}
+use Rattle.std.proofs.Common.{Bool, cond, pos, sym, ◌∙◌, ap, rules, FitsSigned}
 use mir.Syntax.{w128}
 use Rattle.std.proofs.lemmas.Int.{to_z-of_z}
 use Rattle.spec_core.specs.Specification.{op_of}

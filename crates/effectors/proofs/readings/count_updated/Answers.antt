@@ -1,4 +1,4 @@
-use Rattle.std.proofs.Common.{◌≡◌, ◌≤◌, length, ◌∙◌, ap, arith}
+use Rattle.std.proofs.Common.{length, ◌∙◌, ap, arith}
 use Rattle.std.specs.List.{list_all}
 use Rattle.spec_core.specs.Fits.{update_fits}
 use Rattle.effectors.proofs.Fitting.{call_updates}

@@ -1,4 +1,4 @@
-use Rattle.std.proofs.Common.{◌≡◌, Bool, ◌&&◌, sym, ◌∙◌, ap}
+use Rattle.std.proofs.Common.{Bool, ◌&&◌, sym, ◌∙◌, ap}
 use Rattle.spec_core.specs.Specification.{op_of}
 use Rattle.effectors.specs.Effect.{has_after}
 use Rattle.effectors.proofs.Whole.{has-after}

@@ -1,4 +1,4 @@
-use Rattle.std.proofs.Common.{◌≡◌, ℕ, ◌<◌, ◌≤◌, get_or, length, List, below_more, subst, sym, ◌∙◌, arith, refl}
+use Rattle.std.proofs.Common.{ℕ, ◌<◌, ◌≤◌, get_or, length, List, below_more, subst, ◌∙◌, arith, refl}
 use Rattle.std.proofs.lemmas.List.{get_or_default}
 use Rattle.std.specs.Prelude.{Contains}
 use Rattle.executions.specs.Orders.{AreIn}

@@ -1,4 +1,4 @@
-use Rattle.std.proofs.Common.{◌≡◌, ◌<◌, ℕ, length, get_or, Some, arith}
+use Rattle.std.proofs.Common.{◌≡◌, ◌<◌, length, get_or, Some, arith}
 use Rattle.std.specs.Prelude.{slice_get}
 use Rattle.spec_core.specs.declared.world.Call.{Call}
 use Rattle.executions.specs.Orders.{Event}

@@ -1,4 +1,4 @@
-use Rattle.std.proofs.Common.{◌≡◌, true, sym, ◌∙◌}
+use Rattle.std.proofs.Common.{sym, ◌∙◌}
 use Rattle.obligation_list.proofs.Refuted.{refuted, refuting}
 use Rattle.obligation_list.proofs.breaking.breaks.Goals as goal
 

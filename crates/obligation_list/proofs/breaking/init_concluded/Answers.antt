@@ -1,4 +1,4 @@
-use Rattle.std.proofs.Common.{◌≡◌, [], ◌∙◌, ap}
+use Rattle.std.proofs.Common.{[], ◌∙◌, ap}
 use Rattle.spec_core.specs.Fits.{line_fits}
 use Rattle.obligation_list.proofs.LineFits.{invariant_fits}
 use Rattle.obligation_list.proofs.breaking.init_concluded.Goals as goal

@@ -1,4 +1,4 @@
-use Rattle.std.proofs.Common.{◌≡◌, ◌∙◌, ap}
+use Rattle.std.proofs.Common.{◌∙◌, ap}
 use Rattle.std.specs.Prelude.{is_none}
 use Rattle.spec_core.specs.State.{reads}
 use Rattle.obligation_list.proofs.Refuted.{none_broken, none_of}

@@ -1,4 +1,4 @@
-use Rattle.std.proofs.Common.{◌≡◌, sym, ◌∙◌, ap}
+use Rattle.std.proofs.Common.{sym, ◌∙◌, ap}
 use Rattle.spec_core.specs.Fits.{fits_places}
 use Rattle.obligation_list.specs.Breaking.{elements_of}
 use Rattle.obligation_list.proofs.Refuted.{parts}

@@ -1,4 +1,4 @@
-use Rattle.std.proofs.Common.{◌≡◌, [], ◌∷◌, length, sym, ◌∙◌, arith}
+use Rattle.std.proofs.Common.{sym, ◌∙◌, arith}
 use Rattle.spec_core.specs.State.{reads}
 use Rattle.obligation_list.specs.Refuting.{refutes_in}
 use Rattle.obligation_list.proofs.Refuted.{one_call, two_calls}

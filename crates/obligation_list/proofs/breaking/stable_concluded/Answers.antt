@@ -1,4 +1,4 @@
-use Rattle.std.proofs.Common.{◌≡◌, ◌<◌, ℕ, true, sym, ◌∙◌, subst, length}
+use Rattle.std.proofs.Common.{◌≡◌, ◌<◌, ℕ, true, ◌∙◌, subst, length}
 use Rattle.spec_core.specs.Specification.{op_of}
 use Rattle.spec_core.specs.Fits.{line_fits}
 use Rattle.obligation_list.specs.Breaking.{requires_line}

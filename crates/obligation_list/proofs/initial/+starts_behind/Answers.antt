@@ -1,4 +1,4 @@
-use Rattle.std.proofs.Common.{◌≡◌, ℕ, true, false, List, [], ◌∷◌, ◌++◌, ◌+◌, ◌-◌, ◌<◌, ◌≤◌, length, get_or, take, drop, sym, ◌∙◌, ap, arith}
+use Rattle.std.proofs.Common.{◌≡◌, ℕ, List, [], ◌∷◌, ◌++◌, ◌+◌, ◌-◌, ◌<◌, length, get_or, take, drop, sym, ◌∙◌, ap, arith}
 use Rattle.spec_core.specs.World.{size_of}
 use Rattle.spec_core.specs.State.{reads}
 use Rattle.spec_core.specs.Choices.{all_choices}

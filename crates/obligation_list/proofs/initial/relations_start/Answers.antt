@@ -1,4 +1,4 @@
-use Rattle.std.proofs.Common.{◌≡◌, ℕ, false, List, length, sym, ◌∙◌, ap, arith}
+use Rattle.std.proofs.Common.{ℕ, List, length, sym, ◌∙◌, ap, arith}
 use Rattle.spec_core.specs.declared.update.Thing.TheVariants as thing
 use Rattle.spec_core.specs.Specification.{relation_places}
 use Rattle.spec_core.specs.State.{reads}

@@ -1,4 +1,4 @@
-use Rattle.std.proofs.Common.{rules, arith, ◌≤◌, ◌*◌, ◌^◌, subst, sym, unsigned_abs, FitsSigned}
+use Rattle.std.proofs.Common.{rules, ◌≤◌, ◌*◌, ◌^◌, subst, sym, unsigned_abs, FitsSigned}
 use mir.Syntax.{w128}
 use Rattle.std.proofs.lemmas.Int.{to_z-of_z}
 use Rattle.spec_core.specs.State.{reads}
