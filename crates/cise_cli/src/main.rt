@@ -1,27 +1,12 @@
 // The program: `check SPEC` reads a specification and writes the report of its obligations, `spell SPEC` writes its words in the
 // layout of the language.
 //
-// `run` is the program but for its edge, for any sources and any sink, and its clauses say what each status means. `words` has
-// the accepted words, `reading` goes from bytes to a specification or to the text of the refusal, `first_form` tells which
-// specifications can be checked yet, `report` makes the report's text, `texts` its lines, `answer` puts them together. The
-// definitions stand in specs/, in this order: Words (which words are accepted), FirstForm (which specifications can be checked
-// yet), Report (verdicts and the text), Refusal (why bytes are no specification), Answer (which status and text belong to which
-// bytes), Outcome (what was written, and which fault may have stopped it).
+// This is the edge alone: the words behind the program's name, files as sources, and standard output as the sink. All else is `run`
+// of `cise_run`, for any sources and any sink, whose clauses say what each status means.
 #![tactic(auto)]
 
-mod answer;
-mod faults;
-mod first_form;
-mod reading;
-mod report;
-mod run;
-#[cfg(test)]
-mod tests;
-mod texts;
-mod words;
-
 use byte_ports::{FileSource, StdSink};
-use run::run;
+use cise_run::run::run;
 use std::alloc::{AllocError, Global};
 use std::env::Env;
 use std::process::ExitCode;

@@ -1,8 +1,26 @@
 // Tests of the program and of the ports below it, by their public calls.
 //
 // What no clause says is shown here: that memory which is there is used, and that the printed texts are those of the documents.
-// It stands in a crate of its own so that no library is proved again with tests. `ports` has the sources and sinks.
+// Each test is a table. It stands in a crate of its own so that no library is proved again with tests.
+//
+// `ports` has the sources and sinks. `printing` runs the program on words and bytes and says whether it prints what is wanted;
+// `check` and `spell` have the commands, with the texts of `examples`; `refusals` what is no specification, `limits` the limits of
+// the language, and `statuses` what stops a run.
 #![tactic(auto)]
 
 #[cfg(test)]
+mod check;
+#[cfg(test)]
+mod examples;
+#[cfg(test)]
+mod limits;
+#[cfg(test)]
 mod ports;
+#[cfg(test)]
+mod printing;
+#[cfg(test)]
+mod refusals;
+#[cfg(test)]
+mod spell;
+#[cfg(test)]
+mod statuses;

@@ -1,5 +1,7 @@
 // Sources and sinks of each kind: what is read and written, and that memory which is there is used.
-use byte_ports::{EndlessSource, MemSink, MemSource, ReadRefused, WriteRefused, read_up_to, write_all};
+use byte_ports::{
+    EndlessSource, MemSink, MemSource, ReadRefused, WriteRefused, read_up_to, write_all,
+};
 use std::alloc::Global;
 use std::test::Fail;
 

@@ -1,6 +1,0 @@
-mod Flags
-mod Remaining
-mod Verdicts
-mod ReportParts
-mod Safety
-mod Specifications

@@ -1,0 +1,43 @@
+-- Endings of commands put together.
+use Rattle.std.proofs.Common.{◌≡◌, ℕ, ◌<◌, List, [], Option, None, Some, inl, inr, refl, subst, arith}
+use Rattle.std.proofs.KnownBytes.{Keeps-refl}
+use Rattle.spec_from_bytes.specs.Reading.{Tells}
+use Rattle.cise_run.specs.declared.words.Job.{Job}
+use Rattle.cise_run.specs.Ending.{IsOne, IsFrontOf, IsFrontOfOne, IsBroken, Ends}
+use Rattle.cise_run.specs.Answer.{IsAnswerTo, IsFrontTo}
+
+broken_map : (Front Rest : List ℕ → Type 0) (before after : Option (List ℕ)) → ((t : List ℕ) → Front t → Rest t)
+    → IsBroken Front before after → IsBroken Rest before after
+broken_map Front Rest before after g (inl kept) = inl kept
+broken_map Front Rest before after g (inr (front, is, appended)) = inr (front, g front is, appended)
+
+-- an ending of answers of one kind is one of another kind, where these are
+pub Ends-map : (Whole Other : ℕ → List ℕ → Type 0) (Front Rest : List ℕ → Type 0) (status : ℕ) (before after : Option (List ℕ)) (m n : ℕ)
+    → ((s : ℕ) (t : List ℕ) → Whole s t → Other s t) → ((t : List ℕ) → Front t → Rest t)
+    → Ends Whole Front status before after m n → Ends Other Rest status before after m n
+Ends-map Whole Other Front Rest status before after m n f g e = record {
+  answered = λ below. let a = e.answered below in (a.0, f status a.0 a.1, a.2);
+  write_fault = e.write_fault;
+  front = λ above. broken_map Front Rest before after g (e.front above);
+  known = e.known;
+}
+
+-- the text of one answer is written, where it is an answer of that kind
+pub Ends-one : (Whole : ℕ → List ℕ → Type 0) (answer : ℕ) (text : List ℕ) (status : ℕ) (before after : Option (List ℕ)) (m n : ℕ)
+    → Whole answer text → Ends (IsOne answer text) (IsFrontOf text) status before after m n
+    → Ends Whole (IsFrontOfOne Whole) status before after m n
+Ends-one Whole answer text status before after m n w e =
+    Ends-map (IsOne answer text) Whole (IsFrontOf text) (IsFrontOfOne Whole) status before after m n
+    (λ s t one. rw (one.0, one.1) w) (λ t front. (answer, text, w, front)) e
+
+-- the ending of a job is that of the words that ask for it
+pub Ends-asked : (job : Job) (asked : Option Job) (spec extra : Option (List ℕ)) (status : ℕ) (before after : Option (List ℕ)) (m n : ℕ) → Some job ≡ asked
+    → Ends (IsAnswerTo (Some job) spec extra) (IsFrontTo (Some job) spec extra) status before after m n
+    → Ends (IsAnswerTo asked spec extra) (IsFrontTo asked spec extra) status before after m n
+Ends-asked job asked spec extra status before after m n e x =
+    subst (λ (j : Option Job). Ends (IsAnswerTo j spec extra) (IsFrontTo j spec extra) status before after m n) e x
+
+-- bytes that a source tells, where it tells them
+pub some_told : (told : Option (List ℕ)) → (bytes : List ℕ) × Tells told bytes
+some_told None = ([], tt)
+some_told (Some bytes) = (bytes, refl)

@@ -1,0 +1,38 @@
+-- A specification whose check ends with status 0 converges.
+use Rattle.std.proofs.Common.{◌≡◌, ℕ, true, List, Option, Some, None, IfSome, refl, sym, subst, inl, inr, arith}
+use Rattle.spec_core.specs.Specification.{Specification}
+use Rattle.spec_reader.specs.Form.{TreeForm}
+use Rattle.executions.proofs.Safety.{converges}
+use Rattle.spec_from_bytes.specs.Refusal.{IsReadAs}
+use Rattle.spec_from_bytes.proofs.Reasons.{specification_unique}
+use Rattle.cise_run.specs.declared.words.Job.{Job}
+use Rattle.cise_run.specs.declared.words.Job.TheVariants.{Check, Spell}
+use Rattle.cise_run.specs.Words.{is_check}
+use Rattle.cise_run.specs.commands.Check.{IsReport, IsChecked}
+use Rattle.cise_run.specs.Answer.{IsAnswerFor, IsAnswerTo}
+use Rattle.cise_run.specs.Headline.{IsProved}
+use Rattle.cise_run.proofs.Safety.{Safe-good}
+
+-- a report with status 0
+reported : (budget : ℕ) (bytes : List ℕ) (tree : TreeForm) (d : Specification) (text : List ℕ) → IsReadAs bytes tree d → IsReport budget d 0 text → IsProved bytes
+reported budget bytes tree d text read r =
+    let safe = Safe-good d r.verdicts r.first_form r.good (sym r.status_is) in
+    record {
+      specification = d;
+      read = (tree, read);
+      only = λ e s. specification_unique bytes e d s (tree, read);
+      safe = safe;
+      converges = converges d safe;
+    }
+
+checked : (budget : ℕ) (bytes more text : List ℕ) → IsAnswerFor (Check budget) bytes more 0 text → IsProved bytes
+checked budget bytes more text (inl (why, is, one)) = absurd (omega (arith, one.0))
+checked budget bytes more text (inr (tree, d, read, inl r)) = reported budget bytes tree d text read r
+checked budget bytes more text (inr (tree, d, read, inr u)) = let status = u.status_is in absurd (omega (arith, status))
+
+pub IsProved-zero : (job : Option Job) (told extra : Option (List ℕ)) (text : List ℕ) → is_check job ≡ true → IsAnswerTo job told extra 0 text → IfSome told IsProved
+IsProved-zero job None extra text c a = tt
+IsProved-zero None (Some bytes) extra text c a = absurd (omega (arith, a.0))
+IsProved-zero (Some Spell) (Some bytes) extra text c a = grind arith
+IsProved-zero (Some (Check budget)) (Some bytes) extra text c (given, more, told, also, a) =
+    subst IsProved (sym told) (checked budget given more text a)

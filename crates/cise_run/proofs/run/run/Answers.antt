@@ -1,0 +1,31 @@
+use Rattle.std.proofs.Common.{subst, map, string_bytes, arith}
+use Rattle.cise_run.specs.Words.{job_of}
+use Rattle.cise_run.specs.Answer.{IsAnswerTo}
+use Rattle.cise_run.proofs.Endings.{Ends-asked}
+use Rattle.cise_run.proofs.Headline.{IsProved-zero}
+use Rattle.cise_run.proofs.run.run.Goals as goal
+
+pub returns-in-Some-clause-answered : goal.returns-in-Some-clause-answered
+returns-in-Some-clause-answered g c =
+    let extra = g.E.Source.left c.args.extra.now in
+    (Ends-asked c.in-Some.job (job_of (map string_bytes c.args.words.now)) (g.S.Source.left c.args.spec.now) extra c.answer_job.result _ _ _ _ c.in-Some.ensures (c.answer_job.ensures.ends extra)).answered
+
+pub returns-in-Some-clause-write_fault : goal.returns-in-Some-clause-write_fault
+returns-in-Some-clause-write_fault g c = (c.answer_job.ensures.ends (g.E.Source.left c.args.extra.now)).write_fault
+
+pub returns-in-Some-clause-front : goal.returns-in-Some-clause-front
+returns-in-Some-clause-front g c =
+    let extra = g.E.Source.left c.args.extra.now in
+    (Ends-asked c.in-Some.job (job_of (map string_bytes c.args.words.now)) (g.S.Source.left c.args.spec.now) extra c.answer_job.result _ _ _ _ c.in-Some.ensures (c.answer_job.ensures.ends extra)).front
+
+pub returns-in-Some-clause-known : goal.returns-in-Some-clause-known
+returns-in-Some-clause-known g c = (c.answer_job.ensures.ends (g.E.Source.left c.args.extra.now)).known
+
+pub returns-in-Some-clause-proved : goal.returns-in-Some-clause-proved
+returns-in-Some-clause-proved g c = λ zero check.
+    let job = job_of (map string_bytes c.args.words.now) in
+    let told = g.S.Source.left c.args.spec.now in
+    let extra = g.E.Source.left c.args.extra.now in
+    let ends = Ends-asked c.in-Some.job job told extra c.answer_job.result _ _ _ _ c.in-Some.ensures (c.answer_job.ensures.ends extra) in
+    let answer = ends.answered (omega (arith, zero)) in
+    IsProved-zero job told extra answer.0 check (subst (λ n. IsAnswerTo job told extra n answer.0) zero answer.1)

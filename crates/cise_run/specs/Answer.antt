@@ -1,0 +1,89 @@
+-- What the program answers: which status and which text belong to its words and to the bytes of its inputs.
+use Rattle.std.specs.Prelude.{◌≡◌, ◌⊎◌, ℕ, List, [], ◌∷◌, Option, None, Some, codes}
+use Rattle.std.specs.Io.KnownBytes.{Appends}
+use Rattle.spec_core.specs.Specification.{Specification}
+use Rattle.spec_reader.specs.Form.{TreeForm}
+use Rattle.spec_from_bytes.specs.Lines.{line}
+use Rattle.spec_from_bytes.specs.Refusal.{IsReadAs, Refusal, IsRefusal, refusal_text}
+use Rattle.spec_from_bytes.specs.Reading.{Tells}
+use Rattle.cise_run.specs.declared.words.Job.{Job}
+use Rattle.cise_run.specs.declared.words.Job.TheVariants.{Check, Spell}
+use Rattle.cise_run.specs.Words.{job_of}
+use Rattle.cise_run.specs.Ending.{IsOne, IsFrontOf, IsBroken}
+use Rattle.cise_run.specs.commands.Check.{IsReport, IsChecked, IsCheckFront}
+use Rattle.cise_run.specs.commands.Spell.{IsSpelled, IsSpellFront}
+
+-- ---- the commands
+
+-- the outcome of a job: the status and the text that its command answers for a specification and its tree, and for the bytes of the
+-- second input
+abbrev pub IsOutcome : Job → TreeForm → Specification → List ℕ → ℕ → List ℕ → Type 0
+IsOutcome (Check budget) tree d more status text = IsChecked budget d status text
+IsOutcome Spell tree d more status text = IsSpelled tree status text
+
+-- what is left of it where it is stopped
+abbrev pub IsOutcomeFront : Job → TreeForm → Specification → List ℕ → List ℕ → Type 0
+IsOutcomeFront (Check budget) tree d more front = IsCheckFront budget d front
+IsOutcomeFront Spell tree d more front = IsSpellFront tree front
+
+-- ---- the specification
+
+-- The bytes of the specification are refused, and so they say; or they are read, and what is said of the specification that they are and
+-- of its tree holds.
+abbrev pub ByReading : (Refusal → Type 0) → (TreeForm → Specification → Type 0) → List ℕ → Type 0
+ByReading Refused Read bytes =
+    ((why : Refusal) × IsRefusal bytes why × Refused why)
+    ⊎ ((tree : TreeForm) × (d : Specification) × IsReadAs bytes tree d × Read tree d)
+
+-- The answer to a job is the refusal of its specification, with status 3; or, with the specification that the bytes are read as, the
+-- outcome of the job.
+abbrev pub IsAnswerFor : Job → List ℕ → List ℕ → ℕ → List ℕ → Type 0
+IsAnswerFor job bytes more status text =
+    ByReading (λ why. IsOne 3 (refusal_text why) status text) (λ tree d. IsOutcome job tree d more status text) bytes
+
+-- what is left of it where it is stopped
+abbrev pub IsFrontFor : Job → List ℕ → List ℕ → List ℕ → Type 0
+IsFrontFor job bytes more front =
+    ByReading (λ why. IsFrontOf (refusal_text why) front) (λ tree d. IsOutcomeFront job tree d more front) bytes
+
+-- ---- the words
+
+abbrev pub words_text : List ℕ
+words_text = line (codes "refused" ∷ codes "words" ∷ [])
+
+-- the answer to a job, from bytes that its sources tell, where they tell them; and to words that aren't accepted
+abbrev pub IsAnswerTo : Option Job → Option (List ℕ) → Option (List ℕ) → ℕ → List ℕ → Type 0
+IsAnswerTo None spec extra status text = IsOne 2 words_text status text
+IsAnswerTo (Some job) spec extra status text =
+    (bytes : List ℕ) × (more : List ℕ) × Tells spec bytes × Tells extra more × IsAnswerFor job bytes more status text
+
+abbrev pub IsFrontTo : Option Job → Option (List ℕ) → Option (List ℕ) → List ℕ → Type 0
+IsFrontTo None spec extra front = IsFrontOf words_text front
+IsFrontTo (Some job) spec extra front =
+    (bytes : List ℕ) × (more : List ℕ) × Tells spec bytes × Tells extra more × IsFrontFor job bytes more front
+
+-- ---- the program
+
+-- The answer of the program: a status and a text, for its words and for what its two sources tell, that of the specification first.
+abbrev pub IsAnswer : List (List ℕ) → Option (List ℕ) → Option (List ℕ) → ℕ → List ℕ → Type 0
+IsAnswer words spec extra status text = IsAnswerTo (job_of words) spec extra status text
+
+-- the whole text of the answer was written
+abbrev pub IsAnswered : List (List ℕ) → Option (List ℕ) → Option (List ℕ) → ℕ → Option (List ℕ) → Option (List ℕ) → Type 0
+IsAnswered words spec extra status held_before held_after =
+    (text : List ℕ) × IsAnswer words spec extra status text × Appends held_before held_after text
+
+-- nothing was written, or what is left of an answer that is stopped
+abbrev pub IsStopped : List (List ℕ) → Option (List ℕ) → Option (List ℕ) → Option (List ℕ) → Option (List ℕ) → Type 0
+IsStopped words spec extra held_before held_after = IsBroken (IsFrontTo (job_of words) spec extra) held_before held_after
+
+-- ---- two answers
+
+-- Two answers to one job agree: they are the same, or they are reports of one specification, with one budget. The verdicts of a report,
+-- with their witnesses and logs, are free.
+abbrev pub Agree : Option Job → ℕ → List ℕ → ℕ → List ℕ → Type 0
+Agree None status text other_status other_text = IsOne status text other_status other_text
+Agree (Some Spell) status text other_status other_text = IsOne status text other_status other_text
+Agree (Some (Check budget)) status text other_status other_text =
+    IsOne status text other_status other_text
+    ⊎ ((d : Specification) × IsReport budget d status text × IsReport budget d other_status other_text)

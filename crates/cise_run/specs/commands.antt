@@ -1,0 +1,3 @@
+-- What each command answers for a specification.
+pub mod Check
+pub mod Spell

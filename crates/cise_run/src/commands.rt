@@ -1,0 +1,3 @@
+// The commands: each writes the text of its answer, and ends with a status.
+pub mod check;
+pub mod spell;

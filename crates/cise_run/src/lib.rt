@@ -1,0 +1,23 @@
+// The program but for its edge: from words, two sources and a sink to a status.
+//
+// `run::run` is the whole, and its clauses say what each status means. `words` has the accepted words, `commands` a file for each
+// command, which writes its text to the sink and answers the status; `ending` is what every writer of a text ends with.
+// `first_form` tells which specifications can be checked yet, and `report` makes the text of a report. `law` says that two answers
+// to the same words and bytes agree.
+//
+// It stands on `spec_from_bytes`, which reads the specification, and on `executions`, whose theorem makes a check that ends with
+// status 0 a proof of convergence. The definitions stand in specs/, in this order: Words (which words are accepted, what they ask
+// for, and which inputs that reads), Ending (how the writing of a text ends), FirstForm (which specifications can be checked yet),
+// Report (verdicts and the text), commands (what each command answers, in a file for each), Answer (which status and text belong
+// to which words and bytes), Headline (what status 0 of a check says). Blocks mirrors the code that makes the report.
+#![tactic(auto)]
+
+mod commands;
+mod ending;
+mod first_form;
+mod law;
+mod report;
+pub mod run;
+mod words;
+
+pub use law::{law_answers_agree, law_refused_for_all};
