@@ -1,8 +1,8 @@
 // Accounts with balances that may not fall below 0: with deposits, with withdrawals too, and with purses for the withdrawals.
 
 use crate::outline::{
-    BodyOutline, ChangeOutline, Elems, FormulaOutline, LineOutline, OperationOutline, SpecOutline,
-    TakeOutline, TermOutline, Text, UpdateOutline,
+    ALWAYS, BodyOutline, ChangeOutline, Elems, FormulaOutline, LineOutline, OperationOutline,
+    SpecOutline, TakeOutline, TermOutline, Text, UpdateOutline,
 };
 use spec_core::{Cmp, Elem, Kind, Spot, Thing};
 
@@ -54,6 +54,7 @@ const DEPOSIT: OperationOutline = OperationOutline {
         thing: Thing::Counter(0),
         at: AT_FIRST,
         change: ChangeOutline::Add(&[(1, BodyOutline::Param(1))]),
+        guard: ALWAYS,
     }],
     takes: &[],
     observes: &[],
@@ -64,6 +65,7 @@ const TAKE_OUT: UpdateOutline = UpdateOutline {
     thing: Thing::Counter(0),
     at: AT_FIRST,
     change: ChangeOutline::Add(&[(-1, BodyOutline::Param(1))]),
+    guard: ALWAYS,
 };
 
 /// `operation withdraw ( a : Account , n : int ) requires ( n >= 0 ) requires ( balance ( a ) >= n ) add balance ( a ) - n end`
@@ -80,6 +82,7 @@ const WITHDRAW: OperationOutline = OperationOutline {
 pub static DEPOSITS: SpecOutline = SpecOutline {
     version: 1,
     sorts: &[b"Account"],
+    consts: &[],
     relations: &[],
     counters: &[BALANCE],
     tokens: &[],
@@ -92,6 +95,7 @@ pub static DEPOSITS: SpecOutline = SpecOutline {
 pub static WITHDRAWALS: SpecOutline = SpecOutline {
     version: 1,
     sorts: &[b"Account"],
+    consts: &[],
     relations: &[],
     counters: &[BALANCE],
     tokens: &[],
@@ -104,6 +108,7 @@ pub static WITHDRAWALS: SpecOutline = SpecOutline {
 pub static PURSES: SpecOutline = SpecOutline {
     version: 1,
     sorts: &[b"Account"],
+    consts: &[],
     relations: &[],
     counters: &[BALANCE],
     tokens: &[(b"purse", &[0])],

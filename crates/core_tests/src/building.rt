@@ -1,14 +1,14 @@
 // Specifications from their outlines. What lacks memory, and an outline that is ill formed, ends the test.
 
 use crate::outline::{
-    BodyOutline, ChangeOutline, CounterOutline, FormulaOutline, LineOutline, OperationOutline,
-    RelationOutline, RuleOutline, SpecOutline, TakeOutline, TermOutline, Text, TokenOutline,
-    UpdateOutline,
+    BodyOutline, ChangeOutline, ConstOutline, CounterOutline, FormulaOutline, LineOutline,
+    OperationOutline, RelationOutline, RuleOutline, SpecOutline, TakeOutline, TermOutline, Text,
+    TokenOutline, UpdateOutline,
 };
 use items::Items;
 use spec_core::{
-    Body, Change, Counter, Formula, Invariant, Kind, Name, Operation, Param, Pattern, Prefix,
-    Prefixed, Relation, Rule, Spec, Summand, Take, Term, Token, Update,
+    Body, Change, Const, Counter, Formula, Invariant, Kind, Name, Operation, Param, Pattern,
+    Prefix, Prefixed, Relation, Rule, Spec, Summand, Take, Term, Token, Update,
 };
 use spec_draft::Draft;
 use std::alloc::Global;
@@ -57,16 +57,24 @@ fn boxed(rt: &impl Abort, alloc: Global, formula: Formula) -> Box<Formula> {
 
 fn formula(rt: &impl Abort, alloc: Global, outline: &FormulaOutline) -> Formula {
     match outline {
+        FormulaOutline::True => Formula::True,
+        FormulaOutline::False => Formula::False,
         FormulaOutline::Not(inner) => { Formula::Not(boxed(rt, alloc, formula(rt, alloc, inner))) }
         FormulaOutline::And(left, right) => {
             let left = boxed(rt, alloc, formula(rt, alloc, left));
             Formula::And(left, boxed(rt, alloc, formula(rt, alloc, right)))
+        }
+        FormulaOutline::Or(left, right) => {
+            let left = boxed(rt, alloc, formula(rt, alloc, left));
+            Formula::Or(left, boxed(rt, alloc, formula(rt, alloc, right)))
         }
         FormulaOutline::Implies(left, right) => {
             let left = boxed(rt, alloc, formula(rt, alloc, left));
             Formula::Implies(left, boxed(rt, alloc, formula(rt, alloc, right)))
         }
         FormulaOutline::Has(relation, tuple) => Formula::Has(*relation, items(rt, alloc, tuple)),
+        FormulaOutline::Same(one, other) => Formula::Same(*one, *other),
+        FormulaOutline::Differ(one, other) => Formula::Differ(*one, *other),
         FormulaOutline::Compare(left, comparison, right) => {
             let left = term(rt, alloc, left);
             Formula::Compare(left, *comparison, term(rt, alloc, right))
@@ -83,6 +91,11 @@ fn line(rt: &impl Abort, alloc: Global, outline: &LineOutline) -> Prefixed {
         },
         LineOutline::Forall(vars, body) => Prefixed {
             prefix: Prefix::Forall,
+            vars: items(rt, alloc, vars),
+            body: formula(rt, alloc, body),
+        },
+        LineOutline::Exists(vars, body) => Prefixed {
+            prefix: Prefix::Exists,
             vars: items(rt, alloc, vars),
             body: formula(rt, alloc, body),
         },
@@ -113,7 +126,7 @@ fn updates(rt: &impl Abort, alloc: Global, outlines: &[UpdateOutline]) -> Items<
             thing: outline.thing,
             at: items(rt, alloc, outline.at),
             change: change(rt, alloc, &outline.change),
-            guard: Formula::True,
+            guard: formula(rt, alloc, &outline.guard),
         };
         list.push(update).expect(rt, "memory");
     }
@@ -161,6 +174,18 @@ fn operations(rt: &impl Abort, alloc: Global, outlines: &[OperationOutline]) -> 
     for outline in outlines {
         list.push(operation(rt, alloc, outline))
             .expect(rt, "memory");
+    }
+    list
+}
+
+fn consts(rt: &impl Abort, alloc: Global, outlines: &[ConstOutline]) -> Items<Const> {
+    let mut list = Items::new(alloc);
+    for (text, sort) in outlines {
+        let it = Const {
+            name: name(rt, alloc, text),
+            sort: *sort,
+        };
+        list.push(it).expect(rt, "memory");
     }
     list
 }
@@ -243,7 +268,7 @@ pub fn spec(rt: &impl Abort, alloc: Global, outline: &SpecOutline) -> Spec {
     let draft = Draft {
         version: outline.version,
         sorts: names(rt, alloc, outline.sorts),
-        consts: Items::new(alloc),
+        consts: consts(rt, alloc, outline.consts),
         relations: relations(rt, alloc, outline.relations),
         counters: counters(rt, alloc, outline.counters),
         tokens: tokens(rt, alloc, outline.tokens),

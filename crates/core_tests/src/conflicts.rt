@@ -1,24 +1,75 @@
 // Worked examples of calls that conflict.
 
 use crate::examples::SHOP;
+use crate::outline::SpecOutline;
 use crate::setting::{Setting, call, first_setting};
+use crate::tournaments::TOURNAMENTS;
 use std::alloc::Global;
 use std::process::Abort;
 use token_rules::conflicts;
 
-/// Whether two calls with the number 5 conflict.
-fn conflict(rt: &impl Abort, alloc: Global, at: &Setting, first: u8, second: u8) -> bool {
-    let first = call(rt, alloc, first, &[5]);
-    let second = call(rt, alloc, second, &[5]);
-    conflicts(&at.spec, &at.world, &first, &second)
+/// An operation with arguments.
+type CallOutline = (u8, &'static [i64]);
+
+/// Two calls, and whether they conflict.
+type Case = (CallOutline, CallOutline, bool);
+
+/// Whether two calls conflict, in either order.
+fn conflict(
+    rt: &impl Abort,
+    alloc: Global,
+    at: &Setting,
+    one: &CallOutline,
+    other: &CallOutline,
+) -> (bool, bool) {
+    let first = call(rt, alloc, one.0, one.1);
+    let second = call(rt, alloc, other.0, other.1);
+    let found = (
+        conflicts(&at.spec, &at.world, &first, &second),
+        conflicts(&at.spec, &at.world, &second, &first),
+    );
+    drop(first);
+    drop(second);
+    found
+}
+
+fn check(rt: &impl Abort, alloc: Global, outline: &SpecOutline, sizes: &[u32], cases: &[Case]) {
+    let at = first_setting(rt, alloc, outline, sizes);
+    for (one, other, want) in cases {
+        let found = conflict(rt, alloc, &at, one, other);
+        assert!(rt;
+            found.0 == *want && found.1 == *want,
+            "at {one:?} and {other:?}"
+        );
+    }
+    drop(at);
 }
 
 #[test]
 fn orders_share_the_shop_and_a_new_price_has_it_alone(rt: HostRuntime) {
-    let alloc = rt.alloc();
-    let shop = first_setting(&rt, alloc, &SHOP, &[]);
-    assert!(rt; conflict(&rt, alloc, &shop, 0, 0));
-    assert!(rt; conflict(&rt, alloc, &shop, 0, 1));
-    assert!(rt; conflict(&rt, alloc, &shop, 1, 0));
-    assert!(rt; !conflict(&rt, alloc, &shop, 1, 1));
+    let cases: [Case; 3] = [
+        ((0, &[5]), (0, &[5]), true),
+        ((0, &[5]), (1, &[5]), true),
+        ((1, &[5]), (1, &[5]), false),
+    ];
+    check(&rt, rt.alloc(), &SHOP, &[], &cases);
+}
+
+#[test]
+fn enrolling_conflicts_with_what_touches_its_player_or_its_tournament(rt: HostRuntime) {
+    let cases: [Case; 8] = [
+        // enroll and rem_tourn
+        ((4, &[0, 1]), (3, &[1]), true),
+        ((4, &[0, 1]), (3, &[0]), false),
+        // enroll and rem_player
+        ((4, &[0, 1]), (1, &[0]), true),
+        ((4, &[0, 1]), (1, &[1]), false),
+        // enroll and enroll
+        ((4, &[0, 1]), (4, &[1, 1]), true),
+        ((4, &[0, 1]), (4, &[0, 0]), false),
+        // rem_player and rem_tourn
+        ((1, &[0]), (3, &[0]), false),
+        ((1, &[0]), (1, &[0]), true),
+    ];
+    check(&rt, rt.alloc(), &TOURNAMENTS, &[2, 2], &cases);
 }

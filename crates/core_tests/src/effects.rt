@@ -1,7 +1,7 @@
 // Worked examples of what calls change.
 
 use crate::accounts::DEPOSITS;
-use crate::examples::{SET, SWAP};
+use crate::examples::{LAMPS, SET, SWAP};
 use crate::setting::{Setting, call, first_setting};
 use effectors::{ApplyRefused, apply, post_count, post_has, post2_count, post2_has};
 use spec_core::Call;
@@ -17,8 +17,9 @@ fn after(rt: &impl Abort, alloc: Global, at: Setting, call: &Call) -> Setting {
     let Setting {
         spec,
         world,
-        state: _,
+        state: before,
     } = at;
+    drop(before);
     Setting { spec, world, state }
 }
 
@@ -54,6 +55,12 @@ fn counts(
         && post2_count(&at.spec, &at.world, &at.state, call, call, counter, &[]) == twice
 }
 
+/// The value of the first counter at an element after a call that fits.
+fn count(rt: &impl Abort, at: &Setting, call: &Call, element: u32) -> i128 {
+    assert!(rt; call.fits(&at.spec, &at.world));
+    post_count(&at.spec, &at.world, &at.state, call, 0, &[element])
+}
+
 /// Whether the first relation has an element after a call that fits.
 fn has(rt: &impl Abort, at: &Setting, call: &Call, element: u32) -> bool {
     assert!(rt; call.fits(&at.spec, &at.world));
@@ -82,6 +89,8 @@ fn both_updates_of_a_swap_read_the_old_state(rt: HostRuntime) {
     let swapped = after(&rt, alloc, first, &swap);
     assert!(rt; swapped.count(0, &[]) == 2);
     assert!(rt; swapped.count(1, &[]) == 1);
+    drop(swap);
+    drop(swapped);
 }
 
 #[test]
@@ -89,11 +98,31 @@ fn an_element_that_is_put_is_there_until_it_is_dropped(rt: HostRuntime) {
     let alloc = rt.alloc();
     let set = first_setting(&rt, alloc, &SET, &[2]);
     let put = call(&rt, alloc, 0, &[1]);
-    let drop = call(&rt, alloc, 1, &[1]);
+    let take = call(&rt, alloc, 1, &[1]);
     assert!(rt; has(&rt, &set, &put, 1));
     assert!(rt; !has(&rt, &set, &put, 0));
-    assert!(rt; !has_after_both(&rt, &set, &put, &drop, 1));
-    assert!(rt; has_after_both(&rt, &set, &drop, &put, 1));
+    assert!(rt; !has_after_both(&rt, &set, &put, &take, 1));
+    assert!(rt; has_after_both(&rt, &set, &take, &put, 1));
+    drop(put);
+    drop(take);
+    drop(set);
+}
+
+#[test]
+fn a_guarded_update_of_every_room_reads_the_old_state(rt: HostRuntime) {
+    let alloc = rt.alloc();
+    // In which room the night begins, whether the lamp of room 0 is lit after it, and the hours of every room.
+    let cases: [(i64, bool, i128); 2] = [(0, false, 1), (1, true, 0)];
+    let mut lamps = first_setting(&rt, alloc, &LAMPS, &[2]);
+    lamps.set_has(&rt, 0, &[0], true);
+    for (room, lit, hours) in cases {
+        let night = call(&rt, alloc, 0, &[room]);
+        assert!(rt; has(&rt, &lamps, &night, 0) == lit, "in room {room}");
+        assert!(rt; count(&rt, &lamps, &night, 0) == hours, "in room {room}");
+        assert!(rt; count(&rt, &lamps, &night, 1) == hours, "in room {room}");
+        drop(night);
+    }
+    drop(lamps);
 }
 
 #[test]
@@ -104,5 +133,8 @@ fn a_deposit_beyond_the_range_is_refused_with_its_value(rt: HostRuntime) {
     let full = after(&rt, alloc, accounts, &most);
     let more = call(&rt, alloc, 0, &[0, 1]);
     let value = refused_value(&rt, alloc, &full, &more);
+    drop(most);
+    drop(more);
+    drop(full);
     assert!(rt; value == 1_000_000_000_000_001);
 }

@@ -1,13 +1,14 @@
 // One table of worked examples for the specification core.
 //
-// The contracts of `spec_core`, `spec_draft`, `effectors`, `token_rules` and `obligation_list` say that each call is its definition.
+// The contracts of `spec_core`, `spec_draft`, `effectors`, `token_rules`, `obligation_list` and `executions` say that each call is
+// its definition.
 // That the definitions say what is meant is shown here, on small specifications with values that were worked out by hand; and that
 // each call which may run out of memory answers where there is enough. It stands above them all, so that no crate below is proved
 // again with tests of its own.
 //
 // `outline` is the form of a specification as constant data, `examples`, `accounts` and `tournaments` have those of the tests,
-// `building` makes a `Spec` of one, and `setting` worlds, states and calls that fit it. `states`, `effects`, `conflicts` and
-// `obligations` have the tests.
+// `building` makes a `Spec` of one, and `setting` worlds, states and calls that fit it. `states`, `lines`, `effects`, `conflicts`,
+// `obligations` and `orders` have the tests.
 #![tactic(auto)]
 
 #[cfg(test)]
@@ -21,7 +22,11 @@ mod effects;
 #[cfg(test)]
 mod examples;
 #[cfg(test)]
+mod lines;
+#[cfg(test)]
 mod obligations;
+#[cfg(test)]
+mod orders;
 #[cfg(test)]
 mod outline;
 #[cfg(test)]

@@ -15,7 +15,9 @@ use std::process::Abort;
 /// How many obligations a specification has.
 fn obligations(rt: &impl Abort, alloc: Global, outline: &SpecOutline) -> usize {
     let spec = spec(rt, alloc, outline);
-    list(alloc, &spec).expect(rt, "memory").len()
+    let found = list(alloc, &spec).expect(rt, "memory").len();
+    drop(spec);
+    found
 }
 
 #[test]
@@ -48,6 +50,7 @@ fn deposits_have_an_obligation_of_each_kind(rt: HostRuntime) {
             other: 0,
         },
     ];
+    drop(spec);
     assert!(rt; found.as_slice() == want.as_slice());
 }
 
@@ -100,7 +103,10 @@ fn two_withdrawals_break(
         line: 1,
         other: 1,
     };
-    breaks_at(rt, alloc, &spec, 11, covered, &witness)
+    let found = breaks_at(rt, alloc, &spec, 11, covered, &witness);
+    drop(witness);
+    drop(spec);
+    found
 }
 
 #[test]
@@ -130,5 +136,8 @@ fn putting_and_dropping_an_element_do_not_commute(rt: HostRuntime) {
         second: 1,
         thing: Thing::Relation(0),
     };
-    assert!(rt; breaks_at(&rt, alloc, &spec, 1, commute, &witness));
+    let found = breaks_at(&rt, alloc, &spec, 1, commute, &witness);
+    drop(witness);
+    drop(spec);
+    assert!(rt; found);
 }

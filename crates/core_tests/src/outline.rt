@@ -17,10 +17,15 @@ pub enum BodyOutline {
 pub type TermOutline = &'static [(i64, BodyOutline)];
 
 pub enum FormulaOutline {
+    True,
+    False,
     Not(&'static FormulaOutline),
     And(&'static FormulaOutline, &'static FormulaOutline),
+    Or(&'static FormulaOutline, &'static FormulaOutline),
     Implies(&'static FormulaOutline, &'static FormulaOutline),
     Has(u8, Elems),
+    Same(Elem, Elem),
+    Differ(Elem, Elem),
     Compare(TermOutline, Cmp, TermOutline),
 }
 
@@ -28,6 +33,7 @@ pub enum FormulaOutline {
 pub enum LineOutline {
     Plain(FormulaOutline),
     Forall(&'static [u8], FormulaOutline),
+    Exists(&'static [u8], FormulaOutline),
 }
 
 pub enum ChangeOutline {
@@ -41,7 +47,11 @@ pub struct UpdateOutline {
     pub thing: Thing,
     pub at: &'static [Spot],
     pub change: ChangeOutline,
+    pub guard: FormulaOutline,
 }
+
+/// The guard of an update without one.
+pub const ALWAYS: FormulaOutline = FormulaOutline::True;
 
 pub struct TakeOutline {
     pub token: u8,
@@ -58,6 +68,9 @@ pub struct OperationOutline {
     pub observes: &'static [LineOutline],
 }
 
+/// The name of a constant, and its sort.
+pub type ConstOutline = (Text, u8);
+
 /// The name of a relation, the sorts of its places and its initial value; and of a counter alike.
 pub type RelationOutline = (Text, &'static [u8], bool);
 
@@ -71,6 +84,7 @@ pub type RuleOutline = ((u8, &'static [u8]), (u8, &'static [u8]));
 pub struct SpecOutline {
     pub version: u8,
     pub sorts: &'static [Text],
+    pub consts: &'static [ConstOutline],
     pub relations: &'static [RelationOutline],
     pub counters: &'static [CounterOutline],
     pub tokens: &'static [TokenOutline],

@@ -10,7 +10,7 @@ use spec_core::{Call, Spec, State, World, invariant_broken_at, is_in_state_range
 use std::alloc::Global;
 use std::process::Abort;
 
-/// A specification, a world of it without constants, and a state in that world.
+/// A specification, a world of it, and a state in that world.
 #[derive(Drop)]
 pub struct Setting {
     pub spec: Spec,
@@ -20,17 +20,28 @@ pub struct Setting {
     ghost state_fits: { is_state spec world state ≡ true },
 }
 
-/// The specification of an outline, a world with so many elements of each sort, and the initial state.
+/// The specification of an outline without constants, a world with so many elements of each sort, and the initial state.
 pub fn first_setting(
     rt: &impl Abort,
     alloc: Global,
     outline: &SpecOutline,
     sizes: &[u32],
 ) -> Setting {
+    first_setting_with(rt, alloc, outline, sizes, &[])
+}
+
+/// The same of an outline with constants, which are these elements.
+pub fn first_setting_with(
+    rt: &impl Abort,
+    alloc: Global,
+    outline: &SpecOutline,
+    sizes: &[u32],
+    consts: &[u32],
+) -> Setting {
     let spec = spec(rt, alloc, outline);
     let world = World {
         sizes: items(rt, alloc, sizes),
-        consts: Items::new(alloc),
+        consts: items(rt, alloc, consts),
     };
     assert!(rt; world.fits(&spec));
     let state = State::initial(alloc, &spec, &world).expect(rt, "memory");

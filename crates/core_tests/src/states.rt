@@ -13,8 +13,9 @@ fn emptied(rt: &impl Abort, alloc: Global, at: Setting) -> Setting {
     let Setting {
         spec,
         world,
-        state: _,
+        state: before,
     } = at;
+    drop(before);
     let state = State::empty(alloc, &spec, &world).expect(rt, "memory");
     Setting { spec, world, state }
 }
@@ -28,6 +29,7 @@ fn the_flag_is_up_at_first_and_down_in_the_empty_state(rt: HostRuntime) {
     let empty = emptied(&rt, alloc, first);
     assert!(rt; !empty.has(0, &[]));
     assert!(rt; empty.broken() == Some(0));
+    drop(empty);
 }
 
 #[test]
@@ -36,6 +38,7 @@ fn one_balance_changes_alone(rt: HostRuntime) {
     accounts.set_count(&rt, 0, &[1], 7);
     assert!(rt; accounts.count(0, &[0]) == 0);
     assert!(rt; accounts.count(0, &[1]) == 7);
+    drop(accounts);
 }
 
 #[test]
@@ -46,6 +49,7 @@ fn one_tuple_is_put_in_and_taken_out(rt: HostRuntime) {
     assert!(rt; !set.has(0, &[0]));
     set.set_has(&rt, 0, &[1], false);
     assert!(rt; !set.has(0, &[1]));
+    drop(set);
 }
 
 #[test]
@@ -56,6 +60,8 @@ fn a_copy_is_the_same_until_the_original_changes(rt: HostRuntime) {
     assert!(rt; copy.same(&accounts.state));
     accounts.set_count(&rt, 0, &[1], 1);
     assert!(rt; !copy.same(&accounts.state));
+    drop(copy);
+    drop(accounts);
 }
 
 /// The lines that show a state.
@@ -76,5 +82,7 @@ fn a_state_is_shown_by_its_true_tuples_and_its_values_that_are_not_0(rt: HostRun
     at.set_count(&rt, 0, &[1], 0);
     let want =
         "true player 0\ntrue player 1\ntrue enrolled 1 0\ncount seats 0 -30\ncount seats 2 10\n";
-    assert!(rt; text(&rt, alloc, &at).as_slice() == want.as_bytes());
+    let found = text(&rt, alloc, &at);
+    drop(at);
+    assert!(rt; found.as_slice() == want.as_bytes());
 }

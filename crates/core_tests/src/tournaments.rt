@@ -1,8 +1,8 @@
 // Players who enroll in tournaments with ten seats each.
 
 use crate::outline::{
-    BodyOutline, ChangeOutline, Elems, FormulaOutline, LineOutline, OperationOutline, SpecOutline,
-    TakeOutline, TermOutline, Text, UpdateOutline,
+    ALWAYS, BodyOutline, ChangeOutline, Elems, FormulaOutline, LineOutline, OperationOutline,
+    SpecOutline, TakeOutline, TermOutline, Text, UpdateOutline,
 };
 use spec_core::{Cmp, Elem, Kind, Spot, Thing};
 
@@ -74,6 +74,7 @@ const INSERT_PLAYER: UpdateOutline = UpdateOutline {
     thing: Thing::Relation(0),
     at: AT_FIRST,
     change: ChangeOutline::Insert,
+    guard: ALWAYS,
 };
 
 /// `remove player ( p )`
@@ -81,6 +82,7 @@ const REMOVE_PLAYER: UpdateOutline = UpdateOutline {
     thing: Thing::Relation(0),
     at: AT_FIRST,
     change: ChangeOutline::Remove,
+    guard: ALWAYS,
 };
 
 /// `insert tourn ( t )`
@@ -88,6 +90,7 @@ const INSERT_TOURNAMENT: UpdateOutline = UpdateOutline {
     thing: Thing::Relation(1),
     at: AT_FIRST,
     change: ChangeOutline::Insert,
+    guard: ALWAYS,
 };
 
 /// `remove tourn ( t )`
@@ -95,6 +98,7 @@ const REMOVE_TOURNAMENT: UpdateOutline = UpdateOutline {
     thing: Thing::Relation(1),
     at: AT_FIRST,
     change: ChangeOutline::Remove,
+    guard: ALWAYS,
 };
 
 /// `takes roster ( p )`
@@ -134,6 +138,7 @@ const MAY_ENROLL: &[LineOutline] = &[
 pub static TOURNAMENTS: SpecOutline = SpecOutline {
     version: 1,
     sorts: &[b"Player", b"Tournament"],
+    consts: &[],
     relations: &[
         (b"player", &[0], false),
         (b"tourn", &[1], false),
@@ -191,11 +196,13 @@ pub static TOURNAMENTS: SpecOutline = SpecOutline {
                     thing: Thing::Relation(2),
                     at: AT_BOTH,
                     change: ChangeOutline::Insert,
+                    guard: ALWAYS,
                 },
                 UpdateOutline {
                     thing: Thing::Counter(0),
                     at: &[Spot::One(Elem::Param(1))],
                     change: ChangeOutline::Add(MINUS_ONE),
+                    guard: ALWAYS,
                 },
             ],
             takes: &[TAKE_ENTRY],
@@ -210,11 +217,13 @@ pub static TOURNAMENTS: SpecOutline = SpecOutline {
                     thing: Thing::Relation(2),
                     at: AT_BOTH,
                     change: ChangeOutline::Remove,
+                    guard: ALWAYS,
                 },
                 UpdateOutline {
                     thing: Thing::Counter(0),
                     at: &[Spot::One(Elem::Param(1))],
                     change: ChangeOutline::Add(ONE),
+                    guard: ALWAYS,
                 },
             ],
             takes: &[TAKE_ENTRY],
