@@ -2,12 +2,11 @@
 ghost use Rattle.std.specs.Prelude.{◌≡◌, ◌<◌, ◌≤◌, true};
 ghost use Rattle.search_logs.specs.Forcing.{is_plain, are_plain};
 
+use crate::summaries::{Summary, is_found, made, summary_of};
 use items::Items;
-use proof_kernel::{check_lines, check_log};
 use proof_lines::{AtomKind, Clause, Lit, Problem};
 use sat_core::{Answer, solve_plain};
 use std::alloc::{AllocError, Global};
-use std::test::Fail;
 use theory_api::NoInts;
 
 /// A literal.
@@ -16,12 +15,22 @@ pub fn lit(atom: u32, positive: bool) -> Lit {
 }
 
 // A problem over plain atoms.
-fn plain(alloc: Global, atoms: u32, clauses: Items<Clause>) -> Result<Problem, Fail> {
+fn plain(alloc: Global, atoms: u32, clauses: Items<Clause>) -> Result<Problem, AllocError> {
+    match plain_kinds(alloc, atoms) {
+        Ok(kinds) => made(kinds, 0, clauses),
+        Err(error) => {
+            drop(clauses);
+            Err(error)
+        }
+    }
+}
+
+fn plain_kinds(alloc: Global, atoms: u32) -> Result<Items<AtomKind>, AllocError> {
     let mut kinds = Items::new(alloc);
     for _ in 0..atoms {
         kinds.push(AtomKind::Plain)?;
     }
-    Ok(Problem::new(kinds, 0, clauses).ok_or("no problem")?)
+    Ok(kinds)
 }
 
 fn is_plain(atom: &AtomKind) -> bool
@@ -61,8 +70,16 @@ fn answer(alloc: Global, problem: &Problem, budget: u32) -> Answer {
     }
 }
 
+// What the search answers to a problem without rows, in short.
+fn asked(alloc: Global, problem: &Problem, budget: u32) -> Summary {
+    let found = answer(alloc, problem, budget);
+    let summary = summary_of(alloc, problem, &found, budget);
+    drop(found);
+    summary
+}
+
 // One atom, with clauses of one literal each.
-fn units(alloc: Global, signs: &[bool]) -> Result<Problem, Fail> {
+fn units(alloc: Global, signs: &[bool]) -> Result<Problem, AllocError> {
     let mut clauses = Items::new(alloc);
     for sign in signs {
         clauses.push(Clause::of(alloc, &[lit(0, *sign)])?)?;
@@ -71,19 +88,27 @@ fn units(alloc: Global, signs: &[bool]) -> Result<Problem, Fail> {
 }
 
 #[test]
-fn one_atom(rt: HostRuntime) -> Result<(), Fail> {
+fn one_atom_is_not_both(rt: HostRuntime) {
     let alloc = rt.alloc();
-    let both = units(alloc, &[true, false])?;
-    match answer(alloc, &both, 10) {
-        Answer::Unsat(log) => assert_eq!(rt; log.len(), 1),
-        _ => assert!(rt; false),
-    }
-    let one = units(alloc, &[true])?;
-    match answer(alloc, &one, 10) {
-        Answer::Sat(found) => assert!(rt; found.truths.as_slice() == [true].as_slice()),
-        _ => assert!(rt; false),
-    }
-    Ok(())
+    let both = units(alloc, &[true, false]).expect(&rt, "memory");
+    assert_eq!(rt; asked(alloc, &both, 10), Summary::Unsat(1));
+    drop(both);
+}
+
+// Whether the search finds an interpretation with just these truths.
+fn is_answered(alloc: Global, problem: &Problem, truths: &[bool]) -> bool {
+    let found = answer(alloc, problem, 10);
+    let summary = is_found(&found, truths, &[]);
+    drop(found);
+    summary
+}
+
+#[test]
+fn one_atom_is_true(rt: HostRuntime) {
+    let alloc = rt.alloc();
+    let one = units(alloc, &[true]).expect(&rt, "memory");
+    assert!(rt; is_answered(alloc, &one, &[true]));
+    drop(one);
 }
 
 // A pigeon is in one of the holes. The atom `5 * hole + pigeon` says that the pigeon is in the hole.
@@ -128,7 +153,7 @@ fn all_apart(alloc: Global, clauses: &mut Items<Clause>, hole: u32) -> Result<()
 }
 
 // Five pigeons are in some holes, no two in one.
-fn pigeons(alloc: Global, holes: u32) -> Result<Problem, Fail>
+fn pigeons(alloc: Global, holes: u32) -> Result<Problem, AllocError>
     requires { holes ≤ 5 }
 {
     let mut clauses = Items::new(alloc);
@@ -142,32 +167,24 @@ fn pigeons(alloc: Global, holes: u32) -> Result<Problem, Fail>
 }
 
 #[test]
-fn five_pigeons(rt: HostRuntime) -> Result<(), Fail> {
+fn five_pigeons_are_not_in_four_holes(rt: HostRuntime) {
     let alloc = rt.alloc();
-    let crowded = pigeons(alloc, 4)?;
-    match answer(alloc, &crowded, 10000) {
-        Answer::Unsat(log) => {
-            assert!(rt; check_log(alloc, &crowded, log.as_slice()).is_ok());
-        }
-        _ => assert!(rt; false),
-    }
-    match answer(alloc, &crowded, 3) {
-        Answer::Lines(log) => {
-            assert_eq!(rt; log.len(), 3);
-            assert!(rt; check_lines(alloc, &crowded, log.as_slice(), 3).is_ok());
-        }
-        _ => assert!(rt; false),
-    }
-    let roomy = pigeons(alloc, 5)?;
-    match answer(alloc, &roomy, 10000) {
-        Answer::Sat(found) => assert_eq!(rt; found.truths.len(), 25),
-        _ => assert!(rt; false),
-    }
-    Ok(())
+    let crowded = pigeons(alloc, 4).expect(&rt, "memory");
+    assert!(rt; matches!(asked(alloc, &crowded, 10000), Summary::Unsat(_)));
+    assert_eq!(rt; asked(alloc, &crowded, 3), Summary::Lines(3));
+    drop(crowded);
+}
+
+#[test]
+fn five_pigeons_are_in_five_holes(rt: HostRuntime) {
+    let alloc = rt.alloc();
+    let roomy = pigeons(alloc, 5).expect(&rt, "memory");
+    assert_eq!(rt; asked(alloc, &roomy, 10000), Summary::Sat(25));
+    drop(roomy);
 }
 
 // The first atom, and each atom implies the next.
-fn chain(alloc: Global, atoms: u32) -> Result<Problem, Fail>
+fn chain(alloc: Global, atoms: u32) -> Result<Problem, AllocError>
     requires { 0 < atoms }
 {
     let mut clauses = Items::new(alloc);
@@ -180,12 +197,9 @@ fn chain(alloc: Global, atoms: u32) -> Result<Problem, Fail>
 }
 
 #[test]
-fn a_long_chain(rt: HostRuntime) -> Result<(), Fail> {
+fn a_long_chain(rt: HostRuntime) {
     let alloc = rt.alloc();
-    let implied = chain(alloc, 2000)?;
-    match answer(alloc, &implied, 1) {
-        Answer::Sat(found) => assert_eq!(rt; found.truths.len(), 2000),
-        _ => assert!(rt; false),
-    }
-    Ok(())
+    let implied = chain(alloc, 2000).expect(&rt, "memory");
+    assert_eq!(rt; asked(alloc, &implied, 1), Summary::Sat(2000));
+    drop(implied);
 }

@@ -1,10 +1,10 @@
-use Rattle.std.proofs.Common.{◌≡◌, zero, suc, ℕ, true, false, Bool, cond, List, [], ◌∷◌, refl, Option, Some, None, slice_get}
+use Rattle.std.proofs.Common.{◌≡◌, zero, suc, ℕ, true, false, Bool, cond, List, [], ◌∷◌, refl, Option, Some, None}
 use Rattle.std.specs.Option.{option_and_then}
 use Rattle.lin_rows.specs.Rows.{Row, negated}
 use Rattle.proof_lines.specs.declared.clause.Lit.{Lit}
 use Rattle.proof_lines.specs.declared.problem.AtomKind.{AtomKind}
 use Rattle.proof_lines.specs.declared.problem.AtomKind.TheVariants.{Plain, Row as OfRow}
-use Rattle.proof_lines.specs.Steps.{row_of_kind, atom_row, lit_row}
+use Rattle.proof_lines.specs.Steps.{atom_row, lit_row}
 use Rattle.search_logs.specs.Forcing.{are_plain}
 use Rattle.sat_core.specs.Answers.{AreRowsOf}
 use Rattle.search_tests.proofs.clauses.answer_bare.Goals as goal
