@@ -1,0 +1,6 @@
+// The ground problem of an obligation: a list of formulas over named atoms.
+//
+// It stands on `obligation_list`, whose obligations it is about. The definitions are in specs/, in this order: `Symbols` (formulas
+// over named atoms, and what makes them true), `Constants` (names for the elements), `Formulas` (formulas of the specification at
+// constants), `Entry`, `Conclusion`, `Definitions`, `Equality` (the groups of the list) and `Problem` (the list).
+#![tactic(auto)]
