@@ -48,7 +48,6 @@ flag-commutes = refl
 
 -- ---- a stock of each product, and a sale that needs enough of it
 
-
 abbrev enough : Line
 enough = record { prefix = Plain; vars = []; body = compare_form (record { summands = record { coef = pos 1; body = body.Count 0 (Param 0 ∷ []) } ∷ [] }) AtLeast (record { summands = record { coef = pos 1; body = body.Param 1 } ∷ [] }) }
 

@@ -1,1 +1,11 @@
 pub mod Example
+pub mod Means
+pub mod Updated
+pub mod Choices
+pub mod Seats
+pub mod Agree
+pub mod Free
+pub mod First
+pub mod Names
+pub mod Groups
+pub mod Interpret

@@ -1,0 +1,18 @@
+// The laws of the ground problem.
+
+ghost use Rattle.std.specs.Prelude.{◌≡◌, ℕ, true, List};
+ghost use Rattle.spec_core.specs.declared.world.World.{World};
+ghost use Rattle.spec_core.specs.declared.world.Call.{Call};
+ghost use Rattle.spec_core.specs.Specification.{Specification};
+ghost use Rattle.spec_core.specs.State.{Listing};
+ghost use Rattle.spec_core.specs.Typed.{is_specification};
+ghost use Rattle.obligation_list.specs.declared.obligation.Obligation.{Obligation};
+ghost use Rattle.obligation_list.specs.Breaking.{Breaks};
+ghost use Rattle.ground_problem.specs.Symbols.{Interpretation, all_true};
+ghost use Rattle.ground_problem.specs.Problem.{formulas_of};
+
+/// What breaks an obligation of a well-formed specification gives an interpretation that makes all its formulas true. So an
+/// obligation whose formulas no interpretation makes true holds.
+pub fn law_broken_has_interpretation()
+    ensures { (d : Specification) (ob : Obligation) (w : World) (s : Listing) (cs : List Call) (es : List ℕ) → is_specification d ≡ true → Breaks d ob w s cs es → (m : Interpretation) × (all_true m (formulas_of d ob) ≡ true) }
+{}
