@@ -14,7 +14,7 @@ use Rattle.spec_core.specs.Form.{true_form, has_form, compare_form}
 use Rattle.spec_core.specs.Line.{Line}
 use Rattle.spec_core.specs.Specification.{Specification}
 use Rattle.obligation_list.specs.declared.obligation.Obligation.TheVariants.{Commute, Stable}
-use Rattle.ground_problem.specs.Symbols.{argument, reading, multiple, Symbolic, always, same, has, at_most, negated, both, either, equal}
+use Rattle.ground_problem.specs.Symbols.{argument, reading, number, multiple, Symbolic, always, same, has, at_most, negated, both, either, equal}
 use Rattle.ground_problem.specs.Problem.{formulas_of}
 
 -- ---- a flag that is up, and an operation that raises it
@@ -70,14 +70,14 @@ shop = record {
   counters = record { name = []; keys = 0 ∷ []; initial = pos 0 } ∷ [];
   tokens = record { name = []; places = 0 ∷ [] } ∷ [];
   rules = record { left = record { token = 0; vars = 0 ∷ [] }; right = record { token = 0; vars = 0 ∷ [] } } ∷ [];
-  invariants = record { name = []; line = record { prefix = Forall; vars = 0 ∷ []; body = compare_form (record { summands = record { coef = pos 1; body = body.Count 0 (Var 0 ∷ []) } ∷ [] }) AtLeast (record { summands = [] }) } } ∷ [];
+  invariants = record { name = []; line = record { prefix = Forall; vars = 0 ∷ []; body = compare_form (record { summands = record { coef = pos 1; body = body.Count 0 (Var 0 ∷ []) } ∷ [] }) AtLeast (record { summands = record { coef = pos 0; body = body.One } ∷ [] }) } } ∷ [];
   operations = sale ∷ [];
 }
 
 -- The constants 0 and 1 are the products of the two sales.
 shop-stable : formulas_of shop (Stable 0 0 0) ≡
-    at_most [] (multiple (pos 1) (reading [] 0 (0 ∷ [])) ∷ []) (pos 0)
-    ∷ at_most [] (multiple (pos 1) (reading [] 0 (1 ∷ [])) ∷ []) (pos 0)
+    at_most (number (pos 0) ∷ []) (multiple (pos 1) (reading [] 0 (0 ∷ [])) ∷ []) (pos 0)
+    ∷ at_most (number (pos 0) ∷ []) (multiple (pos 1) (reading [] 0 (1 ∷ [])) ∷ []) (pos 0)
     ∷ at_most (multiple (pos 1) (argument 0 1) ∷ []) (multiple (pos 1) (reading [] 0 (0 ∷ [])) ∷ []) (pos 0)
     ∷ at_most (multiple (pos 1) (argument 1 1) ∷ []) (multiple (pos 1) (reading [] 0 (1 ∷ [])) ∷ []) (pos 0)
     ∷ negated (same 0 1)
