@@ -9,3 +9,10 @@ pub mod First
 pub mod Names
 pub mod Groups
 pub mod Interpret
+pub mod Classes
+pub mod Worlds
+pub mod Rows
+pub mod Closed
+pub mod Deciding
+pub mod Sorted
+pub mod Places

@@ -84,7 +84,7 @@ module _ (P : Reading → Type 0) where
   pub after_names : (n : ℕ) (fs : List Symbolic) → EachOf P fs → Each P (readings_after n fs)
   after_names n fs h = each_distinct [] _ (each_filter (λ q. length q.stage == n) _ (of_readings fs h))
 
-  same_names : (a b : ℕ) → Each P (readings (same_const a b))
+  pub same_names : (a b : ℕ) → Each P (readings (same_const a b))
   same_names a b = by_tests (a == b) (ltb a b)
     where
       by_tests : (p q : Bool) → Each P (readings (cond p (always true) (cond q (same a b) (same b a))))
@@ -105,7 +105,7 @@ module _ (P : Reading → Type 0) where
   pub equal_names : (t u : List Part) → Each P (of_sum t) → Each P (of_sum u) → Each P ((of_sum t ++ of_sum u) ++ (of_sum u ++ of_sum t))
   equal_names t u h k = each_append (of_sum t ++ of_sum u) (of_sum u ++ of_sum t) (pair_names t u h k) (pair_names u t k h)
 
-  comparison_names : (c : Cmp) (t u : List Part) → Each P (of_sum t) → Each P (of_sum u) → Each P (readings (comparison c t u))
+  pub comparison_names : (c : Cmp) (t u : List Part) → Each P (of_sum t) → Each P (of_sum u) → Each P (readings (comparison c t u))
   comparison_names Less t u h k = pair_names t u h k
   comparison_names AtMost t u h k = pair_names t u h k
   comparison_names Equal t u h k = equal_names t u h k
@@ -166,7 +166,7 @@ module _ (P : Reading → Type 0) (r : Readings) (a : Allows P r) (c : Caller) w
   part_names vars k (body.Param n) = tt
   part_names vars k (body.Count i es) = a.count k i (consts_of c vars es)
 
-  sum_names : (vars : List ℕ) (ss : List Summand) → Each P (of_sum (map (part_of r c vars) ss))
+  pub sum_names : (vars : List ℕ) (ss : List Summand) → Each P (of_sum (map (part_of r c vars) ss))
   sum_names vars [] = tt
   sum_names vars (s ∷ ss) = sums P (part_of r c vars s ∷ []) (map (part_of r c vars) ss) (part_names vars s.coef s.body) (sum_names vars ss)
 
@@ -185,14 +185,14 @@ module _ (P : Reading → Type 0) (r : Readings) (a : Allows P r) (c : Caller) w
   pub instances_names : (z : Constants) (vars : List ℕ) (f : Form) → EachOf P (instances z r c vars f)
   instances_names z vars f = of_map P (λ vs. formula r c vs f) (assignments z vars) (λ vs. form_names vs f)
 
-  spots_names : (ss : List Spot) (t : List ℕ) → EachOf P (spots_hold c ss t)
+  pub spots_names : (ss : List Spot) (t : List ℕ) → EachOf P (spots_hold c ss t)
   spots_names [] [] = tt
   spots_names [] (x ∷ t) = (tt, tt)
   spots_names (s ∷ ss) [] = (tt, tt)
   spots_names (Every ∷ ss) (x ∷ t) = spots_names ss t
   spots_names (One e ∷ ss) (x ∷ t) = (same_names P (const_of c [] e) x, spots_names ss t)
 
-  acts_names : (t : List ℕ) (u : UpdateLine) → Each P (readings (acts_on r c t u))
+  pub acts_names : (t : List ℕ) (u : UpdateLine) → Each P (readings (acts_on r c t u))
   acts_names t u = parts_names P (spots_hold c u.at t ++ formula r c [] u.guard ∷ []) (of_append P (spots_hold c u.at t) (formula r c [] u.guard ∷ []) (spots_names u.at t) (form_names [] u.guard, tt))
 
   then_names : (ch : Change) (m e : Symbolic) → Each P (readings m) → Each P (readings e) → Each P (readings (has_then ch m e))
@@ -201,7 +201,7 @@ module _ (P : Reading → Type 0) (r : Readings) (a : Allows P r) (c : Caller) w
   then_names (Add n) m e h k = k
   then_names (Set n) m e h k = k
 
-  updated_names : (t : List ℕ) (us : List UpdateLine) (e : Symbolic) → Each P (readings e) → Each P (readings (has_updated r c t us e))
+  pub updated_names : (t : List ℕ) (us : List UpdateLine) (e : Symbolic) → Each P (readings e) → Each P (readings (has_updated r c t us e))
   updated_names t [] e h = h
   updated_names t (u ∷ us) e h = updated_names t us (has_then u.change (acts_on r c t u) e) (then_names u.change (acts_on r c t u) e (acts_names t u) h)
 
@@ -210,7 +210,7 @@ module _ (P : Reading → Type 0) (r : Readings) (a : Allows P r) (c : Caller) w
       let e = updated_names t (updates_of (thing.Relation k) us) (r.has k t) (a.has k t) in
       (each_append P (readings h) _ p e, (each_append P (readings h) _ p e, tt))
 
-  count_then_names : (ch : Change) (v : List Part) → Each P (of_sum v) → Each P (of_sum (count_then r c ch v))
+  pub count_then_names : (ch : Change) (v : List Part) → Each P (of_sum v) → Each P (of_sum (count_then r c ch v))
   count_then_names Insert v h = h
   count_then_names Remove v h = h
   count_then_names (Add n) v h = sums P v (parts_of r c [] n) h (sum_names [] n.summands)
