@@ -127,7 +127,7 @@ module _ (P : Reading → Type 0) where
   sum_back [] u h = h
   sum_back (x ∷ t) u h = sum_back t u (each_right P (readings_of_part x) (of_sum (t ++ u)) h)
 
-  both_of : (Q : Reading → Type 0) (qs : List Reading) → Each P qs → Each (λ q. P q → Q q) qs → Each Q qs
+  pub both_of : (Q : Reading → Type 0) (qs : List Reading) → Each P qs → Each (λ q. P q → Q q) qs → Each Q qs
   both_of Q [] h k = tt
   both_of Q (q ∷ qs) h k = (k.0 h.0, both_of Q qs h.1 k.1)
 

@@ -49,7 +49,7 @@ use Rattle.ground_problem.proofs.Names.{Each, EachOf, StageIn, after_names, stat
 -- ---- the definitions, and the list once its first four groups are true
 
 module _ (d : Specification) (ob : Obligation) (w : World) (r : Reads) (cs : List Call) (val : ℕ → ℕ) (st : Setting d ob w cs val) where
-  definition_true : (k : Stage) (x : Thing) (t : List ℕ) → StageIn ob (record { stage = k; thing = x; tuple = t }) → all_true (interpret d w cs r val) (define d ob (constants_of d ob) k x t) ≡ true
+  pub definition_true : (k : Stage) (x : Thing) (t : List ℕ) → StageIn ob (record { stage = k; thing = x; tuple = t }) → all_true (interpret d w cs r val) (define d ob (constants_of d ob) k x t) ≡ true
   definition_true [] x t h = refl
   definition_true (n ∷ k) (thing.Relation i) t h = define_has_true d ob w r cs val st n k i t h.0
   definition_true (n ∷ k) (thing.Counter i) t h = define_count_true d ob w r cs val st n k i t h.0
@@ -92,7 +92,7 @@ invariant_true d (Stable o l p) w r (a ∷ c ∷ e ∷ cs) es val st b = absurd 
 -- ---- 3
 
 -- conflict of calls, where their operations are known
-abbrev conflict_of : Specification → World → ℕ → List ℤ → ℕ → List ℤ → Bool
+abbrev pub conflict_of : Specification → World → ℕ → List ℤ → ℕ → List ℤ → Bool
 conflict_of d w o one p other =
     list_any (λ rule. list_any (λ t. list_any (λ u. lines_match w one other rule t u) (op_of d p).takes) (op_of d o).takes) d.rules
     || list_any (λ rule. list_any (λ u. list_any (λ t. lines_match w other one rule u t) (op_of d o).takes) (op_of d p).takes) d.rules
@@ -144,7 +144,7 @@ line_at_agrees d w world ps args fit r s a l h es f = by_test (is_exists l.prefi
 pub call_agrees : (d : Specification) (w : World) → is_specification d ≡ true → is_world d w ≡ true → (o : ℕ) (c : Call) → IsCallOf d w o c → (r s : Reads) → AgreeOn d w r s → AgreeOn d w (after d w c r) (after_everywhere d w c s)
 call_agrees d w t v o c h r s a = (let p = call_parts d w c t v h.fits in after_agrees d w v c p.arguments (operation_parts d (op_of d c.op) p.operation).updates r s a)
 
-invariant_typed : (d : Specification) → is_specification d ≡ true → (i : ℕ) → is_line d [] (invariant_line d i) ≡ true
+pub invariant_typed : (d : Specification) → is_specification d ≡ true → (i : ℕ) → is_line d [] (invariant_line d i) ≡ true
 invariant_typed d t i = (and_parts _ _ (list_all-get_or (is_invariant d) d.invariants (parts_of d t).invariants i no_invariant refl)).1
 
 -- undeclared things read the same after any call
@@ -202,7 +202,7 @@ conclusion_true d (Stable o l p) w r (a ∷ c ∷ g ∷ cs) es val st e f b = ab
 -- ---- the values of the constants
 
 -- a declared constant has its value in the world
-const_value : (w : World) (d : Specification) (n s : ℕ) → is_sort (option_map (λ c. c.sort) (slice_get d.consts n)) s ≡ true → n < length d.consts
+pub const_value : (w : World) (d : Specification) (n s : ℕ) → is_sort (option_map (λ c. c.sort) (slice_get d.consts n)) s ≡ true → n < length d.consts
 const_value w d n s h = within d.consts n h
   where
     within : (cs : List Constant) (n : ℕ) → is_sort (option_map (λ (c : Constant). c.sort) (slice_get cs n)) s ≡ true → n < length cs

@@ -16,3 +16,6 @@ pub mod Closed
 pub mod Deciding
 pub mod Sorted
 pub mod Places
+pub mod Existing
+pub mod Placed
+pub mod Values

@@ -309,7 +309,7 @@ entry_names d (Safety o i) = invariants_names d (Safety o i)
 entry_names d (Commute o p x) = invariants_names d (Commute o p x)
 entry_names d (Stable o l p) = invariants_names d (Stable o l p)
 
-differ_names : (P : Reading → Type 0) (x : Thing) (j k : Stage) (t : List ℕ) → P (record { stage = j; thing = x; tuple = t }) → P (record { stage = k; thing = x; tuple = t }) → Each P (readings (differ x j k t))
+pub differ_names : (P : Reading → Type 0) (x : Thing) (j k : Stage) (t : List ℕ) → P (record { stage = j; thing = x; tuple = t }) → P (record { stage = k; thing = x; tuple = t }) → Each P (readings (differ x j k t))
 differ_names P (thing.Relation i) j k t p q = (p, (q, (p, (q, tt))))
 differ_names P (thing.Counter i) j k t p q = (p, (q, (q, (p, tt))))
 
