@@ -19,3 +19,4 @@ pub mod Places
 pub mod Existing
 pub mod Placed
 pub mod Values
+pub mod Given
