@@ -20,3 +20,4 @@ pub mod Existing
 pub mod Placed
 pub mod Values
 pub mod Given
+pub mod Carried
