@@ -21,3 +21,4 @@ pub mod Placed
 pub mod Values
 pub mod Given
 pub mod Carried
+pub mod Ruled
