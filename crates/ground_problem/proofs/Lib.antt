@@ -22,3 +22,4 @@ pub mod Values
 pub mod Given
 pub mod Carried
 pub mod Ruled
+pub mod Back
