@@ -23,3 +23,4 @@ pub mod Given
 pub mod Carried
 pub mod Ruled
 pub mod Back
+pub mod Second
