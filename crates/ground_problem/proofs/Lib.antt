@@ -23,4 +23,5 @@ pub mod Given
 pub mod Carried
 pub mod Ruled
 pub mod Back
+pub mod Range
 pub mod Second

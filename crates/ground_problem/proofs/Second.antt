@@ -41,6 +41,7 @@ use Rattle.ground_problem.specs.Entry.{invariants_hold, lines_hold, calls_ready,
 use Rattle.ground_problem.specs.Conclusion.{line_fails, differ, conclusion}
 use Rattle.ground_problem.specs.Definitions.{Reading, definition, readings, readings_after}
 use Rattle.ground_problem.specs.Problem.{stated, formulas_of}
+use Rattle.ground_problem.specs.Readback.{ReadFrom}
 use Rattle.ground_problem.proofs.Means.{one_sort}
 use Rattle.ground_problem.proofs.Free.{Side, rules_mean}
 use Rattle.ground_problem.proofs.Agree.{after_everywhere, start_everywhere, start_agrees}
@@ -58,6 +59,7 @@ use Rattle.ground_problem.proofs.Existing.{operation_typed}
 use Rattle.ground_problem.proofs.Ruled.{Speaker, rules_agree}
 use Rattle.ground_problem.proofs.Given as given
 use Rattle.ground_problem.proofs.Carried.{o, pair, NamedAll, NamedTwo, NamedOne, entry_agrees, one_call, two_calls}
+use Rattle.ground_problem.proofs.Range.{read_from, start_read_from}
 use Rattle.ground_problem.proofs.Back.{have_length, fails_back, forall_back, lines_back, same_truth}
 
 not_false : (b : Bool) → not b ≡ true → b ≡ false
@@ -278,11 +280,11 @@ reads_same_back : (d : Specification) (w : World) (x : Thing) (es : List ℕ) �
 reads_same_back d w (thing.Relation k) es l f a b r s p q h = (let u = p.has k es l f in let v = q.has k es l f in (λ i. bool_eq (u i) (v i)) ∙ h)
 reads_same_back d w (thing.Counter k) es l f a b r s p q h = (let u = p.count k es l f in let v = q.count k es l f in (λ i. int_eq (u i) (v i)) ∙ h)
 
--- what breaks an obligation
-abbrev pub Broken : Specification → Obligation → Type 0
-Broken d ob = (w : World) × (s : Listing) × (cs : List Call) × (es : List ℕ) × Breaks d ob w s cs es
+-- what breaks an obligation, read from an interpretation
+abbrev pub BrokenBy : Specification → Obligation → Interpretation → Type 0
+BrokenBy d ob m = (w : World) × (s : Listing) × (cs : List Call) × (es : List ℕ) × Breaks d ob w s cs es × ReadFrom d ob m w s cs
 
-pub second_direction : (d : Specification) (ob : Obligation) (m : Interpretation) → is_specification d ≡ true → IsObligation d ob → all_true m (formulas_of d ob) ≡ true → Broken d ob
+pub second_direction : (d : Specification) (ob : Obligation) (m : Interpretation) → is_specification d ≡ true → IsObligation d ob → all_true m (formulas_of d ob) ≡ true → BrokenBy d ob m
 second_direction d (Init i) m t io h =
     let w = given.w d (Init i) m h t io in
     let es = given.es d (Init i) m h t io in
@@ -293,7 +295,7 @@ second_direction d (Init i) m t io h =
       state = initial_is_state d w;
       elements = fit;
       broken = record { start = refl; fails = line_at_agrees d w (given.world d (Init i) m h t io) [] [] refl (reads (initial d w)) (start_everywhere d) (start_agrees d w) (invariant_line d i) (invariant_typed d t i) es fit ∙ fails };
-    })
+    }, start_read_from d (Init i) m h t io)
 second_direction d (Safety n i) m t io h =
     let ob = Safety n i in
     let w = given.w d ob m h t io in
@@ -316,7 +318,7 @@ second_direction d (Safety n i) m t io h =
         ready = pre_back d ob m h t io 0 zeroth;
         fails = line_at_agrees d w (given.world d ob m h t io) [] [] refl (after d w a (reads s)) (after_everywhere d w a r) agree (invariant_line d i) (invariant_typed d t i) es fit ∙ fails;
       };
-    })
+    }, read_from d ob m h t io)
 second_direction d (Commute n p x) m t io h =
     let ob = Commute n p x in
     let w = given.w d ob m h t io in
@@ -352,7 +354,7 @@ second_direction d (Commute n p x) m t io h =
         };
         fails = reads_same_back d w x es io.2 fit (after d w b (after d w a (reads s))) (after d w a (after d w b (reads s))) (after_everywhere d w b (after_everywhere d w a r)) (after_everywhere d w a (after_everywhere d w b r)) one other fails;
       };
-    })
+    }, read_from d ob m h t io)
 second_direction d (Stable n l p) m t io h =
     let ob = Stable n l p in
     let w = given.w d ob m h t io in
@@ -385,4 +387,4 @@ second_direction d (Stable n l p) m t io h =
         };
         fails = line_at_agrees d w world (op_of d n).params a.args (and_parts (nat_lt n (length d.operations)) _ is_a.fits).1 (after d w b (reads s)) (after_everywhere d w b r) agree (requires_line d n l) typed es fit ∙ fails;
       };
-    })
+    }, read_from d ob m h t io)

@@ -6,3 +6,4 @@ pub mod Conclusion
 pub mod Definitions
 pub mod Equality
 pub mod Problem
+pub mod Readback

@@ -8,11 +8,20 @@ ghost use Rattle.spec_core.specs.State.{Listing};
 ghost use Rattle.spec_core.specs.Typed.{is_specification};
 ghost use Rattle.obligation_list.specs.declared.obligation.Obligation.{Obligation};
 ghost use Rattle.obligation_list.specs.Breaking.{Breaks};
+ghost use Rattle.obligation_list.specs.Obligations.{IsObligation};
 ghost use Rattle.ground_problem.specs.Symbols.{Interpretation, all_true};
 ghost use Rattle.ground_problem.specs.Problem.{formulas_of};
+ghost use Rattle.ground_problem.specs.Readback.{ReadFrom};
 
 /// What breaks an obligation of a well-formed specification gives an interpretation that makes all its formulas true. So an
 /// obligation whose formulas no interpretation makes true holds.
 pub fn law_broken_has_interpretation()
     ensures { (d : Specification) (ob : Obligation) (w : World) (s : Listing) (cs : List Call) (es : List ℕ) → is_specification d ≡ true → Breaks d ob w s cs es → (m : Interpretation) × (all_true m (formulas_of d ob) ≡ true) }
+{}
+
+/// An interpretation that makes all formulas of an obligation true gives values that break it: so the formulas of an obligation that
+/// holds have no such interpretation. The values are read from the interpretation, which tells how many elements a sort may have and
+/// which numbers they hold.
+pub fn law_interpretation_breaks()
+    ensures { (d : Specification) (ob : Obligation) (m : Interpretation) → is_specification d ≡ true → IsObligation d ob → all_true m (formulas_of d ob) ≡ true → (w : World) × (s : Listing) × (cs : List Call) × (es : List ℕ) × Breaks d ob w s cs es × ReadFrom d ob m w s cs }
 {}
