@@ -1,9 +1,8 @@
 -- Lines that an interpretation makes true at constants are true at their values.
-use Rattle.std.proofs.Common.{◌≡◌, ℕ, suc, ◌+◌, ◌<◌, ◌==◌, nat_lt, ℤ, ◌*ℤ◌, ◌+ℤ◌, int_le, pos, Bool, true, false, not, cond, ◌&&◌, ◌||◌, inl, inr, List, [], ◌∷◌, ◌++◌, map, length, slice_get, slice_index, flat_map, refl, sym, ◌∙◌, ap, subst, arith}
+use Rattle.std.proofs.Common.{◌≡◌, ℕ, suc, ◌+◌, nat_lt, ℤ, Bool, true, false, not, cond, ◌&&◌, ◌||◌, inl, inr, List, [], ◌∷◌, map, length, slice_get, refl, sym, ◌∙◌, ap, subst, arith}
 use Rattle.std.specs.List.{list_all, list_any}
 use Rattle.std.specs.Str.{bytes_eq}
-use Rattle.std.proofs.lemmas.Bool.{and_parts, and_from, or_cases, or_left, or_right, not-true}
-use Rattle.std.proofs.lemmas.Bool.Decides.{nat_tests}
+use Rattle.std.proofs.lemmas.Bool.{ltb-true, and_parts, and_from, or_cases, or_left, or_right, not-true}
 use Rattle.std.proofs.lemmas.Slice.Eq.{bytes_eq-Decides}
 use Rattle.std.proofs.lemmas.List.Folds.{list_all-map}
 use Rattle.spec_core.specs.declared.operation.Param.{Param as Parameter}
@@ -22,7 +21,7 @@ use Rattle.obligation_list.specs.declared.obligation.Obligation.{Obligation}
 use Rattle.obligation_list.specs.Obligations.{IsObligation}
 use Rattle.obligation_list.specs.Breaking.{elements_of, failing_vars, line_at}
 use Rattle.ground_problem.specs.Symbols.{Stage, argument, Symbolic, negated, Interpretation, is_true, all_true}
-use Rattle.ground_problem.specs.Constants.{constants_of, of_sort, choices, assignments, chosen_vars}
+use Rattle.ground_problem.specs.Constants.{of_sort, assignments, chosen_vars}
 use Rattle.ground_problem.specs.Formulas.{Caller, Readings, at_stage, formula, instances}
 use Rattle.ground_problem.specs.Entry.{line_holds, lines_hold}
 use Rattle.ground_problem.specs.Conclusion.{line_fails}
@@ -34,7 +33,7 @@ use Rattle.ground_problem.proofs.First.{state_at}
 use Rattle.ground_problem.proofs.Groups.{line_typed, means, shows}
 use Rattle.ground_problem.proofs.Names.{Each, EachOf, allows_stage, form_names}
 use Rattle.ground_problem.proofs.Closed.{of_left, of_right}
-use Rattle.ground_problem.proofs.Worlds.{HasSort, sort_one_of, append_left, append_right}
+use Rattle.ground_problem.proofs.Worlds.{sort_one_of, append_left, append_right}
 use Rattle.ground_problem.proofs.Rows.{HaveSorts}
 use Rattle.ground_problem.proofs.Sorted.{OwnSorted, elements_sorted, assigned_sorted}
 use Rattle.ground_problem.proofs.Deciding.{Same, Agreed, agree_form, both_of}
@@ -73,9 +72,6 @@ none_of p (u ∷ ts) h = neither (p u) (list_any p ts) (h u (or_left (bytes_eq u
     neither : (a b : Bool) → a ≡ false → b ≡ false → (a || b) ≡ false
     neither a b p q = grind arith
 
-test_lt : (a b : ℕ) → nat_lt a b ≡ true → a < b
-test_lt a b h = grind (arith, nat_tests)
-
 true_alone : (a b : Bool) → a ≡ b → (a && true) ≡ true → b ≡ true
 true_alone a b e k = grind arith
 
@@ -93,7 +89,7 @@ module _ (d : Specification) (ob : Obligation) (m : Interpretation) (h : all_tru
   onto_members (s ∷ vars) [] k = absurd cc
   onto_members (s ∷ vars) (x ∷ u) k =
       let k2 = and_parts (nat_lt x (size_of (given.w d ob m h t io) s)) (fits_places (given.w d ob m h t io) vars u) k in
-      let c = given.element_of d ob m h t io s x (test_lt x (size_of (given.w d ob m h t io) s) k2.0) in
+      let c = given.element_of d ob m h t io s x (ltb-true x (size_of (given.w d ob m h t io) s) k2.0) in
       let more = onto_members vars u k2.1 in
       (c.0 ∷ more.0, and_from (one_of c.0 (of_sort 0 sorts s)) (members (map (of_sort 0 sorts) vars) more.0) (let e : 0 + c.0 ≡ c.0 = omega arith in subst (λ (y : ℕ). one_of y (of_sort 0 sorts s) ≡ true) e (sort_one_of 0 sorts s c.0 c.1)) more.1, (let a = c.2 in let b = more.2 in cc))
 

@@ -1,7 +1,6 @@
 -- An interpretation and the values that it gives agree on all named readings: at the entry, after one call, and after two.
-use Rattle.std.proofs.Common.{◌≡◌, ℕ, suc, ◌+◌, ◌<◌, ◌==◌, ℤ, pos, ◌+ℤ◌, ◌*ℤ◌, int_le, Bool, true, false, ◌&&◌, List, [], ◌∷◌, ◌++◌, map, length, slice_index, flat_map, filter, refl, sym, ◌∙◌, ap, subst, arith}
+use Rattle.std.proofs.Common.{◌≡◌, ℕ, ◌<◌, ◌==◌, ℤ, pos, ◌+ℤ◌, ◌*ℤ◌, int_le, true, ◌&&◌, List, [], ◌∷◌, ◌++◌, map, length, slice_index, flat_map, filter, refl, sym, ◌∙◌, ap, subst, arith}
 use Rattle.std.specs.List.{list_any}
-use Rattle.std.proofs.lemmas.Bool.{and_parts}
 use Rattle.std.proofs.lemmas.Int.{ints}
 use Rattle.spec_core.specs.declared.formula.Elem.{Elem}
 use Rattle.spec_core.specs.declared.update.Thing.{Thing}
@@ -14,9 +13,9 @@ use Rattle.spec_core.proofs.Parts.{operation_parts}
 use Rattle.obligation_list.specs.declared.obligation.Obligation.{Obligation}
 use Rattle.obligation_list.specs.Obligations.{IsObligation}
 use Rattle.obligation_list.specs.Breaking.{operations_of}
-use Rattle.ground_problem.specs.Symbols.{Stage, Symbolic, reading, multiple, has, equal, Interpretation, is_true, all_true, same_const}
+use Rattle.ground_problem.specs.Symbols.{Stage, Symbolic, reading, multiple, has, equal, Interpretation, all_true}
 use Rattle.ground_problem.specs.Formulas.{caller, at_stage, const_of}
-use Rattle.ground_problem.specs.Definitions.{Reading, same_reading, updates_of, updates_at, acts_on, count_then, value_after, values_defined, value_stays, define, definition, readings, readings_after, distinct}
+use Rattle.ground_problem.specs.Definitions.{Reading, same_reading, updates_of, updates_at, acts_on, value_after, values_defined, value_stays, define, definition, readings, readings_after}
 use Rattle.ground_problem.specs.Problem.{formulas_of}
 use Rattle.ground_problem.proofs.Means.{same_means}
 use Rattle.ground_problem.proofs.Groups.{values}

@@ -1,11 +1,8 @@
 -- Classes of constants that are alike, each by its first member.
 use Rattle.std.proofs.Common.{◌≡◌, ℕ, zero, suc, ◌+◌, ◌<◌, ◌==◌, Bool, true, false, cond, ◌||◌, inl, inr, List, [], ◌∷◌, ◌++◌, length, slice_index, refl, sym, ◌∙◌, ap, subst, arith}
-use Rattle.std.proofs.lemmas.Bool.{or_cases, or_left, or_right}
+use Rattle.std.proofs.lemmas.Bool.{eqb-true, or_cases, or_left, or_right}
 use Rattle.std.proofs.lemmas.Bool.Decides.{nat_tests}
 use Rattle.ground_problem.proofs.Choices.{one_of}
-
-is_same : (x y : ℕ) → (x == y) ≡ true → x ≡ y
-is_same x y e = grind (arith, nat_tests)
 
 -- whether one of them is like it
 abbrev pub any_like : (ℕ → ℕ → Bool) → ℕ → List ℕ → Bool
@@ -47,8 +44,8 @@ module _ (like : ℕ → ℕ → Bool) (self : (a : ℕ) → like a a ≡ true) 
   firsts_cover seen (x ∷ xs) c h = by_test (any_like like x seen) refl (firsts_cover seen xs c) (firsts_cover (seen ++ x ∷ []) xs c)
     where
       here : (b : Bool) → any_like like x seen ≡ b → (c == x) ≡ true → (any_like like c seen || any_like like c (cond b (firsts like seen xs) (x ∷ firsts like (seen ++ x ∷ []) xs))) ≡ true
-      here true e q = or_left (any_like like c seen) _ (let s = is_same c x q in subst (λ (y : ℕ). any_like like y seen ≡ true) (sym s) e)
-      here false e q = or_right (any_like like c seen) _ (or_left (like x c) (any_like like c (firsts like (seen ++ x ∷ []) xs)) (let s = is_same c x q in subst (λ (y : ℕ). like x y ≡ true) (sym s) (self x)))
+      here true e q = or_left (any_like like c seen) _ (let s = eqb-true c x q in subst (λ (y : ℕ). any_like like y seen ≡ true) (sym s) e)
+      here false e q = or_right (any_like like c seen) _ (or_left (like x c) (any_like like c (firsts like (seen ++ x ∷ []) xs)) (let s = eqb-true c x q in subst (λ (y : ℕ). like x y ≡ true) (sym s) (self x)))
 
       later : (b : Bool) → (any_like like c seen || any_like like c (firsts like seen xs)) ≡ true → (any_like like c (seen ++ x ∷ []) || any_like like c (firsts like (seen ++ x ∷ []) xs)) ≡ true → (any_like like c seen || any_like like c (cond b (firsts like seen xs) (x ∷ firsts like (seen ++ x ∷ []) xs))) ≡ true
       later true p q = p

@@ -3,7 +3,7 @@ use Rattle.std.proofs.Common.{◌≡◌, ℕ, ◌==◌, Bool, true, false, cond,
 use Rattle.std.specs.List.{list_any}
 use Rattle.std.specs.Ordering.{nat_cmp, is_lt}
 use Rattle.std.specs.Cmp.Lexicographic.{slice_cmp}
-use Rattle.std.proofs.lemmas.Bool.{or_cases}
+use Rattle.std.proofs.lemmas.Bool.{eqb-true, or_cases}
 use Rattle.std.proofs.lemmas.Bool.Decides.{nat_tests}
 use Rattle.std.proofs.lemmas.Slice.Eq.{bytes_eq-Decides}
 use Rattle.spec_core.specs.declared.update.Thing.{Thing}
@@ -18,6 +18,12 @@ use Rattle.ground_problem.specs.Definitions.{Reading, definition, readings, same
 use Rattle.ground_problem.specs.Equality.{insert_rising, rising}
 use Rattle.ground_problem.proofs.Names.{Each, EachOf}
 use Rattle.ground_problem.proofs.Worlds.{append_left, append_right}
+
+pub thing_is : (x y : Thing) → is_thing x y ≡ true → x ≡ y
+thing_is (thing.Relation i) (thing.Relation j) h = ap (λ (n : ℕ). thing.Relation n) (eqb-true i j h)
+thing_is (thing.Relation i) (thing.Counter j) h = absurd cc
+thing_is (thing.Counter i) (thing.Relation j) h = absurd cc
+thing_is (thing.Counter i) (thing.Counter j) h = ap (λ (n : ℕ). thing.Counter n) (eqb-true i j h)
 
 abbrev pub In : Reading → List Reading → Type 0
 In q [] = ⊥
@@ -75,18 +81,6 @@ in_front (f ∷ a) b q h = by_place (readings f) h (in_front a b q)
 is_reading : (p q : Reading) → same_reading p q ≡ true → p ≡ q
 is_reading p q h = by_parts p.stage q.stage p.thing q.thing p.tuple q.tuple h
   where
-    is_thing_same : (x y : Thing) → is_thing x y ≡ true → x ≡ y
-    is_thing_same (thing.Relation i) (thing.Relation j) h = ap (λ (n : ℕ). thing.Relation n) (let q : i ≡ j = eq_true i j h in q)
-      where
-        eq_true : (a b : ℕ) → (a == b) ≡ true → a ≡ b
-        eq_true a b h = grind (arith, nat_tests)
-    is_thing_same (thing.Relation i) (thing.Counter j) h = absurd cc
-    is_thing_same (thing.Counter i) (thing.Relation j) h = absurd cc
-    is_thing_same (thing.Counter i) (thing.Counter j) h = ap (λ (n : ℕ). thing.Counter n) (let q : i ≡ j = eq_true i j h in q)
-      where
-        eq_true : (a b : ℕ) → (a == b) ≡ true → a ≡ b
-        eq_true a b h = grind (arith, nat_tests)
-
     three_true : (a b c : Bool) → (a && (b && c)) ≡ true → (a ≡ true) × (b ≡ true) × (c ≡ true)
     three_true a b c h = grind arith
 
@@ -94,7 +88,7 @@ is_reading p q h = by_parts p.stage q.stage p.thing q.thing p.tuple q.tuple h
     made s x t = record { stage = s; thing = x; tuple = t }
 
     by_parts : (s u : Stage) (x y : Thing) (t v : List ℕ) → (bytes_eq s u && (is_thing x y && bytes_eq t v)) ≡ true → made s x t ≡ made u y v
-    by_parts s u x y t v h = (let k = three_true (bytes_eq s u) (is_thing x y) (bytes_eq t v) h in let a = (bytes_eq-Decides s u).0 k.0 in let b = is_thing_same x y k.1 in let c = (bytes_eq-Decides t v).0 k.2 in λ i. record { stage = a i; thing = b i; tuple = c i })
+    by_parts s u x y t v h = (let k = three_true (bytes_eq s u) (is_thing x y) (bytes_eq t v) h in let a = (bytes_eq-Decides s u).0 k.0 in let b = thing_is x y k.1 in let c = (bytes_eq-Decides t v).0 k.2 in λ i. record { stage = a i; thing = b i; tuple = c i })
 
 pub from_distinct : (F : Reading → Type 0) (seen qs : List Reading) → ((q : Reading) → list_any (same_reading q) seen ≡ true → F q) → Each F (distinct seen qs) → Each F qs
 from_distinct F seen [] h k = tt
@@ -199,18 +193,6 @@ pub rows_in : (T : List ℕ → Type 0) (x : Thing) (qs : List Reading) → Each
 rows_in T x [] h t k = absurd cc
 rows_in T x (q ∷ qs) h t k = by_test (is_thing q.thing x) refl k (rows_in T x qs h.1 t)
   where
-    thing_is : (x y : Thing) → is_thing x y ≡ true → x ≡ y
-    thing_is (thing.Relation i) (thing.Relation j) h = ap (λ (n : ℕ). thing.Relation n) (eq_true i j h)
-      where
-        eq_true : (a b : ℕ) → (a == b) ≡ true → a ≡ b
-        eq_true a b h = grind (arith, nat_tests)
-    thing_is (thing.Relation i) (thing.Counter j) h = absurd cc
-    thing_is (thing.Counter i) (thing.Relation j) h = absurd cc
-    thing_is (thing.Counter i) (thing.Counter j) h = ap (λ (n : ℕ). thing.Counter n) (eq_true i j h)
-      where
-        eq_true : (a b : ℕ) → (a == b) ≡ true → a ≡ b
-        eq_true a b h = grind (arith, nat_tests)
-
     by_test : (b : Bool) → is_thing q.thing x ≡ b → is_in t (rising (cond b (q ∷ filter (λ p. is_thing p.thing x) qs) (filter (λ p. is_thing p.thing x) qs))) ≡ true → (is_in t (rising (filter (λ p. is_thing p.thing x) qs)) ≡ true → T t) → T t
     by_test true e k f = elim (or_cases (bytes_eq t q.tuple) (is_in t (rising (filter (λ p. is_thing p.thing x) qs))) (inserted_only t q.tuple (rising (filter (λ p. is_thing p.thing x) qs)) k)) [
       | inl s ↦ subst T (sym ((bytes_eq-Decides t q.tuple).0 s)) (h.0 (thing_is q.thing x e))

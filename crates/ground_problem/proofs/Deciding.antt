@@ -1,7 +1,7 @@
 -- A definition that two interpretations make true decides its reading: where they agree before a call, they agree after it.
 use Rattle.std.proofs.Common.{◌≡◌, ℕ, suc, ℤ, pos, ◌+ℤ◌, ◌*ℤ◌, int_le, Bool, true, false, not, cond, ◌&&◌, ◌||◌, List, [], ◌∷◌, ◌++◌, map, slice_get, refl, sym, ◌∙◌, ap, subst, arith}
 use Rattle.std.specs.List.{list_all}
-use Rattle.std.proofs.lemmas.Bool.{and_parts, and_from, eqb-true}
+use Rattle.std.proofs.lemmas.Bool.{and_parts, and_from}
 use Rattle.std.proofs.lemmas.Int.{ints}
 use Rattle.spec_core.specs.declared.formula.Elem.{Elem}
 use Rattle.spec_core.specs.declared.formula.Cmp.{Cmp}
@@ -29,7 +29,7 @@ use Rattle.ground_problem.specs.Definitions.{updates_of, define_has, spots_hold,
 use Rattle.ground_problem.proofs.Means.{one_sort, update_parts, AmountTyped}
 use Rattle.ground_problem.proofs.Updated.{parts_mean, single, sum_append}
 use Rattle.ground_problem.proofs.Names.{Each, EachOf, of_sum, allows_stage, acts_names, updated_names, count_then_names}
-use Rattle.ground_problem.proofs.Closed.{each_left, each_right}
+use Rattle.ground_problem.proofs.Closed.{thing_is, each_left, each_right}
 use Rattle.ground_problem.proofs.Worlds.{HasSort}
 use Rattle.ground_problem.proofs.Rows.{HaveSorts}
 
@@ -130,12 +130,6 @@ module _ (P : Reading → Type 0) where
   pub both_of : (Q : Reading → Type 0) (qs : List Reading) → Each P qs → Each (λ q. P q → Q q) qs → Each Q qs
   both_of Q [] h k = tt
   both_of Q (q ∷ qs) h k = (k.0 h.0, both_of Q qs h.1 k.1)
-
-thing_is : (x y : Thing) → is_thing x y ≡ true → x ≡ y
-thing_is (thing.Relation i) (thing.Relation j) h = ap (λ (n : ℕ). thing.Relation n) (eqb-true i j h)
-thing_is (thing.Relation i) (thing.Counter j) h = absurd cc
-thing_is (thing.Counter i) (thing.Relation j) h = absurd cc
-thing_is (thing.Counter i) (thing.Counter j) h = ap (λ (n : ℕ). thing.Counter n) (eqb-true i j h)
 
 -- typed updates of one thing
 abbrev pub UpdatesOf : Specification → List Parameter → Thing → List UpdateLine → Type 0

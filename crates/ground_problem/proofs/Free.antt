@@ -3,7 +3,7 @@ use Rattle.std.proofs.Common.{◌≡◌, ℕ, suc, ◌+◌, ◌==◌, ℤ, Bool,
 use Rattle.std.specs.List.{list_all, list_any}
 use Rattle.std.proofs.lemmas.List.{map-append, length-map}
 use Rattle.std.proofs.lemmas.List.Folds.{list_all-append}
-use Rattle.std.proofs.lemmas.Bool.{and_parts, and_from}
+use Rattle.std.proofs.lemmas.Bool.{eqb-true, and_parts, and_from}
 use Rattle.std.proofs.lemmas.Bool.Decides.{nat_tests}
 use Rattle.spec_core.specs.declared.formula.Elem.{Elem}
 use Rattle.spec_core.specs.declared.operation.Param.{Param as Parameter}
@@ -18,7 +18,7 @@ use Rattle.token_rules.specs.Conflict.{lines_match}
 use Rattle.ground_problem.specs.Symbols.{Symbolic, negated, Interpretation, is_true, all_true, all_parts, same_const}
 use Rattle.ground_problem.specs.Formulas.{Caller, consts_of}
 use Rattle.ground_problem.specs.Entry.{same_later, one_element_each, are_ruled, unmatched, rule_unmatched}
-use Rattle.ground_problem.proofs.Means.{StandsFor, Values, same_means, elems_mean}
+use Rattle.ground_problem.proofs.Means.{eq_swap, StandsFor, Values, same_means, elems_mean}
 use Rattle.ground_problem.proofs.Updated.{parts_mean}
 
 -- ---- what is known of the variables that were met
@@ -35,12 +35,6 @@ known_none f [] (e ∷ es) h = absurd (omega arith)
 known_none f (v ∷ vs) [] h = absurd (omega arith)
 known_none f (v ∷ vs) (e ∷ es) h = (λ k. absurd cc, known_none f vs es (omega arith))
 
-eq_true : (a b : ℕ) → (a == b) ≡ true → a ≡ b
-eq_true a b h = grind (arith, nat_tests)
-
-eq_swap : (a b : ℕ) → (a == b) ≡ (b == a)
-eq_swap a b = grind (arith, nat_tests)
-
 place_stands : (u v e g : ℕ) → ((u == v) ≡ true → e ≡ g) → (not (u == v) || (e == g)) ≡ true
 place_stands u v e g h = by_test (u == v) refl
   where
@@ -53,7 +47,7 @@ stands_known met f v [] [] h k = refl
 stands_known met f v [] (e ∷ es) h k = absurd k
 stands_known met f v (u ∷ us) [] h k = absurd k
 stands_known met f v (u ∷ us) (e ∷ es) h k = and_from (not (u == v) || (e == f v)) (stands_for v (f v) us es)
-    (place_stands u v e (f v) (λ q. (let p : u ≡ v = eq_true u v q in k.0 (ap (λ (x : ℕ). list_any (λ y. x == y) met) p ∙ h) ∙ ap f p)))
+    (place_stands u v e (f v) (λ q. (let p : u ≡ v = eqb-true u v q in k.0 (ap (λ (x : ℕ). list_any (λ y. x == y) met) p ∙ h) ∙ ap f p)))
     (stands_known met f v us es h k.1)
 
 -- what is known once one more variable was met
@@ -68,7 +62,7 @@ known_more met f v e (u ∷ us) [] h k = absurd k
 known_more met f v e (u ∷ us) (x ∷ es) h k = (let h2 = and_parts (not (u == v) || (x == e)) (stands_for v e us es) h in (λ q. at_test (u == v) (list_any (λ y. u == y) met) h2.0 q k.0, known_more met f v e us es h2.1 k.1))
   where
     at_test : (b c : Bool) → (not b || (x == e)) ≡ true → (b || c) ≡ true → (c ≡ true → x ≡ f u) → x ≡ cond b e (f u)
-    at_test true c p q l = eq_true x e p
+    at_test true c p q l = eqb-true x e p
     at_test false c p q l = l q
 
 module _ (d : Specification) (m : Interpretation) (val : ℕ → ℕ) (w : World) (v : Values d m val w) where
@@ -186,8 +180,8 @@ module _ (d : Specification) (m : Interpretation) (val : ℕ → ℕ) (w : World
       let r = and_parts _ _ q.1 in
       let o = and_parts _ (rule.right.token == u.token) k in
       let i = and_parts _ (rule.left.token == t.token) o.0 in (
-        eq_true _ _ l.1 ∙ ap (λ (x : ℕ). length (token_places d x)) (eq_true rule.left.token t.token i.1),
-        eq_true _ _ r.1 ∙ ap (λ (x : ℕ). length (token_places d x)) (eq_true rule.right.token u.token o.1),
+        eqb-true _ _ l.1 ∙ ap (λ (x : ℕ). length (token_places d x)) (eqb-true rule.left.token t.token i.1),
+        eqb-true _ _ r.1 ∙ ap (λ (x : ℕ). length (token_places d x)) (eqb-true rule.right.token u.token o.1),
       )
 
   unmatched_means : (a b : Side d m val) (rule : Rule) (t u : Take) → is_rule d rule ≡ true → is_take d a.params t ≡ true → is_take d b.params u ≡ true

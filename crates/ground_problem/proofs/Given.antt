@@ -1,9 +1,8 @@
 -- The world, the state, the calls and the elements that an interpretation gives, where it makes the list of an obligation true.
-use Rattle.std.proofs.Common.{◌≡◌, ℕ, zero, suc, ◌+◌, ◌<◌, ◌≤◌, ◌==◌, nat_lt, ℤ, pos, Bool, true, false, cond, ◌&&◌, ◌||◌, ◌⊎◌, inl, inr, None, unwrap_or, List, [], ◌∷◌, ◌++◌, map, length, get_or, slice_get, slice_index, slice_index_or, unsigned_abs, filter, flat_map, refl, sym, ◌∙◌, ap, subst, arith}
+use Rattle.std.proofs.Common.{◌≡◌, ℕ, zero, suc, ◌+◌, ◌<◌, ◌≤◌, ◌==◌, nat_lt, ℤ, pos, Bool, true, inl, inr, None, unwrap_or, List, [], ◌∷◌, ◌++◌, map, length, get_or, slice_get, slice_index, slice_index_or, unsigned_abs, filter, flat_map, refl, sym, ◌∙◌, ap, subst, arith}
 use Rattle.std.specs.List.{list_all}
 use Rattle.std.proofs.lemmas.List.{length-map}
-use Rattle.std.proofs.lemmas.Bool.{and_parts, and_from, or_cases}
-use Rattle.std.proofs.lemmas.Bool.Decides.{nat_tests}
+use Rattle.std.proofs.lemmas.Bool.{lt-ltb, ltb-true, eq-eqb, eqb-true, and_parts, and_from, or_cases}
 use Rattle.spec_core.specs.declared.operation.Operation.{Operation}
 use Rattle.spec_core.specs.declared.update.Thing.{Thing}
 use Rattle.spec_core.specs.declared.update.Thing.TheVariants as thing
@@ -21,52 +20,40 @@ use Rattle.obligation_list.specs.Breaking.{operations_of, elements_of}
 use Rattle.ground_problem.specs.Symbols.{Symbolic, argument, reading, Interpretation, all_true}
 use Rattle.ground_problem.specs.Constants.{Constants, constants_of}
 use Rattle.ground_problem.specs.Formulas.{caller}
-use Rattle.ground_problem.specs.Definitions.{Reading, definition, readings, readings_after, with_definitions}
+use Rattle.ground_problem.specs.Definitions.{Reading, definition, readings_after, with_definitions}
 use Rattle.ground_problem.specs.Equality.{equality, rising, congruent_pairs, congruence}
 use Rattle.ground_problem.specs.Problem.{stated, formulas_of}
 use Rattle.effectors.specs.Effect.{is_thing}
-use Rattle.ground_problem.proofs.Choices.{one_of, Fit}
+use Rattle.ground_problem.proofs.Choices.{one_of}
 use Rattle.ground_problem.proofs.First.{call_at, Setting}
 use Rattle.ground_problem.proofs.Interpret.{const_value}
-use Rattle.ground_problem.proofs.Names.{Each, EachOf, StageIn, after_names, of_readings, stated_names, with_names}
+use Rattle.ground_problem.proofs.Groups.{all_append}
+use Rattle.ground_problem.proofs.Names.{EachOf, StageIn, after_names, stated_names, with_names}
 use Rattle.ground_problem.proofs.Closed.{each_in, at_in, rows_in}
-use Rattle.ground_problem.proofs.Worlds.{HasSort, has_sort, sort_of, append_left, append_right, element, element_below, element_same, firsts_of, constant_of}
+use Rattle.ground_problem.proofs.Worlds.{HasSort, has_sort, append_left, append_right, element, element_below, firsts_of, constant_of}
 use Rattle.ground_problem.proofs.Rows.{HaveSorts, SameRead, rows_same, has_back, count_back}
 use Rattle.ground_problem.proofs.Sorted.{own_sort, params_sorted, elements_sorted}
 use Rattle.ground_problem.proofs.Places.{Place}
-use Rattle.ground_problem.proofs.Existing.{operation_there, operation_typed, AllSorts, sorts_exist}
+use Rattle.ground_problem.proofs.Existing.{operation_there, operation_typed, sorts_exist}
 use Rattle.ground_problem.proofs.Placed.{with_places, stated_places}
-use Rattle.ground_problem.proofs.Values.{numbers, numbers_length, numbers_at, numbers_out, list_at, arguments_from, element_at, number_at, arguments_fit, listed_has, listed_count, held_fit, entries_fit, all_lists_fit, all_values_fit}
-
-split_at : (k n : ℕ) → (k < n) ⊎ (n ≤ k)
-split_at k n = grind arith
+use Rattle.ground_problem.proofs.Values.{split_at, numbers, numbers_length, numbers_at, numbers_out, list_at, arguments_from, element_at, number_at, arguments_fit, listed_has, listed_count, held_fit, entries_fit, all_lists_fit, all_values_fit}
 
 -- what the formulas of each thing say, of one thing
 thing_piece : (m : Interpretation) (g : Thing → List Symbolic) (make : ℕ → Thing) (xs : List ℕ) (i : ℕ) → one_of i xs ≡ true → all_true m (flat_map g (map make xs)) ≡ true → all_true m (g (make i)) ≡ true
 thing_piece m g make [] i k h = absurd cc
 thing_piece m g make (x ∷ xs) i k h = elim (or_cases (i == x) (one_of i xs) k) [
-  | inl e ↦ subst (λ (v : ℕ). all_true m (g (make v)) ≡ true) (sym (same_number i x e)) (append_left m (g (make x)) (flat_map g (map make xs)) h)
+  | inl e ↦ subst (λ (v : ℕ). all_true m (g (make v)) ≡ true) (sym (eqb-true i x e)) (append_left m (g (make x)) (flat_map g (map make xs)) h)
   | inr l ↦ thing_piece m g make xs i l (append_right m (g (make x)) (flat_map g (map make xs)) h)
 ]
-  where
-    same_number : (a b : ℕ) → (a == b) ≡ true → a ≡ b
-    same_number a b h = grind (arith, nat_tests)
 
 things_split : (m : Interpretation) (g : Thing → List Symbolic) (xs ys : List Thing) → all_true m (flat_map g (xs ++ ys)) ≡ true → (all_true m (flat_map g xs) ≡ true) × (all_true m (flat_map g ys) ≡ true)
 things_split m g [] ys h = (refl, h)
-things_split m g (x ∷ xs) ys h = (let p = things_split m g xs ys (append_right m (g x) (flat_map g (xs ++ ys)) h) in (append_all (g x) (flat_map g xs) (append_left m (g x) (flat_map g (xs ++ ys)) h) p.0, p.1))
-  where
-    append_all : (a b : List Symbolic) → all_true m a ≡ true → all_true m b ≡ true → all_true m (a ++ b) ≡ true
-    append_all [] b h k = k
-    append_all (f ∷ a) b h k = (let h2 = and_parts _ (all_true m a) h in and_from _ (all_true m (a ++ b)) h2.0 (append_all a b h2.1 k))
+things_split m g (x ∷ xs) ys h = (let p = things_split m g xs ys (append_right m (g x) (flat_map g (xs ++ ys)) h) in (all_append m (g x) (flat_map g xs) (append_left m (g x) (flat_map g (xs ++ ys)) h) p.0, p.1))
 
 -- a constant's sort exists
 sort_exists : (p : ℕ → Bool) (ss : List ℕ) (s n : ℕ) → list_all p ss ≡ true → HasSort ss s n → p s ≡ true
 sort_exists p [] s n h k = absurd cc
-sort_exists p (x ∷ ss) s zero h k = subst (λ (y : ℕ). p y ≡ true) (same_number x s k) (and_parts (p x) (list_all p ss) h).0
-  where
-    same_number : (a b : ℕ) → (a == b) ≡ true → a ≡ b
-    same_number a b h = grind (arith, nat_tests)
+sort_exists p (x ∷ ss) s zero h k = subst (λ (y : ℕ). p y ≡ true) (eqb-true x s k) (and_parts (p x) (list_all p ss) h).0
 sort_exists p (x ∷ ss) s (suc n) h k = sort_exists p ss s n (and_parts (p x) (list_all p ss) h).1 k
 
 sorted_from : (all ss : List ℕ) (from n : ℕ) → n ≡ length ss → ((j s : ℕ) → HasSort ss s j → HasSort all s (from + j)) → HaveSorts all ss (numbers from n)
@@ -74,26 +61,14 @@ sorted_from all [] from zero e f = tt
 sorted_from all [] from (suc n) e f = absurd (omega arith)
 sorted_from all (s ∷ ss) from zero e f = absurd (omega arith)
 sorted_from all (s ∷ ss) from (suc n) e f = (
-  (let q : from + 0 ≡ from = omega arith in subst (λ (x : ℕ). HasSort all s x) q (f 0 s (same_true s))),
+  (let q : from + 0 ≡ from = omega arith in subst (λ (x : ℕ). HasSort all s x) q (f 0 s (eq-eqb s s refl))),
   sorted_from all ss (suc from) n (omega arith) (λ j v k. (let q : from + suc j ≡ suc from + j = omega arith in subst (λ (x : ℕ). HasSort all v x) q (f (suc j) v k))),
 )
-  where
-    same_true : (a : ℕ) → (a == a) ≡ true
-    same_true a = grind (arith, nat_tests)
 
 none_past : {X : Type 0} (xs : List X) (x : X) (n : ℕ) → length xs ≤ n → get_or xs n x ≡ x
 none_past [] x n h = refl
 none_past (y ∷ xs) x zero h = absurd (omega arith)
 none_past (y ∷ xs) x (suc n) h = none_past xs x n (omega arith)
-
-lt_test : (a b : ℕ) → a < b → nat_lt a b ≡ true
-lt_test a b h = grind (arith, nat_tests)
-
-test_lt : (a b : ℕ) → nat_lt a b ≡ true → a < b
-test_lt a b h = grind (arith, nat_tests)
-
-eq_test : (a b : ℕ) → a ≡ b → (a == b) ≡ true
-eq_test a b h = grind (arith, nat_tests)
 
 module _ (d : Specification) (ob : Obligation) (m : Interpretation) (h : all_true m (formulas_of d ob) ≡ true) (t : is_specification d ≡ true) (io : IsObligation d ob) where
   abbrev pub z : Constants
@@ -182,7 +157,7 @@ module _ (d : Specification) (ob : Obligation) (m : Interpretation) (h : all_tru
   size_at s l = numbers_at size 0 (length d.sorts) s l ∙ (let e : 0 + s ≡ s = omega arith in ap size e)
 
   sort_there : (s c : ℕ) → HasSort z.sorts s c → s < length d.sorts
-  sort_there s c k = test_lt s (length d.sorts) (sort_exists (λ s. nat_lt s (length d.sorts)) z.sorts s c (sorts_exist d ob t io) k)
+  sort_there s c k = ltb-true s (length d.sorts) (sort_exists (λ s. nat_lt s (length d.sorts)) z.sorts s c (sorts_exist d ob t io) k)
 
   pub value_below : (s c : ℕ) → HasSort z.sorts s c → val c < size_of w s
   value_below s c k = (let a = element_below m z.sorts axioms s c k in let b = size_at s (sort_there s c k) in omega arith)
@@ -191,10 +166,10 @@ module _ (d : Specification) (ob : Obligation) (m : Interpretation) (h : all_tru
   sorted_fit [] [] k = refl
   sorted_fit [] (n ∷ ns) k = absurd k
   sorted_fit (s ∷ ss) [] k = absurd k
-  sorted_fit (s ∷ ss) (n ∷ ns) k = and_from (nat_lt (val n) (size_of w s)) (fits_places w ss (map val ns)) (lt_test (val n) (size_of w s) (value_below s n k.0)) (sorted_fit ss ns k.1)
+  sorted_fit (s ∷ ss) (n ∷ ns) k = and_from (nat_lt (val n) (size_of w s)) (fits_places w ss (map val ns)) (lt-ltb (val n) (size_of w s) (value_below s n k.0)) (sorted_fit ss ns k.1)
 
   pub world : is_world d w ≡ true
-  world = and_from (length w.sizes == length d.sorts) (fits_places w (map (λ c. c.sort) d.consts) w.consts) (eq_test (length w.sizes) (length d.sorts) (numbers_length size 0 (length d.sorts)))
+  world = and_from (length w.sizes == length d.sorts) (fits_places w (map (λ c. c.sort) d.consts) w.consts) (eq-eqb (length w.sizes) (length d.sorts) (numbers_length size 0 (length d.sorts)))
       (sorted_fit (map (λ c. c.sort) d.consts) (numbers 0 (length d.consts)) (sorted_from z.sorts (map (λ c. c.sort) d.consts) 0 (length d.consts) (sym (length-map d.consts (λ c. c.sort))) (λ j s k. (let e : j ≡ 0 + j = omega arith in subst (λ (x : ℕ). HasSort z.sorts s x) e (own_sort d ob j s k)))))
 
   pub elements_fit_here : fits_places w (elements_of d ob) es ≡ true
@@ -204,7 +179,7 @@ module _ (d : Specification) (ob : Obligation) (m : Interpretation) (h : all_tru
   args_fit n l = arguments_fit (λ i. val (unwrap_or (get_or (caller z n).params i None) 0)) (λ i. m.int (argument n i)) w 0 (op_n n).params (λ i s k. (let e : i ≡ 0 + i = omega arith in subst (λ (x : ℕ). val (unwrap_or (get_or (caller z n).params x None) 0) < size_of w s) e (value_below s (unwrap_or (get_or (caller z n).params i None) 0) (params_sorted d ob n l i s k))))
 
   pub call_fits_here : (n : ℕ) → n < length (operations_of ob) → is_call d w (call_of n (slice_index (operations_of ob) n)) ≡ true
-  call_fits_here n l = and_from (nat_lt (slice_index (operations_of ob) n) (length d.operations)) _ (lt_test (slice_index (operations_of ob) n) (length d.operations) (operation_there d ob io n l)) (args_fit n l)
+  call_fits_here n l = and_from (nat_lt (slice_index (operations_of ob) n) (length d.operations)) _ (lt-ltb (slice_index (operations_of ob) n) (length d.operations) (operation_there d ob io n l)) (args_fit n l)
 
   pub setting : Setting d ob w cs val
   setting = record {
@@ -266,13 +241,13 @@ module _ (d : Specification) (ob : Obligation) (m : Interpretation) (h : all_tru
   pub entry_same : (x : Thing) (u v : List ℕ) → is_in u (rows x) ≡ true → is_in v (rows x) ≡ true → map val u ≡ map val v → SameRead m z.sorts axioms x u v
   entry_same (thing.Relation i) u v a b e = elim (split_at i (length d.relations)) [
     | inl l ↦ rows_same m z.sorts axioms (thing.Relation i) (places_of d (thing.Relation i)) (rows (thing.Relation i)) (row_sorted (thing.Relation i))
-        (thing_piece m (λ x. congruent_pairs x (rows x)) (λ k. thing.Relation k) (below (length d.relations)) i (in_below i (length d.relations) ∙ lt_test i (length d.relations) l)
+        (thing_piece m (λ x. congruent_pairs x (rows x)) (λ k. thing.Relation k) (below (length d.relations)) i (in_below i (length d.relations) ∙ lt-ltb i (length d.relations) l)
         (things_split m (λ x. congruent_pairs x (rows x)) (map (λ k. thing.Relation k) (below (length d.relations))) (map (λ k. thing.Counter k) (below (length d.counters))) congruences).0) u v a b e
     | inr l ↦ (let p = ap (λ x. x.places) (none_past d.relations no_relation i l) in ap (m.has [] i) (nothing_else u (subst (λ (s : List ℕ). HaveSorts z.sorts s u) p (row_sorted (thing.Relation i) u a)) ∙ sym (nothing_else v (subst (λ (s : List ℕ). HaveSorts z.sorts s v) p (row_sorted (thing.Relation i) v b)))))
   ]
   entry_same (thing.Counter i) u v a b e = elim (split_at i (length d.counters)) [
     | inl l ↦ rows_same m z.sorts axioms (thing.Counter i) (places_of d (thing.Counter i)) (rows (thing.Counter i)) (row_sorted (thing.Counter i))
-        (thing_piece m (λ x. congruent_pairs x (rows x)) (λ k. thing.Counter k) (below (length d.counters)) i (in_below i (length d.counters) ∙ lt_test i (length d.counters) l)
+        (thing_piece m (λ x. congruent_pairs x (rows x)) (λ k. thing.Counter k) (below (length d.counters)) i (in_below i (length d.counters) ∙ lt-ltb i (length d.counters) l)
         (things_split m (λ x. congruent_pairs x (rows x)) (map (λ k. thing.Relation k) (below (length d.relations))) (map (λ k. thing.Counter k) (below (length d.counters))) congruences).1) u v a b e
     | inr l ↦ (let p = ap (λ x. x.keys) (none_past d.counters no_counter i l) in ap (λ (y : List ℕ). m.int (reading [] i y)) (nothing_else u (subst (λ (s : List ℕ). HaveSorts z.sorts s u) p (row_sorted (thing.Counter i) u a)) ∙ sym (nothing_else v (subst (λ (s : List ℕ). HaveSorts z.sorts s v) p (row_sorted (thing.Counter i) v b)))))
   ]

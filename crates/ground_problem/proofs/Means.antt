@@ -59,7 +59,7 @@ sort_within [] n s h = absurd cc
 sort_within (t ∷ ss) zero s h = omega arith
 sort_within (t ∷ ss) (suc n) s h = let p = sort_within ss n s h in omega arith
 
-eq_swap : (a b : ℕ) → (a == b) ≡ (b == a)
+pub eq_swap : (a b : ℕ) → (a == b) ≡ (b == a)
 eq_swap a b = grind (arith, nat_tests)
 
 eq_same : (a : ℕ) → (a == a) ≡ true

@@ -1,15 +1,13 @@
 -- The values that an interpretation gives are read from it.
-use Rattle.std.proofs.Common.{◌≡◌, ℕ, zero, suc, ◌+◌, ◌<◌, ◌≤◌, ℤ, pos, Bool, true, false, cond, ◌⊎◌, inl, inr, Option, None, Some, unwrap_or, List, [], ◌∷◌, ◌++◌, map, length, get_or, slice_get, slice_index, slice_index_or, refl, sym, ◌∙◌, ap, subst, arith}
+use Rattle.std.proofs.Common.{◌≡◌, ℕ, zero, suc, ◌+◌, ◌≤◌, ℤ, pos, Bool, true, false, cond, inl, inr, Option, None, Some, unwrap_or, List, [], ◌∷◌, ◌++◌, map, length, get_or, slice_get, slice_index, slice_index_or, refl, sym, ◌∙◌, ap, subst, arith}
 use Rattle.std.specs.List.{list_all}
-use Rattle.std.proofs.lemmas.Bool.{and_parts, and_from}
-use Rattle.std.proofs.lemmas.List.Folds.{list_all-map}
+use Rattle.std.proofs.lemmas.Bool.{and_from}
 use Rattle.spec_core.specs.declared.spec.Counter.{Counter}
 use Rattle.spec_core.specs.declared.update.Thing.TheVariants as thing
 use Rattle.spec_core.specs.declared.world.World.{World}
 use Rattle.spec_core.specs.declared.world.Call.{Call}
 use Rattle.spec_core.specs.Specification.{Specification, op_of, no_counter}
 use Rattle.spec_core.specs.World.{size_of, tuples}
-use Rattle.spec_core.specs.State.{Listing}
 use Rattle.spec_core.specs.Meaning.{initial}
 use Rattle.spec_core.specs.Typed.{is_number, is_specification}
 use Rattle.obligation_list.specs.declared.obligation.Obligation.{Obligation}
@@ -22,7 +20,7 @@ use Rattle.ground_problem.specs.Problem.{formulas_of}
 use Rattle.ground_problem.specs.Readback.{all_listed, ReadFrom}
 use Rattle.ground_problem.proofs.Classes.{any_like, firsts}
 use Rattle.ground_problem.proofs.Worlds.{like}
-use Rattle.ground_problem.proofs.Values.{numbers, numbers_out, number_at}
+use Rattle.ground_problem.proofs.Values.{split_at, numbers, numbers_out, number_at}
 use Rattle.ground_problem.proofs.Given as given
 
 -- there are at most as many first ones as there are
@@ -33,9 +31,6 @@ firsts_few alike seen (x ∷ xs) = by_test (any_like alike x seen) (firsts_few a
     by_test : (b : Bool) → length (firsts alike seen xs) ≤ length xs → length (firsts alike (seen ++ x ∷ []) xs) ≤ length xs → length (cond b (firsts alike seen xs) (x ∷ firsts alike (seen ++ x ∷ []) xs)) ≤ suc (length xs)
     by_test true p q = omega arith
     by_test false p q = omega arith
-
-split_at : (k n : ℕ) → (k < n) ⊎ (n ≤ k)
-split_at k n = grind arith
 
 -- each of a list of one value passes where the value does
 all_one : {X : Type 0} (test : ℤ → Bool) (v : ℤ) (xs : List X) (key : X → List ℕ) → test v ≡ true → list_all (λ (e : List ℕ × ℤ). test e.1) (map (λ x. (key x, v)) xs) ≡ true

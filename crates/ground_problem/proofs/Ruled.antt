@@ -1,30 +1,24 @@
 -- Two interpretations that agree on equalities within a sort agree on the formulas of two calls without conflict.
-use Rattle.std.proofs.Common.{◌≡◌, ℕ, suc, ◌==◌, Bool, true, false, not, cond, ◌&&◌, ◌||◌, List, [], ◌∷◌, ◌++◌, length, flat_map, refl, sym, ◌∙◌, ap, subst, arith}
+use Rattle.std.proofs.Common.{◌≡◌, ℕ, ◌==◌, Bool, true, false, not, cond, ◌&&◌, ◌||◌, List, [], ◌∷◌, ◌++◌, length, flat_map, refl, sym, ◌∙◌, ap, subst, arith}
 use Rattle.std.specs.List.{list_all, list_any, zip}
 use Rattle.std.proofs.lemmas.List.Folds.{list_all-append}
-use Rattle.std.proofs.lemmas.Bool.{and_parts}
-use Rattle.std.proofs.lemmas.Bool.Decides.{nat_tests}
+use Rattle.std.proofs.lemmas.Bool.{eqb-true, and_parts}
 use Rattle.spec_core.specs.declared.formula.Elem.{Elem}
 use Rattle.spec_core.specs.declared.operation.Param.{Param as Parameter}
 use Rattle.spec_core.specs.declared.operation.Take.{Take}
 use Rattle.spec_core.specs.declared.spec.Rule.{Rule}
 use Rattle.spec_core.specs.Specification.{Specification, token_places}
-use Rattle.spec_core.specs.Typed.{sort_of, is_sort, elems_typed, is_take, is_pattern, agree_on, sorts_of_vars, is_rule}
+use Rattle.spec_core.specs.Typed.{sort_of, is_sort, is_take, is_pattern, agree_on, sorts_of_vars, is_rule}
 use Rattle.spec_core.proofs.Lists.{list_all-mono}
 use Rattle.ground_problem.specs.Symbols.{Symbolic, negated, Interpretation, is_true, all_true, all_parts, same_const}
 use Rattle.ground_problem.specs.Formulas.{Caller, const_of, consts_of}
 use Rattle.ground_problem.specs.Entry.{same_later, one_element_each, are_ruled, unmatched, rule_unmatched}
+use Rattle.ground_problem.proofs.Means.{eq_swap}
 use Rattle.ground_problem.proofs.Updated.{parts_mean}
 use Rattle.ground_problem.proofs.Worlds.{HasSort}
 use Rattle.ground_problem.proofs.Rows.{HaveSorts}
 use Rattle.ground_problem.proofs.Deciding.{Pairs}
 use Rattle.ground_problem.proofs.Places.{elems_sorted}
-
-eq_true : (a b : ℕ) → (a == b) ≡ true → a ≡ b
-eq_true a b h = grind (arith, nat_tests)
-
-eq_swap : (a b : ℕ) → (a == b) ≡ (b == a)
-eq_swap a b = grind (arith, nat_tests)
 
 have_append : (sorts a b t u : List ℕ) → HaveSorts sorts a t → HaveSorts sorts b u → HaveSorts sorts (a ++ b) (t ++ u)
 have_append sorts [] b [] u h k = k
@@ -69,7 +63,7 @@ module _ (d : Specification) (sorts : List ℕ) (m o : Interpretation) (pair : P
       by_test : (b : Bool) → (u == v) ≡ b → (not (v == u) || (s == x)) ≡ true → all_true m (same_later v a us cs) ≡ all_true o (same_later v a us cs)
           → all_true m (cond b (same_const a c ∷ same_later v a us cs) (same_later v a us cs)) ≡ all_true o (cond b (same_const a c ∷ same_later v a us cs) (same_later v a us cs))
       by_test true e k p =
-          let same : s ≡ x = eq_true s x (given (v == u) (s == x) (eq_swap v u ∙ e) k) in
+          let same : s ≡ x = eqb-true s x (given (v == u) (s == x) (eq_swap v u ∙ e) k) in
           let q = pair a c s ha (subst (λ (y : ℕ). HasSort sorts y c) (sym same) so.0) in
           λ i. q i && p i
       by_test false e k p = p
@@ -93,7 +87,7 @@ module _ (d : Specification) (sorts : List ℕ) (m o : Interpretation) (pair : P
   take_sorted : (a : Speaker d sorts) (t : Take) → is_take d a.params t ≡ true → (k : ℕ) → (k == t.token) ≡ true → HaveSorts sorts (token_places d k) (consts_of a.caller [] t.args)
   take_sorted a t h k e =
       let typed = (and_parts _ _ (and_parts _ _ h).0).1 in
-      subst (λ (y : ℕ). HaveSorts sorts (token_places d y) (consts_of a.caller [] t.args)) (sym (eq_true k t.token e)) (elems_sorted d sorts [] a.params a.caller [] [] a.sorted (token_places d t.token) t.args typed)
+      subst (λ (y : ℕ). HaveSorts sorts (token_places d y) (consts_of a.caller [] t.args)) (sym (eqb-true k t.token e)) (elems_sorted d sorts [] a.params a.caller [] [] a.sorted (token_places d t.token) t.args typed)
 
   unmatched_agrees : (a b : Speaker d sorts) (rule : Rule) (t u : Take) → is_rule d rule ≡ true → is_take d a.params t ≡ true → is_take d b.params u ≡ true → all_true m (unmatched rule a.caller t b.caller u) ≡ all_true o (unmatched rule a.caller t b.caller u)
   unmatched_agrees a b rule t u h k l = by_test (are_ruled rule t u) refl
@@ -107,7 +101,7 @@ module _ (d : Specification) (sorts : List ℕ) (m o : Interpretation) (pair : P
           let e3 = and_parts (not (t.shared && u.shared)) (rule.left.token == t.token) e2.0 in
           let h2 = and_parts (is_pattern d rule.left && is_pattern d rule.right) (list_all (agree_on (sorts_of_vars d rule)) (sorts_of_vars d rule)) h in
           let left = and_parts _ _ (and_parts (is_pattern d rule.left) (is_pattern d rule.right) h2.0).0 in
-          let many = zip_append rule.left.vars (token_places d rule.left.token) rule.right.vars (token_places d rule.right.token) (eq_true (length rule.left.vars) (length (token_places d rule.left.token)) left.1) in
+          let many = zip_append rule.left.vars (token_places d rule.left.token) rule.right.vars (token_places d rule.right.token) (eqb-true (length rule.left.vars) (length (token_places d rule.left.token)) left.1) in
           let so = have_append sorts (token_places d rule.left.token) (token_places d rule.right.token) (consts_of a.caller [] t.args) (consts_of b.caller [] u.args) (take_sorted a t k rule.left.token e3.1) (take_sorted b u l rule.right.token e2.1) in
           let agreed = each_agrees [] (rule.left.vars ++ rule.right.vars) (token_places d rule.left.token ++ token_places d rule.right.token) (consts_of a.caller [] t.args ++ consts_of b.caller [] u.args) so
           (subst (λ (xs : List (ℕ × ℕ)). list_all (agree_on xs) xs ≡ true) (sym many) h2.1) in

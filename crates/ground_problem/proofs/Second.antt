@@ -1,8 +1,7 @@
 -- An interpretation that makes the list of an obligation true gives values that break it.
-use Rattle.std.proofs.Common.{◌≡◌, ℕ, zero, suc, ◌+◌, ◌<◌, nat_lt, ℤ, pos, ◌+ℤ◌, ◌*ℤ◌, int_le, negsuc, Bool, true, false, not, cond, ◌&&◌, ◌||◌, List, [], ◌∷◌, ◌++◌, map, length, slice_get, slice_index, flat_map, refl, sym, ◌∙◌, ap, subst, arith}
+use Rattle.std.proofs.Common.{◌≡◌, ℕ, zero, suc, ◌+◌, ◌<◌, nat_lt, ℤ, pos, ◌+ℤ◌, ◌*ℤ◌, int_le, negsuc, Bool, true, false, not, ◌&&◌, ◌||◌, List, [], ◌∷◌, ◌++◌, map, length, slice_get, slice_index, flat_map, refl, sym, ◌∙◌, ap, subst, arith}
 use Rattle.std.specs.List.{list_all}
 use Rattle.std.proofs.lemmas.Bool.{and_parts, and_from, not-true}
-use Rattle.std.proofs.lemmas.Bool.Decides.{nat_tests}
 use Rattle.std.proofs.lemmas.Int.{ints}
 use Rattle.spec_core.specs.declared.formula.Elem.{Elem}
 use Rattle.spec_core.specs.declared.formula.Body.{Body}
@@ -18,12 +17,12 @@ use Rattle.spec_core.specs.declared.world.World.{World}
 use Rattle.spec_core.specs.declared.world.Call.{Call}
 use Rattle.spec_core.specs.Form.{Form, true_form, false_form, not_form, and_form, or_form, implies_form, has_form, same_form, differ_form, compare_form}
 use Rattle.spec_core.specs.Line.{Line}
-use Rattle.spec_core.specs.Specification.{Specification, op_of, no_line, no_invariant, places_of}
+use Rattle.spec_core.specs.Specification.{Specification, op_of, no_line, places_of}
 use Rattle.spec_core.specs.State.{Listing, Reads, reads}
-use Rattle.spec_core.specs.Truth.{int_eq, truth, is_exists, line_true, lines_true}
+use Rattle.spec_core.specs.Truth.{int_eq, is_exists, line_true, lines_true}
 use Rattle.spec_core.specs.Meaning.{invariant_line, inv, pre, initial}
-use Rattle.spec_core.specs.Fits.{fits_places, is_call, AgreeOn}
-use Rattle.spec_core.specs.Typed.{is_number, sort_of, is_sort, same_sort, body_typed, summand_typed, term_typed, form_typed, is_line, is_invariant, is_specification}
+use Rattle.spec_core.specs.Fits.{fits_places, AgreeOn}
+use Rattle.spec_core.specs.Typed.{is_number, sort_of, same_sort, body_typed, summand_typed, term_typed, form_typed, is_line, is_invariant, is_specification}
 use Rattle.spec_core.proofs.Lists.{list_all-get_or}
 use Rattle.spec_core.proofs.Parts.{parts_of, operation_parts}
 use Rattle.spec_core.proofs.Agreeing.{inv_agrees, pre_agrees}
@@ -33,27 +32,26 @@ use Rattle.token_rules.specs.Conflict.{conflicts}
 use Rattle.obligation_list.specs.declared.obligation.Obligation.{Obligation}
 use Rattle.obligation_list.specs.declared.obligation.Obligation.TheVariants.{Init, Safety, Commute, Stable}
 use Rattle.obligation_list.specs.Obligations.{IsThing, IsObligation}
-use Rattle.obligation_list.specs.Breaking.{operations_of, elements_of, requires_line, failing_vars, line_at, reads_same, bool_eq, IsCallOf, BreaksIn, Breaks}
-use Rattle.ground_problem.specs.Symbols.{Stage, reading, argument, Part, Symbolic, has, Interpretation, part_value, sum_value, is_true, all_true, same_const}
-use Rattle.ground_problem.specs.Constants.{Constants, constants_of, chosen_vars}
+use Rattle.obligation_list.specs.Breaking.{operations_of, elements_of, requires_line, failing_vars, line_at, reads_same, bool_eq, IsCallOf, Breaks}
+use Rattle.ground_problem.specs.Symbols.{argument, Part, Symbolic, Interpretation, part_value, sum_value, is_true, all_true, same_const}
+use Rattle.ground_problem.specs.Constants.{Constants, chosen_vars}
 use Rattle.ground_problem.specs.Formulas.{caller, nobody, at_stage, at_start, const_of, part_of_body, part_of, parts_of as symbolic_parts, comparison, formula, instances}
 use Rattle.ground_problem.specs.Entry.{invariants_hold, lines_hold, calls_ready, rule_unmatched, calls_free, entry, before_conclusion}
 use Rattle.ground_problem.specs.Conclusion.{line_fails, differ, conclusion}
-use Rattle.ground_problem.specs.Definitions.{Reading, definition, readings, readings_after}
-use Rattle.ground_problem.specs.Problem.{stated, formulas_of}
+use Rattle.ground_problem.specs.Definitions.{definition, readings, readings_after}
+use Rattle.ground_problem.specs.Problem.{formulas_of}
 use Rattle.ground_problem.specs.Readback.{ReadFrom}
 use Rattle.ground_problem.proofs.Means.{one_sort}
 use Rattle.ground_problem.proofs.Free.{Side, rules_mean}
 use Rattle.ground_problem.proofs.Agree.{after_everywhere, start_everywhere, start_agrees}
 use Rattle.ground_problem.proofs.First.{call_at, state_at}
-use Rattle.ground_problem.proofs.Groups.{line_typed, values, shows_start, stands_nobody, stands, means}
+use Rattle.ground_problem.proofs.Groups.{values, shows_start, stands_nobody, stands, means}
 use Rattle.ground_problem.proofs.Interpret.{invariant_typed, conflict_of, line_at_agrees, call_agrees}
 use Rattle.ground_problem.proofs.Names.{Each, EachOf}
 use Rattle.ground_problem.proofs.Closed.{names_of, of_left, of_right}
-use Rattle.ground_problem.proofs.Worlds.{HasSort, append_left, append_right}
+use Rattle.ground_problem.proofs.Worlds.{append_left, append_right}
 use Rattle.ground_problem.proofs.Rows.{HaveSorts}
 use Rattle.ground_problem.proofs.Sorted.{OwnSorted, AllSorted, chosen_sorted}
-use Rattle.ground_problem.proofs.Deciding.{Same}
 use Rattle.ground_problem.proofs.Placed.{nobody_sorted, caller_sorted}
 use Rattle.ground_problem.proofs.Existing.{operation_typed}
 use Rattle.ground_problem.proofs.Ruled.{Speaker, rules_agree}
@@ -61,9 +59,6 @@ use Rattle.ground_problem.proofs.Given as given
 use Rattle.ground_problem.proofs.Carried.{o, pair, NamedAll, NamedTwo, NamedOne, entry_agrees, one_call, two_calls}
 use Rattle.ground_problem.proofs.Range.{read_from, start_read_from}
 use Rattle.ground_problem.proofs.Back.{have_length, fails_back, forall_back, lines_back, same_truth}
-
-not_false : (b : Bool) → not b ≡ true → b ≡ false
-not_false b h = grind arith
 
 -- two interpretations that give two sums the same values agree on comparing them
 comparison_agrees : (m o : Interpretation) (c : Cmp) (t u : List Part) → sum_value m t ≡ sum_value o t → sum_value m u ≡ sum_value o u → is_true m (comparison c t u) ≡ is_true o (comparison c t u)
@@ -150,7 +145,7 @@ module _ (d : Specification) (ob : Obligation) (m : Interpretation) (h : all_tru
       let more = flat_map (λ i. instances z (at_stage []) nobody i.line.vars i.line.body) is in
       and_from (line_true w r [] i.line) (lines_true w r [] (map (λ i. i.line) is))
       (forall_back d ob m h t io [] nobody [] (at_stage []) r (NamedAll d ob m h t io) (same_truth d ob m h t io [] nobody [] (stands_nobody d ob w r cs val (given.setting d ob m h t io)) no_integers (nobody_sorted d ob) [] (NamedAll d ob m h t io) (entry_agrees d ob m h t io))
-      i.line (not_false (is_exists i.line.prefix) lt3.0) lt3.1 (of_left (NamedAll d ob m h t io) here more nf) (append_left m here more hl))
+      i.line (not-true (is_exists i.line.prefix) lt3.0) lt3.1 (of_left (NamedAll d ob m h t io) here more nf) (append_left m here more hl))
       (invariants_back is lt2.1 (of_right (NamedAll d ob m h t io) here more nf) (append_right m here more hl))
 
   pub invariant_back : EachOf (NamedAll d ob m h t io) (invariants_hold d z) → all_true m (invariants_hold d z) ≡ true → inv d w (reads (given.listing d ob m h t io)) ≡ true
@@ -210,7 +205,7 @@ module _ (d : Specification) (ob : Obligation) (m : Interpretation) (h : all_tru
       let same = rules_agree d z.sorts m (o d ob m h t io) (pair d ob m h t io) one other d.rules (op_n 0).takes (op_n 1).takes rules takes more in
       subst (λ (a : Call). conflict_of d w (slice_index (operations_of ob) 0) a.args (slice_index (operations_of ob) 1) (call_n 1).args ≡ false) (given.call_here d ob m h t io 0 zeroth)
       (subst (λ (b : Call). conflict_of d w (slice_index (operations_of ob) 0) (call_at cs 0).args (slice_index (operations_of ob) 1) b.args ≡ false) (given.call_here d ob m h t io 1 first)
-      (not_false (conflict_of d w (slice_index (operations_of ob) 0) (call_at cs 0).args (slice_index (operations_of ob) 1) (call_at cs 1).args) (sym mean ∙ sym same ∙ hl)))
+      (not-true (conflict_of d w (slice_index (operations_of ob) 0) (call_at cs 0).args (slice_index (operations_of ob) 1) (call_at cs 1).args) (sym mean ∙ sym same ∙ hl)))
 
   -- ---- 4
   pub invariant_fails : (n i : ℕ) → elements_of d ob ≡ failing_vars (invariant_line d i) → EachOf (NamedTwo d ob m h t io) (line_fails z (at_stage (n ∷ [])) nobody (invariant_line d i)) → all_true m (line_fails z (at_stage (n ∷ [])) nobody (invariant_line d i)) ≡ true
@@ -289,13 +284,19 @@ second_direction d (Init i) m t io h =
     let w = given.w d (Init i) m h t io in
     let es = given.es d (Init i) m h t io in
     let fit = given.elements_fit_here d (Init i) m h t io in
-    let fails = start_fails d (Init i) m h t io i refl (conclusion_named d (Init i) m h t io) (conclusion_holds d (Init i) m h t io) in
-    (w, initial d w, [], es, record {
-      world = given.world d (Init i) m h t io;
-      state = initial_is_state d w;
-      elements = fit;
-      broken = record { start = refl; fails = line_at_agrees d w (given.world d (Init i) m h t io) [] [] refl (reads (initial d w)) (start_everywhere d) (start_agrees d w) (invariant_line d i) (invariant_typed d t i) es fit ∙ fails };
-    }, start_read_from d (Init i) m h t io)
+    let fails = start_fails d (Init i) m h t io i refl (conclusion_named d (Init i) m h t io) (conclusion_holds d (Init i) m h t io) in (
+      w,
+      initial d w,
+      [],
+      es,
+      record {
+        world = given.world d (Init i) m h t io;
+        state = initial_is_state d w;
+        elements = fit;
+        broken = record { start = refl; fails = line_at_agrees d w (given.world d (Init i) m h t io) [] [] refl (reads (initial d w)) (start_everywhere d) (start_agrees d w) (invariant_line d i) (invariant_typed d t i) es fit ∙ fails };
+      },
+      start_read_from d (Init i) m h t io,
+    )
 second_direction d (Safety n i) m t io h =
     let ob = Safety n i in
     let w = given.w d ob m h t io in
@@ -307,18 +308,24 @@ second_direction d (Safety n i) m t io h =
     let a = call_n d ob m h t io 0 in
     let is_a = is_call_n d ob m h t io 0 zeroth in
     let fails = invariant_fails d ob m h t io 0 i refl (conclusion_named d ob m h t io) (conclusion_holds d ob m h t io) in
-    let agree = call_agrees d w t (given.world d ob m h t io) n a is_a (reads s) r (given.state_reads d ob m h t io) in
-    (w, s, a ∷ [], es, record {
-      world = given.world d ob m h t io;
-      state = given.state d ob m h t io;
-      elements = fit;
-      broken = record {
-        call = is_a;
-        invariant = invariant_back d ob m h t io (entry_named d ob m h t io) (entry_holds d ob m h t io);
-        ready = pre_back d ob m h t io 0 zeroth;
-        fails = line_at_agrees d w (given.world d ob m h t io) [] [] refl (after d w a (reads s)) (after_everywhere d w a r) agree (invariant_line d i) (invariant_typed d t i) es fit ∙ fails;
-      };
-    }, read_from d ob m h t io)
+    let agree = call_agrees d w t (given.world d ob m h t io) n a is_a (reads s) r (given.state_reads d ob m h t io) in (
+      w,
+      s,
+      a ∷ [],
+      es,
+      record {
+        world = given.world d ob m h t io;
+        state = given.state d ob m h t io;
+        elements = fit;
+        broken = record {
+          call = is_a;
+          invariant = invariant_back d ob m h t io (entry_named d ob m h t io) (entry_holds d ob m h t io);
+          ready = pre_back d ob m h t io 0 zeroth;
+          fails = line_at_agrees d w (given.world d ob m h t io) [] [] refl (after d w a (reads s)) (after_everywhere d w a r) agree (invariant_line d i) (invariant_typed d t i) es fit ∙ fails;
+        };
+      },
+      read_from d ob m h t io,
+    )
 second_direction d (Commute n p x) m t io h =
     let ob = Commute n p x in
     let w = given.w d ob m h t io in
@@ -338,23 +345,29 @@ second_direction d (Commute n p x) m t io h =
     let after_b = call_agrees d w t world p b is_b (reads s) r agree in
     let one = call_agrees d w t world p b is_b (after d w a (reads s)) (after_everywhere d w a r) after_a in
     let other = call_agrees d w t world n a is_a (after d w b (reads s)) (after_everywhere d w b r) after_b in
-    let fails = differ_back d ob m h t io x 1 0 0 1 (conclusion_named_first d ob m h t io).0 (conclusion_holds d ob m h t io) in
-    (w, s, a ∷ b ∷ [], es, record {
-      world = world;
-      state = given.state d ob m h t io;
-      elements = fit;
-      broken = record {
-        first = is_a;
-        second = is_b;
-        together = record {
-          invariant = invariant_back d ob m h t io (entry_named d ob m h t io) (entry_holds d ob m h t io);
-          first = pre_back d ob m h t io 0 zeroth;
-          second = pre_back d ob m h t io 1 first;
-          apart = apart_back d ob m h t io zeroth first (free_holds d ob m h t io);
+    let fails = differ_back d ob m h t io x 1 0 0 1 (conclusion_named_first d ob m h t io).0 (conclusion_holds d ob m h t io) in (
+      w,
+      s,
+      a ∷ b ∷ [],
+      es,
+      record {
+        world = world;
+        state = given.state d ob m h t io;
+        elements = fit;
+        broken = record {
+          first = is_a;
+          second = is_b;
+          together = record {
+            invariant = invariant_back d ob m h t io (entry_named d ob m h t io) (entry_holds d ob m h t io);
+            first = pre_back d ob m h t io 0 zeroth;
+            second = pre_back d ob m h t io 1 first;
+            apart = apart_back d ob m h t io zeroth first (free_holds d ob m h t io);
+          };
+          fails = reads_same_back d w x es io.2 fit (after d w b (after d w a (reads s))) (after d w a (after d w b (reads s))) (after_everywhere d w b (after_everywhere d w a r)) (after_everywhere d w a (after_everywhere d w b r)) one other fails;
         };
-        fails = reads_same_back d w x es io.2 fit (after d w b (after d w a (reads s))) (after d w a (after d w b (reads s))) (after_everywhere d w b (after_everywhere d w a r)) (after_everywhere d w a (after_everywhere d w b r)) one other fails;
-      };
-    }, read_from d ob m h t io)
+      },
+      read_from d ob m h t io,
+    )
 second_direction d (Stable n l p) m t io h =
     let ob = Stable n l p in
     let w = given.w d ob m h t io in
@@ -371,20 +384,26 @@ second_direction d (Stable n l p) m t io h =
     let is_b = is_call_n d ob m h t io 1 first in
     let typed : is_line d (op_of d n).params (requires_line d n l) ≡ true = list_all-get_or (is_line d (op_of d n).params) (op_of d n).requires_ (operation_parts d (op_of d n) (operation_typed d ob t io 0 zeroth)).requires_ l no_line refl in
     let agree = call_agrees d w t world p b is_b (reads s) r (given.state_reads d ob m h t io) in
-    let fails = requires_fails d ob m h t io 0 1 zeroth (requires_line d n l) typed refl (conclusion_named d ob m h t io) (conclusion_holds d ob m h t io) in
-    (w, s, a ∷ b ∷ [], es, record {
-      world = world;
-      state = given.state d ob m h t io;
-      elements = fit;
-      broken = record {
-        first = is_a;
-        second = is_b;
-        together = record {
-          invariant = invariant_back d ob m h t io (entry_named d ob m h t io) (entry_holds d ob m h t io);
-          first = pre_back d ob m h t io 0 zeroth;
-          second = pre_back d ob m h t io 1 first;
-          apart = apart_back d ob m h t io zeroth first (free_holds d ob m h t io);
+    let fails = requires_fails d ob m h t io 0 1 zeroth (requires_line d n l) typed refl (conclusion_named d ob m h t io) (conclusion_holds d ob m h t io) in (
+      w,
+      s,
+      a ∷ b ∷ [],
+      es,
+      record {
+        world = world;
+        state = given.state d ob m h t io;
+        elements = fit;
+        broken = record {
+          first = is_a;
+          second = is_b;
+          together = record {
+            invariant = invariant_back d ob m h t io (entry_named d ob m h t io) (entry_holds d ob m h t io);
+            first = pre_back d ob m h t io 0 zeroth;
+            second = pre_back d ob m h t io 1 first;
+            apart = apart_back d ob m h t io zeroth first (free_holds d ob m h t io);
+          };
+          fails = line_at_agrees d w world (op_of d n).params a.args (and_parts (nat_lt n (length d.operations)) _ is_a.fits).1 (after d w b (reads s)) (after_everywhere d w b r) agree (requires_line d n l) typed es fit ∙ fails;
         };
-        fails = line_at_agrees d w world (op_of d n).params a.args (and_parts (nat_lt n (length d.operations)) _ is_a.fits).1 (after d w b (reads s)) (after_everywhere d w b r) agree (requires_line d n l) typed es fit ∙ fails;
-      };
-    }, read_from d ob m h t io)
+      },
+      read_from d ob m h t io,
+    )

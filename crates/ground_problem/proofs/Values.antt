@@ -1,8 +1,7 @@
 -- The lists of a world, a state and a call, made from functions.
-use Rattle.std.proofs.Common.{◌≡◌, ℕ, zero, suc, ◌+◌, ◌<◌, ◌≤◌, ◌==◌, nat_lt, ℤ, pos, int_le, unsigned_abs, Bool, true, false, cond, ◌&&◌, ◌||◌, inl, inr, ◌⊎◌, List, [], ◌∷◌, map, length, get_or, slice_get, slice_index, slice_index_or, bytes_eq, filter, refl, sym, ◌∙◌, ap, subst, arith}
-use Rattle.std.specs.List.{list_all, list_any}
-use Rattle.std.proofs.lemmas.Bool.{and_parts, and_from, or_left, or_right, eqb-true}
-use Rattle.std.proofs.lemmas.Bool.Decides.{nat_tests}
+use Rattle.std.proofs.Common.{◌≡◌, ℕ, zero, suc, ◌+◌, ◌<◌, ◌≤◌, nat_lt, ℤ, pos, int_le, unsigned_abs, Bool, true, false, cond, ◌&&◌, ◌||◌, ◌⊎◌, List, [], ◌∷◌, map, length, get_or, slice_get, slice_index, slice_index_or, bytes_eq, filter, refl, sym, ◌∙◌, ap, subst, arith}
+use Rattle.std.specs.List.{list_all}
+use Rattle.std.proofs.lemmas.Bool.{lt-ltb, eq-eqb, and_from, or_left, or_right}
 use Rattle.std.proofs.lemmas.Int.{ints}
 use Rattle.std.proofs.lemmas.Slice.Eq.{bytes_eq-Decides}
 use Rattle.spec_core.specs.declared.operation.Kind.{Kind}
@@ -17,6 +16,9 @@ use Rattle.spec_core.specs.Fits.{fits_places, is_argument, are_arguments, lists_
 use Rattle.spec_core.specs.Specification.{no_relation, no_counter}
 use Rattle.spec_core.specs.Typed.{sort_of_kind, sort_of_param, is_sort, is_int, is_number}
 use Rattle.ground_problem.proofs.Rows.{has_back, count_back}
+
+pub split_at : (k n : ℕ) → (k < n) ⊎ (n ≤ k)
+split_at k n = grind arith
 
 -- ---- numbers in rising order
 
@@ -80,17 +82,11 @@ module _ (e : ℕ → ℕ) (f : ℕ → ℤ) where
       (by_kind p.kind (λ s k. (let q : from + 0 ≡ from = omega arith in subst (λ (x : ℕ). e x < size_of w s) q (h 0 s k))))
       (arguments_fit w (suc from) ps (λ i s k. (let q : from + suc i ≡ suc from + i = omega arith in subst (λ (x : ℕ). e x < size_of w s) q (h (suc i) s k))))
     where
-      same_true : (s : ℕ) → (s == s) ≡ true
-      same_true s = grind (arith, nat_tests)
-
-      lt_test : (a b : ℕ) → a < b → nat_lt a b ≡ true
-      lt_test a b h = grind (arith, nat_tests)
-
       not_negative : (a : ℕ) → int_le (pos 0) (pos a) ≡ true
       not_negative a = grind (arith, ints)
 
       by_kind : (k : Kind) → ((s : ℕ) → is_sort (sort_of_kind k) s ≡ true → e from < size_of w s) → is_argument w k (argument_of k (e from) (f from)) ≡ true
-      by_kind (Sort s) h = and_from (int_le (pos 0) (pos (e from))) (nat_lt (e from) (size_of w s)) (not_negative (e from)) (lt_test (e from) (size_of w s) (h s (same_true s)))
+      by_kind (Sort s) h = and_from (int_le (pos 0) (pos (e from))) (nat_lt (e from) (size_of w s)) (not_negative (e from)) (lt-ltb (e from) (size_of w s) (h s (eq-eqb s s refl)))
       by_kind Int h = refl
 
 -- ---- a state

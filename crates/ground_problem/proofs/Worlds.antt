@@ -1,6 +1,6 @@
 -- The elements that an interpretation gives: the classes of equal constants of a sort.
-use Rattle.std.proofs.Common.{◌≡◌, ◌≢◌, ℕ, zero, suc, ◌+◌, ◌<◌, ltb, ◌==◌, Bool, true, false, not, cond, ◌&&◌, ◌||◌, ◌⊎◌, inl, inr, List, [], ◌∷◌, ◌++◌, length, slice_get, slice_index, flat_map, refl, sym, ◌∙◌, ap, subst, arith}
-use Rattle.std.proofs.lemmas.Bool.{and_parts, and_from}
+use Rattle.std.proofs.Common.{◌≡◌, ℕ, zero, suc, ◌+◌, ◌<◌, ltb, ◌==◌, Bool, true, false, not, cond, ◌&&◌, ◌||◌, ◌⊎◌, inl, inr, List, [], ◌∷◌, ◌++◌, length, slice_get, slice_index, flat_map, refl, sym, ◌∙◌, ap, subst, arith}
+use Rattle.std.proofs.lemmas.Bool.{eqb-false, eq-eqb, eqb-true, and_parts, and_from}
 use Rattle.std.proofs.lemmas.Bool.Decides.{nat_tests}
 use Rattle.spec_core.specs.Typed.{is_sort}
 use Rattle.ground_problem.specs.Symbols.{Symbolic, always, same, Interpretation, is_true, all_true, same_const}
@@ -9,15 +9,6 @@ use Rattle.ground_problem.specs.Equality.{three_agree, agree_with_pairs, equalit
 use Rattle.ground_problem.proofs.Choices.{one_of, in_sort}
 use Rattle.ground_problem.proofs.Classes.{any_like, firsts, place_like, firsts_in, firsts_cover, place_below, place_is_like, place_same, firsts_apart, place_of_first, one_of_index}
 
-is_same : (x y : ℕ) → (x == y) ≡ true → x ≡ y
-is_same x y e = grind (arith, nat_tests)
-
-not_same : (x y : ℕ) → (x == y) ≡ false → x ≢ y
-not_same x y e q = grind (arith, nat_tests)
-
-same_true : (x : ℕ) → (x == x) ≡ true
-same_true x = grind (arith, nat_tests)
-
 -- the constant at this place has this sort
 abbrev pub HasSort : List ℕ → ℕ → ℕ → Type 0
 HasSort sorts s n = is_sort (slice_get sorts n) s ≡ true
@@ -25,12 +16,12 @@ HasSort sorts s n = is_sort (slice_get sorts n) s ≡ true
 -- ---- a place and its sort
 pub has_sort : (sorts : List ℕ) (s n : ℕ) → n < length sorts → slice_index sorts n ≡ s → HasSort sorts s n
 has_sort [] s n h e = absurd (omega arith)
-has_sort (x ∷ xs) s zero h e = subst (λ (y : ℕ). (x == y) ≡ true) e (same_true x)
+has_sort (x ∷ xs) s zero h e = subst (λ (y : ℕ). (x == y) ≡ true) e (eq-eqb x x refl)
 has_sort (x ∷ xs) s (suc n) h e = has_sort xs s n (omega arith) e
 
 pub sort_of : (sorts : List ℕ) (s n : ℕ) → HasSort sorts s n → (n < length sorts) × (slice_index sorts n ≡ s)
 sort_of [] s n h = absurd cc
-sort_of (x ∷ xs) s zero h = (omega arith, (is_same x s h))
+sort_of (x ∷ xs) s zero h = (omega arith, (eqb-true x s h))
 sort_of (x ∷ xs) s (suc n) h = (let p = sort_of xs s n h in let a = p.0 in (omega arith, p.1))
 
 pub sort_one_of : (from : ℕ) (sorts : List ℕ) (s n : ℕ) → HasSort sorts s n → one_of (from + n) (of_sort from sorts s) ≡ true
@@ -45,7 +36,7 @@ sort_one_of from (x ∷ xs) s zero h = by_test (x == s) refl
       where
         here : (a b : ℕ) → a ≡ b → (c : Bool) → ((a == b) || c) ≡ true
         here a b e c = grind (arith, nat_tests)
-    by_test false e = absurd (not_same x s e (is_same x s h))
+    by_test false e = absurd (eqb-false x s e (eqb-true x s h))
 sort_one_of from (x ∷ xs) s (suc n) h = by_test (x == s) (let e : suc from + n ≡ from + suc n = omega arith in subst (λ (y : ℕ). one_of y (of_sort (suc from) xs s) ≡ true) e (sort_one_of (suc from) xs s n h))
   where
     by_test : (b : Bool) → one_of (from + suc n) (of_sort (suc from) xs s) ≡ true → one_of (from + suc n) (cond b (from ∷ of_sort (suc from) xs s) (of_sort (suc from) xs s)) ≡ true
@@ -70,7 +61,7 @@ module _ (m : Interpretation) where
   piece_at g (y ∷ ys) x k h = by_test (x == y) refl k (λ l. piece_at g ys x l (append_right (g y) (flat_map g ys) h))
     where
       by_test : (b : Bool) → (x == y) ≡ b → (b || one_of x ys) ≡ true → (one_of x ys ≡ true → all_true m (g x) ≡ true) → all_true m (g x) ≡ true
-      by_test true e k ih = (let q = is_same x y e in subst (λ (v : ℕ). all_true m (g v) ≡ true) (sym q) (append_left (g y) (flat_map g ys) h))
+      by_test true e k ih = (let q = eqb-true x y e in subst (λ (v : ℕ). all_true m (g v) ≡ true) (sym q) (append_left (g y) (flat_map g ys) h))
       by_test false e k ih = ih k
 
   -- a constant and a later one in a rising list
@@ -83,7 +74,7 @@ module _ (m : Interpretation) where
       by_test true e h = (let p : from ≡ from + 0 = omega arith in let q : suc from + k ≡ from + suc k = omega arith in
           subst (λ (x : ℕ). all_true m (three_agree a x (from + suc k)) ≡ true) p (subst (λ (x : ℕ). all_true m (three_agree a from x) ≡ true) q
           (piece_at (three_agree a from) (of_sort (suc from) ts s) (suc from + k) (sort_one_of (suc from) ts s k hk) (append_left (flat_map (three_agree a from) (of_sort (suc from) ts s)) (agree_with_pairs a (of_sort (suc from) ts s)) h))))
-      by_test false e h = absurd (not_same t s e (is_same t s hi))
+      by_test false e h = absurd (eqb-false t s e (eqb-true t s hi))
   second_at a from (t ∷ ts) s (suc i) zero l hi hk h = absurd (omega arith)
   second_at a from (t ∷ ts) s (suc i) (suc k) l hi hk h =
       (let p : suc from + i ≡ from + suc i = omega arith in let q : suc from + k ≡ from + suc k = omega arith in
@@ -102,7 +93,7 @@ module _ (m : Interpretation) where
       (let p : suc from + j ≡ from + suc j = omega arith in let q : suc from + k ≡ from + suc k = omega arith in let r : from ≡ from + 0 = omega arith in
       subst (λ (x : ℕ). all_true m (three_agree x (from + suc j) (from + suc k)) ≡ true) r (subst (λ (x : ℕ). all_true m (three_agree from x (from + suc k)) ≡ true) p (subst (λ (x : ℕ). all_true m (three_agree from (suc from + j) x) ≡ true) q
       (second_at from (suc from) ts s j k (omega arith) hj hk
-      (let e : t ≡ s = (is_same t s hi) in subst (λ (x : ℕ). all_true m (agree_with_pairs from (of_sort (suc from) ts x)) ≡ true) e (append_left (agree_with_pairs from (of_sort (suc from) ts t)) (equality (suc from) ts) h))))))
+      (let e : t ≡ s = (eqb-true t s hi) in subst (λ (x : ℕ). all_true m (agree_with_pairs from (of_sort (suc from) ts x)) ≡ true) e (append_left (agree_with_pairs from (of_sort (suc from) ts t)) (equality (suc from) ts) h))))))
   equality_at from (t ∷ ts) s (suc i) (suc j) (suc k) l o hi hj hk h =
       (let p : suc from + j ≡ from + suc j = omega arith in let q : suc from + k ≡ from + suc k = omega arith in let r : suc from + i ≡ from + suc i = omega arith in
       subst (λ (x : ℕ). all_true m (three_agree x (from + suc j) (from + suc k)) ≡ true) r (subst (λ (x : ℕ). all_true m (three_agree (suc from + i) x (from + suc k)) ≡ true) p (subst (λ (x : ℕ). all_true m (three_agree (suc from + i) (suc from + j) x) ≡ true) q
@@ -222,7 +213,7 @@ module _ (m : Interpretation) where
     element_same s a b ha hb = by_both (element a) (element b) (like a b) back forth
       where
         by_both : (x y : ℕ) (q : Bool) → (q ≡ true → x ≡ y) → (x ≡ y → q ≡ true) → (x == y) ≡ q
-        by_both x y q f g = by_tests (x == y) q (λ e. g (is_same x y e)) (λ e. eq_true x y (f e))
+        by_both x y q f g = by_tests (x == y) q (λ e. g (eqb-true x y e)) (λ e. eq_true x y (f e))
           where
             eq_true : (x y : ℕ) → x ≡ y → (x == y) ≡ true
             eq_true x y e = grind (arith, nat_tests)
