@@ -1,5 +1,6 @@
--- Two small problems, computed: two calls that raise a flag commute; after another sale there is still enough to sell.
-use Rattle.std.specs.Prelude.{◌≡◌, pos, negsuc, true, false, List, [], ◌∷◌, ◌++◌, ℕ}
+-- Small problems, computed: two calls that raise a flag commute; after another sale there is still enough to sell, and without the
+-- conflict rule there isn't.
+use Rattle.std.specs.Prelude.{◌≡◌, ℤ, pos, negsuc, true, false, List, [], ◌∷◌, ◌++◌, ℕ}
 use Rattle.std.proofs.Common.{refl}
 use Rattle.spec_core.specs.declared.formula.Elem.TheVariants.{Param, Var}
 use Rattle.spec_core.specs.declared.formula.Cmp.TheVariants.{AtLeast}
@@ -14,7 +15,7 @@ use Rattle.spec_core.specs.Form.{true_form, has_form, compare_form}
 use Rattle.spec_core.specs.Line.{Line}
 use Rattle.spec_core.specs.Specification.{Specification}
 use Rattle.obligation_list.specs.declared.obligation.Obligation.TheVariants.{Commute, Stable}
-use Rattle.ground_problem.specs.Symbols.{argument, reading, number, multiple, Symbolic, always, same, has, at_most, negated, both, either, equal}
+use Rattle.ground_problem.specs.Symbols.{Integer, argument, reading, partial, number, multiple, Symbolic, always, same, has, at_most, negated, both, either, equal, Interpretation, all_true}
 use Rattle.ground_problem.specs.Problem.{formulas_of}
 
 -- ---- a flag that is up, and an operation that raises it
@@ -89,3 +90,32 @@ shop-stable : formulas_of shop (Stable 0 0 0) ≡
     ∷ []
 unfolding shop
 shop-stable = refl
+
+-- ---- the same without the conflict rule: two sales of the last piece
+
+free_shop : Specification
+free_shop = record {
+  version = shop.version;
+  sorts = shop.sorts;
+  consts = shop.consts;
+  relations = shop.relations;
+  counters = shop.counters;
+  tokens = shop.tokens;
+  rules = [];
+  invariants = shop.invariants;
+  operations = shop.operations;
+}
+
+-- one piece is left, both sales want one, and they are of one product
+amounts : Integer → ℤ
+amounts (argument c p) = pos 1
+amounts (reading [] i t) = pos 1
+amounts (reading (n ∷ k) i t) = pos 0
+amounts (partial n k i t) = pos 0
+
+oversold : Interpretation
+oversold = record { same = λ a b. true; has = λ k i t. false; int = amounts }
+
+shop-oversold : all_true oversold (formulas_of free_shop (Stable 0 0 0)) ≡ true
+unfolding shop free_shop amounts oversold
+shop-oversold = refl
