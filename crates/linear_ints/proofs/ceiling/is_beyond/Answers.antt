@@ -1,0 +1,7 @@
+use Rattle.std.proofs.Common.{sym, ◌∙◌}
+use Rattle.proof_lines.proofs.Gap.{over_so}
+use Rattle.linear_ints.proofs.ceiling.is_beyond.Goals as goal
+
+pub returns-then-is_above : goal.returns-then-is_above
+returns-then-is_above c =
+    over_so 1000000000000000 c.args.more.now c.args.less.now c.args.by c.distance.result c.requires (sym c.is_above.ensures ∙ c.if-is_above.true) c.distance.ensures

@@ -1,0 +1,13 @@
+use Rattle.std.proofs.Common.{sym, subst, List, ℕ, length, ◌<◌}
+use Rattle.std.specs.Prelude.{IfOk}
+use Rattle.lin_rows.specs.Rows.{Row}
+use Rattle.linear_ints.specs.Sides.{IsSide}
+use Rattle.linear_ints.proofs.sides.side_of.Goals as goal
+
+pub side-requires : goal.side-requires
+side-requires c = subst (λ (l : List Row). length l < 10000) (sym c.as_slice-held.ensures) c.requires
+
+pub returns : goal.returns
+returns c =
+    subst (λ (o : List ℕ). IfOk c.side.result (λ numbers. IsSide c.args.upper o c.args.place c.args.tableau.now.held (length c.args.tableau.now.held) numbers)) c.as_slice-order.ensures
+    (subst (λ (l : List Row). IfOk c.side.result (λ numbers. IsSide c.args.upper c.as_slice-order.result.now c.args.place l (length l) numbers)) c.as_slice-held.ensures c.side.ensures)

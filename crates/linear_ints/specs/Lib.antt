@@ -1,0 +1,15 @@
+pub mod Fractions
+pub mod Points
+pub mod Splitting
+pub mod Ends
+pub mod Driven
+pub mod Ceilings
+pub mod Deciding
+pub mod Standing
+pub mod Descent
+pub mod Tableaux
+pub mod Stops
+pub mod Sides
+pub mod Needed
+pub mod Descending
+pub mod Listed

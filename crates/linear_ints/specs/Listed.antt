@@ -1,0 +1,6 @@
+use Rattle.std.specs.Prelude.{ℕ, ℤ, List}
+use Rattle.lin_rows.specs.Rows.{point_of}
+
+-- the point whose values are listed by place, as a name of its own
+unfoldable pub listed : List ℤ → ℕ → ℤ
+listed values = point_of values

@@ -1,0 +1,141 @@
+// The solver that a clause search asks.
+ghost use Rattle.std.specs.Prelude.{◌≡◌, ℕ, ◌<◌, true, [], IfOk, MatchResult};
+ghost use Rattle.std.specs.List.{list_all};
+ghost use Rattle.lin_rows.specs.Rows.{is_row};
+ghost use Rattle.proof_lines.specs.Numbers.{stands_in};
+ghost use Rattle.theory_api.specs.Laws.{IsAnswer, IsModel, all_below};
+ghost use Rattle.linear_ints.specs.Stops.{IsStop};
+ghost use Rattle.linear_ints.specs.Tableaux.{IsTaking};
+
+use crate::descend::descend;
+use crate::eliminate::eliminate_all;
+use crate::stop::Stop;
+use crate::tableau::Tableau;
+use crate::take::take_all;
+use items::Items;
+use lin_rows::Row;
+use std::alloc::{AllocError, Global};
+use theory_api::{Theory, TheoryAnswer, law_rows};
+
+/// A solver of linear rows over whole numbers, by elimination.
+#[derive(Drop)]
+pub struct Eliminator;
+
+impl Eliminator {
+    pub fn new() -> Eliminator {
+        Eliminator
+    }
+}
+
+// The places below a number.
+fn places(alloc: Global, ints: u32) -> Result<Items<u32>, AllocError>
+    ensures { IfOk result (λ left. (q : ℕ) → (stands_in left q ≡ true → q < ints) × (q < ints → stands_in left q ≡ true)) }
+{
+    let mut left = Items::new(alloc);
+    for place in 0..ints {
+        left.push(place)?;
+    }
+    Ok(left)
+}
+
+// The tableau before the first row.
+fn start(alloc: Global, rows: &[Row], ints: u32) -> Result<Tableau, AllocError>
+    requires rows { list_all is_row rows.now ≡ true }
+    requires places { all_below ints rows.now ≡ true }
+    ensures taking { IfOk result (λ tableau. IsTaking rows.now 0 tableau) }
+    ensures ints { IfOk result (λ tableau. tableau.ints ≡ ints) }
+{
+    let left = places(alloc, ints)?;
+    Ok(Tableau {
+        ints,
+        used: Items::new(alloc),
+        steps: Items::new(alloc),
+        held: Items::new(alloc),
+        order: Items::new(alloc),
+        left,
+    })
+}
+
+// Takes the rows, eliminates all places and gives each its value.
+fn solve(tableau: &mut Tableau, alloc: Global, rows: &[Row], ints: u32) -> Result<Items<i128>, Stop>
+    requires taking { IsTaking rows.now 0 tableau.old }
+    requires ints { tableau.old.ints ≡ ints }
+    requires rows { list_all is_row rows.now ≡ true }
+    ensures { MatchResult result (λ values. IsModel ints rows.now values) (λ stop. IsStop ints rows.now tableau.new stop) }
+{
+    match take_all(tableau, alloc, rows) {
+        Ok(()) => (),
+        Err(stop) => return Err(stop),
+    }
+    match eliminate_all(tableau, alloc, rows) {
+        Ok(()) => (),
+        Err(stop) => return Err(stop),
+    }
+    match descend(tableau, alloc, rows) {
+        Ok(values) => Ok(values),
+        Err(stop) => Err(stop),
+    }
+}
+
+// What the search is told.
+fn answer(tableau: Tableau, rows: &[Row], ints: u32, stop: Stop) -> TheoryAnswer
+    requires { IsStop ints rows.now tableau stop }
+    ensures { IsAnswer true true ints rows.now result }
+{
+    let Tableau {
+        ints: _,
+        used,
+        steps,
+        held: _,
+        order: _,
+        left: _,
+    } = tableau;
+    match stop {
+        Stop::Contradiction => TheoryAnswer::Conflict { used, steps },
+        Stop::Full => TheoryAnswer::Rows { used, steps },
+        Stop::Gap {
+            place,
+            at,
+            low,
+            high,
+            values,
+        } => TheoryAnswer::Split {
+            place,
+            at,
+            used,
+            steps,
+            low,
+            high,
+            values,
+        },
+        Stop::Beyond(what) => TheoryAnswer::Range { used, steps, what },
+        Stop::Memory => TheoryAnswer::Memory,
+    }
+}
+
+impl Theory for Eliminator {
+    ghost use Rattle.std.specs.Prelude.{true};
+
+    ghost MAY_SPLIT = { true };
+
+    ghost MAY_STOP = { true };
+
+    ghost takes = { λ rows ints. Unit {0} };
+
+    const MAY_SPLIT: bool = true;
+
+    const MAY_STOP: bool = true;
+
+    fn check(&mut self, alloc: Global, rows: &[Row], ints: u32) -> TheoryAnswer {
+        law_rows(rows);
+        let Ok(mut tableau) = start(alloc, rows, ints) else {
+            return TheoryAnswer::Memory;
+        };
+        match solve(&mut tableau, alloc, rows, ints) {
+            Ok(values) => TheoryAnswer::Model(values),
+            Err(stop) => answer(tableau, rows, ints, stop),
+        }
+    }
+
+    ghost takes_all = { λ h rows ints p. tt };
+}

@@ -1,0 +1,47 @@
+// A solver of linear rows over whole numbers, by the elimination of Fourier and Motzkin.
+//
+// What it does. Each given row is tightened (divided by the greatest common divisor of its coefficients, its bound rounded down) and
+// held, unless an equal row is held. Then the places are eliminated one after the other. A row that names the place with a positive
+// coefficient says that the place is at most something, an upper row; with a negative one it says that the place is at least something,
+// a lower row. For each pair of an upper and a lower row the least multipliers in which the place cancels give a new row without it,
+// tightened and held in its turn. The rows that name the place take no part from then on. At the end no row names a place that is not
+// eliminated. Then values are chosen, from the place that was eliminated last back to the first: for each, the lower rows give a
+// lowest value, the upper rows a highest one, and it gets the number nearest to 0 between them.
+//
+// Why that is right. (1) Each new row follows from the two it is made of, and tightening keeps all whole points. So where a row without
+// terms and with a negative bound is made, no whole numbers satisfy the given rows, and the steps so far are a Farkas line: Conflict.
+// (2) Say that all rows that come after a place are true at the values chosen so far. The rows of the place then name no place without a
+// value but that one, so each is a bound for it, a fraction; and as the combination of an upper row u and a lower row l is true, the
+// fraction of l is at most that of u. So over fractions there is always a value. Over whole numbers there is one unless the greatest
+// ceiling of the lower fractions is above the least floor of the upper ones. Then both fractions of the two rows that give these lie
+// strictly between one whole number and the next, and this is the gap of a Split: no given row says on which side of it the place is,
+// for such a row would be among the upper or the lower ones. (3) Where there is no gap at any place, all held rows are true in the end,
+// and so are the given ones: Model.
+//
+// Where it stops. Ten thousand rows are the most that it holds (Rows); a combination that leaves the range of a row is Product; a rest
+// that leaves it is Sum, and a bound beyond the range of a state is Value (Range). Each answer has its certificate by construction.
+//
+// What it costs. One place with m upper and n lower rows takes m * n steps, and so the next place with the fewest pairs is taken each
+// time. The rows may grow doubly exponentially in the number of places; the limit of rows bounds this. A new row is compared with all
+// that are held.
+//
+// Files, in the order in which a reader needs them: src/tableau (the rows that are held), src/take (the given rows), src/steps (the
+// pairs of a place), src/sides and src/choosing (the rows of a place, the next place), src/eliminate (all places), src/ceiling and
+// src/bounds (what a row says of a value), src/descend (the values), src/eliminator (the solver). Definitions: specs/Tableaux (what a
+// tableau keeps), specs/Stops (the reasons to stop), specs/Sides and specs/Descending (what is known while values are chosen); the
+// others are steps of the proofs.
+#![tactic(auto)]
+
+pub mod bounds;
+pub mod ceiling;
+pub mod choosing;
+pub mod descend;
+pub mod eliminate;
+pub mod eliminator;
+pub mod sides;
+pub mod steps;
+pub mod stop;
+pub mod tableau;
+pub mod take;
+
+pub use eliminator::Eliminator;

@@ -1,0 +1,77 @@
+// The upper and the lower rows of a place.
+ghost use Rattle.std.specs.Prelude.{◌≡◌, ◌<◌, ◌^◌, cond, length, IfOk};
+ghost use Rattle.lin_rows.specs.Numbers.{is_zero};
+ghost use Rattle.lin_rows.specs.Rows.{coefficient_at};
+ghost use Rattle.proof_lines.specs.Steps.{is_negative, is_positive};
+ghost use Rattle.linear_ints.specs.Ends.{names_none};
+ghost use Rattle.linear_ints.specs.Sides.{is_on, IsSide};
+
+use crate::tableau::Tableau;
+use items::Items;
+use lin_rows::Row;
+use proof_lines::splitting::{is_negative, is_positive};
+use std::alloc::{AllocError, Global};
+
+fn is_zero(a: &i128) -> bool
+    ensures { result ≡ is_zero a.now }
+{
+    !is_positive(a) && !is_negative(a)
+}
+
+fn names_none(places: &[u32], row: &Row) -> bool
+    ensures { result ≡ names_none places.now row.now }
+{
+    places.iter().all(|place| is_zero(&row.coefficient(*place)))
+}
+
+fn has_sign(upper: bool, a: &i128) -> bool
+    ensures { result ≡ cond upper (is_positive a.now) (is_negative a.now) }
+{
+    if upper {
+        is_positive(a)
+    } else {
+        is_negative(a)
+    }
+}
+
+/// Whether a row names no place before, and is on one side of a place.
+pub fn is_on(upper: bool, before: &[u32], place: u32, row: &Row) -> bool
+    ensures { result ≡ is_on upper before.now place row.now }
+{
+    has_sign(upper, &row.coefficient(place)) && names_none(before, row)
+}
+
+// The numbers of the rows on one side of a place.
+fn side(
+    alloc: Global,
+    upper: bool,
+    before: &[u32],
+    place: u32,
+    held: &[Row],
+) -> Result<Items<u32>, AllocError>
+    requires { length held.now < 10000 }
+    ensures { IfOk result (λ numbers. IsSide upper before.now place held.now (length held.now) numbers) }
+{
+    let mut numbers = Items::new(alloc);
+    for number in 0..held.len() {
+        if is_on(upper, before, place, &held[number]) {
+            numbers.push(number as u32)?;
+        }
+    }
+    Ok(numbers)
+}
+
+/// The numbers of the held rows on one side of a place that isn't eliminated yet.
+pub fn side_of(
+    tableau: &Tableau,
+    alloc: Global,
+    upper: bool,
+    place: u32,
+) -> Result<Items<u32>, AllocError>
+    requires { length tableau.now.held < 10000 }
+    ensures { IfOk result (λ numbers. IsSide upper tableau.now.order place tableau.now.held (length tableau.now.held) numbers) }
+{
+    let order = tableau.order.as_slice();
+    let held = tableau.held.as_slice();
+    side(alloc, upper, order, place, held)
+}
