@@ -1,39 +1,38 @@
-use Rattle.std.proofs.Common.{◌≡◌, ℕ, zero, suc, ◌<◌, ◌≤◌, ◌+◌, ◌^◌, length, ℤ, pos, negsuc, neg_ℤ, ◌-ℤ◌, ◌<ℤ◌, ◌≤ℤ◌, unsigned_abs, Bool, true, false, not, cond, ◌&&◌, ◌||◌, List, [], ◌∷◌, map, ◌++◌, take, get_or, refl, sym, ◌∙◌, ap, subst, arith, None, Some, Ok, Err, Result, ◌⊎◌, inl, inr}
-use Rattle.std.specs.Prelude.{int_lt, nat_lt, nat_le, ◌==◌, slice_set}
-use Rattle.std.specs.List.{list_any, list_all}
+use Rattle.std.proofs.Common.{◌≡◌, ℕ, zero, suc, ◌<◌, ◌≤◌, ◌+◌, ◌^◌, length, ℤ, pos, negsuc, neg_ℤ, ◌-ℤ◌, ◌<ℤ◌, ◌≤ℤ◌, unsigned_abs, Bool, true, false, cond, ◌&&◌, List, [], ◌∷◌, map, ◌++◌, take, refl, sym, ◌∙◌, ap, subst, arith, None, Some, Err, Result, ◌⊎◌, inl, inr}
+use Rattle.std.specs.Prelude.{int_lt, nat_lt, ◌==◌, slice_set}
+use Rattle.std.specs.List.{list_all}
 use Rattle.std.proofs.lemmas.Int.{ints}
 use Rattle.std.proofs.lemmas.List.{length-map, length-set}
-use Rattle.std.proofs.lemmas.Bool.{and_parts, and_from, cases_lt, lt-ltb, eq-eqb, ne_eqb, le-leb, leb-true, or_left}
+use Rattle.std.proofs.lemmas.Bool.{and_parts, and_from, lt-ltb, eq-eqb, ne_eqb, le-leb, leb-true, or_left}
 use Rattle.lin_rows.specs.Numbers.{is_zero, fit, in_range}
-use Rattle.lin_rows.specs.Rows.{Row, is_row, is_contradiction, coefficient_at, value_at, point_of, negated, opposite}
+use Rattle.lin_rows.specs.Rows.{Row, is_row, coefficient_at, value_at, point_of, negated, opposite}
 use Rattle.lin_rows.specs.Divisors.{tightened}
 use Rattle.lin_rows.proofs.Points.{option_map-went}
 use Rattle.proof_lines.specs.declared.line.RangeWhat.{RangeWhat}
 use Rattle.proof_lines.specs.declared.line.RangeWhat.TheVariants.{Value, Sum}
 use Rattle.proof_lines.specs.declared.line.Why.{Why}
 use Rattle.proof_lines.specs.declared.line.Why.TheVariants.{Place}
-use Rattle.proof_lines.specs.Problems.{row_true}
-use Rattle.proof_lines.specs.Steps.{row_at, is_positive, is_negative, held_rows}
-use Rattle.proof_lines.specs.Splits.{rest_at, other_names, splits, split_fits, split_cause}
+use Rattle.proof_lines.specs.Steps.{row_at, is_positive, is_negative}
+use Rattle.proof_lines.specs.Splits.{rest_at, other_names, split_fits, split_cause}
 use Rattle.proof_lines.specs.Refusals.{then_}
 use Rattle.proof_lines.specs.Splits.{at_most}
 use Rattle.proof_lines.specs.Numbers.{stands_in}
 use Rattle.proof_lines.specs.Evidence.{in_state, range_shown, all_cancel, is_beyond}
-use Rattle.theory_api.specs.Chosen.{Choice, is_named, chosen_point}
+use Rattle.theory_api.specs.Chosen.{Choice, chosen_point}
 use Rattle.theory_api.specs.Elimination.{stage, ends_in_order}
-use Rattle.theory_api.specs.Laws.{IsModel, IsBeyond, IsSplit, HasChosen, rows_at, settles}
+use Rattle.theory_api.specs.Laws.{IsModel, IsBeyond, IsSplit, HasChosen}
 use Rattle.linear_ints.specs.declared.tableau.Tableau.{Tableau}
 use Rattle.linear_ints.specs.declared.bounds.FaultAt.{FaultAt}
 use Rattle.linear_ints.specs.declared.bounds.Fault.{Fault}
 use Rattle.linear_ints.specs.declared.bounds.Fault.TheVariants.{Sum as IsSum, Value as IsValue}
 use Rattle.linear_ints.specs.Fractions.{size, InOrder, IsInGap}
-use Rattle.linear_ints.specs.Points.{values_of, is_filled_but, with_value}
+use Rattle.linear_ints.specs.Points.{values_of, is_filled_but}
 use Rattle.linear_ints.specs.Ends.{names_none, after, last_stage}
 use Rattle.linear_ints.specs.Ceilings.{IsBound, is_beyond as is_above_state}
 use Rattle.linear_ints.specs.Deciding.{nearest, Says, Lowest, Highest}
 use Rattle.linear_ints.specs.Standing.{place_at}
-use Rattle.linear_ints.specs.Descent.{Pair, Eliminated, Descended, Within, IsHeld}
-use Rattle.linear_ints.specs.Tableaux.{IsTableau, IsElimination, AreTaken}
+use Rattle.linear_ints.specs.Descent.{Pair, Eliminated, Within, IsHeld}
+use Rattle.linear_ints.specs.Tableaux.{IsElimination, AreTaken}
 use Rattle.linear_ints.specs.Sides.{is_on, IsBoundAt, Attains, IsGreatest}
 use Rattle.linear_ints.specs.Descending.{IsDescent, AreBounds, IsFault, IsFaultAt}
 use Rattle.linear_ints.proofs.Splitting.{lt_so, le_is, rest_is}
@@ -42,7 +41,7 @@ use Rattle.linear_ints.proofs.Chosen.{chosen-one, chosen-two, point_of-set}
 use Rattle.linear_ints.proofs.Points.{chosen-unnamed}
 use Rattle.linear_ints.proofs.Ends.{after-more, eliminate-beyond}
 use Rattle.linear_ints.proofs.Deciding.{gap-apart}
-use Rattle.linear_ints.proofs.Standing.{stage-zero, combined-true}
+use Rattle.linear_ints.proofs.Standing.{combined-true}
 use Rattle.linear_ints.proofs.Filling.{filled-at}
 use Rattle.linear_ints.proofs.Descent.{descended-start, descended-value, pair-meets, descended-split}
 use Rattle.linear_ints.proofs.Models.{model}

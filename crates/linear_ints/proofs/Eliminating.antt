@@ -1,14 +1,12 @@
-use Rattle.std.proofs.Common.{◌≡◌, ℕ, zero, suc, ◌<◌, ◌≤◌, ◌+◌, ◌-◌, length, ℤ, pos, negsuc, ◌<ℤ◌, Bool, true, false, not, cond, ◌&&◌, ◌||◌, List, [], ◌∷◌, ◌++◌, get_or, refl, sym, ◌∙◌, ap, subst, arith, ◌⊎◌, inl, inr, None}
+use Rattle.std.proofs.Common.{◌≡◌, ℕ, zero, suc, ◌<◌, ◌≤◌, ◌+◌, length, ℤ, pos, negsuc, ◌<ℤ◌, Bool, true, false, not, cond, ◌&&◌, ◌||◌, List, [], ◌∷◌, ◌++◌, get_or, refl, sym, ◌∙◌, ap, subst, arith, inl, inr}
 use Rattle.std.specs.Prelude.{◌==◌}
 use Rattle.std.specs.List.{list_any, list_all, filter}
 use Rattle.std.proofs.lemmas.Int.{ints}
-use Rattle.std.proofs.lemmas.Bool.{and_parts, and_from, or_cases, or_left, or_right, cases_lt, cases_Bool, eqb-true, eq-eqb, ne_eqb, not-true}
-use Rattle.std.proofs.lemmas.List.{length-append, get_or_append_left}
+use Rattle.std.proofs.lemmas.Bool.{and_parts, and_from, or_cases, or_left, or_right, cases_lt, eqb-true, eq-eqb, ne_eqb, not-true}
 use Rattle.std.proofs.lemmas.List.Folds.{list_any-append}
 use Rattle.std.proofs.lemmas.Map.Views.{any-filter_same}
 use Rattle.lin_rows.specs.Numbers.{is_zero}
-use Rattle.lin_rows.specs.Rows.{Row, is_row, is_contradiction, coefficient_at}
-use Rattle.lin_rows.specs.Divisors.{tightened}
+use Rattle.lin_rows.specs.Rows.{Row, is_contradiction, coefficient_at}
 use Rattle.proof_lines.specs.Steps.{row_at, is_positive, is_negative}
 use Rattle.proof_lines.specs.Numbers.{stands_in, are_different}
 use Rattle.theory_api.specs.Elimination.{stage}
@@ -16,12 +14,12 @@ use Rattle.linear_ints.specs.declared.tableau.Tableau.{Tableau}
 use Rattle.linear_ints.specs.Ends.{names_none}
 use Rattle.linear_ints.specs.Standing.{place_at, IsCombined, IsCombinedAt}
 use Rattle.linear_ints.specs.Descent.{Pair, Paired, Eliminated}
-use Rattle.linear_ints.specs.Tableaux.{IsRun, IsTableau, IsElimination, Grown, IsGrown, CanMeet, CanAllMeet, AreCombined, AreTaken}
+use Rattle.linear_ints.specs.Tableaux.{IsTableau, IsElimination, Grown, IsGrown, CanAllMeet, AreCombined, AreTaken}
 use Rattle.linear_ints.specs.Sides.{is_on, IsSide}
 use Rattle.linear_ints.proofs.Splitting.{lt_so}
 use Rattle.linear_ints.proofs.Ends.{eliminate-place}
 use Rattle.linear_ints.proofs.Pairing.{paired-place}
-use Rattle.linear_ints.proofs.Growing.{row_at-grown, below-grown, taken-append, paired-append}
+use Rattle.linear_ints.proofs.Growing.{row_at-grown, taken-append, paired-append}
 use Rattle.linear_ints.proofs.SideLemmas.{get_or-last}
 
 -- A PLACE PASSES from those that are left to the end of the order

@@ -1,5 +1,5 @@
-use Rattle.std.proofs.Common.{◌≡◌, ℕ, ◌<◌, ◌≤◌, ◌+◌, length, Bool, true, false, not, ◌&&◌, ◌||◌, List, [], ◌∷◌, ◌++◌, refl, sym, ◌∙◌, ap, subst, arith, Some, ◌⊎◌, inl, inr}
-use Rattle.std.specs.List.{list_any, list_all}
+use Rattle.std.proofs.Common.{◌≡◌, ℕ, ◌<◌, ◌≤◌, length, Bool, true, false, not, ◌||◌, List, [], ◌∷◌, ◌++◌, refl, sym, ◌∙◌, ap, subst, arith, Some, ◌⊎◌, inl, inr}
+use Rattle.std.specs.List.{list_any}
 use Rattle.std.proofs.lemmas.List.{length-append}
 use Rattle.std.proofs.lemmas.List.Folds.{list_any-append}
 use Rattle.std.proofs.lemmas.Bool.{and_parts, and_from}
@@ -16,10 +16,10 @@ use Rattle.theory_api.specs.Laws.{IsConflict, IsTooMany}
 use Rattle.linear_ints.specs.declared.tableau.Tableau.{Tableau}
 use Rattle.linear_ints.specs.Ends.{names_none}
 use Rattle.linear_ints.specs.Standing.{IsCombinedAt}
-use Rattle.linear_ints.specs.Tableaux.{IsRun, IsTableau, Grown, CanMeet, IsGrown}
+use Rattle.linear_ints.specs.Tableaux.{IsRun, IsTableau, CanMeet, IsGrown, row_limit}
 use Rattle.linear_ints.specs.Needed.{is_needed}
 use Rattle.linear_ints.proofs.Cancels.{all_different-more}
-use Rattle.linear_ints.proofs.Growing.{grown-refl, held-at, row_at-append, below-append}
+use Rattle.linear_ints.proofs.Growing.{grown-refl, held-at, row_at-append}
 use Rattle.linear_ints.proofs.Pairing.{row_at-last}
 use Rattle.linear_ints.proofs.Runs.{with_step, step_of, run-step, combined-sum}
 use Rattle.linear_ints.proofs.Standing.{zero-sum}
@@ -66,7 +66,7 @@ different : (held : List Row) (r : Row) → all_different held ≡ true → is_n
 different held r d n b = all_different-more held r d (needed-new held r n b).1
 
 pub sum-full : (rows : List Row) (t u : Tableau) (place i j : ℕ) (c : Combined) → IsTableau rows t → CanMeet t place i j → combined (row_at t.held i) (row_at t.held j) place ≡ Some c
-    → u ≡ with_step t (step_of i j c) c.row → is_needed t.held c.row ≡ true → is_contradiction c.row ≡ false → 10000 ≤ length u.held → IsTooMany rows u.used u.steps
+    → u ≡ with_step t (step_of i j c) c.row → is_needed t.held c.row ≡ true → is_contradiction c.row ≡ false → row_limit ≤ length u.held → IsTooMany rows u.used u.steps
 sum-full rows t u place i j c g m e k n b l =
     subst (λ (v : Tableau). IsTooMany rows v.used v.steps) (sym k)
     (full rows (with_step t (step_of i j c) c.row) (run-step rows t place i j c g.run m e) (different t.held c.row g.different n b)
@@ -96,7 +96,7 @@ none-sum t place i j c rows g m e = subst (λ (o : List ℕ). names_none o c.row
         and_from (is_zero (coefficient_at c.row.terms p)) (names_none (order ++ place ∷ []) c.row) (zero p x.0 y.0) (before order x.1 y.1)
 
 pub sum-held : (rows : List Row) (t u : Tableau) (place i j : ℕ) (c : Combined) → IsTableau rows t → CanMeet t place i j → combined (row_at t.held i) (row_at t.held j) place ≡ Some c
-    → u ≡ with_step t (step_of i j c) c.row → is_needed t.held c.row ≡ true → is_contradiction c.row ≡ false → length u.held < 10000
+    → u ≡ with_step t (step_of i j c) c.row → is_needed t.held c.row ≡ true → is_contradiction c.row ≡ false → length u.held < row_limit
     → IsGrown rows t u × IsCombinedAt place u.held (row_at u.held i) (row_at u.held j)
 sum-held rows t u place i j c g m e k n b l =
     subst (λ (v : Tableau). IsGrown rows t v × IsCombinedAt place v.held (row_at v.held i) (row_at v.held j)) (sym k) (

@@ -1,4 +1,4 @@
-use Rattle.std.proofs.Common.{◌≡◌, ℕ, ℤ, List, refl}
+use Rattle.std.proofs.Common.{◌≡◌, ℤ, List, refl}
 use Rattle.lin_rows.specs.Rows.{point_of}
 use Rattle.linear_ints.specs.Listed.{listed}
 

@@ -1,10 +1,10 @@
-use Rattle.std.proofs.Common.{◌≡◌, ℕ, zero, suc, ◌<◌, ◌≤◌, ◌+◌, length, List, [], ◌∷◌, get_or, refl, sym, ◌∙◌, ap, subst, arith, ◌⊎◌, inl, inr}
+use Rattle.std.proofs.Common.{◌≡◌, ℕ, zero, suc, ◌<◌, ◌+◌, length, List, [], ◌∷◌, get_or, sym, subst, arith, inl, inr}
 use Rattle.std.proofs.lemmas.Bool.{cases_lt}
 use Rattle.lin_rows.specs.Rows.{Row}
 use Rattle.proof_lines.specs.Steps.{row_at}
 use Rattle.linear_ints.specs.declared.tableau.Tableau.{Tableau}
 use Rattle.linear_ints.specs.Standing.{IsCombinedAt}
-use Rattle.linear_ints.specs.Tableaux.{IsTableau, Grown, CanMeet, IsGrown, CanAllMeet, AreCombined}
+use Rattle.linear_ints.specs.Tableaux.{IsTableau, CanMeet, IsGrown, CanAllMeet, AreCombined}
 use Rattle.linear_ints.proofs.Growing.{grown-refl, grown-trans, below-grown, meet-grown, combined-grown}
 
 -- PASSES over the upper and the lower rows of a place

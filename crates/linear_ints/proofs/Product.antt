@@ -1,18 +1,16 @@
-use Rattle.std.proofs.Common.{◌≡◌, ℕ, ◌<◌, ◌≤◌, ◌+◌, length, pos, ◌<ℤ◌, Bool, true, false, ◌&&◌, List, [], ◌∷◌, ◌++◌, refl, sym, ◌∙◌, ap, subst, arith, None, Some}
+use Rattle.std.proofs.Common.{◌≡◌, ℕ, ◌+◌, length, true, ◌&&◌, List, [], ◌∷◌, ◌++◌, sym, ◌∙◌, ap, subst, arith, None, Some}
 use Rattle.std.specs.Prelude.{nat_lt, nat_le, ◌==◌}
 use Rattle.std.proofs.lemmas.List.{length-append}
 use Rattle.std.proofs.lemmas.Bool.{and_from, le-leb, lt-ltb, eq-eqb}
 use Rattle.lin_rows.specs.Rows.{Row, coefficient_at}
 use Rattle.lin_rows.specs.Cancelling.{combined}
-use Rattle.lin_rows.specs.Numbers.{is_zero}
-use Rattle.proof_lines.specs.declared.line.RangeWhat.{RangeWhat}
 use Rattle.proof_lines.specs.declared.line.RangeWhat.TheVariants.{Product}
 use Rattle.proof_lines.specs.Steps.{row_at}
 use Rattle.proof_lines.specs.Evidence.{range_shown, all_cancel, is_beyond}
 use Rattle.theory_api.specs.Elimination.{stage, first_place, meet, eliminate, ends_in_order}
 use Rattle.theory_api.specs.Laws.{IsBeyond}
 use Rattle.linear_ints.specs.declared.tableau.Tableau.{Tableau}
-use Rattle.linear_ints.specs.Ends.{names_none, last_stage}
+use Rattle.linear_ints.specs.Ends.{last_stage}
 use Rattle.linear_ints.specs.Tableaux.{IsRun, CanMeet}
 use Rattle.linear_ints.proofs.Ends.{eliminate-beyond, stage-last, last_stage-below}
 use Rattle.linear_ints.proofs.Ranges.{beyond-product}

@@ -1,12 +1,12 @@
-use Rattle.std.proofs.Common.{◌≡◌, ℕ, zero, suc, ◌<◌, ◌≤◌, ◌+◌, length, ℤ, pos, negsuc, ◌<ℤ◌, Bool, true, false, not, cond, ◌&&◌, ◌||◌, List, [], ◌∷◌, ◌++◌, map, get_or, refl, sym, ◌∙◌, ap, subst, arith, Some, None, Result, Ok, Err, ◌⊎◌, inl, inr}
+use Rattle.std.proofs.Common.{◌≡◌, ℕ, zero, suc, ◌<◌, ◌≤◌, length, ℤ, pos, negsuc, ◌<ℤ◌, Bool, true, false, ◌&&◌, ◌||◌, List, [], ◌∷◌, ◌++◌, map, refl, sym, ◌∙◌, ap, subst, arith, Some, None, Ok, ◌⊎◌, inl, inr}
 use Rattle.std.specs.Prelude.{nat_lt}
-use Rattle.std.specs.List.{list_any, list_all}
+use Rattle.std.specs.List.{list_all}
 use Rattle.std.proofs.lemmas.List.{length-append, map-append}
-use Rattle.std.proofs.lemmas.Bool.{and_parts, and_from, or_cases, or_left, or_right, cases_lt, lt-ltb}
+use Rattle.std.proofs.lemmas.Bool.{and_from, or_right, cases_lt, lt-ltb}
 use Rattle.std.proofs.lemmas.List.Folds.{list_all-append}
 use Rattle.lin_rows.specs.declared.combining.Combined.{Combined}
 use Rattle.lin_rows.specs.Numbers.{is_zero}
-use Rattle.lin_rows.specs.Rows.{Row, is_row, is_contradiction, coefficient_at}
+use Rattle.lin_rows.specs.Rows.{Row, is_row, coefficient_at}
 use Rattle.lin_rows.specs.Divisors.{tightened}
 use Rattle.lin_rows.specs.Sums.{row_sum}
 use Rattle.lin_rows.specs.Cancelling.{combined, first_factor, second_factor}
@@ -14,14 +14,13 @@ use Rattle.lin_rows.proofs.Points.{option_map-went, is_zero-is}
 use Rattle.lin_rows.proofs.Rounding.{is_row-tightened}
 use Rattle.lin_rows.proofs.Sums.{is_row-sum}
 use Rattle.proof_lines.specs.declared.line.RowStep.{RowStep}
-use Rattle.proof_lines.specs.Steps.{row_at, held_rows, is_positive, is_negative}
+use Rattle.proof_lines.specs.Steps.{row_at, held_rows}
 use Rattle.proof_lines.specs.Numbers.{stands_in}
-use Rattle.proof_lines.specs.Evidence.{all_cancel, cancels, cancels_at}
+use Rattle.proof_lines.specs.Evidence.{cancels_at}
 use Rattle.proof_lines.proofs.Sound.{ok_is}
 use Rattle.theory_api.specs.Elimination.{eliminate}
 use Rattle.theory_api.specs.Laws.{rows_at, is_some_row}
 use Rattle.linear_ints.specs.declared.tableau.Tableau.{Tableau}
-use Rattle.linear_ints.specs.Ends.{names_none}
 use Rattle.linear_ints.specs.Tableaux.{IsRun, CanMeet}
 use Rattle.linear_ints.proofs.Splitting.{lt_so}
 use Rattle.linear_ints.proofs.Ends.{held_rows-more, row_at-more, steps-held, step_row-combined, cancels-combined, eliminate-row, eliminate-step}

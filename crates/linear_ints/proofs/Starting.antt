@@ -1,6 +1,6 @@
-use Rattle.std.proofs.Common.{◌≡◌, ℕ, zero, suc, ◌<◌, ◌≤◌, ◌+◌, ◌^◌, length, ℤ, pos, Bool, true, false, cond, ◌&&◌, ◌||◌, List, [], ◌∷◌, ◌++◌, get_or, refl, sym, ◌∙◌, ap, subst, arith, inl, inr}
+use Rattle.std.proofs.Common.{◌≡◌, ℕ, zero, suc, ◌<◌, ◌+◌, length, ℤ, pos, Bool, true, false, cond, ◌||◌, List, [], ◌∷◌, ◌++◌, refl, sym, ◌∙◌, subst, arith, inl, inr}
 use Rattle.std.specs.Prelude.{◌==◌, nat_lt}
-use Rattle.std.specs.List.{list_any, list_all}
+use Rattle.std.specs.List.{list_all}
 use Rattle.std.proofs.lemmas.List.{length-append}
 use Rattle.std.proofs.lemmas.List.Folds.{list_any-append, list_all-append}
 use Rattle.std.proofs.lemmas.Bool.{and_parts, and_from, or_cases, eqb-true, eq-eqb, ltb-true, cases_lt}
@@ -11,7 +11,7 @@ use Rattle.proof_lines.specs.Steps.{no_row, row_at}
 use Rattle.proof_lines.specs.Numbers.{stands_in}
 use Rattle.proof_lines.specs.Evidence.{in_state}
 use Rattle.proof_lines.proofs.Certificates.{all_at}
-use Rattle.theory_api.specs.Laws.{IsModel, all_below}
+use Rattle.theory_api.specs.Laws.{all_below}
 use Rattle.linear_ints.specs.declared.tableau.Tableau.{Tableau}
 use Rattle.linear_ints.specs.declared.stop.Stop.{Stop}
 use Rattle.linear_ints.specs.declared.stop.Stop.TheVariants.{Contradiction, Full, Gap, Beyond, Memory}

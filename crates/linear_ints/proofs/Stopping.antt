@@ -1,15 +1,15 @@
-use Rattle.std.proofs.Common.{◌≡◌, ℕ, zero, suc, ◌<◌, ◌+◌, length, Bool, true, false, ◌&&◌, List, [], ◌∷◌, ◌++◌, map, refl, sym, ◌∙◌, ap, subst, arith, None, Ok}
+use Rattle.std.proofs.Common.{◌≡◌, ◌<◌, length, true, List, [], ◌∷◌, ◌++◌, map, ◌∙◌, ap, arith, Ok}
 use Rattle.std.specs.Prelude.{nat_lt}
 use Rattle.std.specs.List.{list_all}
 use Rattle.std.proofs.lemmas.List.{length-append, length-map}
 use Rattle.std.proofs.lemmas.Bool.{and_from}
 use Rattle.lin_rows.specs.Rows.{Row, is_contradiction}
 use Rattle.lin_rows.specs.Divisors.{tightened}
-use Rattle.proof_lines.specs.Steps.{row_at, held_rows, refutes_so, last_row}
+use Rattle.proof_lines.specs.Steps.{row_at, refutes_so, last_row}
 use Rattle.proof_lines.specs.Evidence.{all_different, all_cancel, rows_shown}
 use Rattle.theory_api.specs.Laws.{rows_at, is_some_row, are_given, IsConflict, IsTooMany}
 use Rattle.linear_ints.specs.declared.tableau.Tableau.{Tableau}
-use Rattle.linear_ints.specs.Tableaux.{IsRun}
+use Rattle.linear_ints.specs.Tableaux.{IsRun, row_limit}
 use Rattle.linear_ints.proofs.Ends.{length-with_steps}
 use Rattle.linear_ints.proofs.Pairing.{row_at-last}
 
@@ -29,7 +29,7 @@ conflict rows t held r g e b = record {
     last held r = ap (λ n. row_at (held ++ r ∷ []) n) (let n = length-append held (r ∷ []) in omega arith) ∙ row_at-last held r
 
 -- ten thousand different rows are held
-pub full : (rows : List Row) (t : Tableau) → IsRun rows t → all_different t.held ≡ true → length t.held ≡ 10000 → IsTooMany rows t.used t.steps
+pub full : (rows : List Row) (t : Tableau) → IsRun rows t → all_different t.held ≡ true → length t.held ≡ row_limit → IsTooMany rows t.used t.steps
 full rows t g d n = record {
   given = given-some rows t g (omega arith);
   count = (let l = length-with_steps (map tightened (rows_at rows t.used)) t.steps t.held g.held_is in let a = length-map (rows_at rows t.used) tightened in let b = length-map t.used (row_at rows) in omega arith);

@@ -1,4 +1,4 @@
-use Rattle.std.proofs.Common.{◌≡◌, ℕ, zero, suc, ◌<◌, ◌≤◌, ◌+◌, length, Bool, true, false, ◌||◌, List, [], ◌∷◌, ◌++◌, refl, sym, ◌∙◌, ap, subst, arith, ◌⊎◌, inl, inr, Ok}
+use Rattle.std.proofs.Common.{◌≡◌, ℕ, ◌<◌, ◌≤◌, ◌+◌, length, Bool, true, false, ◌||◌, List, [], ◌∷◌, ◌++◌, refl, sym, ◌∙◌, ap, subst, arith, inl, inr}
 use Rattle.std.specs.List.{list_any, list_all}
 use Rattle.std.proofs.lemmas.List.{length-append}
 use Rattle.std.proofs.lemmas.List.Folds.{list_any-append}
@@ -8,12 +8,12 @@ use Rattle.lin_rows.specs.Rows.{Row, is_row, is_contradiction, coefficient_at}
 use Rattle.lin_rows.specs.Divisors.{tightened}
 use Rattle.proof_lines.specs.Steps.{no_row, row_at}
 use Rattle.proof_lines.specs.Numbers.{stands_in}
-use Rattle.proof_lines.specs.Evidence.{same_row, all_different}
+use Rattle.proof_lines.specs.Evidence.{same_row}
 use Rattle.proof_lines.proofs.Certificates.{all_at}
 use Rattle.theory_api.specs.Laws.{IsConflict, IsTooMany}
 use Rattle.linear_ints.specs.declared.tableau.Tableau.{Tableau}
 use Rattle.linear_ints.specs.Descent.{Paired}
-use Rattle.linear_ints.specs.Tableaux.{IsRun, IsTableau, IsTaking, IsElimination, AreTaken}
+use Rattle.linear_ints.specs.Tableaux.{IsRun, IsTaking, IsElimination, AreTaken, row_limit}
 use Rattle.linear_ints.proofs.Cancels.{all_different-more}
 use Rattle.linear_ints.proofs.Growing.{held-at, taken-append}
 use Rattle.linear_ints.proofs.Pairing.{row_at-last}
@@ -50,14 +50,14 @@ given-refuted rows n t u r k l e f b =
     subst (λ (v : Tableau). IsConflict rows v.used v.steps) (sym f)
     (conflict rows (with_given t n r) t.held r (subst (λ (q : Row). IsRun rows (with_given t n q)) (sym e) (given-run rows n t k l)) refl b)
 
-pub given-full : (rows : List Row) (n : ℕ) (t u : Tableau) (r : Row) → IsTaking rows n t → n < length rows → r ≡ tightened (row_at rows n) → u ≡ with_given t n r → list_any (λ q. same_row q r) t.held ≡ false → 10000 ≤ length u.held
+pub given-full : (rows : List Row) (n : ℕ) (t u : Tableau) (r : Row) → IsTaking rows n t → n < length rows → r ≡ tightened (row_at rows n) → u ≡ with_given t n r → list_any (λ q. same_row q r) t.held ≡ false → row_limit ≤ length u.held
     → IsTooMany rows u.used u.steps
 given-full rows n t u r k l e f h m =
     subst (λ (v : Tableau). IsTooMany rows v.used v.steps) (sym f)
     (full rows (with_given t n r) (subst (λ (q : Row). IsRun rows (with_given t n q)) (sym e) (given-run rows n t k l)) (all_different-more t.held r k.tableau.different h)
     (let w = k.tableau.few in let a = length-append t.held (r ∷ []) in let q = ap (λ (v : Tableau). length v.held) f in omega arith))
 
-pub given-taken : (rows : List Row) (n : ℕ) (t u : Tableau) (r : Row) → IsTaking rows n t → n < length rows → r ≡ tightened (row_at rows n) → u ≡ with_given t n r → list_any (λ q. same_row q r) t.held ≡ false → is_contradiction r ≡ false → length u.held < 10000
+pub given-taken : (rows : List Row) (n : ℕ) (t u : Tableau) (r : Row) → IsTaking rows n t → n < length rows → r ≡ tightened (row_at rows n) → u ≡ with_given t n r → list_any (λ q. same_row q r) t.held ≡ false → is_contradiction r ≡ false → length u.held < row_limit
     → IsTaking rows (n + 1) u × (u.ints ≡ t.ints)
 given-taken rows n t u r k l e f h b m =
     subst (λ (v : Tableau). IsTaking rows (n + 1) v × (v.ints ≡ t.ints)) (sym f) (

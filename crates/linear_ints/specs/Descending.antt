@@ -1,3 +1,4 @@
+-- What is known while values are chosen. It mirrors src/bounds and src/descend: values stand in a list by place, as the code keeps them.
 use Rattle.std.specs.Prelude.{◌≡◌, ℕ, ◌<◌, length, ℤ, pos, neg_ℤ, ◌-ℤ◌, Bool, true, false, List, [], take, Some, None}
 use Rattle.std.specs.List.{list_all}
 use Rattle.lin_rows.specs.Rows.{Row, point_of}

@@ -1,3 +1,4 @@
+-- What elimination leaves behind, and the descent that chooses values: all rows from a stage on are true at them.
 use Rattle.std.specs.Prelude.{◌≡◌, ℕ, ◌<◌, ◌≤◌, length, ℤ, pos, neg_ℤ, ◌≤ℤ◌, ◌<ℤ◌, true, false, List, [], ◌∷◌}
 use Rattle.lin_rows.specs.Numbers.{is_zero}
 use Rattle.lin_rows.specs.Rows.{Row, is_row, is_contradiction, coefficient_at}

@@ -1,3 +1,4 @@
+-- When a row drives a value: as the least whole number above a fraction, or the greatest below one.
 use Rattle.std.specs.Prelude.{◌≡◌, ℕ, ℤ, pos, ◌+ℤ◌, ◌-ℤ◌, ◌*ℤ◌, ◌≤ℤ◌, ◌<ℤ◌, true, false, List}
 use Rattle.lin_rows.specs.Rows.{Row, is_row, value_at, coefficient_at}
 use Rattle.theory_api.specs.Chosen.{Choice, is_named, chosen_point}

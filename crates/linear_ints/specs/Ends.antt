@@ -1,3 +1,4 @@
+-- Evidence at its end: the last stage of steps, rows that name none of some places, choices put in front of others.
 use Rattle.std.specs.Prelude.{ℕ, nat_lt, Bool, ◌&&◌, List, [], ◌∷◌}
 use Rattle.std.specs.List.{list_all}
 use Rattle.lin_rows.specs.Numbers.{is_zero}

@@ -1,3 +1,4 @@
+-- The definitions of the crate, in the order in which they stand on one another.
 pub mod Fractions
 pub mod Points
 pub mod Splitting

@@ -1,3 +1,4 @@
+-- The point of listed values under a name of its own, for proofs that look no further into it.
 use Rattle.std.specs.Prelude.{ℕ, ℤ, List}
 use Rattle.lin_rows.specs.Rows.{point_of}
 

@@ -1,3 +1,4 @@
+-- Which combinations are held. It mirrors src/steps.
 use Rattle.std.specs.Prelude.{Bool, not, ◌||◌, List}
 use Rattle.std.specs.List.{list_any}
 use Rattle.lin_rows.specs.Rows.{Row, has_no_terms, is_contradiction}

@@ -1,3 +1,4 @@
+-- Points that agree on some names, or differ in one, and rows all of whose names but one have values.
 use Rattle.std.specs.Prelude.{◌≡◌, ℕ, ◌==◌, ℤ, Bool, cond, ◌||◌, List, [], ◌∷◌, map}
 use Rattle.std.specs.List.{list_all}
 use Rattle.lin_rows.specs.declared.term.RowTerm.{RowTerm}

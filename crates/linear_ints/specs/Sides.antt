@@ -1,11 +1,11 @@
-use Rattle.std.specs.Prelude.{◌≡◌, ℕ, ◌<◌, ℤ, pos, neg_ℤ, ◌-ℤ◌, ◌≤ℤ◌, ◌^◌, Bool, true, cond, ◌&&◌, List, length, slice_index_or, Some, None, ◌⊎◌}
+-- The upper and the lower rows of a place, and the bounds that they give. It mirrors src/sides and src/bounds.
+use Rattle.std.specs.Prelude.{◌≡◌, ℕ, ◌<◌, ℤ, pos, neg_ℤ, ◌-ℤ◌, ◌≤ℤ◌, ◌^◌, Bool, true, cond, ◌&&◌, List, length, slice_index_or, Some, ◌⊎◌}
 use Rattle.lin_rows.specs.Rows.{Row, coefficient_at, point_of}
 use Rattle.proof_lines.specs.Steps.{row_at, is_positive, is_negative}
 use Rattle.proof_lines.specs.Splits.{rest_at}
-use Rattle.proof_lines.specs.Numbers.{stands_in}
 use Rattle.linear_ints.specs.Fractions.{size}
 use Rattle.linear_ints.specs.Ends.{names_none}
-use Rattle.linear_ints.specs.Ceilings.{IsBound, is_beyond}
+use Rattle.linear_ints.specs.Ceilings.{IsBound}
 
 -- THE SIDES OF A PLACE: its upper rows, whose coefficient is positive, and its lower rows.
 

@@ -1,3 +1,4 @@
+-- Two rows that meet at a place: a whole number satisfies both, or they leave the gap of a split.
 use Rattle.std.specs.Prelude.{◌≡◌, ℕ, ℤ, pos, ◌-ℤ◌, ◌<ℤ◌, true, List, [], ◌∷◌, Some, Ok, ◌⊎◌}
 use Rattle.lin_rows.specs.Rows.{Row, is_row, coefficient_at}
 use Rattle.lin_rows.specs.Sums.{row_sum}

@@ -1,3 +1,4 @@
+-- Which held rows are true at a point, and when a pair of rows counts as combined.
 use Rattle.std.specs.Prelude.{◌≡◌, ℕ, ◌<◌, ◌≤◌, length, ℤ, slice_index_or, true, false, List, Some, ◌⊎◌}
 use Rattle.lin_rows.specs.declared.combining.Combined.{Combined}
 use Rattle.lin_rows.specs.Rows.{Row, has_no_terms, is_contradiction}

@@ -1,3 +1,4 @@
+-- Why a search for values stops, and what stands then.
 use Rattle.std.specs.Prelude.{ℕ, List}
 use Rattle.lin_rows.specs.Rows.{Row}
 use Rattle.theory_api.specs.Laws.{IsConflict, IsSplit, IsTooMany, IsBeyond}

@@ -1,3 +1,4 @@
+-- The tableau: the rows that are held while places are eliminated, and what holds of them.
 use Rattle.std.specs.Prelude.{◌≡◌, ℕ, ◌<◌, nat_lt, ◌||◌, true, false, pos, ◌<ℤ◌, List, [], ◌∷◌, ◌++◌, length, slice_index_or, None, Ok}
 use Rattle.std.specs.List.{list_any, list_all}
 use Rattle.lin_rows.specs.Numbers.{is_zero}
@@ -15,6 +16,10 @@ use Rattle.linear_ints.specs.Descent.{Paired}
 
 -- THE TABLEAU: the rows that are held while places are eliminated.
 
+-- as many held rows end the elimination
+abbrev pub row_limit : ℕ
+row_limit = 10000
+
 -- the held rows are the used given ones, tightened, and those of the steps. Each step eliminates, in the order of the places so far,
 -- and each place that a held row names is eliminated or left
 pub record IsRun (rows : List Row) (t : Tableau) : Type 0 where
@@ -29,12 +34,12 @@ pub record IsRun (rows : List Row) (t : Tableau) : Type 0 where
   pub left_apart : (q : ℕ) → stands_in t.left q ≡ true → stands_in t.order q ≡ false
   pub named : (i : ℕ) → i < length t.held → (q : ℕ) → is_zero (coefficient_at (row_at t.held i).terms q) ≡ false → (stands_in t.order q || stands_in t.left q) ≡ true
 
--- besides, no held row is a contradiction, no two are equal, and there are fewer than ten thousand
+-- besides, no held row is a contradiction, no two are equal, and there are fewer than the limit
 pub record IsTableau (rows : List Row) (t : Tableau) : Type 0 where
   pub run : IsRun rows t
   pub consistent : list_any is_contradiction t.held ≡ false
   pub different : all_different t.held ≡ true
-  pub few : length t.held < 10000
+  pub few : length t.held < row_limit
 
 -- the given rows up to a number are held, tightened
 abbrev pub AreTaken : List Row → ℕ → List Row → Type 0

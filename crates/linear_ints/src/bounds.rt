@@ -9,6 +9,7 @@ ghost use Rattle.linear_ints.specs.Fractions.{size};
 ghost use Rattle.linear_ints.specs.Listed.{listed};
 ghost use Rattle.linear_ints.specs.Sides.{IsBoundAt, IsGreatest};
 ghost use Rattle.linear_ints.specs.Standing.{place_at};
+ghost use Rattle.linear_ints.specs.Tableaux.{row_limit};
 
 use crate::ceiling::bound;
 use crate::sides::is_on;
@@ -111,7 +112,7 @@ fn greatest(
     held: &[Row],
     values: &[i128],
 ) -> Result<Bound, FaultAt>
-    requires { length held.now < 10000 }
+    requires { length held.now < row_limit }
     ensures { MatchResult result (λ b. IsGreatest upper before.now place held.now values.now (length held.now) b.row b.value) (λ f. IsFaultAt before.now place held.now values.now f) }
 {
     let mut greatest = Bound {
@@ -148,7 +149,7 @@ pub fn side_bound(
     stage: usize,
     values: &[i128],
 ) -> Result<Bound, FaultAt>
-    requires few { length tableau.now.held < 10000 }
+    requires few { length tableau.now.held < row_limit }
     requires stage { stage < length tableau.now.order }
     ensures { MatchResult result (λ b. IsGreatest upper (take stage tableau.now.order) (place_at tableau.now.order stage) tableau.now.held values.now (length tableau.now.held) b.row b.value) (λ f. IsFaultAt (take stage tableau.now.order) (place_at tableau.now.order stage) tableau.now.held values.now f) }
 {

@@ -5,6 +5,7 @@ ghost use Rattle.lin_rows.specs.Rows.{coefficient_at};
 ghost use Rattle.proof_lines.specs.Steps.{is_negative, is_positive};
 ghost use Rattle.linear_ints.specs.Ends.{names_none};
 ghost use Rattle.linear_ints.specs.Sides.{is_on, IsSide};
+ghost use Rattle.linear_ints.specs.Tableaux.{row_limit};
 
 use crate::tableau::Tableau;
 use items::Items;
@@ -49,7 +50,7 @@ fn side(
     place: u32,
     held: &[Row],
 ) -> Result<Items<u32>, AllocError>
-    requires { length held.now < 10000 }
+    requires { length held.now < row_limit }
     ensures { IfOk result (λ numbers. IsSide upper before.now place held.now (length held.now) numbers) }
 {
     let mut numbers = Items::new(alloc);
@@ -68,7 +69,7 @@ pub fn side_of(
     upper: bool,
     place: u32,
 ) -> Result<Items<u32>, AllocError>
-    requires { length tableau.now.held < 10000 }
+    requires { length tableau.now.held < row_limit }
     ensures { IfOk result (λ numbers. IsSide upper tableau.now.order place tableau.now.held (length tableau.now.held) numbers) }
 {
     let order = tableau.order.as_slice();

@@ -10,7 +10,7 @@ ghost use Rattle.linear_ints.specs.Stops.{IsEarlyStop};
 ghost use Rattle.linear_ints.specs.Tableaux.{AreCombined, CanAllMeet, CanMeet, IsGrown, IsTableau};
 
 use crate::stop::Stop;
-use crate::tableau::Tableau;
+use crate::tableau::{ROW_LIMIT, Tableau};
 use lin_rows::{Combined, Row, RowRefused, combine};
 use proof_lines::{RangeWhat, RowStep};
 use std::alloc::Global;
@@ -72,7 +72,7 @@ fn hold_sum(
     if refuted {
         return Err(Stop::Contradiction);
     }
-    if tableau.held.len() >= 10_000 {
+    if tableau.held.len() >= ROW_LIMIT {
         return Err(Stop::Full);
     }
     Ok(())

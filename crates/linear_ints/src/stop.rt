@@ -7,7 +7,7 @@ use proof_lines::RangeWhat;
 pub enum Stop {
     /// The last held row is a contradiction.
     Contradiction,
-    /// Ten thousand rows are held.
+    /// As many rows as the limit says are held.
     Full,
     /// With `values` for the other names, the rows `low` and `high` leave `place` a gap that lies strictly between `at` and `at + 1`.
     Gap {

@@ -6,6 +6,9 @@ use lin_rows::Row;
 use proof_lines::RowStep;
 use std::alloc::{AllocError, Global};
 
+/// As many held rows end the elimination.
+pub const ROW_LIMIT: usize = 10_000;
+
 /// The state of an elimination. The held rows are numbered as in a line of the proof kernel: first the used ones, tightened, then
 /// those of the steps.
 #[derive(Drop)]

@@ -5,7 +5,7 @@ ghost use Rattle.linear_ints.specs.Tableaux.{IsTaking};
 
 use crate::steps::is_held;
 use crate::stop::Stop;
-use crate::tableau::Tableau;
+use crate::tableau::{ROW_LIMIT, Tableau};
 use lin_rows::{Row, tighten};
 use std::alloc::Global;
 
@@ -30,7 +30,7 @@ fn take_row(tableau: &mut Tableau, alloc: Global, rows: &[Row], number: u32) -> 
     if refuted {
         return Err(Stop::Contradiction);
     }
-    if tableau.held.len() >= 10_000 {
+    if tableau.held.len() >= ROW_LIMIT {
         return Err(Stop::Full);
     }
     Ok(())

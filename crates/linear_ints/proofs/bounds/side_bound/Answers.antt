@@ -6,6 +6,7 @@ use Rattle.linear_ints.specs.declared.bounds.FaultAt.{FaultAt}
 use Rattle.linear_ints.specs.Standing.{place_at}
 use Rattle.linear_ints.specs.Sides.{IsGreatest}
 use Rattle.linear_ints.specs.Descending.{IsFaultAt}
+use Rattle.linear_ints.specs.Tableaux.{row_limit}
 use Rattle.linear_ints.proofs.bounds.side_bound.Goals as goal
 
 pub prefix-before-requires : goal.prefix-before-requires
@@ -15,7 +16,7 @@ pub bounds-order-stage : goal.bounds-order-stage
 bounds-order-stage c = subst (λ (o : List ℕ). c.args.stage < length o) (sym c.as_slice-order.ensures) c.requires.stage
 
 pub greatest-requires : goal.greatest-requires
-greatest-requires c = subst (λ (l : List Row). length l < 10000) (sym c.as_slice-held.ensures) c.requires.few
+greatest-requires c = subst (λ (l : List Row). length l < row_limit) (sym c.as_slice-held.ensures) c.requires.few
 
 pub returns : goal.returns
 returns c =

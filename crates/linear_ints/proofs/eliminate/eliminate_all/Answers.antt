@@ -1,4 +1,4 @@
-use Rattle.std.proofs.Common.{◌≡◌, ℕ, ◌<◌, true, List, refl, sym, ◌∙◌, subst, arith, length}
+use Rattle.std.proofs.Common.{◌≡◌, ℕ, ◌<◌, true, List, refl, sym, ◌∙◌, subst, length}
 use Rattle.proof_lines.specs.Numbers.{stands_in}
 use Rattle.linear_ints.proofs.Eliminating.{some-left, none-left}
 use Rattle.linear_ints.proofs.eliminate.eliminate_all.Goals as goal

@@ -1,4 +1,4 @@
-use Rattle.std.proofs.Common.{◌≡◌, ℕ, sym, ◌∙◌, subst}
+use Rattle.std.proofs.Common.{ℕ, ◌∙◌, subst}
 use Rattle.theory_api.specs.Laws.{IsModel}
 use Rattle.linear_ints.specs.Stops.{IsStop}
 use Rattle.linear_ints.proofs.Starting.{early}

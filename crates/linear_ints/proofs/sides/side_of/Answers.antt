@@ -2,10 +2,11 @@ use Rattle.std.proofs.Common.{sym, subst, List, ℕ, length, ◌<◌}
 use Rattle.std.specs.Prelude.{IfOk}
 use Rattle.lin_rows.specs.Rows.{Row}
 use Rattle.linear_ints.specs.Sides.{IsSide}
+use Rattle.linear_ints.specs.Tableaux.{row_limit}
 use Rattle.linear_ints.proofs.sides.side_of.Goals as goal
 
 pub side-requires : goal.side-requires
-side-requires c = subst (λ (l : List Row). length l < 10000) (sym c.as_slice-held.ensures) c.requires
+side-requires c = subst (λ (l : List Row). length l < row_limit) (sym c.as_slice-held.ensures) c.requires
 
 pub returns : goal.returns
 returns c =

@@ -1,4 +1,4 @@
-use Rattle.std.proofs.Common.{◌≡◌, sym, ◌∙◌, ap, subst, List, length, ◌<◌, ◌<ℤ◌, pos, ℕ}
+use Rattle.std.proofs.Common.{sym, ◌∙◌, subst, List, length, ◌<◌, ◌<ℤ◌, pos}
 use Rattle.lin_rows.specs.Rows.{Row, coefficient_at}
 use Rattle.lin_rows.specs.Cancelling.{combined}
 use Rattle.linear_ints.proofs.SideLemmas.{indexed}

@@ -1,8 +1,8 @@
-use Rattle.std.proofs.Common.{◌≡◌, sym, ◌∙◌, ap, arith, List}
+use Rattle.std.proofs.Common.{sym, ◌∙◌, ap, arith, List}
 use Rattle.lin_rows.specs.Rows.{Row}
 use Rattle.proof_lines.specs.declared.line.RowStep.{RowStep}
 use Rattle.linear_ints.specs.Needed.{is_needed}
-use Rattle.linear_ints.proofs.Runs.{with_step, step_of}
+use Rattle.linear_ints.proofs.Runs.{with_step}
 use Rattle.linear_ints.proofs.Holding.{sum-skipped, sum-refuted, sum-full, sum-held}
 use Rattle.linear_ints.proofs.steps.hold_sum.Goals as goal
 
@@ -17,8 +17,8 @@ returns-then-refuted c =
     (c.in-Ok.ensures ∙ ap (λ (s : RowStep). with_step c.args.tableau.now s c.args.sum.row) c.step_of-step.ensures)
     (sym c.is_contradiction-refuted.ensures.contradiction ∙ c.if-refuted.true)
 
-pub returns-then-len-ge10000 : goal.returns-then-len-ge10000
-returns-then-len-ge10000 c =
+pub returns-then-len-ge-ROW_LIMIT : goal.returns-then-len-ge-ROW_LIMIT
+returns-then-len-ge-ROW_LIMIT c =
     sum-full c.args.rows.now c.args.tableau.now c.push_step.new.self c.args.place c.args.upper c.args.lower c.args.sum c.requires.tableau c.requires.meet c.requires.sum
     (c.in-Ok.ensures ∙ ap (λ (s : RowStep). with_step c.args.tableau.now s c.args.sum.row) c.step_of-step.ensures)
     (sym (ap (λ (l : List Row). is_needed l c.args.sum.row) c.as_slice.ensures) ∙ sym c.is_needed.ensures ∙ c.if-not-is_needed.false)

@@ -1,4 +1,4 @@
-use Rattle.std.proofs.Common.{◌≡◌, ℕ, length, refl, sym, ◌∙◌, subst, arith}
+use Rattle.std.proofs.Common.{◌≡◌, ℕ, length, refl, ◌∙◌, subst, arith}
 use Rattle.linear_ints.specs.Tableaux.{IsTaking}
 use Rattle.linear_ints.proofs.take.take_all.Goals as goal
 

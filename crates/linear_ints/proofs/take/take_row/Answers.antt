@@ -1,4 +1,4 @@
-use Rattle.std.proofs.Common.{◌≡◌, List, refl, sym, ◌∙◌, ap, arith}
+use Rattle.std.proofs.Common.{List, refl, sym, ◌∙◌, ap, arith}
 use Rattle.std.specs.List.{list_any}
 use Rattle.lin_rows.specs.Rows.{Row}
 use Rattle.lin_rows.specs.Divisors.{tightened}
@@ -19,8 +19,8 @@ returns-then-refuted c =
     given-refuted c.args.rows.now c.args.number c.args.tableau.now c.push_given.new.self c.in-Ok.row c.requires.taking c.requires.number (c.in-Ok.ensures.tightened ∙ ap tightened (indexed c.args.rows.now c.args.rows.now c.args.number c.index-rows-number.result refl c.requires.number c.index-rows-number.is))
     c.in-Ok-push_given.ensures (sym c.is_contradiction-refuted.ensures.contradiction ∙ c.if-refuted.true)
 
-pub returns-then-len-ge10000 : goal.returns-then-len-ge10000
-returns-then-len-ge10000 c =
+pub returns-then-len-ge-ROW_LIMIT : goal.returns-then-len-ge-ROW_LIMIT
+returns-then-len-ge-ROW_LIMIT c =
     given-full c.args.rows.now c.args.number c.args.tableau.now c.push_given.new.self c.in-Ok.row c.requires.taking c.requires.number (c.in-Ok.ensures.tightened ∙ ap tightened (indexed c.args.rows.now c.args.rows.now c.args.number c.index-rows-number.result refl c.requires.number c.index-rows-number.is))
     c.in-Ok-push_given.ensures (sym (ap (λ (l : List Row). list_any (λ q. same_row q c.in-Ok.row) l) c.as_slice-held.ensures) ∙ sym c.is_held.ensures ∙ c.if-is_held.false) (omega arith)
 
