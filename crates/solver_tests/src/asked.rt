@@ -1,0 +1,133 @@
+// Rows from plain numbers, and what a solver says of them.
+ghost use Rattle.std.specs.Prelude.{◌≡◌, true};
+ghost use Rattle.lin_rows.specs.Numbers.{in_range};
+ghost use Rattle.lin_rows.specs.Rows.{all_in_range};
+ghost use Rattle.theory_api.specs.Laws.{all_below};
+
+use lin_rows::{Row, RowTerm, row_of};
+use linear_ints::Eliminator;
+use proof_lines::RangeWhat;
+use std::alloc::{AllocError, Global};
+use theory_api::{Theory, TheoryAnswer};
+
+/// The coefficients of a row by place, and its bound.
+pub type Line<'a> = (&'a [i128], i128);
+
+/// What a solver said, with the first value where there are values.
+#[derive(Clone, Copy, Debug, PartialEq)]
+pub enum Told {
+    Model { first: i128 },
+    Conflict,
+    Split { place: u32, at: i128, first: i128 },
+    Rows,
+    Product,
+    Sum,
+    Value,
+    /// Want of memory, or rows that the solver isn't asked about.
+    Nothing,
+}
+
+fn fits(number: &i128) -> bool
+    ensures { result ≡ in_range number.now }
+{
+    *number != i128::MIN
+}
+
+fn all_fit(terms: &[RowTerm]) -> bool
+    ensures { result ≡ all_in_range terms.now }
+{
+    terms.iter().all(|term| fits(&term.coef))
+}
+
+fn all_within(rows: &[Row], ints: u32) -> bool
+    ensures { result ≡ all_below ints rows.now }
+{
+    rows.iter().all(|row| row.is_within(ints))
+}
+
+fn terms_of(alloc: Global, coefs: &[i128]) -> Result<Vec<RowTerm>, AllocError> {
+    let mut terms = Vec::new(alloc);
+    let mut place = 0u32;
+    for coef in coefs {
+        terms.push(RowTerm { place, coef: *coef })?;
+        place = place.saturating_add(1);
+    }
+    Ok(terms)
+}
+
+fn row_with(alloc: Global, terms: &[RowTerm], bound: i128) -> Result<Row, AllocError> {
+    if !all_fit(terms) || !fits(&bound) {
+        return Err(AllocError);
+    }
+    match row_of(alloc, terms, bound) {
+        Ok(row) => Ok(row),
+        Err(_) => Err(AllocError),
+    }
+}
+
+/// The row of a line.
+pub fn row(alloc: Global, line: &Line) -> Result<Row, AllocError> {
+    let terms = terms_of(alloc, line.0)?;
+    row_with(alloc, terms.as_slice(), line.1)
+}
+
+fn rows_of(alloc: Global, lines: &[Line]) -> Result<Vec<Row>, AllocError> {
+    let mut rows = Vec::new(alloc);
+    for line in lines {
+        rows.push(row(alloc, line)?)?;
+    }
+    Ok(rows)
+}
+
+fn first_of(values: &[i128]) -> i128 {
+    values.first().copied().unwrap_or(0)
+}
+
+fn beyond(what: &RangeWhat) -> Told {
+    match what {
+        RangeWhat::Product { .. } => Told::Product,
+        RangeWhat::Sum { .. } => Told::Sum,
+        RangeWhat::Value { .. } => Told::Value,
+    }
+}
+
+fn in_short(answer: &TheoryAnswer) -> Told {
+    match answer {
+        TheoryAnswer::Model(values) => Told::Model {
+            first: first_of(values.as_slice()),
+        },
+        TheoryAnswer::Conflict { .. } => Told::Conflict,
+        TheoryAnswer::Split {
+            place,
+            at,
+            values,
+            ..
+        } => Told::Split {
+            place: *place,
+            at: *at,
+            first: first_of(values.as_slice()),
+        },
+        TheoryAnswer::Rows { .. } => Told::Rows,
+        TheoryAnswer::Range { what, .. } => beyond(what),
+        TheoryAnswer::Memory => Told::Nothing,
+    }
+}
+
+/// What a solver that may split says of rows.
+pub fn ask<T: Theory>(theory: &mut T, alloc: Global, rows: &[Row], ints: u32) -> Told
+    requires { T.MAY_SPLIT ≡ true }
+{
+    if !all_within(rows, ints) {
+        return Told::Nothing;
+    }
+    let answer = theory.check(alloc, rows, ints);
+    in_short(&answer)
+}
+
+/// What the elimination solver says of the rows of lines.
+pub fn tell(alloc: Global, lines: &[Line], ints: u32) -> Told {
+    match rows_of(alloc, lines) {
+        Ok(rows) => ask(&mut Eliminator::new(), alloc, rows.as_slice(), ints),
+        Err(_) => Told::Nothing,
+    }
+}
