@@ -1,0 +1,3 @@
+pub mod Taking
+pub mod Refusing
+pub mod Executed
