@@ -1,3 +1,9 @@
 pub mod Taking
 pub mod Refusing
 pub mod Executed
+pub mod Finding
+pub mod Lines
+pub mod Fronts
+pub mod Kept
+pub mod Outcomes
+pub mod Answering

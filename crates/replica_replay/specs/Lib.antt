@@ -1,3 +1,5 @@
 pub mod Held
 pub mod Refusals
 pub mod Steps
+pub mod Holding
+pub mod Replayed

@@ -1,0 +1,140 @@
+// What is asked of a call before its effect, and the state after an effect.
+
+ghost use Rattle.std.specs.Prelude.{◌≡◌, ℕ, ◌<◌, ◌≤◌, ◌^◌, ◌⊎◌, true, length, map, Option, None, Some, IfOk, IfErr, OnOk};
+ghost use Rattle.std.specs.Option.{option_or};
+ghost use Rattle.std.specs.List.{position_from};
+ghost use Rattle.std.specs.Str.{bytes_eq};
+ghost use Rattle.spec_core.specs.Limits.{most_operations};
+ghost use Rattle.spec_core.specs.State.{reads};
+ghost use Rattle.spec_core.specs.Fits.{world_fits, call_fits, is_state};
+ghost use Rattle.effectors.specs.Effect.{after};
+ghost use Rattle.replica_replay.specs.Refusals.{least_unseen, call_asked, taking_asked, effect_refused};
+ghost use Rattle.replica_replay.specs.Holding.{calls_of};
+ghost use Rattle.replica_replay.specs.Steps.{operation_named as operation_named_of};
+
+use crate::keeping::Happened;
+use crate::order::Order;
+use crate::step::StepRefused;
+use effectors::{ApplyRefused, apply};
+use spec_core::{Call, Operation, Spec, State, World, observes_broken_at, requires_broken_at};
+use std::alloc::Global;
+use token_rules::conflicts;
+
+fn named(operations: &[Operation], name: &[u8]) -> Option<u8>
+    requires { length operations.now ≤ most_operations }
+    ensures { result ≡ position_from (λ o. bytes_eq o.name name.now) 0 operations.now }
+{
+    for (place, operation) in operations.iter().enumerate() {
+        if operation.name.bytes() == name {
+            return Some(place as u8);
+        }
+    }
+    None
+}
+
+/// The place of the operation of this name.
+pub fn operation_named(spec: &Spec, name: &[u8]) -> Option<u8>
+    ensures { result ≡ operation_named_of spec.now name.now }
+{
+    spec.well_formed();
+    named(spec.operations.as_slice(), name)
+}
+
+/// The least event whose call conflicts with a call and that isn't among those taken.
+pub fn least_unseen(
+    spec: &Spec,
+    world: &World,
+    taken: &Order,
+    call: &Call,
+    happened: &[Happened],
+) -> Option<u32>
+    requires { length happened.now < 2 ^ 32 }
+    ensures { result ≡ least_unseen spec.now world.now taken.now call.now 0 (calls_of happened.now) }
+{
+    for (event, other) in happened.iter().enumerate() {
+        if conflicts(spec, world, &other.call, call) && !taken.has(event as u32) {
+            return Some(event as u32);
+        }
+    }
+    None
+}
+
+/// Why a call is refused before its effect is tried.
+pub fn asked(
+    spec: &Spec,
+    world: &World,
+    happened: &[Happened],
+    taken: &Order,
+    state: &State,
+    call: &Call,
+) -> Option<StepRefused>
+    requires world { world_fits spec.now world.now ≡ true }
+    requires few { length happened.now < 2 ^ 32 }
+    ensures refusal { (next : Option StepRefused) → call_asked spec.now world.now (calls_of happened.now) taken.now (reads state.now) call.now next ≡ option_or result next }
+    ensures fits { result ≡ None → call_fits spec.now world.now call.now ≡ true }
+{
+    spec.well_formed();
+    if !call.fits(spec, world) {
+        return Some(StepRefused::Arguments);
+    }
+    if let Some(event) = least_unseen(spec, world, taken, call, happened) {
+        return Some(StepRefused::Conflict { event });
+    }
+    if let Some(place) = requires_broken_at(spec, world, state, call) {
+        return Some(StepRefused::Precondition {
+            line: place as u32 + 1,
+        });
+    }
+    if let Some(place) = observes_broken_at(spec, world, state, call) {
+        return Some(StepRefused::Observation {
+            line: place as u32 + 1,
+        });
+    }
+    None
+}
+
+/// Why a taking is refused before its effect is tried.
+pub fn taking_asked(taken: &Order, event: u32, seen: &[u32]) -> Option<StepRefused>
+    ensures { (next : Option StepRefused) → taking_asked taken.now event seen.now next ≡ option_or result next }
+{
+    if taken.has(event) {
+        return Some(StepRefused::Seen);
+    }
+    if let Some(event) = taken.first_untaken(seen) {
+        return Some(StepRefused::Missing { event });
+    }
+    None
+}
+
+/// The state after a call's effect.
+pub fn state_after_call(
+    alloc: Global,
+    spec: &Spec,
+    world: &World,
+    state: &State,
+    call: &Call,
+) -> Result<State, StepRefused>
+    requires world { world_fits spec.now world.now ≡ true }
+    requires state { is_state spec.now world.now state.now ≡ true }
+    requires call { call_fits spec.now world.now call.now ≡ true }
+    ensures reads { IfOk result (λ s. reads s ≡ after spec.now world.now call.now (reads state.now)) }
+    ensures fits { IfOk result (λ s. is_state spec.now world.now s ≡ true) }
+    ensures ok { OnOk result (effect_refused spec.now world.now (reads state.now) call.now ≡ None) }
+    ensures err { IfErr result (λ why. (why ≡ StepRefused.Memory) ⊎ (effect_refused spec.now world.now (reads state.now) call.now ≡ Some why)) }
+{
+    match apply(alloc, spec, world, state, call) {
+        Ok(next) => Ok(next),
+        Err(
+            ApplyRefused::Range {
+                counter,
+                key,
+                value,
+            },
+        ) => Err(StepRefused::Range {
+            counter,
+            key,
+            value,
+        }),
+        Err(ApplyRefused::Memory) => Err(StepRefused::Memory),
+    }
+}

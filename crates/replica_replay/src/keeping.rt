@@ -1,0 +1,145 @@
+// What a replay keeps of each event and of each replica, and how both grow by a step.
+//
+// What an event has seen is a front of what its replica had taken, so it is kept as the replica and a length.
+
+ghost use Rattle.std.specs.Prelude.{◌≡◌, ◌+◌, ◌<◌, ◌^◌, true, [], ◌∷◌, ◌++◌, length, take, set, get_or, replicate, All, OnOk, OnErr, IfOk, IfErr};
+ghost use Rattle.spec_core.specs.State.{reads};
+ghost use Rattle.spec_core.specs.Meaning.{initial as initial_of};
+ghost use Rattle.spec_core.specs.Fits.{world_fits, is_state};
+ghost use Rattle.replica_replay.specs.Holding.{orders_of, seen_by_event};
+
+use crate::order::Order;
+use crate::step::{StepRefused, Taken};
+use spec_core::{Call, Spec, State, World};
+use std::alloc::{AllocError, Global};
+
+/// An event: a call, and what it has seen, as how many of the events that its replica had taken in the end.
+#[derive(Drop)]
+pub struct Happened {
+    pub call: Call,
+    pub replica: u32,
+    pub before: usize,
+}
+
+/// A replica: what it has taken, and the state after that.
+#[derive(Drop)]
+pub struct Replica {
+    pub order: Order,
+    pub state: State,
+}
+
+impl Replica {
+    fn take(&mut self, event: u32, state: State) -> Result<(), AllocError>
+        ensures order { OnOk result (self.new.order ≡ self.old.order ++ event ∷ []) }
+        ensures state { OnOk result (self.new.state ≡ state) }
+        ensures err { OnErr result (self.new ≡ self.old) }
+    {
+        self.order.push(event)?;
+        self.state = state;
+        Ok(())
+    }
+}
+
+/// Replicas in the initial state that have taken nothing.
+pub fn first_replicas(
+    alloc: Global,
+    spec: &Spec,
+    world: &World,
+    count: u32,
+) -> Result<Vec<Replica>, AllocError>
+    requires { world_fits spec.now world.now ≡ true }
+    ensures orders { IfOk result (λ replicas. orders_of replicas.items ≡ replicate count []) }
+    ensures states { IfOk result (λ replicas. All (λ replica. (is_state spec.now world.now replica.state ≡ true) × (reads replica.state ≡ reads (initial_of spec.now world.now))) replicas.items) }
+{
+    let mut replicas = Vec::new(alloc);
+    for _i in 0..count {
+        let state = State::initial(alloc, spec, world)?;
+        replicas.push(Replica {
+            order: Order::new(alloc),
+            state,
+        })?;
+    }
+    Ok(replicas)
+}
+
+pub fn count(replicas: &[Replica]) -> usize
+    ensures { result ≡ length replicas.now }
+{
+    replicas.len()
+}
+
+/// What an event has seen.
+pub fn seen_by_event<'a>(replicas: &'a [Replica], event: &Happened) -> &'a [u32]
+    ensures { result.now ≡ seen_by_event (orders_of replicas.now) event.now }
+{
+    match replicas.get(event.replica as usize) {
+        Some(replica) => front(replica.order.as_slice(), event.before),
+        None => &[],
+    }
+}
+
+fn front(events: &[u32], before: usize) -> &[u32]
+    ensures { result.now ≡ take before events.now }
+{
+    if before <= events.len() {
+        &events[..before]
+    } else {
+        events
+    }
+}
+
+/// A replica takes an event, which leads to this state.
+pub fn keep_taking(
+    replicas: &mut Vec<Replica>,
+    replica: usize,
+    event: u32,
+    state: State,
+) -> Result<Taken, StepRefused>
+    requires { replica < length replicas.old.items }
+    ensures taken { IfOk result (λ t. t.event ≡ event) }
+    ensures ok { OnOk result (replicas.new.items ≡ set replicas.old.items replica (record { order = get_or (orders_of replicas.old.items) replica [] ++ event ∷ []; state = state })) }
+    ensures err { OnErr result (replicas.new.items ≡ replicas.old.items) }
+    ensures memory { IfErr result (λ why. why ≡ StepRefused.Memory) }
+{
+    let at = &mut replicas[replica];
+    at.take(event, state)?;
+    Ok(Taken { event })
+}
+
+/// A call becomes the next event, and its replica takes it, which leads to this state.
+pub fn keep_call(
+    happened: &mut Vec<Happened>,
+    replicas: &mut Vec<Replica>,
+    replica: u32,
+    call: Call,
+    state: State,
+) -> Result<Taken, StepRefused>
+    requires replica { replica < length replicas.old.items }
+    requires few { length happened.old.items < 2 ^ 32 }
+    ensures taken { IfOk result (λ t. t.event ≡ length happened.old.items) }
+    ensures few { OnOk result (length happened.old.items + 1 < 2 ^ 32) }
+    ensures happened { OnOk result (happened.new.items ≡ happened.old.items ++ record { call = call; replica = replica; before = length (get_or (orders_of replicas.old.items) replica []) } ∷ []) }
+    ensures replicas { OnOk result (replicas.new.items ≡ set replicas.old.items replica (record { order = get_or (orders_of replicas.old.items) replica [] ++ length happened.old.items ∷ []; state = state })) }
+    ensures err { OnErr result ((happened.new.items ≡ happened.old.items) × (replicas.new.items ≡ replicas.old.items)) }
+    ensures memory { IfErr result (λ why. why ≡ StepRefused.Memory) }
+{
+    let event = happened.len() as u32;
+    if event == u32::MAX {
+        return Err(StepRefused::Memory);
+    }
+    let before = replicas[replica as usize].order.as_slice().len();
+    let Ok(()) = happened.push(Happened {
+        call,
+        replica,
+        before,
+    }) else {
+        return Err(StepRefused::Memory);
+    };
+    match keep_taking(replicas, replica as usize, event, state) {
+        Ok(taken) => Ok(taken),
+        Err(_) => {
+            happened.pop();
+            Err(StepRefused::Memory)
+        }
+    }
+}

@@ -1,0 +1,178 @@
+// A replay: steps, taken one after the other.
+
+ghost use Rattle.std.specs.Prelude.{◌≡◌, ℕ, ◌<◌, ◌≤◌, ◌⊎◌, true, [], length, replicate, get_or, slice_get, List, Result, Err, IfOk, OnOk, OnErr};
+ghost use Rattle.spec_core.specs.State.{reads};
+ghost use Rattle.spec_core.specs.Fits.{world_fits, is_state};
+ghost use Rattle.replica_replay.specs.Held.{IsHeld, none_held};
+ghost use Rattle.replica_replay.specs.Steps.{state_of, called, took, outcome, held_after, answer};
+
+use crate::asking::{asked, operation_named, state_after_call, taking_asked};
+use crate::keeping::{
+    Happened, Replica, count, first_replicas, keep_call, keep_taking, seen_by_event,
+};
+use crate::order::Order;
+use crate::step::{Step, StepRefused, Taken};
+use items::Items;
+use spec_core::{Call, Spec, State, World};
+use std::alloc::{AllocError, Global};
+use std::marker::Model;
+
+/// A replay of a specification in a world. Its events form an execution, and what each replica has taken is a delivery order
+/// of it. The steps so far take memory for each event and for each taking, and none for what an event has seen.
+#[derive(Drop)]
+pub struct Replay<'a> {
+    alloc: Global,
+    spec: &'a Spec,
+    world: World,
+    happened: Vec<Happened>,
+    replicas: Vec<Replica>,
+}
+
+impl<'a> Model for Replay<'a> {
+    ghost use Rattle.std.specs.Coded.{codes};
+    ghost use Rattle.spec_core.specs.Code.{coded_form};
+    ghost use Rattle.replica_replay.specs.Replayed.{Replayed};
+
+    ghost Value = { Replayed };
+
+    ghost coded = { Prim.hlevel (codes, coded_form) };
+
+    ghost use Rattle.replica_replay.specs.Holding.{held_by, IsKept};
+
+    ghost view = { λ a. record { spec = a.spec.now; world = a.world; held = held_by a.happened.items a.replicas.items } };
+
+    ghost invariant = { λ a. IsKept a.spec.now a.world a.happened.items a.replicas.items };
+}
+
+impl<'a> Replay<'a> {
+    /// The replay before the first step: each replica is in the initial state, and has taken nothing.
+    pub fn new(
+        alloc: Global,
+        spec: &'a Spec,
+        world: World,
+        replicas: u32,
+    ) -> Result<Replay<'a>, AllocError>
+        requires { world_fits spec.now world ≡ true }
+        ensures spec { IfOk result (λ replay. replay.spec ≡ spec.now) }
+        ensures world { IfOk result (λ replay. replay.world ≡ world) }
+        ensures held { IfOk result (λ replay. replay.held ≡ none_held replicas) }
+    {
+        let happened = Vec::new(alloc);
+        let replicas = first_replicas(alloc, spec, &world, replicas)?;
+        Ok(Replay {
+            alloc,
+            spec,
+            world,
+            happened,
+            replicas,
+        })
+    }
+
+    /// How many replicas there are.
+    pub fn replica_count(&self) -> usize
+        ensures { result ≡ length self.now.held.taken }
+    {
+        count(&self.replicas)
+    }
+
+    /// The state of a replica: that after the events that it has taken.
+    pub fn state_of(&self, replica: u32) -> &State
+        requires { replica < length self.now.held.taken }
+        ensures reads { reads result.now ≡ state_of self.now.spec self.now.world self.now.held (get_or self.now.held.taken replica []) }
+        ensures fits { is_state self.now.spec self.now.world result.now ≡ true }
+    {
+        &self.replicas[replica as usize].state
+    }
+
+    /// The events that a replica has taken, in that order.
+    pub fn seen_by(&self, replica: u32) -> &[u32]
+        requires { replica < length self.now.held.taken }
+        ensures { result.now ≡ get_or self.now.held.taken replica [] }
+    {
+        self.replicas[replica as usize].order.as_slice()
+    }
+
+    /// A fact for proofs: the events form an execution, and what each replica has taken is a delivery order of it.
+    pub fn is_held(&self)
+        ensures { IsHeld self.now.spec self.now.world self.now.held }
+    {
+        let _happened = &self.happened;
+    }
+
+    fn call(&mut self, replica: u32, name: &[u8], args: &[i64]) -> Result<Taken, StepRefused>
+        ensures answer { (result ≡ Err StepRefused.Memory) ⊎ (result ≡ answer (called self.old.spec self.old.world self.old.held replica name.now args.now (slice_get self.old.held.taken replica))) }
+        ensures ok { OnOk result (self.new ≡ record self.old { held = held_after self.old.held (called self.old.spec self.old.world self.old.held replica name.now args.now (slice_get self.old.held.taken replica)) }) }
+        ensures err { OnErr result (self.new ≡ self.old) }
+    {
+        let Some(at) = self.replicas.get(replica as usize) else {
+            return Err(StepRefused::Replica);
+        };
+        let Some(op) = operation_named(self.spec, name) else {
+            return Err(StepRefused::Operation);
+        };
+        let args = Items::from_slice(self.alloc, args)?;
+        let call = Call { op, args };
+        match asked(
+            self.spec,
+            &self.world,
+            &self.happened,
+            &at.order,
+            &at.state,
+            &call,
+        ) {
+            Some(why) => Err(why),
+            None => match state_after_call(self.alloc, self.spec, &self.world, &at.state, &call) {
+                Ok(state) => keep_call(
+                    &mut self.happened,
+                    &mut self.replicas,
+                    replica,
+                    call,
+                    state,
+                ),
+                Err(why) => Err(why),
+            },
+        }
+    }
+
+    fn take(&mut self, replica: u32, event: u32) -> Result<Taken, StepRefused>
+        ensures answer { (result ≡ Err StepRefused.Memory) ⊎ (result ≡ answer (took self.old.spec self.old.world self.old.held replica event (slice_get self.old.held.taken replica))) }
+        ensures ok { OnOk result (self.new ≡ record self.old { held = held_after self.old.held (took self.old.spec self.old.world self.old.held replica event (slice_get self.old.held.taken replica)) }) }
+        ensures err { OnErr result (self.new ≡ self.old) }
+    {
+        let Some(at) = self.replicas.get(replica as usize) else {
+            return Err(StepRefused::Replica);
+        };
+        let Some(found) = self.happened.get(event as usize) else {
+            return Err(StepRefused::NoEvent);
+        };
+        let seen = seen_by_event(&self.replicas, found);
+        match taking_asked(&at.order, event, seen) {
+            Some(why) => Err(why),
+            None => match state_after_call(
+                self.alloc,
+                self.spec,
+                &self.world,
+                &at.state,
+                &found.call,
+            ) {
+                Ok(state) => keep_taking(&mut self.replicas, replica as usize, event, state),
+                Err(why) => Err(why),
+            },
+        }
+    }
+
+    /// Carries a step out, or says why not. A call makes the next event, which has seen what its replica had taken, and the
+    /// replica takes it; a taking puts the event behind what the replica has taken. The first cause in the order of the tests is
+    /// answered: of a call replica, operation, arguments, conflict, precondition, observation, range; of a taking replica, no
+    /// event, seen, missing, range. A refusal changes nothing.
+    pub fn step(&mut self, step: &Step) -> Result<Taken, StepRefused>
+        ensures answer { (result ≡ Err StepRefused.Memory) ⊎ (result ≡ answer (outcome self.old.spec self.old.world self.old.held step.now)) }
+        ensures ok { OnOk result (self.new ≡ record self.old { held = held_after self.old.held (outcome self.old.spec self.old.world self.old.held step.now) }) }
+        ensures err { OnErr result (self.new ≡ self.old) }
+    {
+        match step {
+            Step::Call { replica, op, args } => self.call(*replica, op.bytes(), args.as_slice()),
+            Step::Take { replica, event } => self.take(*replica, *event),
+        }
+    }
+}
