@@ -3,7 +3,7 @@
 use crate::examples::SHOP;
 use crate::outline::SpecOutline;
 use crate::setting::{Setting, call, first_setting};
-use crate::tournaments::TOURNAMENTS;
+use crate::tournaments::tournaments;
 use std::alloc::Global;
 use std::process::Abort;
 use token_rules::conflicts;
@@ -33,43 +33,54 @@ fn conflict(
     found
 }
 
-fn check(rt: &impl Abort, alloc: Global, outline: &SpecOutline, sizes: &[u32], cases: &[Case]) {
-    let at = first_setting(rt, alloc, outline, sizes);
+/// Each case in a setting.
+fn check_all(rt: &impl Abort, alloc: Global, at: &Setting, cases: &[Case]) {
     for (one, other, want) in cases {
-        let found = conflict(rt, alloc, &at, one, other);
+        let found = conflict(rt, alloc, at, one, other);
         assert!(rt;
             found.0 == *want && found.1 == *want,
             "at {one:?} and {other:?}"
         );
     }
+}
+
+fn check(rt: &impl Abort, alloc: Global, outline: &SpecOutline, sizes: &[u32], cases: &[Case]) {
+    let at = first_setting(rt, alloc, outline, sizes);
+    check_all(rt, alloc, &at, cases);
     drop(at);
 }
 
+static IN_THE_SHOP: &[Case] = &[
+    ((0, &[5]), (0, &[5]), true),
+    ((0, &[5]), (1, &[5]), true),
+    ((1, &[5]), (1, &[5]), false),
+];
+
 #[test]
 fn orders_share_the_shop_and_a_new_price_has_it_alone(rt: HostRuntime) {
-    let cases: [Case; 3] = [
-        ((0, &[5]), (0, &[5]), true),
-        ((0, &[5]), (1, &[5]), true),
-        ((1, &[5]), (1, &[5]), false),
-    ];
-    check(&rt, rt.alloc(), &SHOP, &[], &cases);
+    check(&rt, rt.alloc(), &SHOP, &[], IN_THE_SHOP);
+}
+
+static TOURNAMENT_CASES: &[Case] = &[
+    // enroll and rem_tourn
+    ((4, &[0, 1]), (3, &[1]), true),
+    ((4, &[0, 1]), (3, &[0]), false),
+    // enroll and rem_player
+    ((4, &[0, 1]), (1, &[0]), true),
+    ((4, &[0, 1]), (1, &[1]), false),
+    // enroll and enroll
+    ((4, &[0, 1]), (4, &[1, 1]), true),
+    ((4, &[0, 1]), (4, &[0, 0]), false),
+    // rem_player and rem_tourn
+    ((1, &[0]), (3, &[0]), false),
+    ((1, &[0]), (1, &[0]), true),
+];
+
+fn in_tournaments() -> &'static [Case] {
+    TOURNAMENT_CASES
 }
 
 #[test]
 fn enrolling_conflicts_with_what_touches_its_player_or_its_tournament(rt: HostRuntime) {
-    let cases: [Case; 8] = [
-        // enroll and rem_tourn
-        ((4, &[0, 1]), (3, &[1]), true),
-        ((4, &[0, 1]), (3, &[0]), false),
-        // enroll and rem_player
-        ((4, &[0, 1]), (1, &[0]), true),
-        ((4, &[0, 1]), (1, &[1]), false),
-        // enroll and enroll
-        ((4, &[0, 1]), (4, &[1, 1]), true),
-        ((4, &[0, 1]), (4, &[0, 0]), false),
-        // rem_player and rem_tourn
-        ((1, &[0]), (3, &[0]), false),
-        ((1, &[0]), (1, &[0]), true),
-    ];
-    check(&rt, rt.alloc(), &TOURNAMENTS, &[2, 2], &cases);
+    check(&rt, rt.alloc(), tournaments(), &[2, 2], in_tournaments());
 }

@@ -4,137 +4,183 @@ use crate::accounts::DEPOSITS;
 use crate::examples::{LAMPS, SET, SWAP};
 use crate::setting::{Setting, call, first_setting};
 use effectors::{ApplyRefused, apply, post_count, post_has, post2_count, post2_has};
-use spec_core::Call;
+use spec_core::State;
 use std::alloc::Global;
 use std::process::Abort;
 
-/// The same specification and world, in the state after a call that fits and isn't refused.
-fn after(rt: &impl Abort, alloc: Global, at: Setting, call: &Call) -> Setting {
-    assert!(rt; call.fits(&at.spec, &at.world));
-    let Ok(state) = apply(alloc, &at.spec, &at.world, &at.state, call) else {
-        panic!(rt; "refused");
-    };
-    let Setting {
-        spec,
-        world,
-        state: before,
-    } = at;
-    drop(before);
-    Setting { spec, world, state }
-}
+/// An operation with arguments.
+type CallOutline = (u8, &'static [i64]);
 
-/// With which value a call is refused, as one that leads the first counter beyond the range at its first key.
-fn refused_value(rt: &impl Abort, alloc: Global, at: &Setting, call: &Call) -> i128 {
-    assert!(rt; call.fits(&at.spec, &at.world));
-    match apply(alloc, &at.spec, &at.world, &at.state, call) {
-        Err(
-            ApplyRefused::Range {
-                counter,
-                key,
-                value,
-            },
-        ) => {
-            assert!(rt; counter == 0 && key.as_slice() == [0].as_slice());
-            value
-        }
-        _ => panic!(rt; "not refused for its value"),
+/// The first counter, its key of one element, and the value with which a call is refused.
+fn range_of(made: &Result<State, ApplyRefused>) -> Option<[i128; 3]> {
+    let Err(
+        ApplyRefused::Range {
+            counter,
+            key,
+            value,
+        },
+    ) = made
+    else {
+        return None;
+    };
+    match key.as_slice() {
+        [element] => Some([i128::from(*counter), i128::from(*element), *value]),
+        _ => None,
     }
 }
 
-/// Whether a counter without keys reads one value after a call, and another after it is made twice.
-fn counts(
-    rt: &impl Abort,
-    at: &Setting,
-    call: &Call,
-    counter: u8,
-    once: i128,
-    twice: i128,
-) -> bool {
+/// The same of a call that fits, as it is refused.
+fn refused(rt: &impl Abort, alloc: Global, at: &Setting, it: CallOutline) -> Option<[i128; 3]> {
+    let call = call(rt, alloc, it.0, it.1);
     assert!(rt; call.fits(&at.spec, &at.world));
-    post_count(&at.spec, &at.world, &at.state, call, counter, &[]) == once
-        && post2_count(&at.spec, &at.world, &at.state, call, call, counter, &[]) == twice
+    let made = apply(alloc, &at.spec, &at.world, &at.state, &call);
+    let found = range_of(&made);
+    drop(made);
+    drop(call);
+    found
 }
 
-/// The value of the first counter at an element after a call that fits.
-fn count(rt: &impl Abort, at: &Setting, call: &Call, element: u32) -> i128 {
+/// The value of a counter at a key after a call that fits.
+fn count(
+    rt: &impl Abort,
+    alloc: Global,
+    at: &Setting,
+    it: CallOutline,
+    counter: u8,
+    key: &[u32],
+) -> i128 {
+    let call = call(rt, alloc, it.0, it.1);
     assert!(rt; call.fits(&at.spec, &at.world));
-    post_count(&at.spec, &at.world, &at.state, call, 0, &[element])
+    let found = post_count(&at.spec, &at.world, &at.state, &call, counter, key);
+    drop(call);
+    found
+}
+
+/// The value after the call is made twice.
+fn count_after_both(
+    rt: &impl Abort,
+    alloc: Global,
+    at: &Setting,
+    it: CallOutline,
+    counter: u8,
+    key: &[u32],
+) -> i128 {
+    let call = call(rt, alloc, it.0, it.1);
+    assert!(rt; call.fits(&at.spec, &at.world));
+    let found = post2_count(&at.spec, &at.world, &at.state, &call, &call, counter, key);
+    drop(call);
+    found
 }
 
 /// Whether the first relation has an element after a call that fits.
-fn has(rt: &impl Abort, at: &Setting, call: &Call, element: u32) -> bool {
+fn has(rt: &impl Abort, alloc: Global, at: &Setting, it: CallOutline, element: u32) -> bool {
+    let call = call(rt, alloc, it.0, it.1);
     assert!(rt; call.fits(&at.spec, &at.world));
-    post_has(&at.spec, &at.world, &at.state, call, 0, &[element])
+    let found = post_has(&at.spec, &at.world, &at.state, &call, 0, &[element]);
+    drop(call);
+    found
 }
 
 /// Whether it has the element after two calls that fit.
 fn has_after_both(
     rt: &impl Abort,
+    alloc: Global,
     at: &Setting,
-    first: &Call,
-    second: &Call,
+    one: CallOutline,
+    other: CallOutline,
     element: u32,
 ) -> bool {
-    assert!(rt; first.fits(&at.spec, &at.world));
-    assert!(rt; second.fits(&at.spec, &at.world));
-    post2_has(&at.spec, &at.world, &at.state, first, second, 0, &[element])
+    let first = call(rt, alloc, one.0, one.1);
+    let second = call(rt, alloc, other.0, other.1);
+    assert!(rt; first.fits(&at.spec, &at.world) && second.fits(&at.spec, &at.world));
+    let found = post2_has(
+        &at.spec,
+        &at.world,
+        &at.state,
+        &first,
+        &second,
+        0,
+        &[element],
+    );
+    drop(first);
+    drop(second);
+    found
+}
+
+const SWAP_BOTH: CallOutline = (0, &[]);
+
+/// The first counter as it is read after one swap and after two, and both counters once the swap is made.
+fn swapped(rt: &impl Abort, alloc: Global) -> [i128; 4] {
+    let mut at = first_setting(rt, alloc, &SWAP, &[]);
+    let once = count(rt, alloc, &at, SWAP_BOTH, 0, &[]);
+    let twice = count_after_both(rt, alloc, &at, SWAP_BOTH, 0, &[]);
+    at.make(rt, alloc, 0, &[]);
+    let found = [once, twice, at.count(0, &[]), at.count(1, &[])];
+    drop(at);
+    found
 }
 
 #[test]
 fn both_updates_of_a_swap_read_the_old_state(rt: HostRuntime) {
-    let alloc = rt.alloc();
-    let first = first_setting(&rt, alloc, &SWAP, &[]);
-    let swap = call(&rt, alloc, 0, &[]);
-    assert!(rt; counts(&rt, &first, &swap, 0, 2, 1));
-    let swapped = after(&rt, alloc, first, &swap);
-    assert!(rt; swapped.count(0, &[]) == 2);
-    assert!(rt; swapped.count(1, &[]) == 1);
-    drop(swap);
-    drop(swapped);
+    let found = swapped(&rt, rt.alloc());
+    assert!(rt; found == [2, 1, 2, 1]);
+}
+
+const PUT: CallOutline = (0, &[1]);
+
+const TAKE: CallOutline = (1, &[1]);
+
+/// Whether element 1 and element 0 are there after 1 is put, and 1 after it is put and taken, and after it is taken and put.
+fn put_and_taken(rt: &impl Abort, alloc: Global) -> [bool; 4] {
+    let set = first_setting(rt, alloc, &SET, &[2]);
+    let found = [
+        has(rt, alloc, &set, PUT, 1),
+        has(rt, alloc, &set, PUT, 0),
+        has_after_both(rt, alloc, &set, PUT, TAKE, 1),
+        has_after_both(rt, alloc, &set, TAKE, PUT, 1),
+    ];
+    drop(set);
+    found
 }
 
 #[test]
 fn an_element_that_is_put_is_there_until_it_is_dropped(rt: HostRuntime) {
-    let alloc = rt.alloc();
-    let set = first_setting(&rt, alloc, &SET, &[2]);
-    let put = call(&rt, alloc, 0, &[1]);
-    let take = call(&rt, alloc, 1, &[1]);
-    assert!(rt; has(&rt, &set, &put, 1));
-    assert!(rt; !has(&rt, &set, &put, 0));
-    assert!(rt; !has_after_both(&rt, &set, &put, &take, 1));
-    assert!(rt; has_after_both(&rt, &set, &take, &put, 1));
-    drop(put);
-    drop(take);
-    drop(set);
+    let found = put_and_taken(&rt, rt.alloc());
+    assert!(rt; found == [true, false, false, true]);
+}
+
+/// Whether the lamp of room 0, lit before a night, is lit after it, and the hours of both rooms.
+fn after_night(rt: &impl Abort, alloc: Global, night: CallOutline) -> (bool, [i128; 2]) {
+    let mut lamps = first_setting(rt, alloc, &LAMPS, &[2]);
+    lamps.set_has(rt, 0, &[0], true);
+    let lit = has(rt, alloc, &lamps, night, 0);
+    let hours = [
+        count(rt, alloc, &lamps, night, 0, &[0]),
+        count(rt, alloc, &lamps, night, 0, &[1]),
+    ];
+    drop(lamps);
+    (lit, hours)
 }
 
 #[test]
 fn a_guarded_update_of_every_room_reads_the_old_state(rt: HostRuntime) {
-    let alloc = rt.alloc();
-    // In which room the night begins, whether the lamp of room 0 is lit after it, and the hours of every room.
-    let cases: [(i64, bool, i128); 2] = [(0, false, 1), (1, true, 0)];
-    let mut lamps = first_setting(&rt, alloc, &LAMPS, &[2]);
-    lamps.set_has(&rt, 0, &[0], true);
-    for (room, lit, hours) in cases {
-        let night = call(&rt, alloc, 0, &[room]);
-        assert!(rt; has(&rt, &lamps, &night, 0) == lit, "in room {room}");
-        assert!(rt; count(&rt, &lamps, &night, 0) == hours, "in room {room}");
-        assert!(rt; count(&rt, &lamps, &night, 1) == hours, "in room {room}");
-        drop(night);
-    }
-    drop(lamps);
+    let from_lit = after_night(&rt, rt.alloc(), (0, &[0]));
+    let from_dark = after_night(&rt, rt.alloc(), (0, &[1]));
+    assert!(rt; !from_lit.0 && from_lit.1 == [1, 1]);
+    assert!(rt; from_dark.0 && from_dark.1 == [0, 0]);
+}
+
+/// With what a deposit of 1 is refused where the balance is the greatest of the range.
+fn refused_beyond(rt: &impl Abort, alloc: Global) -> Option<[i128; 3]> {
+    let mut accounts = first_setting(rt, alloc, &DEPOSITS, &[1]);
+    accounts.make(rt, alloc, 0, &[0, 1_000_000_000_000_000]);
+    let found = refused(rt, alloc, &accounts, (0, &[0, 1]));
+    drop(accounts);
+    found
 }
 
 #[test]
 fn a_deposit_beyond_the_range_is_refused_with_its_value(rt: HostRuntime) {
-    let alloc = rt.alloc();
-    let accounts = first_setting(&rt, alloc, &DEPOSITS, &[1]);
-    let most = call(&rt, alloc, 0, &[0, 1_000_000_000_000_000]);
-    let full = after(&rt, alloc, accounts, &most);
-    let more = call(&rt, alloc, 0, &[0, 1]);
-    let value = refused_value(&rt, alloc, &full, &more);
-    drop(most);
-    drop(more);
-    drop(full);
-    assert!(rt; value == 1_000_000_000_000_001);
+    let found = refused_beyond(&rt, rt.alloc());
+    assert!(rt; found == Some([0, 0, 1_000_000_000_000_001]));
 }

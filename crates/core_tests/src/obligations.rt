@@ -5,7 +5,7 @@ use crate::building::{items, spec};
 use crate::examples::{SET, SHOP};
 use crate::outline::SpecOutline;
 use crate::setting::{Setting, call, first_setting};
-use crate::tournaments::TOURNAMENTS;
+use crate::tournaments::tournaments;
 use items::Items;
 use obligation_list::{Obligation, Witness, breaks, law_obligations, list};
 use spec_core::{Call, Spec, Thing};
@@ -20,38 +20,60 @@ fn obligations(rt: &impl Abort, alloc: Global, outline: &SpecOutline) -> usize {
     found
 }
 
+/// How many the specifications of accounts have.
+fn of_accounts(rt: &impl Abort, alloc: Global) -> [usize; 3] {
+    [
+        obligations(rt, alloc, &DEPOSITS),
+        obligations(rt, alloc, &WITHDRAWALS),
+        obligations(rt, alloc, &PURSES),
+    ]
+}
+
+/// How many a set, a shop and tournaments have.
+fn of_others(rt: &impl Abort, alloc: Global) -> [usize; 3] {
+    [
+        obligations(rt, alloc, &SET),
+        obligations(rt, alloc, &SHOP),
+        obligations(rt, alloc, tournaments()),
+    ]
+}
+
 #[test]
 fn a_specification_has_so_many_obligations(rt: HostRuntime) {
-    let alloc = rt.alloc();
-    assert!(rt; obligations(&rt, alloc, &DEPOSITS) == 4);
-    assert!(rt; obligations(&rt, alloc, &WITHDRAWALS) == 12);
-    assert!(rt; obligations(&rt, alloc, &PURSES) == 12);
-    assert!(rt; obligations(&rt, alloc, &SET) == 3);
-    assert!(rt; obligations(&rt, alloc, &SHOP) == 12);
-    assert!(rt; obligations(&rt, alloc, &TOURNAMENTS) == 100);
+    let of_accounts = of_accounts(&rt, rt.alloc());
+    let of_others = of_others(&rt, rt.alloc());
+    assert!(rt; of_accounts == [4, 12, 12]);
+    assert!(rt; of_others == [3, 12, 100]);
+}
+
+static OF_DEPOSITS: &[Obligation] = &[
+    Obligation::Init { inv: 0 },
+    Obligation::Safety { op: 0, inv: 0 },
+    Obligation::Commute {
+        first: 0,
+        second: 0,
+        thing: Thing::Counter(0),
+    },
+    Obligation::Stable {
+        op: 0,
+        line: 0,
+        other: 0,
+    },
+];
+
+/// Whether a specification has these obligations.
+fn has_these(rt: &impl Abort, alloc: Global, outline: &SpecOutline, want: &[Obligation]) -> bool {
+    let spec = spec(rt, alloc, outline);
+    let obligations = list(alloc, &spec).expect(rt, "memory");
+    let found = obligations.as_slice() == want;
+    drop(obligations);
+    drop(spec);
+    found
 }
 
 #[test]
 fn deposits_have_an_obligation_of_each_kind(rt: HostRuntime) {
-    let alloc = rt.alloc();
-    let spec = spec(&rt, alloc, &DEPOSITS);
-    let found = list(alloc, &spec).expect(&rt, "memory");
-    let want = [
-        Obligation::Init { inv: 0 },
-        Obligation::Safety { op: 0, inv: 0 },
-        Obligation::Commute {
-            first: 0,
-            second: 0,
-            thing: Thing::Counter(0),
-        },
-        Obligation::Stable {
-            op: 0,
-            line: 0,
-            other: 0,
-        },
-    ];
-    drop(spec);
-    assert!(rt; found.as_slice() == want.as_slice());
+    assert!(rt; has_these(&rt, rt.alloc(), &DEPOSITS, OF_DEPOSITS));
 }
 
 /// Whether a witness breaks an obligation, which has to be the one at a place of the list.
@@ -67,7 +89,9 @@ fn breaks_at(
     let found = obligations.get(place).expect(rt, "an obligation");
     assert!(rt; *found == obligation);
     law_obligations();
-    breaks(spec, found, witness)
+    let broken = breaks(spec, found, witness);
+    drop(obligations);
+    broken
 }
 
 /// Two calls with the same arguments.
@@ -82,6 +106,29 @@ fn two(rt: &impl Abort, alloc: Global, first: u8, second: u8, args: &[i64]) -> I
     calls
 }
 
+/// Whether two calls with the same arguments break an obligation in a setting.
+fn two_break(
+    rt: &impl Abort,
+    alloc: Global,
+    at: Setting,
+    place: usize,
+    obligation: Obligation,
+    calls: Items<Call>,
+    elements: &[u32],
+) -> bool {
+    let Setting { spec, world, state } = at;
+    let witness = Witness {
+        world,
+        state,
+        calls,
+        elements: items(rt, alloc, elements),
+    };
+    let found = breaks_at(rt, alloc, &spec, place, obligation, &witness);
+    drop(witness);
+    drop(spec);
+    found
+}
+
 /// Whether two withdrawals of 1 from one account break that the second of them is still covered.
 fn two_withdrawals_break(
     rt: &impl Abort,
@@ -91,29 +138,20 @@ fn two_withdrawals_break(
 ) -> bool {
     let mut at = first_setting(rt, alloc, outline, &[1]);
     at.set_count(rt, 0, &[0], balance);
-    let Setting { spec, world, state } = at;
-    let witness = Witness {
-        world,
-        state,
-        calls: two(rt, alloc, 1, 1, &[0, 1]),
-        elements: Items::new(alloc),
-    };
     let covered = Obligation::Stable {
         op: 1,
         line: 1,
         other: 1,
     };
-    let found = breaks_at(rt, alloc, &spec, 11, covered, &witness);
-    drop(witness);
-    drop(spec);
-    found
+    let calls = two(rt, alloc, 1, 1, &[0, 1]);
+    two_break(rt, alloc, at, 11, covered, calls, &[])
 }
 
 #[test]
 fn a_balance_of_1_covers_one_withdrawal_and_a_balance_of_2_both(rt: HostRuntime) {
-    let alloc = rt.alloc();
-    assert!(rt; two_withdrawals_break(&rt, alloc, &WITHDRAWALS, 1));
-    assert!(rt; !two_withdrawals_break(&rt, alloc, &WITHDRAWALS, 2));
+    let with_1 = two_withdrawals_break(&rt, rt.alloc(), &WITHDRAWALS, 1);
+    let with_2 = two_withdrawals_break(&rt, rt.alloc(), &WITHDRAWALS, 2);
+    assert!(rt; with_1 && !with_2);
 }
 
 #[test]
@@ -121,23 +159,19 @@ fn withdrawals_that_conflict_break_nothing(rt: HostRuntime) {
     assert!(rt; !two_withdrawals_break(&rt, rt.alloc(), &PURSES, 1));
 }
 
-#[test]
-fn putting_and_dropping_an_element_do_not_commute(rt: HostRuntime) {
-    let alloc = rt.alloc();
-    let Setting { spec, world, state } = first_setting(&rt, alloc, &SET, &[1]);
-    let witness = Witness {
-        world,
-        state,
-        calls: two(&rt, alloc, 0, 1, &[0]),
-        elements: items(&rt, alloc, &[0]),
-    };
+/// Whether putting and dropping an element break that they commute.
+fn put_and_drop_break(rt: &impl Abort, alloc: Global) -> bool {
+    let at = first_setting(rt, alloc, &SET, &[1]);
     let commute = Obligation::Commute {
         first: 0,
         second: 1,
         thing: Thing::Relation(0),
     };
-    let found = breaks_at(&rt, alloc, &spec, 1, commute, &witness);
-    drop(witness);
-    drop(spec);
-    assert!(rt; found);
+    let calls = two(rt, alloc, 0, 1, &[0]);
+    two_break(rt, alloc, at, 1, commute, calls, &[0])
+}
+
+#[test]
+fn putting_and_dropping_an_element_do_not_commute(rt: HostRuntime) {
+    assert!(rt; put_and_drop_break(&rt, rt.alloc()));
 }

@@ -9,42 +9,71 @@ use crate::building::items;
 use crate::setting::{Setting, call, first_setting};
 use effectors::ApplyRefused;
 use executions::{Event, is_order, law_closed_sets, may_follow, state_after};
-use spec_core::{Spec, World};
+use items::Items;
+use spec_core::{Spec, State, World};
 use std::alloc::Global;
 use std::process::Abort;
 
-/// The first operation with these arguments, at a replica that had taken these events.
-fn event(rt: &impl Abort, alloc: Global, args: &[i64], seen: &[u32]) -> Event {
-    Event {
-        call: call(rt, alloc, 0, args),
-        seen: items(rt, alloc, seen),
+/// The arguments of the first operation, and the events that its replica had taken.
+type EventOutline = (&'static [i64], &'static [u32]);
+
+/// An order, and whether it is one.
+type Case = (&'static [u32], bool);
+
+/// Events of the first operation.
+fn events(rt: &impl Abort, alloc: Global, outlines: &[EventOutline]) -> Items<Event> {
+    let mut list = Items::new(alloc);
+    for (args, seen) in outlines {
+        let event = Event {
+            call: call(rt, alloc, 0, args),
+            seen: items(rt, alloc, seen),
+        };
+        list.push(event).expect(rt, "memory");
     }
+    list
+}
+
+/// The second has seen the first.
+static THREE_EVENTS: &[EventOutline] = &[(&[], &[]), (&[], &[0]), (&[], &[])];
+
+static ORDER_CASES: &[Case] = &[
+    (&[], true),
+    (&[0, 1, 2], true),
+    (&[2, 0, 1], true),
+    (&[2], true),
+    (&[1], false),
+    (&[1, 0], false),
+    (&[0, 0], false),
+    (&[3], false),
+];
+
+fn orders() -> &'static [Case] {
+    ORDER_CASES
+}
+
+fn check_orders(rt: &impl Abort, events: &[Event]) {
+    law_closed_sets();
+    for (order, want) in orders() {
+        assert!(rt; is_order(events, order) == *want, "at {order:?}");
+    }
+}
+
+/// Whether the second event may follow where the first is taken, and where it isn't.
+fn second_may_follow(rt: &impl Abort, alloc: Global) -> [bool; 2] {
+    let events = events(rt, alloc, THREE_EVENTS);
+    check_orders(rt, events.as_slice());
+    let found = [
+        may_follow(events.as_slice(), &[2, 0], 1),
+        may_follow(events.as_slice(), &[2], 1),
+    ];
+    drop(events);
+    found
 }
 
 #[test]
 fn an_order_holds_each_event_once_after_what_it_has_seen(rt: HostRuntime) {
-    let alloc = rt.alloc();
-    let events = [
-        event(&rt, alloc, &[], &[]),
-        event(&rt, alloc, &[], &[0]),
-        event(&rt, alloc, &[], &[]),
-    ];
-    let cases: [(&[u32], bool); 8] = [
-        (&[], true),
-        (&[0, 1, 2], true),
-        (&[2, 0, 1], true),
-        (&[2], true),
-        (&[1], false),
-        (&[1, 0], false),
-        (&[0, 0], false),
-        (&[3], false),
-    ];
-    law_closed_sets();
-    for (order, want) in cases {
-        assert!(rt; is_order(&events, order) == want, "at {order:?}");
-    }
-    assert!(rt; may_follow(&events, &[2, 0], 1) && !may_follow(&events, &[2], 1));
-    drop(events);
+    let found = second_may_follow(&rt, rt.alloc());
+    assert!(rt; found == [true, false]);
 }
 
 fn all_fit(spec: &Spec, world: &World, events: &[Event]) -> bool
@@ -59,7 +88,16 @@ fn all_within(order: &[u32], count: usize) -> bool
     order.iter().all(|event| (*event as usize) < count)
 }
 
-/// The balances of two accounts after an order; what isn't in range is told by its value.
+/// The balances of two accounts in a state that a run left; what isn't in range is told by its value.
+fn balances_in(rt: &impl Abort, run: &Result<State, ApplyRefused>) -> [i128; 2] {
+    match run {
+        Ok(state) => [state.count(0, &[0]), state.count(0, &[1])],
+        Err(ApplyRefused::Range { value, .. }) => [*value, -1],
+        Err(ApplyRefused::Memory) => panic!(rt; "memory"),
+    }
+}
+
+/// The balances after an order.
 fn balances(
     rt: &impl Abort,
     alloc: Global,
@@ -68,33 +106,43 @@ fn balances(
     order: &[u32],
 ) -> [i128; 2] {
     assert!(rt; all_fit(&at.spec, &at.world, events) && all_within(order, events.len()));
-    match state_after(alloc, &at.spec, &at.world, events, order) {
-        Ok(state) => [state.count(0, &[0]), state.count(0, &[1])],
-        Err(ApplyRefused::Range { value, .. }) => [value, -1],
-        Err(ApplyRefused::Memory) => panic!(rt; "memory"),
+    let run = state_after(alloc, &at.spec, &at.world, events, order);
+    let found = balances_in(rt, &run);
+    drop(run);
+    found
+}
+
+/// The third deposit is made where both others are seen.
+static THREE_DEPOSITS: &[EventOutline] = &[
+    (&[0, 5], &[]),
+    (&[1, 7], &[]),
+    (&[0, 1_000_000_000_000_000], &[0, 1]),
+];
+
+static BALANCES: &[(&[u32], [i128; 2])] = &[
+    (&[], [0, 0]),
+    (&[0, 1], [5, 7]),
+    (&[1, 0], [5, 7]),
+    (&[0, 1, 2], [1_000_000_000_000_005, -1]),
+];
+
+fn check_balances(rt: &impl Abort, alloc: Global, at: &Setting, events: &[Event]) {
+    for (order, want) in BALANCES {
+        let is = is_order(events, order);
+        let found = balances(rt, alloc, at, events, order);
+        assert!(rt; is && found == *want, "at {order:?}");
     }
+}
+
+fn check_deposits(rt: &impl Abort, alloc: Global) {
+    let at = first_setting(rt, alloc, &DEPOSITS, &[2]);
+    let events = events(rt, alloc, THREE_DEPOSITS);
+    check_balances(rt, alloc, &at, events.as_slice());
+    drop(events);
+    drop(at);
 }
 
 #[test]
 fn deposits_in_either_order_give_the_same_balances(rt: HostRuntime) {
-    let alloc = rt.alloc();
-    let at = first_setting(&rt, alloc, &DEPOSITS, &[2]);
-    let events = [
-        event(&rt, alloc, &[0, 5], &[]),
-        event(&rt, alloc, &[1, 7], &[]),
-        event(&rt, alloc, &[0, 1_000_000_000_000_000], &[0, 1]),
-    ];
-    let cases: [(&[u32], [i128; 2]); 4] = [
-        (&[], [0, 0]),
-        (&[0, 1], [5, 7]),
-        (&[1, 0], [5, 7]),
-        (&[0, 1, 2], [1_000_000_000_000_005, -1]),
-    ];
-    for (order, want) in cases {
-        let is = is_order(&events, order);
-        let found = balances(&rt, alloc, &at, &events, order);
-        assert!(rt; is && found == want, "at {order:?}");
-    }
-    drop(events);
-    drop(at);
+    check_deposits(&rt, rt.alloc());
 }

@@ -5,6 +5,7 @@ ghost use Rattle.spec_core.specs.Fits.{world_fits, is_state};
 
 use crate::building::{items, spec};
 use crate::outline::SpecOutline;
+use effectors::apply;
 use items::Items;
 use spec_core::{Call, Spec, State, World, invariant_broken_at, is_in_state_range};
 use std::alloc::Global;
@@ -94,7 +95,38 @@ fn set_has(
     state.set_has(relation, tuple, value).expect(rt, "memory");
 }
 
+fn make(rt: &impl Abort, alloc: Global, spec: &Spec, world: &World, state: &mut State, call: &Call)
+    requires world { world_fits spec.now world.now ≡ true }
+    requires state { is_state spec.now world.now state.old ≡ true }
+    ensures { is_state spec.now world.now state.new ≡ true }
+{
+    assert!(rt; call.fits(spec, world));
+    let Ok(next) = apply(alloc, spec, world, state, call) else {
+        panic!(rt; "refused");
+    };
+    *state = next;
+}
+
+fn empty(rt: &impl Abort, alloc: Global, spec: &Spec, world: &World, state: &mut State)
+    requires { world_fits spec.now world.now ≡ true }
+    ensures { is_state spec.now world.now state.new ≡ true }
+{
+    *state = State::empty(alloc, spec, world).expect(rt, "memory");
+}
+
 impl Setting {
+    /// Makes a call, which has to fit and not be refused.
+    pub fn make(&mut self, rt: &impl Abort, alloc: Global, op: u8, args: &[i64]) {
+        let call = call(rt, alloc, op, args);
+        make(rt, alloc, &self.spec, &self.world, &mut self.state, &call);
+        drop(call);
+    }
+
+    /// Empties the state: nothing is listed.
+    pub fn empty(&mut self, rt: &impl Abort, alloc: Global) {
+        empty(rt, alloc, &self.spec, &self.world, &mut self.state);
+    }
+
     /// Sets the value of a counter at a key.
     pub fn set_count(&mut self, rt: &impl Abort, counter: u8, key: &[u32], value: i64) {
         set_count(

@@ -3,86 +3,108 @@
 use crate::accounts::DEPOSITS;
 use crate::examples::{FLAG, SET};
 use crate::setting::{Setting, first_setting};
-use crate::tournaments::TOURNAMENTS;
-use spec_core::{State, write_state};
+use crate::tournaments::tournaments;
+use spec_core::write_state;
 use std::alloc::Global;
 use std::process::Abort;
 
-/// The same specification and world, in the state in which nothing is listed.
-fn emptied(rt: &impl Abort, alloc: Global, at: Setting) -> Setting {
-    let Setting {
-        spec,
-        world,
-        state: before,
-    } = at;
-    drop(before);
-    let state = State::empty(alloc, &spec, &world).expect(rt, "memory");
-    Setting { spec, world, state }
+/// Whether the flag is up, and the first broken invariant.
+type Flag = (bool, Option<usize>);
+
+/// The flag at first, and in the empty state.
+fn flag(rt: &impl Abort, alloc: Global) -> (Flag, Flag) {
+    let mut at = first_setting(rt, alloc, &FLAG, &[]);
+    let first = (at.has(0, &[]), at.broken());
+    at.empty(rt, alloc);
+    let empty = (at.has(0, &[]), at.broken());
+    drop(at);
+    (first, empty)
 }
 
 #[test]
 fn the_flag_is_up_at_first_and_down_in_the_empty_state(rt: HostRuntime) {
-    let alloc = rt.alloc();
-    let first = first_setting(&rt, alloc, &FLAG, &[]);
-    assert!(rt; first.has(0, &[]));
-    assert!(rt; first.broken().is_none());
-    let empty = emptied(&rt, alloc, first);
-    assert!(rt; !empty.has(0, &[]));
-    assert!(rt; empty.broken() == Some(0));
-    drop(empty);
+    let (first, empty) = flag(&rt, rt.alloc());
+    assert!(rt; first.0 && first.1.is_none());
+    assert!(rt; !empty.0 && empty.1 == Some(0));
+}
+
+/// Two balances, of which the second was changed to 7.
+fn balances(rt: &impl Abort, alloc: Global) -> [i128; 2] {
+    let mut accounts = first_setting(rt, alloc, &DEPOSITS, &[2]);
+    accounts.set_count(rt, 0, &[1], 7);
+    let found = [accounts.count(0, &[0]), accounts.count(0, &[1])];
+    drop(accounts);
+    found
 }
 
 #[test]
 fn one_balance_changes_alone(rt: HostRuntime) {
-    let mut accounts = first_setting(&rt, rt.alloc(), &DEPOSITS, &[2]);
-    accounts.set_count(&rt, 0, &[1], 7);
-    assert!(rt; accounts.count(0, &[0]) == 0);
-    assert!(rt; accounts.count(0, &[1]) == 7);
-    drop(accounts);
+    let found = balances(&rt, rt.alloc());
+    assert!(rt; found == [0, 7]);
+}
+
+/// Whether element 0 and element 1 are there once 1 is put in, and 1 once it is taken out.
+fn elements(rt: &impl Abort, alloc: Global) -> [bool; 3] {
+    let mut set = first_setting(rt, alloc, &SET, &[2]);
+    set.set_has(rt, 0, &[1], true);
+    let other = set.has(0, &[0]);
+    let put_in = set.has(0, &[1]);
+    set.set_has(rt, 0, &[1], false);
+    let taken_out = set.has(0, &[1]);
+    drop(set);
+    [other, put_in, taken_out]
 }
 
 #[test]
 fn one_tuple_is_put_in_and_taken_out(rt: HostRuntime) {
-    let mut set = first_setting(&rt, rt.alloc(), &SET, &[2]);
-    set.set_has(&rt, 0, &[1], true);
-    assert!(rt; set.has(0, &[1]));
-    assert!(rt; !set.has(0, &[0]));
-    set.set_has(&rt, 0, &[1], false);
-    assert!(rt; !set.has(0, &[1]));
-    drop(set);
+    let found = elements(&rt, rt.alloc());
+    assert!(rt; found == [false, true, false]);
+}
+
+/// Whether a copy is the same at first, and after the original has changed.
+fn copied(rt: &impl Abort, alloc: Global) -> [bool; 2] {
+    let mut accounts = first_setting(rt, alloc, &DEPOSITS, &[2]);
+    accounts.set_count(rt, 0, &[0], -3);
+    let copy = accounts.state.copy().expect(rt, "memory");
+    let at_first = copy.same(&accounts.state);
+    accounts.set_count(rt, 0, &[1], 1);
+    let after_change = copy.same(&accounts.state);
+    drop(copy);
+    drop(accounts);
+    [at_first, after_change]
 }
 
 #[test]
 fn a_copy_is_the_same_until_the_original_changes(rt: HostRuntime) {
-    let mut accounts = first_setting(&rt, rt.alloc(), &DEPOSITS, &[2]);
-    accounts.set_count(&rt, 0, &[0], -3);
-    let copy = accounts.state.copy().expect(&rt, "memory");
-    assert!(rt; copy.same(&accounts.state));
-    accounts.set_count(&rt, 0, &[1], 1);
-    assert!(rt; !copy.same(&accounts.state));
-    drop(copy);
-    drop(accounts);
+    let found = copied(&rt, rt.alloc());
+    assert!(rt; found == [true, false]);
 }
 
-/// The lines that show a state.
-fn text(rt: &impl Abort, alloc: Global, at: &Setting) -> Vec<u8> {
+/// Whether these lines show a state.
+fn is_shown(rt: &impl Abort, alloc: Global, at: &Setting, want: &str) -> bool {
     let mut out = Vec::new(alloc);
     write_state(alloc, &at.spec, &at.state, &mut out).expect(rt, "memory");
-    out
+    let found = out.as_slice() == want.as_bytes();
+    drop(out);
+    found
+}
+
+/// Whether these lines show a state of tournaments with two players, one of them enrolled, and with changed seats.
+fn players_are_shown(rt: &impl Abort, alloc: Global, want: &str) -> bool {
+    let mut at = first_setting(rt, alloc, tournaments(), &[2, 3]);
+    at.set_has(rt, 2, &[1, 0], true);
+    at.set_has(rt, 0, &[1], true);
+    at.set_has(rt, 0, &[0], true);
+    at.set_count(rt, 0, &[0], -30);
+    at.set_count(rt, 0, &[1], 0);
+    let shown = is_shown(rt, alloc, &at, want);
+    drop(at);
+    shown
 }
 
 #[test]
 fn a_state_is_shown_by_its_true_tuples_and_its_values_that_are_not_0(rt: HostRuntime) {
-    let alloc = rt.alloc();
-    let mut at = first_setting(&rt, alloc, &TOURNAMENTS, &[2, 3]);
-    for (relation, tuple) in [(2, [1, 0].as_slice()), (0, &[1]), (0, &[0])] {
-        at.set_has(&rt, relation, tuple, true);
-    }
-    at.set_count(&rt, 0, &[0], -30);
-    at.set_count(&rt, 0, &[1], 0);
     let want =
         "true player 0\ntrue player 1\ntrue enrolled 1 0\ncount seats 0 -30\ncount seats 2 10\n";
-    let found = text(&rt, alloc, &at);
-    drop(at);
-    assert!(rt; found.as_slice() == want.as_bytes());
+    assert!(rt; players_are_shown(&rt, rt.alloc(), want));
 }
