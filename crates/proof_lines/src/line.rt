@@ -117,6 +117,19 @@ pub enum RangeWhat {
     },
 }
 
+// Copies of the used literals and of the steps of a line.
+fn copy_rows(
+    alloc: Global,
+    used: &[Lit],
+    steps: &[RowStep],
+) -> Result<(Items<Lit>, Items<RowStep>), AllocError>
+    ensures { IfOk result (λ x. (x.0 ≡ used.now) × (x.1 ≡ steps.now)) }
+{
+    let used = Items::from_slice(alloc, used)?;
+    let steps = or_drop!(Items::from_slice(alloc, steps); used);
+    Ok((used, steps))
+}
+
 impl Line {
     /// A copy of this line.
     pub fn copy(&self, alloc: Global) -> Result<Line, AllocError>
@@ -129,8 +142,7 @@ impl Line {
                 pivot: *pivot,
             }),
             Line::Farkas { used, steps } => {
-                let used = Items::from_slice(alloc, used.as_slice())?;
-                let steps = Items::from_slice(alloc, steps.as_slice())?;
+                let (used, steps) = copy_rows(alloc, used.as_slice(), steps.as_slice())?;
                 Ok(Line::Farkas { used, steps })
             }
             Line::Split {
@@ -142,9 +154,9 @@ impl Line {
                 high,
                 values,
             } => {
-                let used = Items::from_slice(alloc, used.as_slice())?;
-                let steps = Items::from_slice(alloc, steps.as_slice())?;
                 let values = Items::from_slice(alloc, values.as_slice())?;
+                let (used, steps) =
+                    or_drop!(copy_rows(alloc, used.as_slice(), steps.as_slice()); values);
                 Ok(Line::Split {
                     place: *place,
                     at: *at,
@@ -210,9 +222,8 @@ impl RowsEvidence {
     pub fn copy(&self, alloc: Global) -> Result<RowsEvidence, AllocError>
         ensures { IfOk result (λ evidence. evidence ≡ self.now) }
     {
-        let used = Items::from_slice(alloc, self.used.as_slice())?;
-        let steps = Items::from_slice(alloc, self.steps.as_slice())?;
-        let log = copy_lines(alloc, self.log.as_slice())?;
+        let (used, steps) = copy_rows(alloc, self.used.as_slice(), self.steps.as_slice())?;
+        let log = or_drop!(copy_lines(alloc, self.log.as_slice()); used, steps);
         Ok(RowsEvidence { log, used, steps })
     }
 }
@@ -222,10 +233,10 @@ impl RangeEvidence {
     pub fn copy(&self, alloc: Global) -> Result<RangeEvidence, AllocError>
         ensures { IfOk result (λ evidence. evidence ≡ self.now) }
     {
-        let used = Items::from_slice(alloc, self.used.as_slice())?;
-        let steps = Items::from_slice(alloc, self.steps.as_slice())?;
         let what = self.what.copy(alloc)?;
-        let log = copy_lines(alloc, self.log.as_slice())?;
+        let (used, steps) =
+            or_drop!(copy_rows(alloc, self.used.as_slice(), self.steps.as_slice()); what);
+        let log = or_drop!(copy_lines(alloc, self.log.as_slice()); what, used, steps);
         Ok(RangeEvidence {
             log,
             used,
