@@ -1,76 +1,115 @@
 // Farkas lines over the rows `x0 <= 0` (atom 0) and `-x0 <= -1` (atom 1); atom 2 is plain.
-use crate::making::{answer, both, farkas, lit, row, rows};
-use proof_lines::{Line, LineRefused, Lit, Problem, RowStep, Why};
-use std::alloc::{AllocError, Global};
+use crate::making::{FIRST, NOT_FIRST, SECOND, answer, farkas, row, rows};
+use proof_lines::{LineRefused, Lit, RowStep, Why};
+use std::alloc::Global;
+use std::process::Abort;
 
-fn apart(alloc: Global) -> Result<Problem, AllocError> {
-    rows(alloc, row(alloc, 1, 0, 0)?, row(alloc, -1, 0, -1)?)
+/// The used literals and the steps of a line, and the kernel's answer to it.
+type Case = (&'static [Lit], &'static [RowStep], Result<(), LineRefused>);
+
+const BOTH: &[Lit] = &[FIRST, SECOND];
+
+/// A plain atom, and one that isn't there.
+const PLAIN: &[Lit] = &[Lit {
+    atom: 2,
+    positive: true,
+}];
+
+const NOWHERE: &[Lit] = &[Lit {
+    atom: 3,
+    positive: true,
+}];
+
+macro_rules! step {
+    ($left:expr, $first:expr, $right:expr, $second:expr) => {
+        RowStep {
+            left: $left,
+            first: $first,
+            right: $right,
+            second: $second,
+        }
+    };
 }
 
-fn told(alloc: Global, used: &[Lit], steps: &[RowStep]) -> Result<(), LineRefused> {
-    match (apart(alloc), farkas(alloc, used, steps)) {
-        (Ok(problem), Ok(line)) => answer(alloc, &problem, line),
-        _ => Err(LineRefused::Memory),
-    }
-}
+const GREATEST: i128 = 170_141_183_460_469_231_731_687_303_715_884_105_727;
 
-fn times(first: i128, second: i128) -> RowStep {
-    RowStep {
-        left: 0,
-        first,
-        right: 1,
-        second,
-    }
-}
+static CASES: [Case; 11] = [
+    // rows apart are refuted by their sum, and not by less
+    (BOTH, &[step!(0, 1, 1, 1)], Ok(())),
+    (BOTH, &[], Err(LineRefused::Bad(Why::Contradiction))),
+    (
+        BOTH,
+        &[step!(0, 1, 0, 1)],
+        Err(LineRefused::Bad(Why::Contradiction)),
+    ),
+    // places are tested first
+    (&[], &[], Err(LineRefused::Bad(Why::Place))),
+    (PLAIN, &[], Err(LineRefused::Bad(Why::Place))),
+    (NOWHERE, &[], Err(LineRefused::Bad(Why::Place))),
+    (
+        BOTH,
+        &[step!(0, 1, 2, 1)],
+        Err(LineRefused::Bad(Why::Place)),
+    ),
+    // multipliers are tested before the range
+    (
+        BOTH,
+        &[step!(0, -1, 1, 1)],
+        Err(LineRefused::Bad(Why::Multiplier)),
+    ),
+    (
+        BOTH,
+        &[step!(0, 1, 1, -1)],
+        Err(LineRefused::Bad(Why::Multiplier)),
+    ),
+    (BOTH, &[step!(0, GREATEST, 1, GREATEST)], Ok(())),
+    (
+        BOTH,
+        &[step!(0, GREATEST, 1, GREATEST), step!(2, 1, 2, 1)],
+        Err(LineRefused::Bad(Why::Range)),
+    ),
+];
 
-#[test]
-fn rows_apart_are_refuted(rt: HostRuntime) {
-    let alloc = rt.alloc();
-    let used = [lit(0, true), lit(1, true)];
-    assert_eq!(rt; told(alloc, &used, &[both(0, 1)]), Ok(()));
-    let other = Err(LineRefused::Bad(Why::Contradiction));
-    assert_eq!(rt; told(alloc, &used, &[]), other);
-    assert_eq!(rt; told(alloc, &used, &[both(0, 0)]), other);
-}
-
-#[test]
-fn places_are_tested_first(rt: HostRuntime) {
-    let alloc = rt.alloc();
-    let used = [lit(0, true), lit(1, true)];
-    let place = Err(LineRefused::Bad(Why::Place));
-    assert_eq!(rt; told(alloc, &[], &[]), place);
-    assert_eq!(rt; told(alloc, &[lit(2, true)], &[]), place);
-    assert_eq!(rt; told(alloc, &[lit(3, true)], &[]), place);
-    assert_eq!(rt; told(alloc, &used, &[both(0, 2)]), place);
-}
-
-#[test]
-fn multipliers_are_tested_before_the_range(rt: HostRuntime) {
-    let alloc = rt.alloc();
-    let used = [lit(0, true), lit(1, true)];
-    let negative = Err(LineRefused::Bad(Why::Multiplier));
-    assert_eq!(rt; told(alloc, &used, &[times(-1, 1)]), negative);
-    assert_eq!(rt; told(alloc, &used, &[times(1, -1)]), negative);
-    let great = times(i128::MAX, i128::MAX);
-    assert_eq!(rt; told(alloc, &used, &[great]), Ok(()));
-    assert_eq!(rt;
-        told(alloc, &used, &[great, both(2, 2)]),
-        Err(LineRefused::Bad(Why::Range))
+fn told(
+    rt: &impl Abort,
+    alloc: Global,
+    used: &[Lit],
+    steps: &[RowStep],
+) -> Result<(), LineRefused> {
+    let apart = rows(
+        rt,
+        alloc,
+        row(rt, alloc, 1, 0, 0),
+        row(rt, alloc, -1, 0, -1),
     );
+    let told = answer(rt, alloc, &apart, farkas(rt, alloc, used, steps));
+    drop(apart);
+    told
 }
 
-fn greatest(alloc: Global) -> Result<Problem, AllocError> {
-    rows(alloc, row(alloc, 1, 0, i128::MAX)?, row(alloc, -1, 0, -1)?)
+#[test]
+fn farkas_lines_are_tested_in_order(rt: HostRuntime) {
+    for (used, steps, want) in &CASES {
+        let told = told(&rt, rt.alloc(), used, steps);
+        assert!(rt; told == *want);
+    }
+}
+
+/// The answer to a line that uses the negation of `x0 <= 2^127 - 1`.
+fn of_greatest(rt: &impl Abort, alloc: Global) -> Result<(), LineRefused> {
+    let greatest = rows(
+        rt,
+        alloc,
+        row(rt, alloc, 1, 0, GREATEST),
+        row(rt, alloc, -1, 0, -1),
+    );
+    let told = answer(rt, alloc, &greatest, farkas(rt, alloc, &[NOT_FIRST], &[]));
+    drop(greatest);
+    told
 }
 
 #[test]
 fn the_opposite_of_a_row_may_leave_the_range(rt: HostRuntime) {
-    let alloc = rt.alloc();
-    let problem = greatest(alloc).expect(&rt, "memory");
-    let line = farkas(alloc, &[lit(0, false)], &[]).expect(&rt, "memory");
-    assert_eq!(rt;
-        answer(alloc, &problem, line),
-        Err(LineRefused::Bad(Why::Range))
-    );
-    drop(problem);
+    let told = of_greatest(&rt, rt.alloc());
+    assert!(rt; told == Err(LineRefused::Bad(Why::Range)));
 }

@@ -1,46 +1,50 @@
-// Problems, rows and lines of the tests.
+// Problems, rows and lines of the tests. What lacks memory, and a row or problem that is none, ends the test.
 ghost use Rattle.std.specs.Prelude.{◌≡◌};
 ghost use Rattle.lin_rows.specs.Numbers.{in_range};
 
 use items::Items;
 use lin_rows::{Row, RowTerm, row_of};
-use proof_kernel::{Kernel, KernelRefused};
-use proof_lines::{AtomKind, Clause, Line, LineRefused, Lit, Problem, RowStep, Why};
-use std::alloc::{AllocError, Global};
+use proof_kernel::Kernel;
+use proof_lines::{AtomKind, Clause, Line, LineRefused, Lit, Problem, RowStep};
+use std::alloc::Global;
+use std::process::Abort;
 
-pub fn lit(atom: u32, positive: bool) -> Lit {
-    Lit { atom, positive }
-}
+/// Two atoms, and their negations.
+pub const FIRST: Lit = Lit {
+    atom: 0,
+    positive: true,
+};
 
-pub fn bad(line: u32, why: Why) -> KernelRefused {
-    KernelRefused::BadLine { line, why }
+pub const SECOND: Lit = Lit {
+    atom: 1,
+    positive: true,
+};
+
+pub const NOT_FIRST: Lit = Lit {
+    atom: 0,
+    positive: false,
+};
+
+/// A list of these items.
+pub fn items<T: Copy>(rt: &impl Abort, alloc: Global, list: &[T]) -> Items<T> {
+    Items::from_slice(alloc, list).expect(rt, "memory")
 }
 
 pub fn resolve(left: u32, right: u32, pivot: u32) -> Line {
     Line::Resolve { left, right, pivot }
 }
 
-// The step `left + right`.
-pub fn both(left: u32, right: u32) -> RowStep {
-    RowStep {
-        left,
-        first: 1,
-        right,
-        second: 1,
+pub fn farkas(rt: &impl Abort, alloc: Global, used: &[Lit], steps: &[RowStep]) -> Line {
+    Line::Farkas {
+        used: items(rt, alloc, used),
+        steps: items(rt, alloc, steps),
     }
 }
 
-pub fn farkas(alloc: Global, used: &[Lit], steps: &[RowStep]) -> Result<Line, AllocError> {
-    Ok(Line::Farkas {
-        used: Items::from_slice(alloc, used)?,
-        steps: Items::from_slice(alloc, steps)?,
-    })
-}
-
-pub fn drop_line(alloc: Global, numbers: &[u32]) -> Result<Line, AllocError> {
-    Ok(Line::Drop {
-        clauses: Items::from_slice(alloc, numbers)?,
-    })
+pub fn drop_line(rt: &impl Abort, alloc: Global, numbers: &[u32]) -> Line {
+    Line::Drop {
+        clauses: items(rt, alloc, numbers),
+    }
 }
 
 fn fits(number: i128) -> bool
@@ -49,11 +53,9 @@ fn fits(number: i128) -> bool
     number != i128::MIN
 }
 
-// The row `first * x0 + second * x1 <= bound`.
-pub fn linear(alloc: Global, first: i128, second: i128, bound: i128) -> Result<Row, AllocError> {
-    if !fits(first) || !fits(second) || !fits(bound) {
-        return Err(AllocError);
-    }
+/// The row `first * x0 + second * x1 <= bound`.
+pub fn linear(rt: &impl Abort, alloc: Global, first: i128, second: i128, bound: i128) -> Row {
+    assert!(rt; fits(first) && fits(second) && fits(bound));
     let terms = [
         RowTerm {
             place: 0,
@@ -65,75 +67,74 @@ pub fn linear(alloc: Global, first: i128, second: i128, bound: i128) -> Result<R
         },
     ];
     match row_of(alloc, &terms, bound) {
-        Ok(row) => Ok(row),
-        Err(_) => Err(AllocError),
+        Ok(row) => row,
+        Err(_) => panic!(rt; "no row"),
     }
 }
 
-// An atom for that row.
-pub fn row(alloc: Global, first: i128, second: i128, bound: i128) -> Result<AtomKind, AllocError> {
-    Ok(AtomKind::Row(linear(alloc, first, second, bound)?))
+/// An atom for that row.
+pub fn row(rt: &impl Abort, alloc: Global, first: i128, second: i128, bound: i128) -> AtomKind {
+    AtomKind::Row(linear(rt, alloc, first, second, bound))
 }
 
-fn made(atoms: Items<AtomKind>, ints: u32, clauses: Items<Clause>) -> Result<Problem, AllocError> {
+fn made(rt: &impl Abort, atoms: Items<AtomKind>, ints: u32, clauses: Items<Clause>) -> Problem {
     match Problem::new(atoms, ints, clauses) {
-        Some(problem) => Ok(problem),
-        None => Err(AllocError),
+        Some(problem) => problem,
+        None => panic!(rt; "no problem"),
     }
 }
 
-// Plain atoms and two clauses.
-pub fn plain(
-    alloc: Global,
-    atoms: u32,
-    first: &[Lit],
-    second: &[Lit],
-) -> Result<Problem, AllocError> {
+fn clause(rt: &impl Abort, alloc: Global, lits: &[Lit]) -> Clause {
+    Clause::of(alloc, lits).expect(rt, "memory")
+}
+
+/// Plain atoms and two clauses.
+pub fn plain(rt: &impl Abort, alloc: Global, atoms: u32, first: &[Lit], second: &[Lit]) -> Problem {
     let mut kinds = Items::new(alloc);
     for _ in 0..atoms {
-        kinds.push(AtomKind::Plain)?;
+        kinds.push(AtomKind::Plain).expect(rt, "memory");
     }
     let mut clauses = Items::new(alloc);
-    clauses.push(Clause::of(alloc, first)?)?;
-    clauses.push(Clause::of(alloc, second)?)?;
-    made(kinds, 0, clauses)
+    clauses.push(clause(rt, alloc, first)).expect(rt, "memory");
+    clauses.push(clause(rt, alloc, second)).expect(rt, "memory");
+    made(rt, kinds, 0, clauses)
 }
 
-// Atom 0 and atom 1 for two rows over x0 and x1, atom 2 plain, and no clauses.
-pub fn rows(alloc: Global, first: AtomKind, second: AtomKind) -> Result<Problem, AllocError> {
+/// Atom 0 and atom 1 for two rows over x0 and x1, atom 2 plain, and no clauses.
+pub fn rows(rt: &impl Abort, alloc: Global, first: AtomKind, second: AtomKind) -> Problem {
     let mut kinds = Items::new(alloc);
-    kinds.push(first)?;
-    kinds.push(second)?;
-    kinds.push(AtomKind::Plain)?;
-    made(kinds, 2, Items::new(alloc))
+    kinds.push(first).expect(rt, "memory");
+    kinds.push(second).expect(rt, "memory");
+    kinds.push(AtomKind::Plain).expect(rt, "memory");
+    made(rt, kinds, 2, Items::new(alloc))
 }
 
-// Atoms for the rows `x0 <= 0`, `x0 <= 1` and so on.
-pub fn many_rows(alloc: Global, count: u32) -> Result<Problem, AllocError> {
+/// Atoms for the rows `x0 <= 0`, `x0 <= 1` and so on.
+pub fn many_rows(rt: &impl Abort, alloc: Global, count: u32) -> Problem {
     let mut kinds = Items::new(alloc);
     for bound in 0..count {
-        kinds.push(row(alloc, 1, 0, bound as i128)?)?;
+        let kind = row(rt, alloc, 1, 0, bound as i128);
+        kinds.push(kind).expect(rt, "memory");
     }
-    made(kinds, 2, Items::new(alloc))
+    made(rt, kinds, 2, Items::new(alloc))
 }
 
-// The answer of a kernel to a line.
+/// The answer of a kernel to a line.
 pub fn add(kernel: &mut Kernel, line: Line) -> Result<(), LineRefused> {
     let told = kernel.add(&line);
     drop(line);
     told
 }
 
-// The answer of a new kernel to a line.
-pub fn answer(alloc: Global, problem: &Problem, line: Line) -> Result<(), LineRefused> {
-    let Ok(own) = problem.copy(alloc) else {
-        drop(line);
-        return Err(LineRefused::Memory);
-    };
-    let Ok(mut kernel) = Kernel::new(alloc, own) else {
-        drop(line);
-        return Err(LineRefused::Memory);
-    };
+/// The answer of a new kernel to a line.
+pub fn answer(
+    rt: &impl Abort,
+    alloc: Global,
+    problem: &Problem,
+    line: Line,
+) -> Result<(), LineRefused> {
+    let own = problem.copy(alloc).expect(rt, "memory");
+    let mut kernel = Kernel::new(alloc, own).expect(rt, "memory");
     let told = add(&mut kernel, line);
     drop(kernel);
     told

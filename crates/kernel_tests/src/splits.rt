@@ -1,18 +1,23 @@
 // Split lines over the rows `2 x0 + 3 x1 <= 1` (atom 0) and `-2 x0 - 3 x1 <= -1` (atom 1). With 0 for `x1` they say that `x0` is
 // at most and at least a half, so the atom `x0 <= 0` splits them.
-use crate::making::{add, answer, lit, row, rows};
-use items::Items;
+use crate::making::{FIRST, SECOND, add, answer, items, row, rows};
 use proof_kernel::Kernel;
 use proof_lines::{Line, LineRefused, Lit, Problem, RowStep, Why};
-use std::alloc::{AllocError, Global};
+use std::alloc::Global;
+use std::process::Abort;
 
-fn half(alloc: Global) -> Result<Problem, AllocError> {
-    rows(alloc, row(alloc, 2, 3, 1)?, row(alloc, -2, -3, -1)?)
+fn half(rt: &impl Abort, alloc: Global) -> Problem {
+    rows(
+        rt,
+        alloc,
+        row(rt, alloc, 2, 3, 1),
+        row(rt, alloc, -2, -3, -1),
+    )
 }
 
-// The parts of a Split line that the tests change.
+/// The numbers of a Split line.
 #[derive(Clone, Copy)]
-struct Parts {
+struct Numbers {
     place: u32,
     at: i128,
     low: u32,
@@ -20,139 +25,151 @@ struct Parts {
     value: i128,
 }
 
-const GOOD: Parts = Parts {
-    place: 0,
-    at: 0,
-    low: 1,
-    high: 0,
-    value: 0,
-};
+macro_rules! numbers {
+    ($place:expr, $at:expr, $low:expr, $high:expr, $value:expr) => {
+        Numbers {
+            place: $place,
+            at: $at,
+            low: $low,
+            high: $high,
+            value: $value,
+        }
+    };
+}
+
+/// A line, and the kernel's answer to it.
+type Case = (
+    Numbers,
+    &'static [Lit],
+    &'static [RowStep],
+    Result<(), LineRefused>,
+);
+
+const GOOD: Numbers = numbers!(0, 0, 1, 0, 0);
+
+const BOTH: &[Lit] = &[FIRST, SECOND];
+
+const GREATEST: i128 = 170_141_183_460_469_231_731_687_303_715_884_105_727;
+
+static CASES: [Case; 11] = [
+    (GOOD, BOTH, &[], Ok(())),
+    // places of the name and of the rows
+    (
+        numbers!(2, 0, 1, 0, 0),
+        BOTH,
+        &[],
+        Err(LineRefused::Bad(Why::Place)),
+    ),
+    (
+        numbers!(0, 0, 2, 0, 0),
+        BOTH,
+        &[],
+        Err(LineRefused::Bad(Why::Place)),
+    ),
+    (
+        numbers!(0, 0, 1, 2, 0),
+        BOTH,
+        &[],
+        Err(LineRefused::Bad(Why::Place)),
+    ),
+    (GOOD, &[], &[], Err(LineRefused::Bad(Why::Place))),
+    // the rows leave no gap there: the other way round, at another number, with another value
+    (
+        numbers!(0, 0, 0, 1, 0),
+        BOTH,
+        &[],
+        Err(LineRefused::Bad(Why::SplitCause)),
+    ),
+    (
+        numbers!(0, 1, 1, 0, 0),
+        BOTH,
+        &[],
+        Err(LineRefused::Bad(Why::SplitCause)),
+    ),
+    (
+        numbers!(0, 0, 1, 0, 1),
+        BOTH,
+        &[],
+        Err(LineRefused::Bad(Why::SplitCause)),
+    ),
+    (
+        numbers!(0, -2, 1, 0, 1),
+        BOTH,
+        &[],
+        Err(LineRefused::Bad(Why::SplitCause)),
+    ),
+    (
+        numbers!(0, 0, 1, 0, GREATEST),
+        BOTH,
+        &[],
+        Err(LineRefused::Bad(Why::Range)),
+    ),
+    // steps
+    (
+        GOOD,
+        BOTH,
+        &[RowStep {
+            left: 0,
+            first: -1,
+            right: 1,
+            second: 1,
+        }],
+        Err(LineRefused::Bad(Why::Multiplier)),
+    ),
+];
 
 fn split(
+    rt: &impl Abort,
     alloc: Global,
-    parts: &Parts,
+    numbers: &Numbers,
     used: &[Lit],
     steps: &[RowStep],
-) -> Result<Line, AllocError> {
-    Ok(Line::Split {
-        place: parts.place,
-        at: parts.at,
-        used: Items::from_slice(alloc, used)?,
-        steps: Items::from_slice(alloc, steps)?,
-        low: parts.low,
-        high: parts.high,
-        values: Items::from_slice(alloc, &[parts.value])?,
-    })
-}
-
-fn told(alloc: Global, parts: Parts) -> Result<(), LineRefused> {
-    let used = [lit(0, true), lit(1, true)];
-    match (half(alloc), split(alloc, &parts, &used, &[])) {
-        (Ok(problem), Ok(line)) => answer(alloc, &problem, line),
-        _ => Err(LineRefused::Memory),
+) -> Line {
+    Line::Split {
+        place: numbers.place,
+        at: numbers.at,
+        used: items(rt, alloc, used),
+        steps: items(rt, alloc, steps),
+        low: numbers.low,
+        high: numbers.high,
+        values: items(rt, alloc, &[numbers.value]),
     }
 }
 
-// The answer of a kernel to the good line.
-fn halved(alloc: Global, kernel: &mut Kernel) -> Result<(), LineRefused> {
-    match split(alloc, &GOOD, &[lit(0, true), lit(1, true)], &[]) {
-        Ok(line) => add(kernel, line),
-        Err(_) => Err(LineRefused::Memory),
+fn told(
+    rt: &impl Abort,
+    alloc: Global,
+    numbers: &Numbers,
+    used: &[Lit],
+    steps: &[RowStep],
+) -> Result<(), LineRefused> {
+    let problem = half(rt, alloc);
+    let told = answer(rt, alloc, &problem, split(rt, alloc, numbers, used, steps));
+    drop(problem);
+    told
+}
+
+#[test]
+fn split_lines_are_tested_in_order(rt: HostRuntime) {
+    for (numbers, used, steps, want) in &CASES {
+        let told = told(&rt, rt.alloc(), numbers, used, steps);
+        assert!(rt; told == *want);
     }
+}
+
+/// The answers to the good line and to the same line again, and how many atoms and clauses stand between.
+fn split_twice(rt: &impl Abort, alloc: Global) -> ([Result<(), LineRefused>; 2], (u32, u32)) {
+    let mut kernel = Kernel::new(alloc, half(rt, alloc)).expect(rt, "memory");
+    let first = add(&mut kernel, split(rt, alloc, &GOOD, BOTH, &[]));
+    let counts = (kernel.atom_count(), kernel.clause_count());
+    let second = add(&mut kernel, split(rt, alloc, &GOOD, BOTH, &[]));
+    drop(kernel);
+    ([first, second], counts)
 }
 
 #[test]
 fn a_gap_is_split_once(rt: HostRuntime) {
-    let alloc = rt.alloc();
-    let problem = half(alloc).expect(&rt, "memory");
-    let mut kernel = Kernel::new(alloc, problem).expect(&rt, "memory");
-    assert_eq!(rt; halved(alloc, &mut kernel), Ok(()));
-    assert_eq!(rt; (kernel.atom_count(), kernel.clause_count()), (4, 0));
-    assert_eq!(rt;
-        halved(alloc, &mut kernel),
-        Err(LineRefused::Bad(Why::SplitAgain))
-    );
-    drop(kernel);
-}
-
-#[test]
-fn places_of_a_split_are_tested(rt: HostRuntime) {
-    let alloc = rt.alloc();
-    let place = Err(LineRefused::Bad(Why::Place));
-    assert_eq!(rt; told(alloc, Parts { place: 2, ..GOOD }), place);
-    assert_eq!(rt; told(alloc, Parts { low: 2, ..GOOD }), place);
-    assert_eq!(rt; told(alloc, Parts { high: 2, ..GOOD }), place);
-}
-
-#[test]
-fn a_split_uses_some_row(rt: HostRuntime) {
-    let alloc = rt.alloc();
-    let place = Err(LineRefused::Bad(Why::Place));
-    let problem = half(alloc).expect(&rt, "memory");
-    let unused = split(alloc, &GOOD, &[], &[]).expect(&rt, "memory");
-    assert_eq!(rt; answer(alloc, &problem, unused), place);
-    drop(problem);
-}
-
-#[test]
-fn causes_of_a_split_are_tested(rt: HostRuntime) {
-    let alloc = rt.alloc();
-    let cause = Err(LineRefused::Bad(Why::SplitCause));
-    assert_eq!(rt;
-        told(
-            alloc,
-            Parts {
-                low: 0,
-                high: 1,
-                ..GOOD
-            }
-        ),
-        cause
-    );
-    assert_eq!(rt; told(alloc, Parts { at: 1, ..GOOD }), cause);
-    assert_eq!(rt; told(alloc, Parts { value: 1, ..GOOD }), cause);
-}
-
-#[test]
-fn values_of_a_split_are_tested(rt: HostRuntime) {
-    let alloc = rt.alloc();
-    assert_eq!(rt;
-        told(
-            alloc,
-            Parts {
-                at: -2,
-                value: 1,
-                ..GOOD
-            }
-        ),
-        Err(LineRefused::Bad(Why::SplitCause))
-    );
-    assert_eq!(rt;
-        told(
-            alloc,
-            Parts {
-                value: i128::MAX,
-                ..GOOD
-            }
-        ),
-        Err(LineRefused::Bad(Why::Range))
-    );
-}
-
-#[test]
-fn steps_of_a_split_are_tested(rt: HostRuntime) {
-    let alloc = rt.alloc();
-    let problem = half(alloc).expect(&rt, "memory");
-    let step = RowStep {
-        left: 0,
-        first: -1,
-        right: 1,
-        second: 1,
-    };
-    let line = split(alloc, &GOOD, &[lit(0, true), lit(1, true)], &[step]).expect(&rt, "memory");
-    assert_eq!(rt;
-        answer(alloc, &problem, line),
-        Err(LineRefused::Bad(Why::Multiplier))
-    );
-    drop(problem);
+    let (told, counts) = split_twice(&rt, rt.alloc());
+    assert!(rt; told == [Ok(()), Err(LineRefused::Bad(Why::SplitAgain))]);
+    assert!(rt; counts == (4, 0));
 }
