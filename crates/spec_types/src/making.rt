@@ -141,10 +141,10 @@ fn add_signeds(
 pub fn term_of(alloc: Global, scope: &Scope<'_, '_>, term: &tree::Term) -> Result<Term, AllocError>
     ensures { IfOk result (λ made. made ≡ term_of_tree (scope_of scope.now) term.now) }
 {
-    let mut summands = Items::new(alloc);
     let first = summand_of(alloc, scope, term.minus, &term.first.product)?;
-    summands.push(first)?;
-    add_signeds(alloc, scope, term.more.as_slice(), &mut summands)?;
+    let mut summands = Items::new(alloc);
+    or_drop!(summands.push(first); summands);
+    or_drop!(add_signeds(alloc, scope, term.more.as_slice(), &mut summands); summands);
     Ok(Term { summands })
 }
 

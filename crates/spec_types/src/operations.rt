@@ -169,7 +169,8 @@ fn params_of(
 {
     let mut made = Items::new(alloc);
     for param in params {
-        made.push(param_of(alloc, names, param)?)?;
+        let one = or_drop!(param_of(alloc, names, param); made);
+        or_drop!(made.push(one); made);
     }
     Ok(made)
 }

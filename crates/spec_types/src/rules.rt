@@ -211,12 +211,12 @@ fn add_rule(
 ) -> Result<(), AllocError>
     ensures { OnOk result (known_of known.new ≡ with_rule (known_of known.old) left.now right.now) }
 {
-    let made = Rule {
-        left: pattern_of(alloc, known, left, right, left)?,
-        right: pattern_of(alloc, known, left, right, right)?,
-    };
-    known.draft.rules.push(made)?;
-    Ok(())
+    let first = pattern_of(alloc, known, left, right, left)?;
+    let second = or_drop!(pattern_of(alloc, known, left, right, right); first);
+    known.draft.rules.push(Rule {
+        left: first,
+        right: second,
+    })
 }
 
 pub fn type_conflict<'t>(
