@@ -1,9 +1,7 @@
 // Worked examples of calls that conflict.
 
-use crate::examples::SHOP;
-use crate::outline::SpecOutline;
+use crate::examples::{shop, tournaments};
 use crate::setting::{Setting, call, first_setting};
-use crate::tournaments::tournaments;
 use std::alloc::Global;
 use std::process::Abort;
 use token_rules::conflicts;
@@ -44,8 +42,8 @@ fn check_all(rt: &impl Abort, alloc: Global, at: &Setting, cases: &[Case]) {
     }
 }
 
-fn check(rt: &impl Abort, alloc: Global, outline: &SpecOutline, sizes: &[u32], cases: &[Case]) {
-    let at = first_setting(rt, alloc, outline, sizes);
+fn check(rt: &impl Abort, alloc: Global, text: &[u8], sizes: &[u32], cases: &[Case]) {
+    let at = first_setting(rt, alloc, text, sizes);
     check_all(rt, alloc, &at, cases);
     drop(at);
 }
@@ -58,7 +56,7 @@ static IN_THE_SHOP: &[Case] = &[
 
 #[test]
 fn orders_share_the_shop_and_a_new_price_has_it_alone(rt: HostRuntime) {
-    check(&rt, rt.alloc(), &SHOP, &[], IN_THE_SHOP);
+    check(&rt, rt.alloc(), shop(), &[], IN_THE_SHOP);
 }
 
 static TOURNAMENT_CASES: &[Case] = &[

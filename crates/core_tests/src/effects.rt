@@ -1,7 +1,6 @@
 // Worked examples of what calls change.
 
-use crate::accounts::DEPOSITS;
-use crate::examples::{LAMPS, SET, SWAP};
+use crate::examples::{deposits, lamps, set, swap};
 use crate::setting::{Setting, call, first_setting};
 use effectors::{ApplyRefused, apply, post_count, post_has, post2_count, post2_has};
 use spec_core::State;
@@ -111,7 +110,7 @@ const SWAP_BOTH: CallOutline = (0, &[]);
 
 /// The first counter as it is read after one swap and after two, and both counters once the swap is made.
 fn swapped(rt: &impl Abort, alloc: Global) -> [i128; 4] {
-    let mut at = first_setting(rt, alloc, &SWAP, &[]);
+    let mut at = first_setting(rt, alloc, swap(), &[]);
     let once = count(rt, alloc, &at, SWAP_BOTH, 0, &[]);
     let twice = count_after_both(rt, alloc, &at, SWAP_BOTH, 0, &[]);
     at.make(rt, alloc, 0, &[]);
@@ -132,7 +131,7 @@ const TAKE: CallOutline = (1, &[1]);
 
 /// Whether element 1 and element 0 are there after 1 is put, and 1 after it is put and taken, and after it is taken and put.
 fn put_and_taken(rt: &impl Abort, alloc: Global) -> [bool; 4] {
-    let set = first_setting(rt, alloc, &SET, &[2]);
+    let set = first_setting(rt, alloc, set(), &[2]);
     let found = [
         has(rt, alloc, &set, PUT, 1),
         has(rt, alloc, &set, PUT, 0),
@@ -151,7 +150,7 @@ fn an_element_that_is_put_is_there_until_it_is_dropped(rt: HostRuntime) {
 
 /// Whether the lamp of room 0, lit before a night, is lit after it, and the hours of both rooms.
 fn after_night(rt: &impl Abort, alloc: Global, night: CallOutline) -> (bool, [i128; 2]) {
-    let mut lamps = first_setting(rt, alloc, &LAMPS, &[2]);
+    let mut lamps = first_setting(rt, alloc, lamps(), &[2]);
     lamps.set_has(rt, 0, &[0], true);
     let lit = has(rt, alloc, &lamps, night, 0);
     let hours = [
@@ -172,7 +171,7 @@ fn a_guarded_update_of_every_room_reads_the_old_state(rt: HostRuntime) {
 
 /// With what a deposit of 1 is refused where the balance is the greatest of the range.
 fn refused_beyond(rt: &impl Abort, alloc: Global) -> Option<[i128; 3]> {
-    let mut accounts = first_setting(rt, alloc, &DEPOSITS, &[1]);
+    let mut accounts = first_setting(rt, alloc, deposits(), &[1]);
     accounts.make(rt, alloc, 0, &[0, 1_000_000_000_000_000]);
     let found = refused(rt, alloc, &accounts, (0, &[0, 1]));
     drop(accounts);

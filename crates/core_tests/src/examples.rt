@@ -1,314 +1,177 @@
-// Small specifications: a flag, a swap of two counters, a set, rooms, lamps, people, and a shop in version 2 of the language.
+// The specifications of the tests, as texts of the language.
+//
+// A proof looks into a constant wherever the constant is named, so each text is named once, in a function of its own.
 
-use crate::outline::{
-    ALWAYS, BodyOutline, ChangeOutline, FormulaOutline, LineOutline, OperationOutline, SpecOutline,
-    TakeOutline, Text, UpdateOutline,
-};
-use spec_core::{Cmp, Elem, Kind, Spot, Thing};
+/// A flag that begins up, and stays up.
+pub fn flag() -> &'static [u8] {
+    b"cise 1
+relation up
+initially up true
+invariant alive up"
+}
 
-const AT_FIRST: &[Spot] = &[Spot::One(Elem::Param(0))];
+/// Two counters whose values are swapped.
+pub fn swap() -> &'static [u8] {
+    b"cise 1
+counter c
+counter d
+initially c 1
+initially d 2
+operation swap set c d set d c end"
+}
 
-/// `relation up`, which begins true, and `invariant alive up`.
-pub static FLAG: SpecOutline = SpecOutline {
-    version: 1,
-    sorts: &[],
-    consts: &[],
-    relations: &[(b"up", &[], true)],
-    counters: &[],
-    tokens: &[],
-    rules: &[],
-    invariants: &[(b"alive", LineOutline::Plain(FormulaOutline::Has(0, &[])))],
-    operations: &[],
-};
+/// A set of elements, which are put in and dropped.
+pub fn set() -> &'static [u8] {
+    b"cise 1
+sort A
+relation r ( A )
+operation put ( x : A ) insert r ( x ) end
+operation drop ( y : A ) remove r ( y ) end"
+}
 
-/// `counter c` and `counter d`, which begin at 1 and 2, and `operation swap set c d set d c end`.
-pub static SWAP: SpecOutline = SpecOutline {
-    version: 1,
-    sorts: &[],
-    consts: &[],
-    relations: &[],
-    counters: &[(b"c", &[], 1), (b"d", &[], 2)],
-    tokens: &[],
-    rules: &[],
-    invariants: &[],
-    operations: &[OperationOutline {
-        name: b"swap",
-        params: &[],
-        requires_: &[],
-        updates: &[
-            UpdateOutline {
-                thing: Thing::Counter(0),
-                at: &[],
-                change: ChangeOutline::Set(&[(1, BodyOutline::Count(1, &[]))]),
-                guard: ALWAYS,
-            },
-            UpdateOutline {
-                thing: Thing::Counter(1),
-                at: &[],
-                change: ChangeOutline::Set(&[(1, BodyOutline::Count(0, &[]))]),
-                guard: ALWAYS,
-            },
-        ],
-        takes: &[],
-        observes: &[],
-    }],
-};
+/// Rooms that are free at first, one of which has to be.
+pub fn rooms() -> &'static [u8] {
+    b"cise 1
+sort Room
+relation free ( Room )
+relation busy
+initially free true
+operation start requires exists r : Room . free ( r ) insert busy end"
+}
 
-/// `relation r ( A )`, with `operation put ( x : A ) insert r ( x ) end` and `operation drop ( y : A ) remove r ( y ) end`.
-pub static SET: SpecOutline = SpecOutline {
-    version: 1,
-    sorts: &[b"A"],
-    consts: &[],
-    relations: &[(b"r", &[0], false)],
-    counters: &[],
-    tokens: &[],
-    rules: &[],
-    invariants: &[],
-    operations: &[
-        OperationOutline {
-            name: b"put",
-            params: &[(b"x", Kind::Sort(0))],
-            requires_: &[],
-            updates: &[UpdateOutline {
-                thing: Thing::Relation(0),
-                at: AT_FIRST,
-                change: ChangeOutline::Insert,
-                guard: ALWAYS,
-            }],
-            takes: &[],
-            observes: &[],
-        },
-        OperationOutline {
-            name: b"drop",
-            params: &[(b"y", Kind::Sort(0))],
-            requires_: &[],
-            updates: &[UpdateOutline {
-                thing: Thing::Relation(0),
-                at: AT_FIRST,
-                change: ChangeOutline::Remove,
-                guard: ALWAYS,
-            }],
-            takes: &[],
-            observes: &[],
-        },
-    ],
-};
-
-/// `relation free ( Room )`, which begins true, and `relation busy`, with
-/// `operation start requires exists r : Room . free ( r ) insert busy end`.
-pub static ROOMS: SpecOutline = SpecOutline {
-    version: 1,
-    sorts: &[b"Room"],
-    consts: &[],
-    relations: &[(b"free", &[0], true), (b"busy", &[], false)],
-    counters: &[],
-    tokens: &[],
-    rules: &[],
-    invariants: &[],
-    operations: &[OperationOutline {
-        name: b"start",
-        params: &[],
-        requires_: &[LineOutline::Exists(&[0], FormulaOutline::Has(0, &[Elem::Var(0)]))],
-        updates: &[UpdateOutline {
-            thing: Thing::Relation(1),
-            at: &[],
-            change: ChangeOutline::Insert,
-            guard: ALWAYS,
-        }],
-        takes: &[],
-        observes: &[],
-    }],
-};
-
-/// `lit ( r )`
-const LIT: FormulaOutline = FormulaOutline::Has(0, &[Elem::Param(0)]);
-
-/// `relation lit ( Room )` and `counter hours ( Room )`, with
-/// `operation night ( r : Room ) remove lit ( * ) when lit ( r ) add hours ( * ) 1 when lit ( r ) end`.
-pub static LAMPS: SpecOutline = SpecOutline {
-    version: 1,
-    sorts: &[b"Room"],
-    consts: &[],
-    relations: &[(b"lit", &[0], false)],
-    counters: &[(b"hours", &[0], 0)],
-    tokens: &[],
-    rules: &[],
-    invariants: &[],
-    operations: &[OperationOutline {
-        name: b"night",
-        params: &[(b"r", Kind::Sort(0))],
-        requires_: &[],
-        updates: &[
-            UpdateOutline {
-                thing: Thing::Relation(0),
-                at: &[Spot::Every],
-                change: ChangeOutline::Remove,
-                guard: LIT,
-            },
-            UpdateOutline {
-                thing: Thing::Counter(0),
-                at: &[Spot::Every],
-                change: ChangeOutline::Add(&[(1, BodyOutline::One)]),
-                guard: LIT,
-            },
-        ],
-        takes: &[],
-        observes: &[],
-    }],
-};
-
-/// `x : Person , y : Person`
-const TWO_PEOPLE: &[(Text, Kind)] = &[(b"x", Kind::Sort(0)), (b"y", Kind::Sort(0))];
-
-/// `member ( x )` and `member ( y )`
-const X_IS_MEMBER: FormulaOutline = FormulaOutline::Has(0, &[Elem::Param(0)]);
-
-const Y_IS_MEMBER: FormulaOutline = FormulaOutline::Has(0, &[Elem::Param(1)]);
-
-// An operation over two people that requires one line.
-macro_rules! asking {
-    ($name:expr, $line:expr $(,)?) => {
-        OperationOutline {
-            name: $name,
-            params: TWO_PEOPLE,
-            requires_: &[$line],
-            updates: &[],
-            takes: &[],
-            observes: &[],
-        }
-    };
+/// Lamps, all of which are put out where that of one room is lit.
+pub fn lamps() -> &'static [u8] {
+    b"cise 1
+sort Room
+relation lit ( Room )
+counter hours ( Room )
+operation night ( r : Room )
+  remove lit ( * ) when lit ( r )
+  add hours ( * ) 1 when lit ( r )
+end"
 }
 
 /// People, two of them with names, and robots, with an operation for each line that is tried.
-static PEOPLE_OUTLINE: SpecOutline = SpecOutline {
-    version: 1,
-    sorts: &[b"Person", b"Robot"],
-    consts: &[(b"ada", 0), (b"bob", 0)],
-    relations: &[(b"member", &[0], false)],
-    counters: &[],
-    tokens: &[],
-    rules: &[],
-    invariants: &[],
-    operations: &[
-        // ( x = y )
-        asking!(
-            b"same",
-            LineOutline::Plain(FormulaOutline::Same(Elem::Param(0), Elem::Param(1))),
-        ),
-        // ( x != y )
-        asking!(
-            b"differ",
-            LineOutline::Plain(FormulaOutline::Differ(Elem::Param(0), Elem::Param(1))),
-        ),
-        // ( x = ada )
-        asking!(
-            b"is_ada",
-            LineOutline::Plain(FormulaOutline::Same(Elem::Param(0), Elem::Const(0))),
-        ),
-        // ( bob != x )
-        asking!(
-            b"is_not_bob",
-            LineOutline::Plain(FormulaOutline::Differ(Elem::Const(1), Elem::Param(0))),
-        ),
-        asking!(b"always", LineOutline::Plain(FormulaOutline::True)),
-        asking!(b"never", LineOutline::Plain(FormulaOutline::False)),
-        // ( member ( x ) or member ( y ) )
-        asking!(
-            b"one_is_member",
-            LineOutline::Plain(FormulaOutline::Or(&X_IS_MEMBER, &Y_IS_MEMBER)),
-        ),
-        // exists p : Person . member ( p )
-        asking!(
-            b"some_member",
-            LineOutline::Exists(&[0], FormulaOutline::Has(0, &[Elem::Var(0)])),
-        ),
-        // exists r : Robot . true
-        asking!(
-            b"some_robot",
-            LineOutline::Exists(&[1], FormulaOutline::True),
-        ),
-        // forall r : Robot . false
-        asking!(
-            b"no_robot",
-            LineOutline::Forall(&[1], FormulaOutline::False),
-        ),
-    ],
-};
-
-// A proof looks into a constant wherever the constant is named: a large one is named once, in a function of its own.
-pub fn people() -> &'static SpecOutline {
-    &PEOPLE_OUTLINE
+pub fn people() -> &'static [u8] {
+    b"cise 1
+sort Person
+sort Robot
+const ada : Person
+const bob : Person
+relation member ( Person )
+operation same ( x : Person , y : Person ) requires ( x = y ) end
+operation differ ( x : Person , y : Person ) requires ( x != y ) end
+operation is_ada ( x : Person , y : Person ) requires ( x = ada ) end
+operation is_not_bob ( x : Person , y : Person ) requires ( bob != x ) end
+operation always ( x : Person , y : Person ) requires true end
+operation never ( x : Person , y : Person ) requires false end
+operation one_is_member ( x : Person , y : Person ) requires ( member ( x ) or member ( y ) ) end
+operation some_member ( x : Person , y : Person ) requires exists p : Person . member ( p ) end
+operation some_robot ( x : Person , y : Person ) requires exists r : Robot . true end
+operation no_robot ( x : Person , y : Person ) requires forall r : Robot . false end"
 }
-
-/// `n : int`
-const NUMBER: &[(Text, Kind)] = &[(b"n", Kind::Int)];
 
 /// A shop in version 2 of the language. `reprice` sets the price and takes the shop exclusively; `order` requires the price, adds to
 /// what is sold and takes the shop shared; `note` observes what is sold.
-pub static SHOP: SpecOutline = SpecOutline {
-    version: 2,
-    sorts: &[],
-    consts: &[],
-    relations: &[(b"noted", &[], false)],
-    counters: &[(b"price", &[], 5), (b"sold", &[], 0)],
-    tokens: &[(b"shop", &[])],
-    rules: &[((0, &[]), (0, &[]))],
-    invariants: &[],
-    operations: &[
-        OperationOutline {
-            name: b"reprice",
-            params: NUMBER,
-            requires_: &[],
-            updates: &[UpdateOutline {
-                thing: Thing::Counter(0),
-                at: &[],
-                change: ChangeOutline::Set(&[(1, BodyOutline::Param(0))]),
-                guard: ALWAYS,
-            }],
-            takes: &[TakeOutline {
-                token: 0,
-                args: &[],
-                shared: false,
-            }],
-            observes: &[],
-        },
-        OperationOutline {
-            name: b"order",
-            params: NUMBER,
-            requires_: &[LineOutline::Plain(FormulaOutline::Compare(
-                &[(1, BodyOutline::Count(0, &[]))],
-                Cmp::Equal,
-                &[(1, BodyOutline::Param(0))],
-            ))],
-            updates: &[UpdateOutline {
-                thing: Thing::Counter(1),
-                at: &[],
-                change: ChangeOutline::Add(&[(1, BodyOutline::Param(0))]),
-                guard: ALWAYS,
-            }],
-            takes: &[TakeOutline {
-                token: 0,
-                args: &[],
-                shared: true,
-            }],
-            observes: &[],
-        },
-        OperationOutline {
-            name: b"note",
-            params: NUMBER,
-            requires_: &[],
-            updates: &[UpdateOutline {
-                thing: Thing::Relation(0),
-                at: &[],
-                change: ChangeOutline::Insert,
-                guard: ALWAYS,
-            }],
-            takes: &[],
-            observes: &[LineOutline::Plain(FormulaOutline::Compare(
-                &[(1, BodyOutline::Count(1, &[]))],
-                Cmp::Equal,
-                &[(1, BodyOutline::Param(0))],
-            ))],
-        },
-    ],
-};
+pub fn shop() -> &'static [u8] {
+    b"cise 2
+relation noted
+counter price
+counter sold
+initially price 5
+token shop
+conflict shop shop
+operation reprice ( n : int ) set price n takes shop end
+operation order ( n : int ) requires ( price = n ) add sold n takes shop shared end
+operation note ( n : int ) observes ( sold = n ) insert noted end"
+}
+
+/// Accounts with deposits, whose balances may not fall below 0.
+pub fn deposits() -> &'static [u8] {
+    b"cise 1
+sort Account
+counter balance ( Account )
+invariant solvent forall a : Account . ( balance ( a ) >= 0 )
+operation deposit ( a : Account , n : int ) requires ( n >= 0 ) add balance ( a ) n end"
+}
+
+/// The same with withdrawals.
+pub fn withdrawals() -> &'static [u8] {
+    b"cise 1
+sort Account
+counter balance ( Account )
+invariant solvent forall a : Account . ( balance ( a ) >= 0 )
+operation deposit ( a : Account , n : int ) requires ( n >= 0 ) add balance ( a ) n end
+operation withdraw ( a : Account , n : int )
+  requires ( n >= 0 )
+  requires ( balance ( a ) >= n )
+  add balance ( a ) - n
+end"
+}
+
+/// The same, where two withdrawals from one account conflict.
+pub fn purses() -> &'static [u8] {
+    b"cise 1
+sort Account
+counter balance ( Account )
+token purse ( Account )
+conflict purse ( x ) purse ( x )
+invariant solvent forall a : Account . ( balance ( a ) >= 0 )
+operation deposit ( a : Account , n : int ) requires ( n >= 0 ) add balance ( a ) n end
+operation withdraw ( a : Account , n : int )
+  requires ( n >= 0 )
+  requires ( balance ( a ) >= n )
+  add balance ( a ) - n
+  takes purse ( a )
+end"
+}
+
+/// Players who enroll in tournaments with ten seats each.
+pub fn tournaments() -> &'static [u8] {
+    b"cise 1
+sort Player
+sort Tournament
+relation player ( Player )
+relation tourn ( Tournament )
+relation enrolled ( Player , Tournament )
+counter seats ( Tournament )
+initially seats 10
+token roster ( Player )
+token event ( Tournament )
+token entry ( Player , Tournament )
+conflict roster ( x ) roster ( x )
+conflict event ( x ) event ( x )
+conflict entry ( x , y ) roster ( x )
+conflict entry ( x , y ) event ( y )
+conflict entry ( x , y ) entry ( z , y )
+invariant registered forall p : Player , t : Tournament .
+  ( enrolled ( p , t ) implies ( player ( p ) and tourn ( t ) ) )
+invariant roomy forall t : Tournament . ( seats ( t ) >= 0 )
+operation add_player ( p : Player ) insert player ( p ) takes roster ( p ) end
+operation rem_player ( p : Player )
+  requires forall t : Tournament . not enrolled ( p , t )
+  remove player ( p )
+  takes roster ( p )
+end
+operation add_tourn ( t : Tournament ) insert tourn ( t ) takes event ( t ) end
+operation rem_tourn ( t : Tournament )
+  requires forall p : Player . not enrolled ( p , t )
+  remove tourn ( t )
+  takes event ( t )
+end
+operation enroll ( p : Player , t : Tournament )
+  requires player ( p )
+  requires tourn ( t )
+  requires ( seats ( t ) >= 1 )
+  requires not enrolled ( p , t )
+  insert enrolled ( p , t )
+  add seats ( t ) - 1
+  takes entry ( p , t )
+end
+operation leave ( p : Player , t : Tournament )
+  requires enrolled ( p , t )
+  remove enrolled ( p , t )
+  add seats ( t ) 1
+  takes entry ( p , t )
+end"
+}

@@ -1,20 +1,14 @@
 // One table of worked examples for the specification core.
 //
-// The contracts of `spec_core`, `spec_draft`, `effectors`, `token_rules`, `obligation_list` and `executions` say that each call is
-// its definition.
+// The contracts of `spec_core`, `effectors`, `token_rules`, `obligation_list` and `executions` say that each call is its definition.
 // That the definitions say what is meant is shown here, on small specifications with values that were worked out by hand; and that
 // each call which may run out of memory answers where there is enough. It stands above them all, so that no crate below is proved
 // again with tests of its own.
 //
-// `outline` is the form of a specification as constant data, `examples`, `accounts` and `tournaments` have those of the tests,
-// `building` makes a `Spec` of one, and `setting` worlds, states and calls that fit it. `states`, `lines`, `effects`, `conflicts`,
-// `obligations` and `orders` have the tests.
+// `examples` has the specifications as texts, and `setting` makes worlds, states and calls that fit one. `states`, `lines`,
+// `effects`, `conflicts`, `obligations` and `orders` have the tests.
 #![tactic(auto)]
 
-#[cfg(test)]
-mod accounts;
-#[cfg(test)]
-mod building;
 #[cfg(test)]
 mod conflicts;
 #[cfg(test)]
@@ -28,10 +22,6 @@ mod obligations;
 #[cfg(test)]
 mod orders;
 #[cfg(test)]
-mod outline;
-#[cfg(test)]
 mod setting;
 #[cfg(test)]
 mod states;
-#[cfg(test)]
-mod tournaments;

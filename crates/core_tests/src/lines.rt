@@ -1,6 +1,6 @@
 // Worked examples of lines that are true or false: quantifiers, constants, elements that are equal or not, and the connectives.
 
-use crate::examples::{ROOMS, people};
+use crate::examples::{people, rooms};
 use crate::setting::{Setting, call, first_setting, first_setting_with};
 use spec_core::requires_broken_at;
 use std::alloc::Global;
@@ -16,8 +16,8 @@ fn is_ready(rt: &impl Abort, alloc: Global, at: &Setting, op: u8, args: &[i64]) 
 }
 
 /// Whether a room is free where there are so many.
-fn some_is_free(rt: &impl Abort, alloc: Global, rooms: u32) -> bool {
-    let at = first_setting(rt, alloc, &ROOMS, &[rooms]);
+fn some_is_free(rt: &impl Abort, alloc: Global, count: u32) -> bool {
+    let at = first_setting(rt, alloc, rooms(), &[count]);
     let ready = is_ready(rt, alloc, &at, 0, &[]);
     drop(at);
     ready

@@ -1,11 +1,7 @@
 // Worked examples of obligations, and of what breaks them.
 
-use crate::accounts::{DEPOSITS, PURSES, WITHDRAWALS};
-use crate::building::{items, spec};
-use crate::examples::{SET, SHOP};
-use crate::outline::SpecOutline;
-use crate::setting::{Setting, call, first_setting};
-use crate::tournaments::tournaments;
+use crate::examples::{deposits, purses, set, shop, tournaments, withdrawals};
+use crate::setting::{Setting, call, first_setting, items, spec};
 use items::Items;
 use obligation_list::{Obligation, Witness, breaks, law_obligations, list};
 use spec_core::{Call, Spec, Thing};
@@ -13,8 +9,8 @@ use std::alloc::Global;
 use std::process::Abort;
 
 /// How many obligations a specification has.
-fn obligations(rt: &impl Abort, alloc: Global, outline: &SpecOutline) -> usize {
-    let spec = spec(rt, alloc, outline);
+fn obligations(rt: &impl Abort, alloc: Global, text: &[u8]) -> usize {
+    let spec = spec(rt, alloc, text);
     let found = list(alloc, &spec).expect(rt, "memory").len();
     drop(spec);
     found
@@ -23,17 +19,17 @@ fn obligations(rt: &impl Abort, alloc: Global, outline: &SpecOutline) -> usize {
 /// How many the specifications of accounts have.
 fn of_accounts(rt: &impl Abort, alloc: Global) -> [usize; 3] {
     [
-        obligations(rt, alloc, &DEPOSITS),
-        obligations(rt, alloc, &WITHDRAWALS),
-        obligations(rt, alloc, &PURSES),
+        obligations(rt, alloc, deposits()),
+        obligations(rt, alloc, withdrawals()),
+        obligations(rt, alloc, purses()),
     ]
 }
 
 /// How many a set, a shop and tournaments have.
 fn of_others(rt: &impl Abort, alloc: Global) -> [usize; 3] {
     [
-        obligations(rt, alloc, &SET),
-        obligations(rt, alloc, &SHOP),
+        obligations(rt, alloc, set()),
+        obligations(rt, alloc, shop()),
         obligations(rt, alloc, tournaments()),
     ]
 }
@@ -62,8 +58,8 @@ static OF_DEPOSITS: &[Obligation] = &[
 ];
 
 /// Whether a specification has these obligations.
-fn has_these(rt: &impl Abort, alloc: Global, outline: &SpecOutline, want: &[Obligation]) -> bool {
-    let spec = spec(rt, alloc, outline);
+fn has_these(rt: &impl Abort, alloc: Global, text: &[u8], want: &[Obligation]) -> bool {
+    let spec = spec(rt, alloc, text);
     let obligations = list(alloc, &spec).expect(rt, "memory");
     let found = obligations.as_slice() == want;
     drop(obligations);
@@ -73,7 +69,7 @@ fn has_these(rt: &impl Abort, alloc: Global, outline: &SpecOutline, want: &[Obli
 
 #[test]
 fn deposits_have_an_obligation_of_each_kind(rt: HostRuntime) {
-    assert!(rt; has_these(&rt, rt.alloc(), &DEPOSITS, OF_DEPOSITS));
+    assert!(rt; has_these(&rt, rt.alloc(), deposits(), OF_DEPOSITS));
 }
 
 /// Whether a witness breaks an obligation, which has to be the one at a place of the list.
@@ -130,13 +126,8 @@ fn two_break(
 }
 
 /// Whether two withdrawals of 1 from one account break that the second of them is still covered.
-fn two_withdrawals_break(
-    rt: &impl Abort,
-    alloc: Global,
-    outline: &SpecOutline,
-    balance: i64,
-) -> bool {
-    let mut at = first_setting(rt, alloc, outline, &[1]);
+fn two_withdrawals_break(rt: &impl Abort, alloc: Global, text: &[u8], balance: i64) -> bool {
+    let mut at = first_setting(rt, alloc, text, &[1]);
     at.set_count(rt, 0, &[0], balance);
     let covered = Obligation::Stable {
         op: 1,
@@ -149,19 +140,19 @@ fn two_withdrawals_break(
 
 #[test]
 fn a_balance_of_1_covers_one_withdrawal_and_a_balance_of_2_both(rt: HostRuntime) {
-    let with_1 = two_withdrawals_break(&rt, rt.alloc(), &WITHDRAWALS, 1);
-    let with_2 = two_withdrawals_break(&rt, rt.alloc(), &WITHDRAWALS, 2);
+    let with_1 = two_withdrawals_break(&rt, rt.alloc(), withdrawals(), 1);
+    let with_2 = two_withdrawals_break(&rt, rt.alloc(), withdrawals(), 2);
     assert!(rt; with_1 && !with_2);
 }
 
 #[test]
 fn withdrawals_that_conflict_break_nothing(rt: HostRuntime) {
-    assert!(rt; !two_withdrawals_break(&rt, rt.alloc(), &PURSES, 1));
+    assert!(rt; !two_withdrawals_break(&rt, rt.alloc(), purses(), 1));
 }
 
 /// Whether putting and dropping an element break that they commute.
 fn put_and_drop_break(rt: &impl Abort, alloc: Global) -> bool {
-    let at = first_setting(rt, alloc, &SET, &[1]);
+    let at = first_setting(rt, alloc, set(), &[1]);
     let commute = Obligation::Commute {
         first: 0,
         second: 1,

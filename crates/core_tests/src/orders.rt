@@ -4,9 +4,8 @@ ghost use Rattle.std.specs.Prelude.{◌≡◌, ◌<◌, ◌↔◌, IsTrue, All};
 ghost use Rattle.std.specs.List.{list_all};
 ghost use Rattle.spec_core.specs.Fits.{call_fits};
 
-use crate::accounts::DEPOSITS;
-use crate::building::items;
-use crate::setting::{Setting, call, first_setting};
+use crate::examples::deposits;
+use crate::setting::{Setting, call, first_setting, items};
 use effectors::ApplyRefused;
 use executions::{Event, is_order, law_closed_sets, may_follow, state_after};
 use items::Items;
@@ -135,7 +134,7 @@ fn check_balances(rt: &impl Abort, alloc: Global, at: &Setting, events: &[Event]
 }
 
 fn check_deposits(rt: &impl Abort, alloc: Global) {
-    let at = first_setting(rt, alloc, &DEPOSITS, &[2]);
+    let at = first_setting(rt, alloc, deposits(), &[2]);
     let events = events(rt, alloc, THREE_DEPOSITS);
     check_balances(rt, alloc, &at, events.as_slice());
     drop(events);

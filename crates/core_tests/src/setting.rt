@@ -3,11 +3,10 @@
 ghost use Rattle.std.specs.Prelude.{◌≡◌, true};
 ghost use Rattle.spec_core.specs.Fits.{world_fits, is_state};
 
-use crate::building::{items, spec};
-use crate::outline::SpecOutline;
 use effectors::apply;
 use items::Items;
 use spec_core::{Call, Spec, State, World, invariant_broken_at, is_in_state_range};
+use spec_from_bytes::{Reading, SPECIFICATION_LIMIT, read_bytes};
 use std::alloc::Global;
 use std::process::Abort;
 
@@ -21,25 +20,35 @@ pub struct Setting {
     ghost state_fits: { is_state spec world state ≡ true },
 }
 
-/// The specification of an outline without constants, a world with so many elements of each sort, and the initial state.
-pub fn first_setting(
-    rt: &impl Abort,
-    alloc: Global,
-    outline: &SpecOutline,
-    sizes: &[u32],
-) -> Setting {
-    first_setting_with(rt, alloc, outline, sizes, &[])
+/// A list of these items.
+pub fn items<T: Copy>(rt: &impl Abort, alloc: Global, list: &[T]) -> Items<T> {
+    Items::from_slice(alloc, list).expect(rt, "memory")
 }
 
-/// The same of an outline with constants, which are these elements.
+/// The specification that a text is.
+pub fn spec(rt: &impl Abort, alloc: Global, text: &[u8]) -> Spec {
+    assert!(rt; text.len() <= SPECIFICATION_LIMIT);
+    let Ok(Reading::Specified(tree, spec)) = read_bytes(alloc, text) else {
+        panic!(rt; "no specification");
+    };
+    drop(tree);
+    spec
+}
+
+/// The specification of a text without constants, a world with so many elements of each sort, and the initial state.
+pub fn first_setting(rt: &impl Abort, alloc: Global, text: &[u8], sizes: &[u32]) -> Setting {
+    first_setting_with(rt, alloc, text, sizes, &[])
+}
+
+/// The same of a text with constants, which are these elements.
 pub fn first_setting_with(
     rt: &impl Abort,
     alloc: Global,
-    outline: &SpecOutline,
+    text: &[u8],
     sizes: &[u32],
     consts: &[u32],
 ) -> Setting {
-    let spec = spec(rt, alloc, outline);
+    let spec = spec(rt, alloc, text);
     let world = World {
         sizes: items(rt, alloc, sizes),
         consts: items(rt, alloc, consts),

@@ -1,9 +1,7 @@
 // Worked examples of states: what they read, how one reading changes, when two are the same, and the lines that show them.
 
-use crate::accounts::DEPOSITS;
-use crate::examples::{FLAG, SET};
+use crate::examples::{deposits, flag, set, tournaments};
 use crate::setting::{Setting, first_setting};
-use crate::tournaments::tournaments;
 use spec_core::write_state;
 use std::alloc::Global;
 use std::process::Abort;
@@ -12,8 +10,8 @@ use std::process::Abort;
 type Flag = (bool, Option<usize>);
 
 /// The flag at first, and in the empty state.
-fn flag(rt: &impl Abort, alloc: Global) -> (Flag, Flag) {
-    let mut at = first_setting(rt, alloc, &FLAG, &[]);
+fn flags(rt: &impl Abort, alloc: Global) -> (Flag, Flag) {
+    let mut at = first_setting(rt, alloc, flag(), &[]);
     let first = (at.has(0, &[]), at.broken());
     at.empty(rt, alloc);
     let empty = (at.has(0, &[]), at.broken());
@@ -23,14 +21,14 @@ fn flag(rt: &impl Abort, alloc: Global) -> (Flag, Flag) {
 
 #[test]
 fn the_flag_is_up_at_first_and_down_in_the_empty_state(rt: HostRuntime) {
-    let (first, empty) = flag(&rt, rt.alloc());
+    let (first, empty) = flags(&rt, rt.alloc());
     assert!(rt; first.0 && first.1.is_none());
     assert!(rt; !empty.0 && empty.1 == Some(0));
 }
 
 /// Two balances, of which the second was changed to 7.
 fn balances(rt: &impl Abort, alloc: Global) -> [i128; 2] {
-    let mut accounts = first_setting(rt, alloc, &DEPOSITS, &[2]);
+    let mut accounts = first_setting(rt, alloc, deposits(), &[2]);
     accounts.set_count(rt, 0, &[1], 7);
     let found = [accounts.count(0, &[0]), accounts.count(0, &[1])];
     drop(accounts);
@@ -45,13 +43,13 @@ fn one_balance_changes_alone(rt: HostRuntime) {
 
 /// Whether element 0 and element 1 are there once 1 is put in, and 1 once it is taken out.
 fn elements(rt: &impl Abort, alloc: Global) -> [bool; 3] {
-    let mut set = first_setting(rt, alloc, &SET, &[2]);
-    set.set_has(rt, 0, &[1], true);
-    let other = set.has(0, &[0]);
-    let put_in = set.has(0, &[1]);
-    set.set_has(rt, 0, &[1], false);
-    let taken_out = set.has(0, &[1]);
-    drop(set);
+    let mut at = first_setting(rt, alloc, set(), &[2]);
+    at.set_has(rt, 0, &[1], true);
+    let other = at.has(0, &[0]);
+    let put_in = at.has(0, &[1]);
+    at.set_has(rt, 0, &[1], false);
+    let taken_out = at.has(0, &[1]);
+    drop(at);
     [other, put_in, taken_out]
 }
 
@@ -63,7 +61,7 @@ fn one_tuple_is_put_in_and_taken_out(rt: HostRuntime) {
 
 /// Whether a copy is the same at first, and after the original has changed.
 fn copied(rt: &impl Abort, alloc: Global) -> [bool; 2] {
-    let mut accounts = first_setting(rt, alloc, &DEPOSITS, &[2]);
+    let mut accounts = first_setting(rt, alloc, deposits(), &[2]);
     accounts.set_count(rt, 0, &[0], -3);
     let copy = accounts.state.copy().expect(rt, "memory");
     let at_first = copy.same(&accounts.state);
