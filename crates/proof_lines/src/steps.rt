@@ -1,17 +1,17 @@
 // The rows of a line: those of its used literals, tightened, then those of its steps.
-ghost use Rattle.std.specs.Prelude.{◌≡◌, true, IsSome, MatchResult, option_copied};
+ghost use Rattle.std.specs.Prelude.{◌≡◌, true, map, IfOk, IsSome, MatchResult, option_copied};
 ghost use Rattle.std.specs.Option.{option_map};
 ghost use Rattle.std.specs.List.{list_all};
 ghost use Rattle.lin_rows.specs.Divisors.{tightened};
 ghost use Rattle.proof_lines.specs.declared.line.Why.TheVariants.{Range as TheRange};
-ghost use Rattle.proof_lines.specs.Steps.{atom_row, has_row, lit_row, lit_rows, used_rows, step_row, with_steps, line_rows, ends_badly};
+ghost use Rattle.proof_lines.specs.Steps.{atom_row, has_row, lit_row, lit_rows, used_rows, step_row, with_steps, line_rows, ends_badly, refutes};
 ghost use Rattle.proof_lines.specs.Refusals.{or_broken, IsTold};
 
 use crate::clause::Lit;
 use crate::line::{LineRefused, RowStep, Why};
 use crate::problem::AtomKind;
 use lin_rows::{Row, RowRefused, negate, sum, tighten};
-use std::alloc::Global;
+use std::alloc::{AllocError, Global};
 
 // The row of an atom, if it is there and has one.
 fn atom_row(atoms: &[AtomKind], number: u32) -> Option<&Row>
@@ -136,5 +136,28 @@ pub fn ends_badly(rows: &[Row]) -> bool
     match rows.len() {
         0 => false,
         count => rows[count - 1].is_contradiction(),
+    }
+}
+
+fn all_tightened(alloc: Global, given: &[Row]) -> Result<Vec<Row>, AllocError>
+    ensures { IfOk result (λ rows. rows.items ≡ map tightened given.now) }
+{
+    let mut rows = Vec::new(alloc);
+    for row in given {
+        rows.push(tighten(alloc, row)?)?;
+    }
+    Ok(rows)
+}
+
+/// Whether steps refute given rows, without literals: the last of all rows is a contradiction, so no whole numbers satisfy the
+/// given ones.
+pub fn refutes_rows(alloc: Global, given: &[Row], steps: &[RowStep]) -> Result<bool, AllocError>
+    ensures { IfOk result (λ b. b ≡ refutes given.now steps.now) }
+{
+    let rows = all_tightened(alloc, given)?;
+    match with_steps(alloc, rows, steps) {
+        Ok(all) => Ok(ends_badly(all.as_slice())),
+        Err(LineRefused::Bad(_)) => Ok(false),
+        Err(LineRefused::Memory) => Err(AllocError),
     }
 }
