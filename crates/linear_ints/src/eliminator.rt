@@ -12,6 +12,7 @@ use crate::eliminate::eliminate_all;
 use crate::stop::Stop;
 use crate::tableau::Tableau;
 use crate::take::take_all;
+use crate::trim::{Conflict, trimmed};
 use items::Items;
 use lin_rows::Row;
 use std::alloc::{AllocError, Global};
@@ -78,7 +79,7 @@ fn solve(tableau: &mut Tableau, alloc: Global, rows: &[Row], ints: u32) -> Resul
 }
 
 // What the search is told.
-fn answer(tableau: Tableau, rows: &[Row], ints: u32, stop: Stop) -> TheoryAnswer
+fn answer(tableau: Tableau, alloc: Global, rows: &[Row], ints: u32, stop: Stop) -> TheoryAnswer
     requires { IsStop ints rows.now tableau stop }
     ensures { IsAnswer true true ints rows.now result }
 {
@@ -91,7 +92,10 @@ fn answer(tableau: Tableau, rows: &[Row], ints: u32, stop: Stop) -> TheoryAnswer
         left: _,
     } = tableau;
     match stop {
-        Stop::Contradiction => TheoryAnswer::Conflict { used, steps },
+        Stop::Contradiction => {
+            let Conflict { used, steps } = trimmed(alloc, rows, used, steps);
+            TheoryAnswer::Conflict { used, steps }
+        }
         Stop::Full => TheoryAnswer::Rows { used, steps },
         Stop::Gap {
             place,
@@ -133,7 +137,7 @@ impl Theory for Eliminator {
         };
         match solve(&mut tableau, alloc, rows, ints) {
             Ok(values) => TheoryAnswer::Model(values),
-            Err(stop) => answer(tableau, rows, ints, stop),
+            Err(stop) => answer(tableau, alloc, rows, ints, stop),
         }
     }
 

@@ -43,5 +43,6 @@ pub mod steps;
 pub mod stop;
 pub mod tableau;
 pub mod take;
+pub mod trim;
 
 pub use eliminator::Eliminator;
