@@ -1,8 +1,9 @@
 // Single systems, worked by hand.
-use crate::asked::{Line, Told, ask, row, tell};
+use crate::asked::{Line, Told, ask, refutes_by, row, tell};
 use crate::searches::{Found, find};
 use lin_rows::Row;
 use linear_ints::Eliminator;
+use proof_lines::RowStep;
 use std::alloc::{AllocError, Global};
 
 // Twice a number is at most 1 and at least 1: tightened, at most 0 and at least 1.
@@ -10,6 +11,33 @@ use std::alloc::{AllocError, Global};
 fn an_odd_double_is_refuted(rt: HostRuntime) {
     let lines: [Line; 2] = [(&[2], 1), (&[-2], -1)];
     assert_eq!(rt; tell(rt.alloc(), &lines, 1), Told::Conflict);
+}
+
+// The first name is eliminated first, which gives `x2 <= 2`; then twice the second is at most 1 and at least 1. The conflict rests on
+// the last two rows alone, which are numbered anew.
+#[test]
+fn a_conflict_names_what_it_rests_on_alone(rt: HostRuntime) {
+    let lines: [Line; 5] = [
+        (&[1, 0, 1], 4),
+        (&[-1, 0, 1], 1),
+        (&[0, 0, -1], 0),
+        (&[0, 2], 1),
+        (&[0, -2], -1),
+    ];
+    let step = RowStep {
+        left: 0,
+        first: 1,
+        right: 1,
+        second: 1,
+    };
+    assert!(rt; refutes_by(rt.alloc(), &lines, 3, &[3, 4], &[step]));
+}
+
+// The last given row is a contradiction by itself.
+#[test]
+fn a_contradiction_alone_is_a_conflict(rt: HostRuntime) {
+    let lines: [Line; 3] = [(&[1], 3), (&[-1], -3), (&[0], -1)];
+    assert!(rt; refutes_by(rt.alloc(), &lines, 1, &[2], &[]));
 }
 
 #[test]

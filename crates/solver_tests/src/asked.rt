@@ -6,7 +6,7 @@ ghost use Rattle.theory_api.specs.Laws.{all_below};
 
 use lin_rows::{Row, RowTerm, row_of};
 use linear_ints::Eliminator;
-use proof_lines::RangeWhat;
+use proof_lines::{RangeWhat, RowStep};
 use std::alloc::{AllocError, Global};
 use theory_api::{Theory, TheoryAnswer};
 
@@ -110,6 +110,33 @@ fn in_short(answer: &TheoryAnswer) -> Told {
         TheoryAnswer::Rows { .. } => Told::Rows,
         TheoryAnswer::Range { what, .. } => beyond(what),
         TheoryAnswer::Memory => Told::Nothing,
+    }
+}
+
+/// Whether the elimination solver refutes the rows of lines by these used rows and these steps.
+pub fn refutes_by(
+    alloc: Global,
+    lines: &[Line],
+    ints: u32,
+    used: &[u32],
+    steps: &[RowStep],
+) -> bool {
+    match rows_of(alloc, lines) {
+        Ok(rows) if all_within(rows.as_slice(), ints) => {
+            let answer = Eliminator::new().check(alloc, rows.as_slice(), ints);
+            is_conflict_by(&answer, used, steps)
+        }
+        _ => false,
+    }
+}
+
+fn is_conflict_by(answer: &TheoryAnswer, used: &[u32], steps: &[RowStep]) -> bool {
+    match answer {
+        TheoryAnswer::Conflict {
+            used: given,
+            steps: taken,
+        } => given.as_slice() == used && taken.as_slice() == steps,
+        _ => false,
     }
 }
 
