@@ -148,12 +148,7 @@ fn rested_on(alloc: Global, used: &[u32], steps: &[RowStep]) -> Result<Conflict,
 }
 
 /// A conflict of the given rows, without what its contradiction doesn't rest on.
-pub fn trimmed(
-    alloc: Global,
-    rows: &[Row],
-    used: Items<u32>,
-    steps: Items<RowStep>,
-) -> Conflict
+pub fn trimmed(alloc: Global, rows: &[Row], used: Items<u32>, steps: Items<RowStep>) -> Conflict
     requires { IsConflict rows.now used steps }
     ensures { IsConflict rows.now result.used result.steps }
 {

@@ -3,3 +3,4 @@ pub mod Lines
 pub mod Runs
 pub mod Index
 pub mod Pairs
+pub mod Splitting

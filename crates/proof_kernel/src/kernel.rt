@@ -1,5 +1,5 @@
 // The kernel: what stands after the lines taken so far.
-ghost use Rattle.std.specs.Prelude.{◌≡◌, ℕ, ◌<◌, ◌≤◌, ◌^◌, Bool, true, MatchResult, OnOk, OnErr, IsOk, IfOk, IsTrue, length, option_copied, slice_get, Ok, nat_lt, map, Some};
+ghost use Rattle.std.specs.Prelude.{◌≡◌, ℕ, ◌<◌, ◌≤◌, ◌^◌, Bool, true, MatchResult, OnOk, OnErr, IsOk, IfOk, IsTrue, length, option_copied, slice_get, Ok, nat_lt, map, Some, [], ◌∷◌};
 ghost use Rattle.std.specs.List.{list_all, list_any};
 ghost use Rattle.lin_rows.specs.Rows.{is_row, places_below};
 ghost use Rattle.proof_lines.specs.Clauses.{is_empty};
@@ -13,11 +13,12 @@ use crate::atoms::Atoms;
 use crate::freshness::{each_new, none_dropped};
 use lin_rows::Row;
 use proof_lines::clause::{Clause, Lit, holds_both_ways};
-use proof_lines::evidence::{all_cancel, all_different, is_beyond};
+use proof_lines::evidence::{all_cancel, all_different, shows_range};
+use proof_lines::kept::{kept_at, kept_rows, refutes_used};
 use proof_lines::line::{Line, LineRefused, RangeWhat, RowStep, Why};
 use proof_lines::problem::{AtomKind, Problem, law_rows};
 use proof_lines::splitting::{at_most, names_of_two, split_cause};
-use proof_lines::steps::{ends_badly, line_rows};
+use proof_lines::steps::line_rows;
 use std::alloc::{AllocError, Global};
 use std::collections::HashSet;
 use std::marker::Model;
@@ -229,17 +230,7 @@ impl Kernel {
         if holds_both_ways(used) {
             return Ok(false);
         }
-        match line_rows(self.alloc, self.atoms.as_slice(), used, steps) {
-            Ok(rows) => {
-                if all_cancel(rows.as_slice(), steps) {
-                    is_beyond(self.alloc, rows.as_slice(), what)
-                } else {
-                    Ok(false)
-                }
-            }
-            Err(LineRefused::Bad(_)) => Ok(false),
-            Err(LineRefused::Memory) => Err(AllocError),
-        }
+        shows_range(self.alloc, self.atoms.as_slice(), used, steps, what)
     }
 
     fn is_live(&self, number: u32) -> bool
@@ -300,12 +291,10 @@ impl Kernel {
         ensures exact { MatchResult result (λ _. combined self.old used.now steps.now ≡ Ok self.new) (λ e. IsTold e (combined self.old used.now steps.now)) }
         ensures kept { OnErr result (self.new ≡ self.old) }
     {
-        let rows = match line_rows(self.alloc, self.atoms.as_slice(), used, steps) {
-            Ok(rows) => rows,
+        match refutes_used(self.alloc, self.atoms.as_slice(), used, steps) {
+            Ok(true) => {}
+            Ok(false) => return Err(LineRefused::Bad(Why::Contradiction)),
             Err(refused) => return Err(refused),
-        };
-        if !ends_badly(rows.as_slice()) {
-            return Err(LineRefused::Bad(Why::Contradiction));
         }
         let Ok(clause) = Clause::of_opposites(self.alloc, used) else {
             return Err(LineRefused::Memory);
@@ -332,31 +321,33 @@ impl Kernel {
         if place >= self.ints {
             return Err(LineRefused::Bad(Why::Place));
         }
-        let rows = match line_rows(self.alloc, self.atoms.as_slice(), used, steps) {
+        let named = [low as usize, high as usize];
+        let rows = match kept_rows(self.alloc, self.atoms.as_slice(), used, steps, &named) {
             Ok(rows) => rows,
             Err(refused) => return Err(refused),
         };
-        self.split_after(place, at, rows.as_slice(), low, high, values)
+        let kept = rows.as_slice();
+        let Some(low_row) = kept_at(kept, low as usize) else {
+            return Err(LineRefused::Bad(Why::Place));
+        };
+        let Some(high_row) = kept_at(kept, high as usize) else {
+            return Err(LineRefused::Bad(Why::Place));
+        };
+        self.split_after(place, at, low_row, high_row, values)
     }
 
     fn split_after(
         &mut self,
         place: u32,
         at: &i128,
-        rows: &[Row],
-        low: u32,
-        high: u32,
+        low: &Row,
+        high: &Row,
         values: &[i128],
     ) -> Result<(), LineRefused>
         requires { place < self.old.ints }
-        ensures exact { MatchResult result (λ _. split_after self.old place at.now rows.now low high values.now ≡ Ok self.new) (λ e. IsTold e (split_after self.old place at.now rows.now low high values.now)) }
+        ensures exact { MatchResult result (λ _. split_after self.old place at.now (low.now ∷ high.now ∷ []) 0 1 values.now ≡ Ok self.new) (λ e. IsTold e (split_after self.old place at.now (low.now ∷ high.now ∷ []) 0 1 values.now)) }
         ensures kept { OnErr result (self.new ≡ self.old) }
     {
-        let (low, high) = (low as usize, high as usize);
-        if low >= rows.len() || high >= rows.len() {
-            return Err(LineRefused::Bad(Why::Place));
-        }
-        let (low, high) = (&rows[low], &rows[high]);
         let Ok(names) = names_of_two(self.alloc, place, low, high) else {
             return Err(LineRefused::Memory);
         };

@@ -5,3 +5,5 @@ pub mod Certificates
 pub mod Gap
 pub mod Points
 pub mod LineRows
+pub mod Keeping
+pub mod KeptLines

@@ -1,13 +1,18 @@
 // The evidence of undecided verdicts, as far as a reader of a report can check it: too many rows, and numbers beyond the range.
-ghost use Rattle.std.specs.Prelude.{◌≡◌, ◌<◌, ◌^◌, ◌*ℤ◌, ◌-ℤ◌, pos, int_lt, nat_le, Bool, true, false, IfOk, MatchOption, ◌&&◌, Some, is_none, [], ◌∷◌};
+ghost use Rattle.std.specs.Prelude.{◌≡◌, List, length, ◌<◌, ◌^◌, ◌*ℤ◌, ◌-ℤ◌, pos, int_lt, nat_le, Bool, true, false, IfOk, MatchOption, MatchResult, ◌&&◌, Some, is_none, [], ◌∷◌};
 ghost use Rattle.std.specs.List.{list_all, list_any};
 ghost use Rattle.lin_rows.specs.Numbers.{is_zero};
-ghost use Rattle.lin_rows.specs.Rows.{coefficient_at};
-ghost use Rattle.proof_lines.specs.Steps.{row_at};
+ghost use Rattle.lin_rows.specs.Rows.{Row as RowView, coefficient_at};
+ghost use Rattle.proof_lines.specs.Kept.{kept_at, StepsEnd, KeptUntil, HasKept, step_cancels, all_cancel_in, AreCancelling, first_named, second_named, beyond_in};
+ghost use Rattle.proof_lines.specs.Refusals.{IsTold};
+ghost use Rattle.proof_lines.specs.Steps.{with_steps, line_rows};
 ghost use Rattle.proof_lines.specs.Splits.{other_names, size_at};
-ghost use Rattle.proof_lines.specs.Evidence.{cancels_at, cancels_some, cancels, all_cancel, same_row, all_different, in_state, values_fit, rest_with, product_leaves, leaves_state, is_beyond};
+ghost use Rattle.proof_lines.specs.Evidence.{cancels_at, cancels_some, cancels, all_cancel, same_row, all_different, in_state, values_fit, rest_with, product_leaves, leaves_state, range_shown};
 
-use crate::line::{RangeWhat, RowStep};
+use crate::clause::Lit;
+use crate::kept::{ends_of, keep_used, kept_at, push_step, step_sum};
+use crate::line::{LineRefused, RangeWhat, RowStep};
+use crate::problem::AtomKind;
 use crate::splitting::{distance, is_above, is_negative, is_positive, names_of_one, rest_at};
 use lin_rows::{Row, RowRefused, combine, least_factors};
 use std::alloc::{AllocError, Global};
@@ -81,18 +86,16 @@ fn all_in_state(values: &[i128]) -> bool
 // range of a state.
 fn fitting_names(
     alloc: Global,
-    rows: &[Row],
-    row: u32,
+    row: &Row,
     place: u32,
     values: &[i128],
 ) -> Result<Option<Vec<u32>>, AllocError>
-    ensures { IfOk result (λ found. MatchOption found (values_fit rows.now row place values.now ≡ false) (λ names. (values_fit rows.now row place values.now ≡ true) × (names.items ≡ other_names place (row_at rows.now row ∷ [])))) }
+    ensures { IfOk result (λ found. MatchOption found (values_fit (row.now ∷ []) 0 place values.now ≡ false) (λ names. (values_fit (row.now ∷ []) 0 place values.now ≡ true) × (names.items ≡ other_names place (row.now ∷ [])))) }
 {
-    let row = row as usize;
-    if row >= rows.len() || rows[row].coefficient(place) == 0 {
+    if row.coefficient(place) == 0 {
         return Ok(None);
     }
-    let names = names_of_one(alloc, place, &rows[row])?;
+    let names = names_of_one(alloc, place, row)?;
     if values.len() != names.len() || !all_in_state(values) {
         return Ok(None);
     }
@@ -115,19 +118,12 @@ fn leaves_state(row: &Row, place: u32, rest: &i128) -> bool
 }
 
 // Whether the row, with values for its other names, allows the place no number in the range of a state.
-fn allows_none(
-    alloc: Global,
-    rows: &[Row],
-    row: u32,
-    place: u32,
-    values: &[i128],
-) -> Result<bool, AllocError>
-    ensures { IfOk result (λ b. b ≡ (values_fit rows.now row place values.now && leaves_state (row_at rows.now row) place (rest_with (row_at rows.now row) place values.now))) }
+fn allows_none(alloc: Global, row: &Row, place: u32, values: &[i128]) -> Result<bool, AllocError>
+    ensures { IfOk result (λ b. b ≡ (values_fit (row.now ∷ []) 0 place values.now && leaves_state row.now place (rest_with row.now place values.now))) }
 {
-    let Some(names) = fitting_names(alloc, rows, row, place, values)? else {
+    let Some(names) = fitting_names(alloc, row, place, values)? else {
         return Ok(false);
     };
-    let row = &rows[row as usize];
     match rest_at(row, names.as_slice(), values) {
         Some(rest) => Ok(leaves_state(row, place, &rest)),
         None => Ok(false),
@@ -135,19 +131,13 @@ fn allows_none(
 }
 
 // Whether putting the values into the row leaves the range of a row.
-fn leaves_range(
-    alloc: Global,
-    rows: &[Row],
-    row: u32,
-    place: u32,
-    values: &[i128],
-) -> Result<bool, AllocError>
-    ensures { IfOk result (λ b. b ≡ (values_fit rows.now row place values.now && is_none (rest_with (row_at rows.now row) place values.now))) }
+fn leaves_range(alloc: Global, row: &Row, place: u32, values: &[i128]) -> Result<bool, AllocError>
+    ensures { IfOk result (λ b. b ≡ (values_fit (row.now ∷ []) 0 place values.now && is_none (rest_with row.now place values.now))) }
 {
-    let Some(names) = fitting_names(alloc, rows, row, place, values)? else {
+    let Some(names) = fitting_names(alloc, row, place, values)? else {
         return Ok(false);
     };
-    Ok(rest_at(&rows[row as usize], names.as_slice(), values).is_none())
+    Ok(rest_at(row, names.as_slice(), values).is_none())
 }
 
 // Whether the least sum of two rows that cancels a place leaves the range of a row.
@@ -164,23 +154,134 @@ fn product_leaves(alloc: Global, left: &Row, right: &Row, place: u32) -> Result<
     }
 }
 
-/// Whether a number beyond the range stands where it is said to.
-pub fn is_beyond(alloc: Global, rows: &[Row], what: &RangeWhat) -> Result<bool, AllocError>
-    ensures { IfOk result (λ b. b ≡ is_beyond rows.now what.now) }
+// Whether a step cancels a place of the two rows that are kept for it.
+fn cancels_kept(rows: &[Option<Row>], step: &RowStep) -> bool
+    ensures { result ≡ step_cancels (kept_at rows.now step.now.left) (kept_at rows.now step.now.right) step.now }
+{
+    let (Some(left), Some(right)) = (
+        kept_at(rows, step.left as usize),
+        kept_at(rows, step.right as usize),
+    ) else {
+        return false;
+    };
+    cancels_some(left, right, step)
+}
+
+// The rows of steps, after those that are kept, up to the first step that cancels no place.
+fn take_cancelling(
+    alloc: Global,
+    rows: &mut Vec<Option<Row>>,
+    ends: &[usize],
+    steps: &[RowStep],
+) -> Result<bool, LineRefused>
+    requires { StepsEnd steps.now (length steps.now) ends.now }
+    ensures { (all : List RowView) → KeptUntil all ends.now 0 rows.old.items → MatchResult result (λ b. AreCancelling b (with_steps all steps.now) steps.now ends.now rows.new.items) (λ e. IsTold e (with_steps all steps.now)) }
+{
+    for (i, step) in steps.iter().enumerate() {
+        if !cancels_kept(rows.as_slice(), step) {
+            return Ok(false);
+        }
+        let row = match step_sum(alloc, rows.as_slice(), step) {
+            Ok(row) => row,
+            Err(refused) => return Err(refused),
+        };
+        let Ok(()) = push_step(rows, ends, i + 1, step, row) else {
+            return Err(LineRefused::Memory);
+        };
+    }
+    Ok(true)
+}
+
+// The rows of a line each of whose steps cancels a place, of which those with some numbers are kept; nothing where a step cancels
+// none. Or else the first rule that the used literals or the steps break.
+fn cancelling_rows(
+    alloc: Global,
+    atoms: &[AtomKind],
+    used: &[Lit],
+    steps: &[RowStep],
+    named: &[usize],
+) -> Result<Option<Vec<Option<Row>>>, LineRefused>
+    ensures { MatchResult result (λ o. MatchOption o (all_cancel_in (line_rows atoms.now used.now steps.now) steps.now ≡ false) (λ kept. HasKept (line_rows atoms.now used.now steps.now) named.now kept.items × (all_cancel_in (line_rows atoms.now used.now steps.now) steps.now ≡ true))) (λ e. IsTold e (line_rows atoms.now used.now steps.now)) }
+{
+    let Ok(ends) = ends_of(alloc, used.len() + steps.len(), steps, named) else {
+        return Err(LineRefused::Memory);
+    };
+    let mut rows = match keep_used(alloc, atoms, used, ends.as_slice()) {
+        Ok(rows) => rows,
+        Err(refused) => return Err(refused),
+    };
+    match take_cancelling(alloc, &mut rows, ends.as_slice(), steps) {
+        Ok(true) => Ok(Some(rows)),
+        Ok(false) => Ok(None),
+        Err(refused) => Err(refused),
+    }
+}
+
+// The row that a number beyond the range names first.
+fn first_named(what: &RangeWhat) -> usize
+    ensures { result ≡ first_named what.now }
 {
     match what {
-        RangeWhat::Product { left, right, place } => {
-            let (left, right) = (*left as usize, *right as usize);
-            if left >= rows.len() || right >= rows.len() {
-                return Ok(false);
-            }
-            product_leaves(alloc, &rows[left], &rows[right], *place)
-        }
-        RangeWhat::Value { row, place, values } => {
-            allows_none(alloc, rows, *row, *place, values.as_slice())
-        }
-        RangeWhat::Sum { row, place, values } => {
-            leaves_range(alloc, rows, *row, *place, values.as_slice())
-        }
+        RangeWhat::Product { left, .. } => *left as usize,
+        RangeWhat::Value { row, .. } => *row as usize,
+        RangeWhat::Sum { row, .. } => *row as usize,
+    }
+}
+
+// The row that it names second.
+fn second_named(what: &RangeWhat) -> usize
+    ensures { result ≡ second_named what.now }
+{
+    match what {
+        RangeWhat::Product { right, .. } => *right as usize,
+        RangeWhat::Value { row, .. } => *row as usize,
+        RangeWhat::Sum { row, .. } => *row as usize,
+    }
+}
+
+// Whether a number beyond the range stands in the rows that it names.
+fn is_beyond(
+    alloc: Global,
+    rows: &[Option<Row>],
+    first: usize,
+    second: usize,
+    what: &RangeWhat,
+) -> Result<bool, AllocError>
+    ensures { IfOk result (λ b. b ≡ beyond_in (kept_at rows.now first) (kept_at rows.now second) what.now) }
+{
+    let Some(row) = kept_at(rows, first) else {
+        return Ok(false);
+    };
+    match what {
+        RangeWhat::Product { place, .. } => match kept_at(rows, second) {
+            Some(right) => product_leaves(alloc, row, right, *place),
+            None => Ok(false),
+        },
+        RangeWhat::Value { place, values, .. } => allows_none(
+            alloc,
+            row,
+            *place,
+            values.as_slice(),
+        ),
+        RangeWhat::Sum { place, values, .. } => leaves_range(alloc, row, *place, values.as_slice()),
+    }
+}
+
+/// Whether used literals and steps, each of which cancels a place, give a number beyond the range where it is said to be.
+pub fn shows_range(
+    alloc: Global,
+    atoms: &[AtomKind],
+    used: &[Lit],
+    steps: &[RowStep],
+    what: &RangeWhat,
+) -> Result<bool, AllocError>
+    ensures { IfOk result (λ b. b ≡ range_shown steps.now what.now (line_rows atoms.now used.now steps.now)) }
+{
+    let (first, second) = (first_named(what), second_named(what));
+    match cancelling_rows(alloc, atoms, used, steps, &[first, second]) {
+        Ok(Some(rows)) => is_beyond(alloc, rows.as_slice(), first, second, what),
+        Ok(None) => Ok(false),
+        Err(LineRefused::Bad(_)) => Ok(false),
+        Err(LineRefused::Memory) => Err(AllocError),
     }
 }

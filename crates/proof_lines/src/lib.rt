@@ -8,7 +8,7 @@
 // Definitions, in the order in which a reader needs them: specs/Numbers (lists of numbers), specs/Clauses (literals and clauses), specs/Problems (problems and
 // what makes them true), specs/Forced (the literals that clauses force), specs/Refusals (rules asked in order, and the first that
 // is broken), specs/Steps (the rows of a line, and when they contradict one another), specs/Splits (the rule of a Split line),
-// specs/Evidence (too many rows, and a number beyond the range).
+// specs/Evidence (too many rows, and a number beyond the range), specs/Kept (which rows of a line are kept while it is taken).
 #![tactic(auto)]
 
 /// The value of a call; where it fails, lets go of these values and ends with its error. Values that are let go by name are let go
@@ -27,6 +27,7 @@ macro_rules! or_drop {
 
 pub mod clause;
 pub mod evidence;
+pub mod kept;
 pub mod line;
 pub mod problem;
 pub mod splitting;

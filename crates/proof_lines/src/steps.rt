@@ -1,10 +1,11 @@
 // The rows of a line: those of its used literals, tightened, then those of its steps.
-ghost use Rattle.std.specs.Prelude.{◌≡◌, true, map, IfOk, IsSome, MatchResult, option_copied};
+ghost use Rattle.std.specs.Prelude.{◌≡◌, true, map, IfOk, IsSome, MatchResult, Some, option_copied};
 ghost use Rattle.std.specs.Option.{option_map};
 ghost use Rattle.std.specs.List.{list_all};
 ghost use Rattle.lin_rows.specs.Divisors.{tightened};
 ghost use Rattle.proof_lines.specs.declared.line.Why.TheVariants.{Range as TheRange};
 ghost use Rattle.proof_lines.specs.Steps.{atom_row, has_row, lit_row, lit_rows, used_rows, step_row, with_steps, line_rows, ends_badly, refutes};
+ghost use Rattle.proof_lines.specs.Kept.{step_sum};
 ghost use Rattle.proof_lines.specs.Refusals.{or_broken, IsTold};
 
 use crate::clause::Lit;
@@ -30,7 +31,7 @@ fn has_row(atoms: &[AtomKind], lit: Lit) -> bool
 }
 
 // The row of a literal, tightened. Range comes exactly where a negation leaves the range of a row.
-fn lit_row(alloc: Global, atoms: &[AtomKind], lit: Lit) -> Result<Row, LineRefused>
+pub fn lit_row(alloc: Global, atoms: &[AtomKind], lit: Lit) -> Result<Row, LineRefused>
     requires { has_row atoms.now lit ≡ true }
     ensures { MatchResult result (λ row. or_broken TheRange (option_map tightened (lit_row atoms.now lit)) ≡ Ok row) (λ e. IsTold e (or_broken TheRange (option_map tightened (lit_row atoms.now lit)))) }
 {
@@ -79,10 +80,29 @@ fn used_rows(alloc: Global, atoms: &[AtomKind], used: &[Lit]) -> Result<Vec<Row>
     all_rows(alloc, atoms, used)
 }
 
-fn all_have_rows(atoms: &[AtomKind], used: &[Lit]) -> bool
+pub fn all_have_rows(atoms: &[AtomKind], used: &[Lit]) -> bool
     ensures { result ≡ list_all (has_row atoms.now) used.now }
 {
     used.iter().all(|lit| has_row(atoms, *lit))
+}
+
+/// The row of a step, from its two rows.
+pub fn sum_of_step(
+    alloc: Global,
+    left: &Row,
+    right: &Row,
+    step: &RowStep,
+) -> Result<Row, LineRefused>
+    ensures { MatchResult result (λ row. step_sum (Some left.now) (Some right.now) step.now ≡ Ok row) (λ e. IsTold e (step_sum (Some left.now) (Some right.now) step.now)) }
+{
+    if step.first < 0 || step.second < 0 {
+        return Err(LineRefused::Bad(Why::Multiplier));
+    }
+    match sum(alloc, left, step.first, right, step.second) {
+        Ok(row) => Ok(row),
+        Err(RowRefused::Range) => Err(LineRefused::Bad(Why::Range)),
+        Err(RowRefused::Memory) => Err(LineRefused::Memory),
+    }
 }
 
 // The row of a step over earlier rows.
@@ -94,14 +114,7 @@ fn step_row(alloc: Global, rows: &[Row], step: &RowStep) -> Result<Row, LineRefu
     if left >= rows.len() || right >= rows.len() {
         return Err(LineRefused::Bad(Why::Place));
     }
-    if step.first < 0 || step.second < 0 {
-        return Err(LineRefused::Bad(Why::Multiplier));
-    }
-    match sum(alloc, &rows[left], step.first, &rows[right], step.second) {
-        Ok(row) => Ok(row),
-        Err(RowRefused::Range) => Err(LineRefused::Bad(Why::Range)),
-        Err(RowRefused::Memory) => Err(LineRefused::Memory),
-    }
+    sum_of_step(alloc, &rows[left], &rows[right], step)
 }
 
 fn with_steps(alloc: Global, mut rows: Vec<Row>, steps: &[RowStep]) -> Result<Vec<Row>, LineRefused>

@@ -5,20 +5,8 @@ use Rattle.proof_lines.proofs.steps.step_row.Goals as goal
 pub returns-then-left-rows : goal.returns-then-left-rows
 returns-then-left-rows c = grind (arith, common_steps)
 
-pub returns-then-step-lt0 : goal.returns-then-step-lt0
-returns-then-step-lt0 c = grind (arith, common_steps)
-
 pub bounds-rows-left : goal.bounds-rows-left
 bounds-rows-left c = grind (arith, common_steps)
 
 pub bounds-rows-right : goal.bounds-rows-right
 bounds-rows-right c = grind (arith, common_steps)
-
-pub returns-in-Ok : goal.returns-in-Ok
-returns-in-Ok c = grind (arith, common_steps)
-
-pub returns-in-Err-Range : goal.returns-in-Err-Range
-returns-in-Err-Range c = grind (arith, common_steps)
-
-pub returns-in-Err-Memory : goal.returns-in-Err-Memory
-returns-in-Err-Memory c = grind (arith, common_steps)

@@ -2,7 +2,9 @@ use Rattle.std.proofs.Common.{◌≡◌, true, length, sym, ◌∙◌, ap, subst
 use Rattle.proof_lines.specs.declared.clause.Lit.{Lit}
 use Rattle.proof_lines.specs.declared.problem.AtomKind.{AtomKind}
 use Rattle.proof_lines.specs.Clauses.{negations}
+use Rattle.proof_lines.specs.Kept.{Ends}
 use Rattle.proof_lines.specs.Problems.{atoms_below}
+use Rattle.proof_lines.specs.Steps.{line_rows}
 use Rattle.proof_kernel.specs.Rules.{State}
 use Rattle.proof_lines.proofs.Names.{negations-below}
 use Rattle.proof_kernel.proofs.kernel.Kernel.farkas.Goals as goal
@@ -10,6 +12,7 @@ use Rattle.proof_kernel.proofs.kernel.Kernel.farkas.Goals as goal
 pub grow-requires : goal.grow-requires
 grow-requires c =
     let atoms = c.as_slice.ensures ∙ ap (λ (s : State). s.atoms) c.self.view_is in
-    let below = negations-below c.as_slice.result.now c.args.used.now c.args.steps.now c.in-Ok.rows.items c.in-Ok.ensures in
-    subst (λ (z : List Lit). atoms_below (length c.args.self.now.atoms) z ≡ true) (sym c.in-Ok-of_opposites.ensures)
+    let ends : Ends c.in-Ok-true.field-0 (line_rows c.as_slice.result.now c.args.used.now c.args.steps.now) = c.in-Ok-true.ensures in
+    let below = negations-below c.as_slice.result.now c.args.used.now c.args.steps.now ends.0 ends.1 in
+    subst (λ (z : List Lit). atoms_below (length c.args.self.now.atoms) z ≡ true) (sym c.in-Ok.ensures)
     (subst (λ (z : List AtomKind). atoms_below (length z) (negations c.args.used.now) ≡ true) atoms below)
