@@ -12,6 +12,7 @@ ghost use Rattle.linear_ints.specs.Standing.{place_at};
 ghost use Rattle.linear_ints.specs.Tableaux.{row_limit};
 
 use crate::ceiling::bound;
+use crate::order::Order;
 use crate::sides::is_on;
 use crate::tableau::Tableau;
 use lin_rows::{Row, RowTerm, add_product};
@@ -107,7 +108,7 @@ fn greater(old: Bound, value: i128, row: u32) -> Bound
 // The greatest bound that the rows on one side of a place give, at least that of a state; or the first row that gives none.
 fn greatest(
     upper: bool,
-    before: &[u32],
+    before: &Order,
     place: u32,
     held: &[Row],
     values: &[i128],
@@ -135,26 +136,20 @@ fn greatest(
     Ok(greatest)
 }
 
-fn prefix(order: &[u32], count: usize) -> &[u32]
-    requires { count ≤ length order.now }
-    ensures { result.now ≡ take count order.now }
-{
-    &order[..count]
-}
-
-/// The greatest bound of one side of a stage.
+/// The greatest bound of one side of a stage, with the places before it.
 pub fn side_bound(
     tableau: &Tableau,
+    before: &Order,
     upper: bool,
     stage: usize,
     values: &[i128],
 ) -> Result<Bound, FaultAt>
     requires few { length tableau.now.held < row_limit }
     requires stage { stage < length tableau.now.order }
+    requires before { before.now ≡ take stage tableau.now.order }
     ensures { MatchResult result (λ b. IsGreatest upper (take stage tableau.now.order) (place_at tableau.now.order stage) tableau.now.held values.now (length tableau.now.held) b.row b.value) (λ f. IsFaultAt (take stage tableau.now.order) (place_at tableau.now.order stage) tableau.now.held values.now f) }
 {
     let order = tableau.order.as_slice();
     let held = tableau.held.as_slice();
-    let before = prefix(order, stage);
     greatest(upper, before, order[stage], held, values)
 }

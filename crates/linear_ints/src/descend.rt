@@ -13,6 +13,7 @@ ghost use Rattle.linear_ints.specs.Stops.{IsStop};
 ghost use Rattle.linear_ints.specs.Tableaux.{IsElimination};
 
 use crate::bounds::{Bound, Fault, FaultAt, side_bound, value_of};
+use crate::order::prefix;
 use crate::stop::Stop;
 use crate::tableau::Tableau;
 use items::Items;
@@ -188,11 +189,14 @@ fn value_at(
     requires descent { IsDescent tableau.now (stage + 1) values.now }
     ensures { MatchResult result (λ value. IsDescent tableau.now stage (slice_set values.now (place_at tableau.now.order stage) value)) (λ stop. IsStop tableau.now.ints rows.now tableau.now stop) }
 {
-    let low = match side_bound(tableau, false, stage, values) {
+    let Ok(before) = prefix(alloc, &tableau.order, stage) else {
+        return Err(Stop::Memory);
+    };
+    let low = match side_bound(tableau, &before, false, stage, values) {
         Ok(low) => low,
         Err(at) => return Err(fault_stop(tableau, alloc, rows, stage, values, at)),
     };
-    let high = match side_bound(tableau, true, stage, values) {
+    let high = match side_bound(tableau, &before, true, stage, values) {
         Ok(high) => high,
         Err(at) => return Err(fault_stop(tableau, alloc, rows, stage, values, at)),
     };

@@ -70,10 +70,9 @@ pub fn eliminate_all(tableau: &mut Tableau, alloc: Global, rows: &[Row]) -> Resu
     ensures { MatchResult result (λ _. IsElimination rows.now tableau.new × (tableau.new.ints ≡ tableau.old.ints) × (tableau.new.left ≡ [])) (λ stop. IsEarlyStop rows.now tableau.new stop) }
 {
     'places: while !tableau.left.is_empty() {
-        let order = tableau.order.as_slice();
         let left = tableau.left.as_slice();
         let held = tableau.held.as_slice();
-        let place = least(order, left, held);
+        let place = least(&tableau.order, left, held);
         match eliminate_place(tableau, alloc, rows, place) {
             Ok(()) => (),
             Err(stop) => return Err(stop),

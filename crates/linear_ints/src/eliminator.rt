@@ -9,6 +9,7 @@ ghost use Rattle.linear_ints.specs.Tableaux.{IsTaking};
 
 use crate::descend::descend;
 use crate::eliminate::eliminate_all;
+use crate::order::Order;
 use crate::stop::Stop;
 use crate::tableau::Tableau;
 use crate::take::take_all;
@@ -52,7 +53,7 @@ fn start(alloc: Global, rows: &[Row], ints: u32) -> Result<Tableau, AllocError>
         used: Items::new(alloc),
         steps: Items::new(alloc),
         held: Items::new(alloc),
-        order: Items::new(alloc),
+        order: Order::new(alloc),
         left,
     })
 }

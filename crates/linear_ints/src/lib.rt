@@ -38,6 +38,7 @@ pub mod choosing;
 pub mod descend;
 pub mod eliminate;
 pub mod eliminator;
+pub mod order;
 pub mod sides;
 pub mod steps;
 pub mod stop;

@@ -1,28 +1,31 @@
 // The upper and the lower rows of a place.
-ghost use Rattle.std.specs.Prelude.{◌≡◌, ◌<◌, ◌^◌, cond, length, IfOk};
-ghost use Rattle.lin_rows.specs.Numbers.{is_zero};
+ghost use Rattle.std.specs.Prelude.{◌≡◌, ◌<◌, ◌^◌, cond, not, length, IfOk};
+ghost use Rattle.std.specs.List.{list_all};
 ghost use Rattle.lin_rows.specs.Rows.{coefficient_at};
+ghost use Rattle.proof_lines.specs.Numbers.{stands_in};
 ghost use Rattle.proof_lines.specs.Steps.{is_negative, is_positive};
 ghost use Rattle.linear_ints.specs.Ends.{names_none};
 ghost use Rattle.linear_ints.specs.Sides.{is_on, IsSide};
 ghost use Rattle.linear_ints.specs.Tableaux.{row_limit};
 
+use crate::order::Order;
 use crate::tableau::Tableau;
 use items::Items;
-use lin_rows::Row;
+use lin_rows::{Row, RowTerm};
 use proof_lines::splitting::{is_negative, is_positive};
 use std::alloc::{AllocError, Global};
 
-fn is_zero(a: &i128) -> bool
-    ensures { result ≡ is_zero a.now }
-{
-    !is_positive(a) && !is_negative(a)
-}
-
-fn names_none(places: &[u32], row: &Row) -> bool
+// Whether a row names none of some places.
+fn names_none(places: &Order, row: &Row) -> bool
     ensures { result ≡ names_none places.now row.now }
 {
-    places.iter().all(|place| is_zero(&row.coefficient(*place)))
+    stands_free(places, row.terms())
+}
+
+fn stands_free(places: &Order, terms: &[RowTerm]) -> bool
+    ensures { result ≡ list_all (λ t. not (stands_in places.now t.place)) terms.now }
+{
+    terms.iter().all(|term| !places.holds(term.place))
 }
 
 fn has_sign(upper: bool, a: &i128) -> bool
@@ -36,7 +39,7 @@ fn has_sign(upper: bool, a: &i128) -> bool
 }
 
 /// Whether a row names no place before, and is on one side of a place.
-pub fn is_on(upper: bool, before: &[u32], place: u32, row: &Row) -> bool
+pub fn is_on(upper: bool, before: &Order, place: u32, row: &Row) -> bool
     ensures { result ≡ is_on upper before.now place row.now }
 {
     has_sign(upper, &row.coefficient(place)) && names_none(before, row)
@@ -46,7 +49,7 @@ pub fn is_on(upper: bool, before: &[u32], place: u32, row: &Row) -> bool
 fn side(
     alloc: Global,
     upper: bool,
-    before: &[u32],
+    before: &Order,
     place: u32,
     held: &[Row],
 ) -> Result<Items<u32>, AllocError>
@@ -72,7 +75,6 @@ pub fn side_of(
     requires { length tableau.now.held < row_limit }
     ensures { IfOk result (λ numbers. IsSide upper tableau.now.order place tableau.now.held (length tableau.now.held) numbers) }
 {
-    let order = tableau.order.as_slice();
     let held = tableau.held.as_slice();
-    side(alloc, upper, order, place, held)
+    side(alloc, upper, &tableau.order, place, held)
 }

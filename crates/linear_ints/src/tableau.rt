@@ -1,6 +1,7 @@
 // The rows that are held while places are eliminated.
 ghost use Rattle.std.specs.Prelude.{◌≡◌, [], ◌∷◌, ◌++◌, OnOk};
 
+use crate::order::Order;
 use items::Items;
 use lin_rows::Row;
 use proof_lines::RowStep;
@@ -20,7 +21,7 @@ pub struct Tableau {
     pub steps: Items<RowStep>,
     pub held: Items<Row>,
     /// The places that are eliminated, in their order.
-    pub order: Items<u32>,
+    pub order: Order,
     /// The places that are left.
     pub left: Items<u32>,
 }

@@ -9,9 +9,6 @@ use Rattle.linear_ints.specs.Descending.{IsFaultAt}
 use Rattle.linear_ints.specs.Tableaux.{row_limit}
 use Rattle.linear_ints.proofs.bounds.side_bound.Goals as goal
 
-pub prefix-before-requires : goal.prefix-before-requires
-prefix-before-requires c = subst (λ (o : List ℕ). c.args.stage ≤ length o) (sym c.as_slice-order.ensures) (omega (arith, c.requires.stage))
-
 pub bounds-order-stage : goal.bounds-order-stage
 bounds-order-stage c = subst (λ (o : List ℕ). c.args.stage < length o) (sym c.as_slice-order.ensures) c.requires.stage
 
@@ -24,8 +21,8 @@ returns c =
     (λ (h : List Row). MatchResult c.greatest.result (λ (b : Bound). IsGreatest c.args.upper (take c.args.stage c.args.tableau.now.order) (place_at c.args.tableau.now.order c.args.stage) h c.args.values.now (length h) b.row b.value)
     (λ (f : FaultAt). IsFaultAt (take c.args.stage c.args.tableau.now.order) (place_at c.args.tableau.now.order c.args.stage) h c.args.values.now f)) c.as_slice-held.ensures
     (subst
-    (λ (o : List ℕ). MatchResult c.greatest.result (λ (b : Bound). IsGreatest c.args.upper (take c.args.stage o) (place_at o c.args.stage) c.as_slice-held.result.now c.args.values.now (length c.as_slice-held.result.now) b.row b.value)
-    (λ (f : FaultAt). IsFaultAt (take c.args.stage o) (place_at o c.args.stage) c.as_slice-held.result.now c.args.values.now f)) c.as_slice-order.ensures
+    (λ (o : List ℕ). MatchResult c.greatest.result (λ (b : Bound). IsGreatest c.args.upper (take c.args.stage c.args.tableau.now.order) (place_at o c.args.stage) c.as_slice-held.result.now c.args.values.now (length c.as_slice-held.result.now) b.row b.value)
+    (λ (f : FaultAt). IsFaultAt (take c.args.stage c.args.tableau.now.order) (place_at o c.args.stage) c.as_slice-held.result.now c.args.values.now f)) c.as_slice-order.ensures
     (subst
     (λ (p : List ℕ). MatchResult c.greatest.result (λ (b : Bound). IsGreatest c.args.upper p (place_at c.as_slice-order.result.now c.args.stage) c.as_slice-held.result.now c.args.values.now (length c.as_slice-held.result.now) b.row b.value)
-    (λ (f : FaultAt). IsFaultAt p (place_at c.as_slice-order.result.now c.args.stage) c.as_slice-held.result.now c.args.values.now f)) c.prefix-before.ensures c.greatest.ensures))
+    (λ (f : FaultAt). IsFaultAt p (place_at c.as_slice-order.result.now c.args.stage) c.as_slice-held.result.now c.args.values.now f)) c.requires.before c.greatest.ensures))

@@ -10,5 +10,4 @@ side-requires c = subst (λ (l : List Row). length l < row_limit) (sym c.as_slic
 
 pub returns : goal.returns
 returns c =
-    subst (λ (o : List ℕ). IfOk c.side.result (λ numbers. IsSide c.args.upper o c.args.place c.args.tableau.now.held (length c.args.tableau.now.held) numbers)) c.as_slice-order.ensures
-    (subst (λ (l : List Row). IfOk c.side.result (λ numbers. IsSide c.args.upper c.as_slice-order.result.now c.args.place l (length l) numbers)) c.as_slice-held.ensures c.side.ensures)
+    subst (λ (l : List Row). IfOk c.side.result (λ numbers. IsSide c.args.upper c.args.tableau.now.order c.args.place l (length l) numbers)) c.as_slice-held.ensures c.side.ensures
