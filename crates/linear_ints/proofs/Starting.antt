@@ -1,6 +1,6 @@
 use Rattle.std.proofs.Common.{◌≡◌, ℕ, zero, suc, ◌<◌, ◌+◌, length, ℤ, pos, Bool, true, false, cond, ◌||◌, List, [], ◌∷◌, ◌++◌, refl, sym, ◌∙◌, subst, arith, inl, inr}
 use Rattle.std.specs.Prelude.{◌==◌, nat_lt}
-use Rattle.std.specs.List.{list_all}
+use Rattle.std.specs.List.{list_all, list_any}
 use Rattle.std.proofs.lemmas.List.{length-append}
 use Rattle.std.proofs.lemmas.List.Folds.{list_any-append, list_all-append}
 use Rattle.std.proofs.lemmas.Bool.{and_parts, and_from, or_cases, eqb-true, eq-eqb, ltb-true, cases_lt}
@@ -15,6 +15,7 @@ use Rattle.theory_api.specs.Laws.{all_below}
 use Rattle.linear_ints.specs.declared.tableau.Tableau.{Tableau}
 use Rattle.linear_ints.specs.declared.stop.Stop.{Stop}
 use Rattle.linear_ints.specs.declared.stop.Stop.TheVariants.{Contradiction, Full, Gap, Beyond, Memory}
+use Rattle.linear_ints.specs.Places.{names}
 use Rattle.linear_ints.specs.Stops.{IsStop, IsEarlyStop}
 use Rattle.linear_ints.specs.Descending.{AreZeros}
 
@@ -42,55 +43,55 @@ one-zero n values z = record {
 pub same-count : (m n : ℕ) (values : List ℤ) → AreZeros m values → m ≡ n → AreZeros n values
 same-count m n values z e = subst (λ (k : ℕ). AreZeros k values) e z
 
--- ALL PLACES below a number
-
-abbrev pub ArePlaces : ℕ → List ℕ → Type 0
-ArePlaces n left = (q : ℕ) → (stands_in left q ≡ true → q < n) × (q < n → stands_in left q ≡ true)
-
-pub places-more : (n : ℕ) (left : List ℕ) → ArePlaces n left → ArePlaces (n + 1) (left ++ n ∷ [])
-places-more n left f q = (there, here)
+-- a coefficient that isn't 0 stands in a term
+names-there : (q : ℕ) (ts : List RowTerm) → is_zero (coefficient_at ts q) ≡ false → list_any (λ t. t.place == q) ts ≡ true
+names-there q [] z = absurd cc
+names-there q (t ∷ ts) z = by_place (t.place == q) z (names-there q ts)
   where
-    is : stands_in (left ++ n ∷ []) q ≡ (stands_in left q || ((n == q) || false))
-    is = list_any-append (λ m. m == q) left (n ∷ [])
+    by_place : (c : Bool) → is_zero (cond c t.coef (coefficient_at ts q)) ≡ false → (is_zero (coefficient_at ts q) ≡ false → list_any (λ u. u.place == q) ts ≡ true) → (c || list_any (λ u. u.place == q) ts) ≡ true
+    by_place true y f = refl
+    by_place false y f = f y
 
-    or_false : (a : Bool) → (a || false) ≡ true → a ≡ true
-    or_false true h = refl
-    or_false false h = absurd cc
-
-    there : stands_in (left ++ n ∷ []) q ≡ true → q < n + 1
-    there h = elim (or_cases (stands_in left q) ((n == q) || false) (sym is ∙ h)) [
-      | inl e ↦ (let l = (f q).0 e in omega arith)
-      | inr e ↦ (let l = eqb-true n q (or_false (n == q) e) in omega arith)
-    ]
-
-    either : (a b : Bool) → a ≡ true → (a || (b || false)) ≡ true
-    either true b h = refl
-    either false b h = absurd cc
-
-    other : (a b : Bool) → b ≡ true → (a || (b || false)) ≡ true
-    other true b h = refl
-    other false true h = refl
-    other false false h = absurd cc
-
-    here : q < n + 1 → stands_in (left ++ n ∷ []) q ≡ true
-    here h = elim (cases_lt q n) [
-      | inl l ↦ is ∙ either (stands_in left q) (n == q) ((f q).1 l)
-      | inr l ↦ is ∙ other (stands_in left q) (n == q) (eq-eqb n q (omega arith))
-    ]
-
--- a name of a row whose places are below a number is below it
-named-below : (n q : ℕ) (ts : List RowTerm) → list_all (λ t. nat_lt t.place n) ts ≡ true → is_zero (coefficient_at ts q) ≡ false → q < n
-named-below n q [] h z = absurd cc
-named-below n q (t ∷ ts) h z =
+-- a name of rows whose places are below a number is below it
+term-below : (n q : ℕ) (ts : List RowTerm) → list_all (λ t. nat_lt t.place n) ts ≡ true → list_any (λ t. t.place == q) ts ≡ true → q < n
+term-below n q [] h s = absurd cc
+term-below n q (t ∷ ts) h s =
     let b = and_parts (nat_lt t.place n) (list_all (λ u. nat_lt u.place n) ts) h in
-    by_place (t.place == q) refl z (named-below n q ts b.1) (ltb-true t.place n b.0)
+    by_place (t.place == q) refl s (term-below n q ts b.1) (ltb-true t.place n b.0)
   where
-    by_place : (c : Bool) → (t.place == q) ≡ c → is_zero (cond c t.coef (coefficient_at ts q)) ≡ false → (is_zero (coefficient_at ts q) ≡ false → q < n) → t.place < n → q < n
+    by_place : (c : Bool) → (t.place == q) ≡ c → (c || list_any (λ u. u.place == q) ts) ≡ true → (list_any (λ u. u.place == q) ts ≡ true → q < n) → t.place < n → q < n
     by_place true e y f l = let w = eqb-true t.place q e in omega arith
     by_place false e y f l = f y
 
-pub left-all : (rows : List Row) (ints : ℕ) (left : List ℕ) → all_below ints rows ≡ true → ArePlaces ints left → (m : ℕ) → m < length rows → (q : ℕ) → is_zero (coefficient_at (row_at rows m).terms q) ≡ false → stands_in left q ≡ true
-left-all rows ints left h f m l q z = (f q).1 (named-below ints q (row_at rows m).terms (all_at (places_below ints) rows m no_row l h) z)
+named-below : (ints : ℕ) (rows : List Row) (q : ℕ) → all_below ints rows ≡ true → list_any (names q) rows ≡ true → q < ints
+named-below ints [] q h s = absurd cc
+named-below ints (r ∷ rows) q h s =
+    let b = and_parts (places_below ints r) (all_below ints rows) h in
+    by_row (names q r) refl s (term-below ints q r.terms b.0) (named-below ints rows q b.1)
+  where
+    by_row : (c : Bool) → names q r ≡ c → (c || list_any (names q) rows) ≡ true → (names q r ≡ true → q < ints) → (list_any (names q) rows ≡ true → q < ints) → q < ints
+    by_row true e y f g = f e
+    by_row false e y f g = g y
+
+any-at : (f : Row → Bool) (rows : List Row) (m : ℕ) → m < length rows → f (row_at rows m) ≡ true → list_any f rows ≡ true
+any-at f [] m l h = absurd (omega arith)
+any-at f (r ∷ rows) zero l h = first (f r) (list_any f rows) h
+  where
+    first : (a b : Bool) → a ≡ true → (a || b) ≡ true
+    first a b e = grind arith
+any-at f (r ∷ rows) (suc m) l h = later (f r) (list_any f rows) (any-at f rows m (omega arith) h)
+  where
+    later : (a b : Bool) → b ≡ true → (a || b) ≡ true
+    later a b e = grind arith
+
+abbrev pub AreNamed : List Row → List ℕ → Type 0
+AreNamed rows left = (q : ℕ) → stands_in left q ≡ list_any (names q) rows
+
+pub left-below : (rows : List Row) (ints : ℕ) (left : List ℕ) → all_below ints rows ≡ true → AreNamed rows left → (q : ℕ) → stands_in left q ≡ true → q < ints
+left-below rows ints left h f q s = named-below ints rows q h (sym (f q) ∙ s)
+
+pub left-all : (rows : List Row) (left : List ℕ) → AreNamed rows left → (m : ℕ) → m < length rows → (q : ℕ) → is_zero (coefficient_at (row_at rows m).terms q) ≡ false → stands_in left q ≡ true
+left-all rows left f m l q z = f q ∙ any-at (names q) rows m l (names-there q (row_at rows m).terms z)
 
 -- an early stop is a stop
 pub early : (ints : ℕ) (rows : List Row) (t : Tableau) (s : Stop) → IsEarlyStop rows t s → IsStop ints rows t s
@@ -99,9 +100,3 @@ early ints rows t Full h = h
 early ints rows t (Gap place at low high values) h = absurd h
 early ints rows t (Beyond what) h = h
 early ints rows t Memory h = h
-
-pub no-places : ArePlaces 0 []
-no-places q = (λ h. absurd cc, λ h. absurd (omega arith))
-
-pub same-places : (m n : ℕ) (left : List ℕ) → ArePlaces m left → m ≡ n → ArePlaces n left
-same-places m n left f e = subst (λ (k : ℕ). ArePlaces k left) e f

@@ -14,3 +14,4 @@ pub mod Sides
 pub mod Needed
 pub mod Descending
 pub mod Listed
+pub mod Places

@@ -72,7 +72,9 @@ pub fn eliminate_all(tableau: &mut Tableau, alloc: Global, rows: &[Row]) -> Resu
     'places: while !tableau.left.is_empty() {
         let left = tableau.left.as_slice();
         let held = tableau.held.as_slice();
-        let place = least(&tableau.order, left, held);
+        let Ok(place) = least(alloc, &tableau.order, left, tableau.ints, held) else {
+            return Err(Stop::Memory);
+        };
         match eliminate_place(tableau, alloc, rows, place) {
             Ok(()) => (),
             Err(stop) => return Err(stop),

@@ -1,8 +1,7 @@
 // The solver that a clause search asks.
-ghost use Rattle.std.specs.Prelude.{◌≡◌, ℕ, ◌<◌, true, [], IfOk, MatchResult};
+ghost use Rattle.std.specs.Prelude.{◌≡◌, true, [], IfOk, MatchResult};
 ghost use Rattle.std.specs.List.{list_all};
 ghost use Rattle.lin_rows.specs.Rows.{is_row};
-ghost use Rattle.proof_lines.specs.Numbers.{stands_in};
 ghost use Rattle.theory_api.specs.Laws.{IsAnswer, IsModel, all_below};
 ghost use Rattle.linear_ints.specs.Stops.{IsStop};
 ghost use Rattle.linear_ints.specs.Tableaux.{IsTaking};
@@ -10,6 +9,7 @@ ghost use Rattle.linear_ints.specs.Tableaux.{IsTaking};
 use crate::descend::descend;
 use crate::eliminate::eliminate_all;
 use crate::order::Order;
+use crate::places::named_places;
 use crate::stop::Stop;
 use crate::tableau::Tableau;
 use crate::take::take_all;
@@ -29,17 +29,6 @@ impl Eliminator {
     }
 }
 
-// The places below a number.
-fn places(alloc: Global, ints: u32) -> Result<Items<u32>, AllocError>
-    ensures { IfOk result (λ left. (q : ℕ) → (stands_in left q ≡ true → q < ints) × (q < ints → stands_in left q ≡ true)) }
-{
-    let mut left = Items::new(alloc);
-    for place in 0..ints {
-        left.push(place)?;
-    }
-    Ok(left)
-}
-
 // The tableau before the first row.
 fn start(alloc: Global, rows: &[Row], ints: u32) -> Result<Tableau, AllocError>
     requires rows { list_all is_row rows.now ≡ true }
@@ -47,7 +36,7 @@ fn start(alloc: Global, rows: &[Row], ints: u32) -> Result<Tableau, AllocError>
     ensures taking { IfOk result (λ tableau. IsTaking rows.now 0 tableau) }
     ensures ints { IfOk result (λ tableau. tableau.ints ≡ ints) }
 {
-    let left = places(alloc, ints)?;
+    let left = named_places(alloc, rows)?;
     Ok(Tableau {
         ints,
         used: Items::new(alloc),

@@ -39,6 +39,7 @@ pub mod descend;
 pub mod eliminate;
 pub mod eliminator;
 pub mod order;
+pub mod places;
 pub mod sides;
 pub mod steps;
 pub mod stop;

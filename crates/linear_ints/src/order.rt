@@ -58,6 +58,13 @@ impl Order {
         self.places.as_slice()
     }
 
+    /// The places in their order.
+    pub fn into_items(self) -> Items<u32>
+        ensures { result ≡ self }
+    {
+        self.places
+    }
+
     pub fn len(&self) -> usize
         ensures { result ≡ length self.now }
     {

@@ -15,8 +15,8 @@ use lin_rows::{Row, RowTerm};
 use proof_lines::splitting::{is_negative, is_positive};
 use std::alloc::{AllocError, Global};
 
-// Whether a row names none of some places.
-fn names_none(places: &Order, row: &Row) -> bool
+/// Whether a row names none of some places.
+pub fn names_none(places: &Order, row: &Row) -> bool
     ensures { result ≡ names_none places.now row.now }
 {
     stands_free(places, row.terms())

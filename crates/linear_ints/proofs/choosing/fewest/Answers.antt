@@ -1,8 +1,8 @@
 use Rattle.std.proofs.Common.{◌≡◌, ℕ, true, sym, subst}
 use Rattle.proof_lines.specs.Numbers.{stands_in}
 use Rattle.linear_ints.proofs.Eliminating.{stands-there}
-use Rattle.linear_ints.proofs.choosing.least.Goals as goal
-use Rattle.linear_ints.proofs.choosing.least.Goals.{then-product-fewest, else-product-fewest}
+use Rattle.linear_ints.proofs.choosing.fewest.Goals as goal
+use Rattle.linear_ints.proofs.choosing.fewest.Goals.{then-product-fewest, else-product-fewest}
 
 pub loop-other-init : goal.loop-other-init
 loop-other-init c = stands-there c.args.left.now 0 c.requires
