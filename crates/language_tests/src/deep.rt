@@ -18,22 +18,30 @@ fn stays(alloc: Global, count: usize, front: &[u8], back: &[u8]) -> bool {
     is_spelled(alloc, text.as_slice(), text.as_slice())
 }
 
+// A front and a back, how many of them are read, and the word at which one more is refused.
+static CASES: [(&[u8], &[u8], usize, usize); 5] = [
+    (b"not ", b"", 199, 203),
+    (b"( ", b" and b )", 199, 205),
+    (b"( b or ", b" )", 199, 603),
+    (b"not ( b implies ", b" )", 99, 403),
+    (b"( not ", b" and b )", 99, 203),
+];
+
+// Whether such a text is read and stays, and what one front and back more come to.
+fn deepest(alloc: Global, count: usize, front: &[u8], back: &[u8]) -> (bool, Outcome) {
+    let read = read_nested(alloc, count, front, back) == Outcome::Read;
+    let more = if count < 200 {
+        read_nested(alloc, count + 1, front, back)
+    } else {
+        Outcome::Unread
+    };
+    (read && stays(alloc, count, front, back), more)
+}
+
 #[test]
 fn formulas_nest_200_deep(rt: HostRuntime) {
-    // A front and a back, how many of them are read, and the word at which one more is refused.
-    let cases: [(&[u8], &[u8], usize, usize); 5] = [
-        (b"not ", b"", 199, 203),
-        (b"( ", b" and b )", 199, 205),
-        (b"( b or ", b" )", 199, 603),
-        (b"not ( b implies ", b" )", 99, 403),
-        (b"( not ", b" and b )", 99, 203),
-    ];
-    for (front, back, count, word) in cases.iter() {
-        let (count, stop) = (*count, Outcome::Stop(*word));
-        assert_eq!(rt; read_nested(rt.alloc(), count, front, back), Outcome::Read);
-        assert!(rt; stays(rt.alloc(), count, front, back));
-        if count < 200 {
-            assert_eq!(rt; read_nested(rt.alloc(), count + 1, front, back), stop);
-        }
+    for (front, back, count, word) in &CASES {
+        let (stays, more) = deepest(rt.alloc(), *count, front, back);
+        assert!(rt; stays && more == Outcome::Stop(*word));
     }
 }
