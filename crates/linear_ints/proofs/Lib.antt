@@ -28,3 +28,4 @@ pub mod Descents
 pub mod Taking
 pub mod Starting
 pub mod ListedLemmas
+pub mod Fingerprinting

@@ -116,4 +116,4 @@ free-none places r g =
     iff-same (list_all (λ t. not (stands_in places t.place)) r.terms) (names_none places r)
     (λ h. all-stand (λ p. is_zero (coefficient_at r.terms p)) places (λ p s. free-zero places p r.terms s h))
     (λ h. all-named (λ q. not (stands_in places q)) 0 r.terms (rises_of r g)
-      (λ q z. not-of (stands_in places q) (is_zero (coefficient_at r.terms q)) (stand-all (λ p. is_zero (coefficient_at r.terms p)) places q h) z))
+    (λ q z. not-of (stands_in places q) (is_zero (coefficient_at r.terms q)) (stand-all (λ p. is_zero (coefficient_at r.terms p)) places q h) z))

@@ -1,16 +1,15 @@
-use Rattle.std.proofs.Common.{◌≡◌, ℕ, zero, suc, ◌<◌, ◌+◌, length, ℤ, pos, Bool, true, false, cond, ◌||◌, List, [], ◌∷◌, ◌++◌, refl, sym, ◌∙◌, subst, arith, inl, inr}
+use Rattle.std.proofs.Common.{◌≡◌, ℕ, zero, suc, ◌<◌, ◌+◌, length, ℤ, pos, Bool, true, false, cond, ◌||◌, List, [], ◌∷◌, ◌++◌, refl, sym, ◌∙◌, subst, arith}
 use Rattle.std.specs.Prelude.{◌==◌, nat_lt}
 use Rattle.std.specs.List.{list_all, list_any}
 use Rattle.std.proofs.lemmas.List.{length-append}
-use Rattle.std.proofs.lemmas.List.Folds.{list_any-append, list_all-append}
-use Rattle.std.proofs.lemmas.Bool.{and_parts, and_from, or_cases, eqb-true, eq-eqb, ltb-true, cases_lt}
+use Rattle.std.proofs.lemmas.List.Folds.{list_all-append}
+use Rattle.std.proofs.lemmas.Bool.{and_parts, and_from, eqb-true, ltb-true}
 use Rattle.lin_rows.specs.declared.term.RowTerm.{RowTerm}
 use Rattle.lin_rows.specs.Numbers.{is_zero}
 use Rattle.lin_rows.specs.Rows.{Row, coefficient_at, places_below, point_of}
-use Rattle.proof_lines.specs.Steps.{no_row, row_at}
+use Rattle.proof_lines.specs.Steps.{row_at}
 use Rattle.proof_lines.specs.Numbers.{stands_in}
 use Rattle.proof_lines.specs.Evidence.{in_state}
-use Rattle.proof_lines.proofs.Certificates.{all_at}
 use Rattle.theory_api.specs.Laws.{all_below}
 use Rattle.linear_ints.specs.declared.tableau.Tableau.{Tableau}
 use Rattle.linear_ints.specs.declared.stop.Stop.{Stop}

@@ -15,3 +15,4 @@ pub mod Needed
 pub mod Descending
 pub mod Listed
 pub mod Places
+pub mod Fingerprints

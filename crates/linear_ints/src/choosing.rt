@@ -31,12 +31,7 @@ fn count_terms(counts: &mut Counts, terms: &[RowTerm]) {
     }
 }
 
-fn counts_of(
-    alloc: Global,
-    before: &Order,
-    ints: u32,
-    held: &[Row],
-) -> Result<Counts, AllocError> {
+fn counts_of(alloc: Global, before: &Order, ints: u32, held: &[Row]) -> Result<Counts, AllocError> {
     let uppers = vec![in alloc; 0u32; ints as usize]?;
     let lowers = vec![in alloc; 0u32; ints as usize]?;
     let mut counts = Counts { uppers, lowers };

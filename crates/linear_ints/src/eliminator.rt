@@ -8,6 +8,7 @@ ghost use Rattle.linear_ints.specs.Tableaux.{IsTaking};
 
 use crate::descend::descend;
 use crate::eliminate::eliminate_all;
+use crate::held::Held;
 use crate::order::Order;
 use crate::places::named_places;
 use crate::stop::Stop;
@@ -41,7 +42,7 @@ fn start(alloc: Global, rows: &[Row], ints: u32) -> Result<Tableau, AllocError>
         ints,
         used: Items::new(alloc),
         steps: Items::new(alloc),
-        held: Items::new(alloc),
+        held: Held::new(alloc),
         order: Order::new(alloc),
         left,
     })

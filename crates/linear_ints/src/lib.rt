@@ -38,6 +38,7 @@ pub mod choosing;
 pub mod descend;
 pub mod eliminate;
 pub mod eliminator;
+pub mod held;
 pub mod order;
 pub mod places;
 pub mod sides;

@@ -1,38 +1,24 @@
 // The steps at one place: each of its upper rows is combined with each of its lower ones.
 ghost use Rattle.std.specs.Prelude.{◌≡◌, ◌<◌, true, length, MatchResult, Some, [], ◌∷◌};
-ghost use Rattle.std.specs.List.{list_any};
 ghost use Rattle.lin_rows.specs.Cancelling.{combined};
-ghost use Rattle.proof_lines.specs.Evidence.{same_row};
 ghost use Rattle.proof_lines.specs.Steps.{row_at};
 ghost use Rattle.linear_ints.specs.Needed.{is_needed};
 ghost use Rattle.linear_ints.specs.Standing.{IsCombinedAt};
 ghost use Rattle.linear_ints.specs.Stops.{IsEarlyStop};
 ghost use Rattle.linear_ints.specs.Tableaux.{AreCombined, CanAllMeet, CanMeet, IsGrown, IsTableau};
 
+use crate::held::Held;
 use crate::stop::Stop;
 use crate::tableau::{ROW_LIMIT, Tableau};
 use lin_rows::{Combined, Row, RowRefused, combine};
 use proof_lines::{RangeWhat, RowStep};
 use std::alloc::Global;
 
-fn same_row(a: &Row, b: &Row) -> bool
-    ensures { result ≡ same_row a.now b.now }
-{
-    lin_rows::same_row(a, b)
-}
-
-/// Whether a row is among some rows.
-pub fn is_held(held: &[Row], row: &Row) -> bool
-    ensures { result ≡ list_any (λ r. same_row r row.now) held.now }
-{
-    held.iter().any(|other| same_row(other, row))
-}
-
 // Whether a row is to be held.
-fn is_needed(held: &[Row], row: &Row) -> bool
+fn is_needed(held: &Held, row: &Row) -> bool
     ensures { result ≡ is_needed held.now row.now }
 {
-    row.is_contradiction() || !(row.terms().is_empty() || is_held(held, row))
+    row.is_contradiction() || !(row.terms().is_empty() || held.has(row))
 }
 
 // The step that gives a combination.
@@ -62,7 +48,7 @@ fn hold_sum(
     ensures { MatchResult result (λ _. IsGrown rows.now tableau.old tableau.new × IsCombinedAt place tableau.new.held (row_at tableau.new.held upper) (row_at tableau.new.held lower)) (λ stop. IsEarlyStop rows.now tableau.new stop) }
 {
     let step = step_of(upper, lower, &sum);
-    if !is_needed(tableau.held.as_slice(), &sum.row) {
+    if !is_needed(&tableau.held, &sum.row) {
         return Ok(());
     }
     let refuted = sum.row.is_contradiction();

@@ -1,6 +1,7 @@
 // The rows that are held while places are eliminated.
 ghost use Rattle.std.specs.Prelude.{◌≡◌, [], ◌∷◌, ◌++◌, OnOk};
 
+use crate::held::Held;
 use crate::order::Order;
 use items::Items;
 use lin_rows::Row;
@@ -19,7 +20,7 @@ pub struct Tableau {
     /// The numbers of the used given rows.
     pub used: Items<u32>,
     pub steps: Items<RowStep>,
-    pub held: Items<Row>,
+    pub held: Held,
     /// The places that are eliminated, in their order.
     pub order: Order,
     /// The places that are left.

@@ -3,7 +3,6 @@ ghost use Rattle.std.specs.Prelude.{◌≡◌, ◌<◌, ◌+◌, ◌*◌, length
 ghost use Rattle.linear_ints.specs.Stops.{IsEarlyStop};
 ghost use Rattle.linear_ints.specs.Tableaux.{IsTaking};
 
-use crate::steps::is_held;
 use crate::stop::Stop;
 use crate::tableau::{ROW_LIMIT, Tableau};
 use lin_rows::{Row, tighten};
@@ -19,8 +18,7 @@ fn take_row(tableau: &mut Tableau, alloc: Global, rows: &[Row], number: u32) -> 
     let Ok(row) = tighten(alloc, given) else {
         return Err(Stop::Memory);
     };
-    let held = tableau.held.as_slice();
-    if is_held(held, &row) {
+    if tableau.held.has(&row) {
         return Ok(());
     }
     let refuted = row.is_contradiction();

@@ -50,7 +50,8 @@ pub fn all_cancel(rows: &[Row], steps: &[RowStep]) -> bool
     steps.iter().all(|step| cancels(rows, step))
 }
 
-fn same_row(a: &Row, b: &Row) -> bool
+/// Whether two rows are equal, as a test.
+pub fn same_row(a: &Row, b: &Row) -> bool
     ensures { result ≡ same_row a.now b.now }
 {
     lin_rows::same_row(a, b)

@@ -1,6 +1,8 @@
 // Small systems, and whether whole numbers satisfy them.
 //
-// A program in Python wrote them, with coefficients at random, and tried all numbers from the least to the greatest.
+// A program in Python wrote them, with coefficients at random, and tried all triples of numbers from the least to the greatest. In each
+// the second row is the opposite of the first, or is that a little apart, so that many have points over fractions and none over whole
+// numbers.
 use crate::asked::{Line, Told, tell};
 use crate::searches::{Found, find};
 
@@ -192,6 +194,126 @@ const SYSTEMS: &[System] = &[
         below: 0,
         rows: [[5, -3, 2, 0], [-5, 3, -2, 0], [7, 2, -5, -3]],
         has_model: false,
+    },
+    System {
+        above: 0,
+        below: 4,
+        rows: [[-8, 2, -2, -2], [8, -2, 2, 3], [7, 0, -2, -6]],
+        has_model: false,
+    },
+    System {
+        above: 4,
+        below: 1,
+        rows: [[-7, 0, 5, -2], [7, 0, -5, 2], [8, -8, 0, 5]],
+        has_model: true,
+    },
+    System {
+        above: 0,
+        below: 4,
+        rows: [[3, -6, 8, 6], [-3, 6, -8, -4], [9, 8, 2, -4]],
+        has_model: true,
+    },
+    System {
+        above: 4,
+        below: 2,
+        rows: [[3, 9, 6, -6], [-3, -9, -6, 6], [9, 9, -6, -3]],
+        has_model: true,
+    },
+    System {
+        above: 1,
+        below: 2,
+        rows: [[2, 4, -4, 6], [-2, -4, 4, -6], [-5, -8, -8, 1]],
+        has_model: true,
+    },
+    System {
+        above: 0,
+        below: 4,
+        rows: [[8, 6, 8, -4], [-8, -6, -8, 4], [5, 0, 8, -6]],
+        has_model: false,
+    },
+    System {
+        above: 4,
+        below: 0,
+        rows: [[8, -5, 0, 6], [-8, 5, 0, -5], [-6, -2, 4, 1]],
+        has_model: true,
+    },
+    System {
+        above: 4,
+        below: 1,
+        rows: [[-5, -8, -5, -4], [5, 8, 5, 4], [-7, -7, 7, 1]],
+        has_model: false,
+    },
+    System {
+        above: 3,
+        below: 2,
+        rows: [[-5, 0, 6, 2], [5, 0, -6, -2], [7, -2, 2, 6]],
+        has_model: false,
+    },
+    System {
+        above: 1,
+        below: 1,
+        rows: [[9, -9, 9, -4], [-9, 9, -9, 4], [-5, 9, 3, 3]],
+        has_model: false,
+    },
+    System {
+        above: 0,
+        below: 4,
+        rows: [[7, -5, -6, -5], [-7, 5, 6, 5], [-3, 3, 2, -3]],
+        has_model: false,
+    },
+    System {
+        above: 4,
+        below: 4,
+        rows: [[0, 8, -8, 2], [0, -8, 8, -2], [8, -2, 9, -4]],
+        has_model: false,
+    },
+    System {
+        above: 2,
+        below: 4,
+        rows: [[-5, 5, 5, -2], [5, -5, -5, 2], [2, 7, -8, 0]],
+        has_model: false,
+    },
+    System {
+        above: 2,
+        below: 0,
+        rows: [[-6, 3, -8, 5], [6, -3, 8, -3], [2, -8, -7, -4]],
+        has_model: true,
+    },
+    System {
+        above: 3,
+        below: 0,
+        rows: [[5, 4, -2, -4], [-5, -4, 2, 5], [-4, 7, 6, 4]],
+        has_model: false,
+    },
+    System {
+        above: 0,
+        below: 4,
+        rows: [[0, 2, -5, -4], [0, -2, 5, 5], [5, -2, 0, -5]],
+        has_model: true,
+    },
+    System {
+        above: 4,
+        below: 4,
+        rows: [[-6, 0, -6, -4], [6, 0, 6, 5], [-7, 8, -4, 3]],
+        has_model: false,
+    },
+    System {
+        above: 0,
+        below: 3,
+        rows: [[-4, 9, 2, -3], [4, -9, -2, 3], [9, 7, -7, -5]],
+        has_model: true,
+    },
+    System {
+        above: 3,
+        below: 3,
+        rows: [[-3, -5, -7, -5], [3, 5, 7, 5], [-9, -6, -4, 0]],
+        has_model: true,
+    },
+    System {
+        above: 3,
+        below: 2,
+        rows: [[6, 6, 8, 6], [-6, -6, -8, -6], [0, -7, 5, 1]],
+        has_model: true,
     },
 ];
 

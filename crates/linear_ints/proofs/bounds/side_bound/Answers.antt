@@ -1,4 +1,4 @@
-use Rattle.std.proofs.Common.{ℕ, ◌<◌, ◌≤◌, length, take, List, sym, subst, arith}
+use Rattle.std.proofs.Common.{ℕ, ◌<◌, length, take, List, sym, subst}
 use Rattle.std.specs.Prelude.{MatchResult}
 use Rattle.lin_rows.specs.Rows.{Row}
 use Rattle.linear_ints.specs.declared.bounds.Bound.{Bound}

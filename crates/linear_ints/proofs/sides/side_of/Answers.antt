@@ -1,4 +1,4 @@
-use Rattle.std.proofs.Common.{sym, subst, List, ℕ, length, ◌<◌}
+use Rattle.std.proofs.Common.{sym, subst, List, length, ◌<◌}
 use Rattle.std.specs.Prelude.{IfOk}
 use Rattle.lin_rows.specs.Rows.{Row}
 use Rattle.linear_ints.specs.Sides.{IsSide}
