@@ -1,0 +1,4 @@
+pub mod Reading
+pub mod Loops
+mod Names
+mod Results

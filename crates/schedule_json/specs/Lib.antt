@@ -1,0 +1,5 @@
+pub mod Parts
+pub mod Checks
+pub mod Worlds
+pub mod Recorded
+pub mod Schedules
