@@ -3,3 +3,5 @@ pub mod Checks
 pub mod Worlds
 pub mod Recorded
 pub mod Schedules
+pub mod Fitting
+pub mod Texts

@@ -5,6 +5,7 @@ ghost use Rattle.serde_json.specs.View.{view};
 ghost use Rattle.serde_json.specs.Find.{get};
 ghost use Rattle.schedule_json.specs.Parts.{whole, has_exactly};
 ghost use Rattle.schedule_json.specs.Schedules.{count_of, schedule_keys, schedule_of, schedule_from};
+ghost use Rattle.schedule_json.specs.Fitting.{IsScheduleOf};
 
 use crate::parts::has_members;
 use crate::recorded::read_steps;
@@ -83,6 +84,7 @@ pub fn read_schedule(
 ) -> Result<Schedule, ScheduleRefused>
     ensures ok { IfOk result (λ schedule. schedule_from spec.now bytes.now ≡ Ok schedule) }
     ensures err { IfErr result (λ why. (why ≡ ScheduleRefused.Memory) ⊎ (schedule_from spec.now bytes.now ≡ Err why)) }
+    ensures fits { IfOk result (IsScheduleOf spec.now) }
 {
     match Value::from_slice(alloc, bytes) {
         Ok(value) => from_value(alloc, spec, &value),
