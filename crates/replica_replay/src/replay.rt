@@ -68,6 +68,15 @@ impl<'a> Replay<'a> {
         })
     }
 
+    /// The world in which it runs.
+    pub fn world(&self) -> &World
+        ensures value { result.now ≡ self.now.world }
+        ensures fits { world_fits self.now.spec self.now.world ≡ true }
+    {
+        let _happened = &self.happened;
+        &self.world
+    }
+
     /// How many replicas there are.
     pub fn replica_count(&self) -> usize
         ensures { result ≡ length self.now.held.taken }
