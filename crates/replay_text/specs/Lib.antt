@@ -1,2 +1,4 @@
 pub mod Course
 pub mod Text
+pub mod Safely
+pub mod Reached

@@ -1,10 +1,13 @@
 // Going through the steps of a schedule, and writing the text.
 
-ghost use Rattle.std.specs.Prelude.{◌≡◌, ◌++◌, [], ◌∷◌, ◌+◌, ◌<◌, ◌^◌, true, length, get_or, IfOk, OnOk, codes};
+ghost use Rattle.std.specs.Prelude.{◌≡◌, ◌++◌, [], ◌∷◌, ◌+◌, ◌<◌, ◌≤◌, ◌^◌, true, length, get_or, IfOk, OnOk, codes};
 ghost use Rattle.spec_core.specs.Meaning.{broken_at};
 ghost use Rattle.spec_core.specs.Fits.{world_fits};
+ghost use Rattle.spec_core.specs.StateText.{state_text};
 ghost use Rattle.replay_text.specs.Course.{state_at, replica_of, course_from, course};
-ghost use Rattle.replay_text.specs.Text.{step_lines, stop_line, replica_texts, replay_text, replay_status, status_of};
+ghost use Rattle.replica_replay.specs.Held.{none_held};
+ghost use Rattle.replay_text.specs.Text.{step_lines, stop_line, replica_text, replica_texts, replay_text, replay_status, status_of};
+ghost use Rattle.replay_text.specs.Reached.{IsStepped, IsReached};
 
 use crate::lines::{push, push_number, push_step, push_stop};
 use crate::stop::Stop;
@@ -29,4 +32,213 @@ fn broken_invariant(spec: &Spec, replay: &Replay, replica: u32) -> Option<usize>
     ensures { result ≡ broken_at spec.now replay.now.world (state_at spec.now replay.now.world replay.now.held replica) }
 {
     invariant_broken_at(spec, replay.world(), replay.state_of(replica))
+}
+
+/// What a step led to.
+#[derive(Drop)]
+enum Stepped {
+    /// It was accepted, with its event, and its replica's state breaks this invariant, if any.
+    Accepted(u32, Option<usize>),
+    Refused(StepRefused),
+}
+
+/// Carries a step out, and asks the invariants of its replica's state.
+fn carry_out(spec: &Spec, replay: &mut Replay, step: &Step) -> Result<Stepped, AllocError>
+    requires { replay.old.spec ≡ spec.now }
+    ensures stepped { IfOk result (λ s. IsStepped spec.now replay.old.world replay.old.held step.now s replay.new.held) }
+    ensures world { OnOk result (replay.new.world ≡ replay.old.world) }
+    ensures spec { OnOk result (replay.new.spec ≡ replay.old.spec) }
+{
+    match replay.step(step) {
+        Ok(taken) => Ok(Stepped::Accepted(
+            taken.event,
+            broken_invariant(spec, replay, replica_of(step)),
+        )),
+        Err(StepRefused::Memory) => Err(AllocError),
+        Err(why) => Ok(Stepped::Refused(why)),
+    }
+}
+
+/// How a replay has stopped, and after how many accepted steps.
+#[derive(Drop)]
+struct Stopped {
+    accepted: usize,
+    stop: Stop,
+}
+
+/// Carries steps out, up to the first that is refused or breaks an invariant, and adds the lines of the accepted ones.
+fn write_steps(
+    alloc: Global,
+    spec: &Spec,
+    replay: &mut Replay,
+    steps: &[Step],
+    text: &mut Vec<u8>,
+) -> Result<Stopped, AllocError>
+    requires { replay.old.spec ≡ spec.now }
+    ensures reached { IfOk result (λ s. IsReached (course_from spec.now replay.old.world replay.old.held steps.now) steps.now text.old.items text.new.items s.accepted s.stop replay.new.held) }
+    ensures world { OnOk result (replay.new.world ≡ replay.old.world) }
+    ensures spec { OnOk result (replay.new.spec ≡ replay.old.spec) }
+{
+    for (number, step) in steps.iter().enumerate() {
+        match carry_out(spec, replay, step)? {
+            Stepped::Accepted(event, broken) => {
+                push_step(alloc, text, number, step, event)?;
+                match broken {
+                    Some(place) => {
+                        return Ok(Stopped {
+                            accepted: number + 1,
+                            stop: Stop::Broken(place),
+                        });
+                    }
+                    None => {}
+                }
+            }
+            Stepped::Refused(why) => {
+                return Ok(Stopped {
+                    accepted: number,
+                    stop: Stop::Refused(why),
+                });
+            }
+        }
+    }
+    Ok(Stopped {
+        accepted: steps.len(),
+        stop: Stop::Done,
+    })
+}
+
+/// Adds the lines of a replica's state.
+fn push_state(
+    alloc: Global,
+    text: &mut Vec<u8>,
+    spec: &Spec,
+    replay: &Replay,
+    replica: u32,
+) -> Result<(), AllocError>
+    requires spec { replay.now.spec ≡ spec.now }
+    requires replica { replica < length replay.now.held.taken }
+    ensures { OnOk result (text.new.items ≡ text.old.items ++ state_text spec.now replay.now.world (state_at spec.now replay.now.world replay.now.held replica)) }
+{
+    write_state(alloc, spec, replay.state_of(replica), text)
+}
+
+/// Adds the lines of a replica.
+fn push_replica(
+    alloc: Global,
+    text: &mut Vec<u8>,
+    spec: &Spec,
+    replay: &Replay,
+    replica: u32,
+) -> Result<(), AllocError>
+    requires spec { replay.now.spec ≡ spec.now }
+    requires replica { replica < length replay.now.held.taken }
+    ensures { OnOk result (text.new.items ≡ text.old.items ++ replica_text spec.now replay.now.world replay.now.held replica (get_or replay.now.held.taken replica [])) }
+{
+    push_number(alloc, text, b"replica ", replica as usize)?;
+    push_number(alloc, text, b" taken ", replay.seen_by(replica).len())?;
+    push(text, b"\n")?;
+    push_state(alloc, text, spec, replay, replica)
+}
+
+/// Adds the lines of all replicas.
+fn push_replicas(
+    alloc: Global,
+    text: &mut Vec<u8>,
+    spec: &Spec,
+    replay: &Replay,
+    count: u32,
+) -> Result<(), AllocError>
+    requires spec { replay.now.spec ≡ spec.now }
+    requires count { length replay.now.held.taken ≡ count }
+    ensures { OnOk result (text.new.items ≡ text.old.items ++ replica_texts spec.now replay.now.world replay.now.held 0 replay.now.held.taken) }
+{
+    for replica in 0..count {
+        push_replica(alloc, text, spec, replay, replica)?;
+    }
+    Ok(())
+}
+
+/// Carries a whole schedule out, and adds the lines of the accepted steps.
+fn write_course(
+    alloc: Global,
+    spec: &Spec,
+    replay: &mut Replay,
+    replicas: u32,
+    steps: &[Step],
+    text: &mut Vec<u8>,
+) -> Result<Stopped, AllocError>
+    requires spec { replay.old.spec ≡ spec.now }
+    requires held { replay.old.held ≡ none_held replicas }
+    requires some { 1 ≤ replicas }
+    ensures reached { IfOk result (λ s. IsReached (course spec.now replay.old.world replicas steps.now) steps.now text.old.items text.new.items s.accepted s.stop replay.new.held) }
+    ensures world { OnOk result (replay.new.world ≡ replay.old.world) }
+    ensures spec { OnOk result (replay.new.spec ≡ replay.old.spec) }
+{
+    match broken_invariant(spec, replay, 0) {
+        Some(place) => Ok(Stopped {
+            accepted: 0,
+            stop: Stop::Broken(place),
+        }),
+        None => write_steps(alloc, spec, replay, steps, text),
+    }
+}
+
+/// The status that a stop comes to.
+fn status_of(stop: &Stop) -> u8
+    ensures { result ≡ status_of stop.now }
+{
+    match stop {
+        Stop::Done => 0,
+        Stop::Broken(_) => 1,
+        Stop::Refused(_) => 4,
+    }
+}
+
+/// A replay that has ended: its text, and the status that it comes to.
+#[derive(Drop)]
+pub struct Report {
+    pub status: u8,
+    pub text: Vec<u8>,
+}
+
+/// Writes a course and how it stops, and answers the status.
+fn write_replay(
+    alloc: Global,
+    spec: &Spec,
+    replay: &mut Replay,
+    replicas: u32,
+    steps: &[Step],
+    text: &mut Vec<u8>,
+) -> Result<u8, AllocError>
+    requires spec { replay.old.spec ≡ spec.now }
+    requires held { replay.old.held ≡ none_held replicas }
+    requires some { 1 ≤ replicas }
+    ensures text { OnOk result (text.new.items ≡ text.old.items ++ replay_text spec.now replay.old.world replicas steps.now) }
+    ensures status { IfOk result (λ status. status ≡ replay_status spec.now replay.old.world replicas steps.now) }
+{
+    push(text, b"cise replay 1\n")?;
+    let stopped = write_course(alloc, spec, replay, replicas, steps, text)?;
+    push_stop(alloc, text, spec, stopped.accepted, &stopped.stop)?;
+    push_replicas(alloc, text, spec, replay, replicas)?;
+    Ok(status_of(&stopped.stop))
+}
+
+/// Replays the steps of a schedule, at so many replicas in a world: a text, and a status, which is 0 where all steps were accepted
+/// and no state broke, 1 where a state broke, 4 where a step was refused.
+pub fn replay(
+    alloc: Global,
+    spec: &Spec,
+    world: World,
+    replicas: u32,
+    steps: &[Step],
+) -> Result<Report, AllocError>
+    requires world { world_fits spec.now world ≡ true }
+    requires some { 1 ≤ replicas }
+    ensures text { IfOk result (λ report. report.text.items ≡ replay_text spec.now world replicas steps.now) }
+    ensures status { IfOk result (λ report. report.status ≡ replay_status spec.now world replicas steps.now) }
+{
+    let mut text = Vec::new(alloc);
+    let mut replay = Replay::new(alloc, spec, world, replicas)?;
+    let status = write_replay(alloc, spec, &mut replay, replicas, steps, &mut text)?;
+    Ok(Report { status, text })
 }

@@ -1,0 +1,3 @@
+pub mod Going
+mod States
+pub mod Safety

@@ -1,0 +1,26 @@
+-- What a step of the code leads to, and where its loop over the steps ends. This serves the code and its proofs.
+use Rattle.std.specs.Prelude.{◌≡◌, ℕ, List, ◌++◌, length, Option}
+use Rattle.spec_core.specs.declared.world.World.{World}
+use Rattle.spec_core.specs.Specification.{Specification}
+use Rattle.spec_core.specs.Meaning.{broken_at}
+use Rattle.replica_replay.specs.declared.step.Step.{Step}
+use Rattle.replica_replay.specs.declared.step.StepRefused.{StepRefused}
+use Rattle.replica_replay.specs.Held.{Held}
+use Rattle.replica_replay.specs.Steps.{accepted, refused, outcome}
+use Rattle.replay_text.specs.declared.stop.Stop.{Stop}
+use Rattle.replay_text.specs.declared.writing.Stepped.{Stepped}
+use Rattle.replay_text.specs.declared.writing.Stepped.TheVariants as stepped
+use Rattle.replay_text.specs.Course.{Course, state_at, replica_of}
+use Rattle.replay_text.specs.Text.{step_lines}
+
+-- a step was accepted, with its event, and what is held then breaks this invariant; or it was refused, and nothing changed
+abbrev pub IsStepped : Specification → World → Held → Step → Stepped → Held → Type 0
+IsStepped d w held s (stepped.Accepted e place) after = (outcome d w held s ≡ accepted e after) × (place ≡ broken_at d w (state_at d w after (replica_of s)))
+IsStepped d w held s (stepped.Refused why) after = (outcome d w held s ≡ refused why) × (after ≡ held)
+
+-- a course of some steps was gone through, and the lines of the accepted ones were added to a text
+pub record IsReached (c : Course) (steps : List Step) (before text : List ℕ) (count : ℕ) (stop : Stop) (after : Held) : Type 0 where
+  pub text_is : before ++ step_lines 0 steps c.events ≡ text
+  pub count_is : length c.events ≡ count
+  pub stop_is : c.stop ≡ stop
+  pub held_is : c.held ≡ after
