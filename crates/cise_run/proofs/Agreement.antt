@@ -6,7 +6,7 @@ use Rattle.spec_reader.specs.Form.{TreeForm}
 use Rattle.spec_from_bytes.specs.Refusal.{IsReadAs, IsSpecificationOf, Refusal, IsRefusal, refusal_text}
 use Rattle.spec_from_bytes.proofs.Reasons.{tree_unique, specification_unique, refusal_is_unique, refused_or_specified}
 use Rattle.cise_run.specs.declared.words.Job.{Job}
-use Rattle.cise_run.specs.declared.words.Job.TheVariants.{Check, Spell}
+use Rattle.cise_run.specs.declared.words.Job.TheVariants.{Check, Spell, Replay}
 use Rattle.cise_run.specs.Words.{job_of}
 use Rattle.cise_run.specs.Ending.{IsOne}
 use Rattle.cise_run.specs.FirstForm.{is_first_form}
@@ -21,6 +21,7 @@ one_of_two s t x y n z a b c d = (c ∙ sym a, d ∙ sym b)
 agree_one : (job : Job) (s t : ℕ) (x y : List ℕ) → IsOne s x t y → Agree (Some job) s x t y
 agree_one (Check budget) s t x y one = inl one
 agree_one Spell s t x y one = one
+agree_one Replay s t x y one = one
 
 -- where a specification is refused, every answer refuses it so
 pub refused_for_all : (job : Job) (bytes more : List ℕ) (why : Refusal) (status : ℕ) (text : List ℕ)
@@ -41,6 +42,7 @@ outcomes_agree : (job : Job) (tree : TreeForm) (d : Specification) (more : List 
     → IsOutcome job tree d more s x → IsOutcome job tree d more t y → Agree (Some job) s x t y
 outcomes_agree (Check budget) tree d more s t x y a b = checks_agree budget d s t x y a b
 outcomes_agree Spell tree d more s t x y a b = one_of_two s t x y _ _ a.status_is a.text_is b.status_is b.text_is
+outcomes_agree Replay tree d more s t x y a b = one_of_two s t x y _ _ a.status_is a.text_is b.status_is b.text_is
 
 -- two answers to a job for the same bytes
 answers_agree : (job : Job) (bytes more : List ℕ) (s t : ℕ) (x y : List ℕ)

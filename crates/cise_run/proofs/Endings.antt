@@ -41,3 +41,13 @@ Ends-asked job asked spec extra status before after m n e x =
 pub some_told : (told : Option (List ℕ)) → (bytes : List ℕ) × Tells told bytes
 some_told None = ([], tt)
 some_told (Some bytes) = (bytes, refl)
+
+-- where nothing was written, and what stopped isn't the sink
+pub Ends-stopped : (Whole : ℕ → List ℕ → Type 0) (Front : List ℕ → Type 0) (status : ℕ) (held : Option (List ℕ)) (n : ℕ)
+    → 5 < status → status < 9 → (status ≡ 7 → ⊥) → Ends Whole Front status held held n n
+Ends-stopped Whole Front status held n high low not_sink = record {
+  answered = λ below. absurd (omega (arith, high, below));
+  write_fault = λ is. absurd (not_sink is);
+  front = λ above. inl (Keeps-refl held);
+  known = low;
+}

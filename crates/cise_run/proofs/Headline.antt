@@ -6,7 +6,7 @@ use Rattle.executions.proofs.Safety.{converges}
 use Rattle.spec_from_bytes.specs.Refusal.{IsReadAs}
 use Rattle.spec_from_bytes.proofs.Reasons.{specification_unique}
 use Rattle.cise_run.specs.declared.words.Job.{Job}
-use Rattle.cise_run.specs.declared.words.Job.TheVariants.{Check, Spell}
+use Rattle.cise_run.specs.declared.words.Job.TheVariants.{Check, Spell, Replay}
 use Rattle.cise_run.specs.Words.{is_check}
 use Rattle.cise_run.specs.commands.Check.{IsReport, IsChecked}
 use Rattle.cise_run.specs.Answer.{IsAnswerFor, IsAnswerTo}
@@ -34,5 +34,6 @@ pub IsProved-zero : (job : Option Job) (told extra : Option (List ℕ)) (text : 
 IsProved-zero job None extra text c a = tt
 IsProved-zero None (Some bytes) extra text c a = absurd (omega (arith, a.0))
 IsProved-zero (Some Spell) (Some bytes) extra text c a = grind arith
+IsProved-zero (Some Replay) (Some bytes) extra text c a = grind arith
 IsProved-zero (Some (Check budget)) (Some bytes) extra text c (given, more, told, also, a) =
     subst IsProved (sym told) (checked budget given more text a)

@@ -1,4 +1,5 @@
 mod Endings
+mod Replays
 mod Flags
 mod Remaining
 mod Verdicts

@@ -7,11 +7,12 @@ use Rattle.spec_from_bytes.specs.Lines.{line}
 use Rattle.spec_from_bytes.specs.Refusal.{IsReadAs, Refusal, IsRefusal, refusal_text}
 use Rattle.spec_from_bytes.specs.Reading.{Tells}
 use Rattle.cise_run.specs.declared.words.Job.{Job}
-use Rattle.cise_run.specs.declared.words.Job.TheVariants.{Check, Spell}
+use Rattle.cise_run.specs.declared.words.Job.TheVariants.{Check, Spell, Replay}
 use Rattle.cise_run.specs.Words.{job_of}
-use Rattle.cise_run.specs.Ending.{IsOne, IsFrontOf, IsBroken}
+use Rattle.cise_run.specs.Ending.{IsOne, IsFrontOf, IsBroken, Ends}
 use Rattle.cise_run.specs.commands.Check.{IsReport, IsChecked, IsCheckFront}
 use Rattle.cise_run.specs.commands.Spell.{IsSpelled, IsSpellFront}
+use Rattle.cise_run.specs.commands.Replay.{IsReplayed, IsReplayFront}
 
 -- ---- the commands
 
@@ -20,11 +21,13 @@ use Rattle.cise_run.specs.commands.Spell.{IsSpelled, IsSpellFront}
 abbrev pub IsOutcome : Job → TreeForm → Specification → List ℕ → ℕ → List ℕ → Type 0
 IsOutcome (Check budget) tree d more status text = IsChecked budget d status text
 IsOutcome Spell tree d more status text = IsSpelled tree status text
+IsOutcome Replay tree d more status text = IsReplayed d more status text
 
 -- what is left of it where it is stopped
 abbrev pub IsOutcomeFront : Job → TreeForm → Specification → List ℕ → List ℕ → Type 0
 IsOutcomeFront (Check budget) tree d more front = IsCheckFront budget d front
 IsOutcomeFront Spell tree d more front = IsSpellFront tree front
+IsOutcomeFront Replay tree d more front = IsReplayFront d more front
 
 -- ---- the specification
 
@@ -45,6 +48,13 @@ IsAnswerFor job bytes more status text =
 abbrev pub IsFrontFor : Job → List ℕ → List ℕ → List ℕ → Type 0
 IsFrontFor job bytes more front =
     ByReading (λ why. IsFrontOf (refusal_text why) front) (λ tree d. IsOutcomeFront job tree d more front) bytes
+
+-- ---- the second input
+
+-- It ends so, with the bytes that the second source tells, where it tells them.
+abbrev pub EndsWith : Option (List ℕ) → (List ℕ → ℕ → List ℕ → Type 0) → (List ℕ → List ℕ → Type 0) → ℕ → Option (List ℕ) → Option (List ℕ) → ℕ → ℕ → Type 0
+EndsWith told Whole Front status held_before held_after faults_before faults_after =
+    (more : List ℕ) × Tells told more × Ends (Whole more) (Front more) status held_before held_after faults_before faults_after
 
 -- ---- the words
 
@@ -84,6 +94,7 @@ IsStopped words spec extra held_before held_after = IsBroken (IsFrontTo (job_of 
 abbrev pub Agree : Option Job → ℕ → List ℕ → ℕ → List ℕ → Type 0
 Agree None status text other_status other_text = IsOne status text other_status other_text
 Agree (Some Spell) status text other_status other_text = IsOne status text other_status other_text
+Agree (Some Replay) status text other_status other_text = IsOne status text other_status other_text
 Agree (Some (Check budget)) status text other_status other_text =
     IsOne status text other_status other_text
     ⊎ ((d : Specification) × IsReport budget d status text × IsReport budget d other_status other_text)

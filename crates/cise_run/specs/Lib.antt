@@ -6,3 +6,4 @@ pub mod commands
 pub mod Answer
 pub mod Headline
 pub mod Blocks
+pub mod Replayed

@@ -1,3 +1,4 @@
 // The commands: each writes the text of its answer, and ends with a status.
 pub mod check;
+pub mod replay;
 pub mod spell;

@@ -9,6 +9,8 @@ pub enum Job {
     Check(usize),
     /// To write the specification's words in the layout of the language.
     Spell,
+    /// To replay a schedule.
+    Replay,
 }
 
 /// The budget where the words name none.
@@ -21,6 +23,7 @@ pub fn job_asked(words: &[String]) -> Option<Job>
     match words {
         [command, _] if command.as_str() == "check" => Some(Job::Check(DEFAULT_BUDGET)),
         [command, _] if command.as_str() == "spell" => Some(Job::Spell),
+        [command, _, _] if command.as_str() == "replay" => Some(Job::Replay),
         _ => None,
     }
 }

@@ -1,6 +1,8 @@
 -- A replay of a safe specification breaks no invariant.
-use Rattle.std.proofs.Common.{◌≡◌, ℕ, zero, suc, true, false, List, [], ◌∷◌, get_or, replicate, Option, None, Some, refl, sym, ap, ◌∙◌, subst, arith}
-use Rattle.std.specs.Prelude.{slice_get}
+use Rattle.std.proofs.Common.{◌≡◌, ℕ, zero, suc, Bool, true, false, length, Ok, Err, List, [], ◌∷◌, get_or, replicate, Option, None, Some, refl, sym, ap, ◌∙◌, subst, arith}
+use Rattle.std.specs.Prelude.{slice_get, nat_le, if◌then◌else◌}
+use Rattle.std.specs.List.{list_all}
+use Rattle.std.proofs.lemmas.Bool.{and_parts}
 use Rattle.std.specs.Option.{is_none}
 use Rattle.spec_core.specs.declared.world.World.{World}
 use Rattle.spec_core.specs.Specification.{Specification}
@@ -8,6 +10,12 @@ use Rattle.spec_core.specs.State.{Reads}
 use Rattle.spec_core.specs.StateText.{state_text}
 use Rattle.spec_core.specs.Meaning.{inv, broken_at}
 use Rattle.spec_core.specs.Fits.{is_world}
+use Rattle.spec_core.specs.Limits.{most_elements}
+use Rattle.schedule_json.specs.declared.schedule.Schedule.{Schedule}
+use Rattle.schedule_json.specs.Checks.{Checked}
+use Rattle.schedule_json.specs.Schedules.{schedule_from}
+use Rattle.schedule_json.specs.Texts.{most_schedule_bytes}
+use Rattle.schedule_json.proofs.Fits.{schedule_fits}
 use Rattle.obligation_list.specs.Breaking.{Safe}
 use Rattle.obligation_list.proofs.Refuted.{none_broken}
 use Rattle.executions.specs.Orders.{AreIn, IsOrder}
@@ -17,7 +25,10 @@ use Rattle.replica_replay.specs.declared.step.Step.{Step}
 use Rattle.replica_replay.specs.Held.{Held, none_held, IsHeld}
 use Rattle.replica_replay.specs.Steps.{Outcome, accepted, refused, state_of, outcome, held_after}
 use Rattle.replica_replay.proofs.Executed.{step_keeps}
+use Rattle.replay_text.specs.declared.stop.Stop.{Stop}
 use Rattle.replay_text.specs.declared.stop.Stop.TheVariants as stop
+use Rattle.replay_text.specs.Text.{status_of}
+use Rattle.replay_text.specs.Recorded.{status_read, schedule_status}
 use Rattle.replay_text.specs.Course.{Course, stopped, with_event, unless_broken, replica_of, state_at, after_outcome, course_from, course}
 use Rattle.replay_text.specs.Safely.{PrintAlike, GoesSafely}
 
@@ -88,3 +99,27 @@ module _ (d : Specification) (w : World) (safe : Safe d) (world : is_world d w �
   goes_safely n ss =
       let is = none_is_held d w n in
       goes_on _ (none_held n) (course_from d w (none_held n) ss) (order_unbroken (none_held n) is [] (empty_order (none_held n))) (from (none_held n) ss is)
+
+-- ---- the bytes of a schedule
+
+stop_unbroken : (d : Specification) (w : World) (c : Course) → GoesSafely d w c → status_of c.stop ≡ 1 → ⊥
+stop_unbroken d w c g e = by c.stop refl e
+  where
+    by : (s : Stop) → c.stop ≡ s → status_of s ≡ 1 → ⊥
+    by stop.Done q h = omega (arith, h)
+    by (stop.Broken place) q h = g.unbroken place q
+    by (stop.Refused why) q h = omega (arith, h)
+
+pub schedule_safely : (d : Specification) → Safe d → (bytes : List ℕ) (s : Schedule) → schedule_from d bytes ≡ Ok s → GoesSafely d s.world (course d s.world s.replicas s.steps)
+schedule_safely d safe bytes s e =
+    let world = (and_parts (is_world d s.world) (list_all (λ n. nat_le n most_elements) s.world.sizes) ((schedule_fits d bytes s e).world)).0 in
+    goes_safely d s.world safe world s.replicas s.steps
+
+-- no schedule of a safe specification comes to status 1
+pub safe_status : (d : Specification) → Safe d → (bytes : List ℕ) → schedule_status d bytes ≡ 1 → ⊥
+safe_status d safe bytes h = by (nat_le (length bytes) most_schedule_bytes) (schedule_from d bytes) refl h
+  where
+    by : (b : Bool) (r : Checked Schedule) → schedule_from d bytes ≡ r → (if b then status_read d r else 4) ≡ 1 → ⊥
+    by true (Ok s) q e = stop_unbroken d s.world (course d s.world s.replicas s.steps) (schedule_safely d safe bytes s q) e
+    by true (Err why) q e = omega (arith, e)
+    by false r q e = omega (arith, e)

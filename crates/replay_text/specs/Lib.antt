@@ -1,4 +1,5 @@
 pub mod Course
 pub mod Text
+pub mod Recorded
 pub mod Safely
 pub mod Reached

@@ -3,9 +3,11 @@
 
 mod law;
 mod lines;
+mod recorded;
 mod stop;
 mod writing;
 
 pub use law::law_safe_replays;
+pub use recorded::replay_bytes;
 pub use stop::Stop;
 pub use writing::{Report, replay};

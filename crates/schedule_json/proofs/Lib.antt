@@ -2,4 +2,4 @@ pub mod Reading
 pub mod Loops
 mod Names
 mod Results
-mod Fits
+pub mod Fits

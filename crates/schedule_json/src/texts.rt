@@ -1,7 +1,7 @@
 // What is written where a text is no schedule.
 
-ghost use Rattle.std.specs.Prelude.{◌≡◌, ◌++◌, [], ◌∷◌, OnOk, IfOk, decimal};
-ghost use Rattle.schedule_json.specs.Texts.{path_text, refusal_text as refusal_text_of, long_text as long_text_of};
+ghost use Rattle.std.specs.Prelude.{◌≡◌, ◌≢◌, ◌++◌, [], ◌∷◌, OnOk, IfOk, decimal};
+ghost use Rattle.schedule_json.specs.Texts.{path_text, refusal_text as refusal_text_of};
 
 use crate::refusal::{Path, ScheduleRefused};
 use std::alloc::{AllocError, Global};
@@ -39,7 +39,8 @@ fn placed_text(alloc: Global, before: &[u8], path: &Path) -> Result<Vec<u8>, All
 
 /// The line of a refusal. Where memory ended there is none to write.
 pub fn refusal_text(alloc: Global, refused: &ScheduleRefused) -> Result<Vec<u8>, AllocError>
-    ensures { IfOk result (λ text. text.items ≡ refusal_text_of refused.now) }
+    ensures text { IfOk result (λ text. text.items ≡ refusal_text_of refused.now) }
+    ensures some { OnOk result (refused.now ≢ ScheduleRefused.Memory) }
 {
     match refused {
         ScheduleRefused::Json => Vec::from_slice(alloc, b"refused schedule json\n"),

@@ -1,15 +1,15 @@
 use Rattle.std.proofs.Common.{Some}
 use Rattle.cise_run.specs.Answer.{IsAnswerFor, IsFrontFor, IsAnswerTo, IsFrontTo}
-use Rattle.cise_run.proofs.Endings.{Ends-map, some_told}
+use Rattle.cise_run.proofs.Endings.{Ends-map}
 use Rattle.cise_run.proofs.run.answer_job.Goals as goal
 
 pub returns-in-Ok-clause-ends : goal.returns-in-Ok-clause-ends
-returns-in-Ok-clause-ends g c = λ extra.
+returns-in-Ok-clause-ends g c =
     let job = c.args.job in
     let told = g.S.Source.left c.args.spec.now in
+    let extra = g.E.Source.left c.args.extra.now in
     let given = c.in-Ok.ensures.ok in
-    let more = some_told extra in
-    Ends-map (IsAnswerFor job given.0 more.0) (IsAnswerTo (Some job) told extra) (IsFrontFor job given.0 more.0) (IsFrontTo (Some job) told extra)
+    let ends = c.answer_reading-status.ensures.ends given.0 given.2 in
+    Ends-map (IsAnswerFor job given.0 ends.0) (IsAnswerTo (Some job) told extra) (IsFrontFor job given.0 ends.0) (IsFrontTo (Some job) told extra)
     c.answer_reading-status.result _ _ _ _
-    (λ s t a. (given.0, more.0, given.1, more.1, a)) (λ front a. (given.0, more.0, given.1, more.1, a))
-    (c.answer_reading-status.ensures.ends given.0 more.0 given.2)
+    (λ s t a. (given.0, ends.0, given.1, ends.1, a)) (λ front a. (given.0, ends.0, given.1, ends.1, a)) ends.2

@@ -8,24 +8,24 @@ use Rattle.cise_run.proofs.run.run.Goals as goal
 pub returns-in-Some-clause-answered : goal.returns-in-Some-clause-answered
 returns-in-Some-clause-answered g c =
     let extra = g.E.Source.left c.args.extra.now in
-    (Ends-asked c.in-Some.job (job_of (map string_bytes c.args.words.now)) (g.S.Source.left c.args.spec.now) extra c.answer_job.result _ _ _ _ c.in-Some.ensures (c.answer_job.ensures.ends extra)).answered
+    (Ends-asked c.in-Some.job (job_of (map string_bytes c.args.words.now)) (g.S.Source.left c.args.spec.now) extra c.answer_job.result _ _ _ _ c.in-Some.ensures c.answer_job.ensures.ends).answered
 
 pub returns-in-Some-clause-write_fault : goal.returns-in-Some-clause-write_fault
-returns-in-Some-clause-write_fault g c = (c.answer_job.ensures.ends (g.E.Source.left c.args.extra.now)).write_fault
+returns-in-Some-clause-write_fault g c = c.answer_job.ensures.ends.write_fault
 
 pub returns-in-Some-clause-front : goal.returns-in-Some-clause-front
 returns-in-Some-clause-front g c =
     let extra = g.E.Source.left c.args.extra.now in
-    (Ends-asked c.in-Some.job (job_of (map string_bytes c.args.words.now)) (g.S.Source.left c.args.spec.now) extra c.answer_job.result _ _ _ _ c.in-Some.ensures (c.answer_job.ensures.ends extra)).front
+    (Ends-asked c.in-Some.job (job_of (map string_bytes c.args.words.now)) (g.S.Source.left c.args.spec.now) extra c.answer_job.result _ _ _ _ c.in-Some.ensures c.answer_job.ensures.ends).front
 
 pub returns-in-Some-clause-known : goal.returns-in-Some-clause-known
-returns-in-Some-clause-known g c = (c.answer_job.ensures.ends (g.E.Source.left c.args.extra.now)).known
+returns-in-Some-clause-known g c = c.answer_job.ensures.ends.known
 
 pub returns-in-Some-clause-proved : goal.returns-in-Some-clause-proved
 returns-in-Some-clause-proved g c = λ zero check.
     let job = job_of (map string_bytes c.args.words.now) in
     let told = g.S.Source.left c.args.spec.now in
     let extra = g.E.Source.left c.args.extra.now in
-    let ends = Ends-asked c.in-Some.job job told extra c.answer_job.result _ _ _ _ c.in-Some.ensures (c.answer_job.ensures.ends extra) in
+    let ends = Ends-asked c.in-Some.job job told extra c.answer_job.result _ _ _ _ c.in-Some.ensures c.answer_job.ensures.ends in
     let answer = ends.answered (omega (arith, zero)) in
     IsProved-zero job told extra answer.0 check (subst (λ n. IsAnswerTo job told extra n answer.0) zero answer.1)

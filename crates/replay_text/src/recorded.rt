@@ -1,0 +1,48 @@
+// From the bytes of a schedule to the text of its replay.
+
+ghost use Rattle.std.specs.Prelude.{◌≡◌, ◌≤◌, length, IfOk};
+ghost use Rattle.schedule_json.specs.Fitting.{IsScheduleOf};
+ghost use Rattle.schedule_json.specs.Texts.{most_schedule_bytes};
+ghost use Rattle.replay_text.specs.Text.{replay_text, replay_status};
+ghost use Rattle.replay_text.specs.Recorded.{schedule_status, schedule_text};
+
+use crate::writing::{Report, replay};
+use schedule_json::{Schedule, read_schedule, refusal_text};
+use spec_core::Spec;
+use std::alloc::{AllocError, Global};
+
+/// The status where some bytes are no schedule.
+const REFUSED: u8 = 4;
+
+/// Replays a schedule.
+fn replay_read(alloc: Global, spec: &Spec, schedule: Schedule) -> Result<Report, AllocError>
+    requires { IsScheduleOf spec.now schedule }
+    ensures text { IfOk result (λ report. report.text.items ≡ replay_text spec.now schedule.world schedule.replicas schedule.steps) }
+    ensures status { IfOk result (λ report. report.status ≡ replay_status spec.now schedule.world schedule.replicas schedule.steps) }
+{
+    replay(
+        alloc,
+        spec,
+        schedule.world,
+        schedule.replicas,
+        schedule.steps.as_slice(),
+    )
+}
+
+/// Replays the schedule that some bytes are, of which there aren't too many, or says why they are none.
+pub fn replay_bytes(alloc: Global, spec: &Spec, bytes: &[u8]) -> Result<Report, AllocError>
+    requires { length bytes.now ≤ most_schedule_bytes }
+    ensures text { IfOk result (λ report. report.text.items ≡ schedule_text spec.now bytes.now) }
+    ensures status { IfOk result (λ report. report.status ≡ schedule_status spec.now bytes.now) }
+{
+    match read_schedule(alloc, spec, bytes) {
+        Ok(schedule) => replay_read(alloc, spec, schedule),
+        Err(refused) => {
+            let text = refusal_text(alloc, &refused)?;
+            Ok(Report {
+                status: REFUSED,
+                text,
+            })
+        }
+    }
+}
