@@ -3,10 +3,10 @@ ghost use Rattle.std.specs.Prelude.{◌≡◌, ◌⊎◌, ◌<◌, true, false, 
 ghost use Rattle.byte_ports.specs.Faults.{IsFault};
 ghost use Rattle.spec_reader.specs.Form.{tree_of};
 ghost use Rattle.spec_from_bytes.specs.Reading.{Tells, IsReadingOf};
-ghost use Rattle.cise_run.specs.Words.{job_of, is_check, reads_spec, reads_extra, IsInputFault};
+ghost use Rattle.cise_run.specs.Words.{job_of, is_check, is_replay, reads_spec, reads_extra, IsInputFault};
 ghost use Rattle.cise_run.specs.Ending.{Ends};
 ghost use Rattle.cise_run.specs.Answer.{IsOutcome, IsOutcomeFront, IsAnswerFor, IsFrontFor, IsAnswerTo, IsFrontTo, EndsWith, IsAnswered, IsStopped};
-ghost use Rattle.cise_run.specs.Headline.{IsProved};
+ghost use Rattle.cise_run.specs.Headline.{IsProved, IsReplayedSafely};
 
 use crate::commands::check::check;
 use crate::commands::replay::replay_schedule;
@@ -105,6 +105,9 @@ pub fn run<S: Source, E: Source, K: Sink>(
 
     // The headline: a specification whose check ends with status 0 converges.
     ensures proved { result ≡ 0 → is_check (job_of (map string_bytes words.now)) ≡ true → IfSome (S.left spec.old) IsProved }
+
+    // And a safe specification is never replayed to a state that breaks an invariant.
+    ensures safe { is_replay (job_of (map string_bytes words.now)) ≡ true → IfSome (S.left spec.old) (λ bytes. IsReplayedSafely bytes (E.left extra.old) result) }
 
     // What isn't read for the job stays as it was.
     ensures unread { reads_spec (job_of (map string_bytes words.now)) ≡ false → spec.new ≡ spec.old }

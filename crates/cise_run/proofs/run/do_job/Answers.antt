@@ -1,8 +1,14 @@
-use Rattle.cise_run.proofs.Endings.{some_told}
+use Rattle.spec_reader.specs.Form.{tree_of}
+use Rattle.cise_run.specs.declared.words.Job.TheVariants.{Check, Spell}
+use Rattle.cise_run.proofs.Endings.{Ends-job, some_told}
 use Rattle.cise_run.proofs.run.do_job.Goals as goal
 
 pub returns-in-Check-clause-ends : goal.returns-in-Check-clause-ends
-returns-in-Check-clause-ends g c = let given = some_told (g.E.Source.left c.args.extra.now) in (given.0, given.1, c.check.ensures.ends)
+returns-in-Check-clause-ends g c =
+    let given = some_told (g.E.Source.left c.args.extra.now) in
+    (given.0, given.1, Ends-job c.args.job (Check c.in-Check.budget) (tree_of c.args.tree.now) c.args.spec.now given.0 c.check.result _ _ _ _ c.in-Check.is c.check.ensures.ends)
 
 pub returns-in-Spell-clause-ends : goal.returns-in-Spell-clause-ends
-returns-in-Spell-clause-ends g c = let given = some_told (g.E.Source.left c.args.extra.now) in (given.0, given.1, c.spell_tree.ensures.ends)
+returns-in-Spell-clause-ends g c =
+    let given = some_told (g.E.Source.left c.args.extra.now) in
+    (given.0, given.1, Ends-job c.args.job Spell (tree_of c.args.tree.now) c.args.spec.now given.0 c.spell_tree.result _ _ _ _ c.in-Spell.is c.spell_tree.ensures.ends)
