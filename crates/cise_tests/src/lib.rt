@@ -21,6 +21,8 @@ mod printing;
 #[cfg(test)]
 mod refusals;
 #[cfg(test)]
+mod replay;
+#[cfg(test)]
 mod spell;
 #[cfg(test)]
 mod statuses;
