@@ -1,5 +1,5 @@
 // The program: `check SPEC` reads a specification and writes the report of its obligations, `spell SPEC` writes its words in the
-// layout of the language.
+// layout of the language, `replay SPEC SCHEDULE` carries a recorded schedule out and writes what comes of it.
 //
 // This is the edge alone: the words behind the program's name, files as sources, and standard output as the sink. All else is `run`
 // of `cise_run`, for any sources and any sink, whose clauses say what each status means.

@@ -5,11 +5,12 @@
 // `first_form` tells which specifications can be checked yet, and `report` makes the text of a report. `law` says that two answers
 // to the same words and bytes agree.
 //
-// It stands on `spec_from_bytes`, which reads the specification, and on `executions`, whose theorem makes a check that ends with
-// status 0 a proof of convergence. The definitions stand in specs/, in this order: Words (which words are accepted, what they ask
+// It stands on `spec_from_bytes`, which reads the specification, on `replay_text`, which replays a schedule, and on `executions`, whose
+// theorem makes a check that ends with status 0 a proof of convergence. The definitions stand in specs/, in this order: Words (which words are accepted, what they ask
 // for, and which inputs that reads), Ending (how the writing of a text ends), FirstForm (which specifications can be checked yet),
 // Report (verdicts and the text), commands (what each command answers, in a file for each), Answer (which status and text belong
-// to which words and bytes), Headline (what status 0 of a check says). Blocks mirrors the code that makes the report.
+// to which words and bytes), Headline (what status 0 of a check says, and what a replay of a safe specification keeps). Blocks and Replayed
+// mirror the code.
 #![tactic(auto)]
 
 mod commands;
