@@ -1,0 +1,6 @@
+pub mod Stages
+pub mod Numbered
+pub mod Numbers
+pub mod Steps
+pub mod Clauses
+pub mod Problem
