@@ -4,3 +4,9 @@ pub mod Growing
 pub mod Stepping
 pub mod Staged
 pub mod Example
+pub mod Valued
+pub mod Meant
+pub mod Folding
+pub mod Clausal
+pub mod Named
+pub mod Whole
