@@ -10,3 +10,4 @@ pub mod Folding
 pub mod Clausal
 pub mod Named
 pub mod Whole
+pub mod Summed

@@ -1,6 +1,6 @@
 -- What the row of two sums says is what is said of the sums.
-use Rattle.std.proofs.Common.{◌≡◌, ℕ, zero, suc, ltb, ℤ, pos, negsuc, ◌+ℤ◌, ◌*ℤ◌, Bool, true, false, cond, List, [], ◌∷◌, ◌++◌, refl, ◌∙◌, ap, arith}
-use Rattle.std.specs.Prelude.{◌-ℤ◌, neg_ℤ, int_le}
+use Rattle.std.proofs.Common.{◌≡◌, ℕ, zero, suc, ℤ, pos, negsuc, ◌+ℤ◌, ◌*ℤ◌, Bool, true, false, cond, List, [], ◌∷◌, ◌++◌, refl, ◌∙◌, ap, arith}
+use Rattle.std.specs.Prelude.{◌-ℤ◌, neg_ℤ, int_le, nat_lt}
 use Rattle.std.specs.List.{fold}
 use Rattle.std.proofs.lemmas.Bool.Decides.{nat_tests}
 use Rattle.std.proofs.lemmas.Int.{ints}
@@ -30,9 +30,9 @@ module _ (x : ℕ → ℤ) where
 
   with_term-value : (ts : List RowTerm) (u : RowTerm) → value_at x (with_term ts u) ≡ u.coef *ℤ x u.place +ℤ value_at x ts
   with_term-value [] u = put-value u []
-  with_term-value (t ∷ ts) u = by_tests (ltb t.place u.place) (ltb u.place t.place) refl refl (with_term-value ts u)
+  with_term-value (t ∷ ts) u = by_tests (nat_lt t.place u.place) (nat_lt u.place t.place) refl refl (with_term-value ts u)
     where
-      both_not : (a b : ℕ) → ltb a b ≡ false → ltb b a ≡ false → a ≡ b
+      both_not : (a b : ℕ) → nat_lt a b ≡ false → nat_lt b a ≡ false → a ≡ b
       both_not a b p q = grind (arith, nat_tests)
 
       swapped : (a b c : ℤ) → a +ℤ (b +ℤ c) ≡ b +ℤ (a +ℤ c)
@@ -41,7 +41,7 @@ module _ (x : ℕ → ℤ) where
       grouped : (a b c : ℤ) → (a +ℤ b) +ℤ c ≡ b +ℤ (a +ℤ c)
       grouped a b c = omega (arith, ints)
 
-      by_tests : (b c : Bool) → ltb t.place u.place ≡ b → ltb u.place t.place ≡ c → value_at x (with_term ts u) ≡ u.coef *ℤ x u.place +ℤ value_at x ts
+      by_tests : (b c : Bool) → nat_lt t.place u.place ≡ b → nat_lt u.place t.place ≡ c → value_at x (with_term ts u) ≡ u.coef *ℤ x u.place +ℤ value_at x ts
           → value_at x (cond b (t ∷ with_term ts u) (cond c (put u (t ∷ ts)) (put (record { place = t.place; coef = t.coef +ℤ u.coef }) ts))) ≡ u.coef *ℤ x u.place +ℤ (t.coef *ℤ x t.place +ℤ value_at x ts)
       by_tests true c p q ih = ap (λ (z : ℤ). t.coef *ℤ x t.place +ℤ z) ih ∙ swapped (t.coef *ℤ x t.place) (u.coef *ℤ x u.place) (value_at x ts)
       by_tests false true p q ih = put-value u (t ∷ ts)

@@ -1,5 +1,5 @@
 -- Numbers for atoms and for names of integers, in the order in which formulas first name them.
-use Rattle.std.specs.Prelude.{ℕ, ltb, ◌==◌, ℤ, pos, ◌+ℤ◌, ◌-ℤ◌, neg_ℤ, int_le, Bool, true, false, cond, ◌&&◌, List, [], ◌∷◌, ◌++◌}
+use Rattle.std.specs.Prelude.{ℕ, nat_lt, ◌==◌, ℤ, pos, ◌+ℤ◌, ◌-ℤ◌, neg_ℤ, int_le, Bool, true, false, cond, ◌&&◌, List, [], ◌∷◌, ◌++◌}
 use Rattle.std.specs.Str.{bytes_eq}
 use Rattle.std.specs.List.{list_any, position_or_len, fold}
 use Rattle.lin_rows.specs.declared.term.RowTerm.{RowTerm}
@@ -92,8 +92,8 @@ plain_of (multiple k x ∷ ps) = plain_of ps
 abbrev pub with_term : List RowTerm → RowTerm → List RowTerm
 with_term [] u = put u []
 with_term (t ∷ ts) u =
-    cond (ltb t.place u.place) (t ∷ with_term ts u)
-    (cond (ltb u.place t.place) (put u (t ∷ ts))
+    cond (nat_lt t.place u.place) (t ∷ with_term ts u)
+    (cond (nat_lt u.place t.place) (put u (t ∷ ts))
     (put (record { place = t.place; coef = t.coef +ℤ u.coef }) ts))
 
 -- terms added up one by one, in their order

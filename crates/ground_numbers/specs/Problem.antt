@@ -1,11 +1,9 @@
 -- The problem of an obligation: clauses over numbered atoms.
-use Rattle.std.specs.Prelude.{ℕ, suc, ◌^◌, ℤ, pos, unsigned_abs, nat_le, Bool, true, cond, ◌&&◌, List, [], ◌∷◌, ◌++◌, map, length, replicate}
-use Rattle.std.specs.List.{list_all}
+use Rattle.std.specs.Prelude.{ℕ, suc, pos, cond, ◌&&◌, List, [], ◌∷◌, ◌++◌, map, length, replicate}
 use Rattle.spec_core.specs.declared.operation.Param.{Param as Parameter}
 use Rattle.spec_core.specs.Specification.{Specification}
 use Rattle.spec_core.specs.Typed.{is_int}
 use Rattle.obligation_list.specs.declared.obligation.Obligation.{Obligation}
-use Rattle.lin_rows.specs.Rows.{Row}
 use Rattle.proof_lines.specs.declared.problem.AtomKind.{AtomKind}
 use Rattle.proof_lines.specs.declared.problem.AtomKind.TheVariants.{Plain, Row as OfRow}
 use Rattle.proof_lines.specs.Problems.{PlainProblem, Meaning}
@@ -68,20 +66,3 @@ interpretation_of o m = record {
   has = λ k r t. has_number o (has_atom k r t) && m.truth (number_of o (has_atom k r t));
   int = λ x. cond (has_integer o x) (m.number (integer_of o x)) (pos 0);
 }
-
--- ---- how large numbers are
-
--- the greatest size of a coefficient and of a bound
-abbrev pub greatest_number : ℕ
-greatest_number = 10 ^ 20
-
-abbrev pub is_small : ℤ → Bool
-is_small n = nat_le (unsigned_abs n) greatest_number
-
-abbrev pub is_small_row : Row → Bool
-is_small_row r = list_all (λ t. is_small t.coef) r.terms && is_small r.bound
-
-abbrev pub is_small_atom : Atom → Bool
-is_small_atom (same_atom a b) = true
-is_small_atom (has_atom k r t) = true
-is_small_atom (row_atom r) = is_small_row r

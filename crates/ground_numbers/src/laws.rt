@@ -1,6 +1,6 @@
 // The laws of numbers and clauses.
 
-ghost use Rattle.std.specs.Prelude.{◌≡◌, ℕ, true, List, ◌++◌, map};
+ghost use Rattle.std.specs.Prelude.{◌≡◌, ◌^◌, ℕ, nat_lt, ℤ, true, Some, List, ◌++◌, map};
 ghost use Rattle.spec_core.specs.declared.world.World.{World};
 ghost use Rattle.spec_core.specs.declared.world.Call.{Call};
 ghost use Rattle.spec_core.specs.Specification.{Specification};
@@ -9,12 +9,15 @@ ghost use Rattle.spec_core.specs.Typed.{is_specification};
 ghost use Rattle.obligation_list.specs.declared.obligation.Obligation.{Obligation};
 ghost use Rattle.obligation_list.specs.Breaking.{Breaks, Holds};
 ghost use Rattle.obligation_list.specs.Obligations.{IsObligation};
+ghost use Rattle.lin_rows.specs.declared.term.RowTerm.{RowTerm};
+ghost use Rattle.lin_rows.specs.Sums.{row_of};
 ghost use Rattle.proof_lines.specs.Problems.{Meaning, atom_true, makes_true, HasNoInterpretation};
 ghost use Rattle.ground_problem.specs.Symbols.{Symbolic, all_true};
 ghost use Rattle.ground_problem.specs.Problem.{formulas_of};
 ghost use Rattle.ground_problem.specs.Readback.{ReadFrom};
 ghost use Rattle.ground_numbers.specs.Numbered.{Numbered, all_hold};
-ghost use Rattle.ground_numbers.specs.Numbers.{Table, numbered, naming_all};
+ghost use Rattle.ground_numbers.specs.Numbers.{Table, added_up, numbered, naming_all};
+ghost use Rattle.ground_numbers.specs.Sizes.{size_of_terms};
 ghost use Rattle.ground_numbers.specs.Steps.{steps_after};
 ghost use Rattle.ground_numbers.specs.Problem.{table_of, numbered_of, kind_of, problem_of, interpretation_of};
 
@@ -48,4 +51,10 @@ pub fn law_numbers_are_names()
 /// from the meaning: what has no number is false or 0.
 pub fn law_meaning_breaks()
     ensures { (d : Specification) (ob : Obligation) (m : Meaning) → is_specification d ≡ true → IsObligation d ob → all_hold (atom_true m (map kind_of (table_of d ob).atoms)) (numbered_of d ob) ≡ true → (w : World) × (s : Listing) × (cs : List Call) × (es : List ℕ) × Breaks d ob w s cs es × ReadFrom d ob (interpretation_of (table_of d ob) m) w s cs }
+{}
+
+/// A row of terms is never out of range where the sizes of their coefficients are together in the range of a row: it holds the terms
+/// added up.
+pub fn law_row_of_terms()
+    ensures { (ts : List RowTerm) (bound : ℤ) → nat_lt (size_of_terms ts) (2 ^ 127) ≡ true → row_of ts bound ≡ Some (record { terms = added_up ts; bound = bound }) }
 {}

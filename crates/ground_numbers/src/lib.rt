@@ -10,5 +10,5 @@ mod laws;
 
 pub use laws::{
     law_broken_has_meaning, law_clauses_make_formulas_true, law_meaning_breaks,
-    law_numbers_are_names, law_refuted_problem_holds, law_steps_are_numbers,
+    law_numbers_are_names, law_refuted_problem_holds, law_row_of_terms, law_steps_are_numbers,
 };
