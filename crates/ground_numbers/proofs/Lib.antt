@@ -11,3 +11,7 @@ pub mod Clausal
 pub mod Named
 pub mod Whole
 pub mod Summed
+pub mod Placed
+pub mod Moderate
+pub mod Groups
+pub mod Small

@@ -1,5 +1,5 @@
 -- Terms added up are what the row of terms holds, where no sum leaves the range of a row.
-use Rattle.std.proofs.Common.{◌≡◌, ℕ, zero, suc, ◌+◌, ◌<◌, ◌≤◌, ℤ, pos, negsuc, ◌+ℤ◌, Bool, true, false, not, cond, Some, None, List, [], ◌∷◌, refl, sym, ◌∙◌, ap, arith}
+use Rattle.std.proofs.Common.{◌≡◌, ℕ, zero, suc, ◌+◌, ◌<◌, ◌≤◌, ℤ, pos, negsuc, ◌+ℤ◌, Bool, true, false, not, cond, Option, Some, None, List, [], ◌∷◌, refl, sym, ◌∙◌, ap, arith}
 use Rattle.std.specs.Prelude.{◌^◌, nat_lt, unsigned_abs}
 use Rattle.std.specs.List.{fold, list_all}
 use Rattle.std.specs.Option.{option_map, option_and_then}
@@ -8,6 +8,7 @@ use Rattle.std.proofs.lemmas.Bool.Decides.{nat_tests}
 use Rattle.std.proofs.lemmas.Int.{ints}
 use Rattle.lin_rows.specs.declared.term.RowTerm.{RowTerm}
 use Rattle.lin_rows.specs.Numbers.{in_range, fit, is_zero}
+use Rattle.lin_rows.specs.Rows.{Row}
 use Rattle.lin_rows.specs.Sums.{put, put_fit, merged, collected, row_of}
 use Rattle.ground_numbers.specs.Numbers.{with_term, added_up}
 use Rattle.ground_numbers.specs.Sizes.{size_of_terms}
@@ -158,6 +159,62 @@ row_of-is ts bound l = ap (option_map (λ us. record { terms = us; bound = bound
   where
     less : (a b : ℕ) → nat_lt a b ≡ true → 0 + a < b
     less a b h = grind (arith, nat_tests)
+
+-- ---- what a row holds
+
+some_is : {A : Type 0} {a b : A} → Some a ≡ Some b → a ≡ b
+some_is {A = A} {a = a} {b = b} e = ap (value_or a) e
+  where
+    value_or : A → Option A → A
+    value_or d None = d
+    value_or d (Some x) = x
+
+merged-one-some : (ts : List RowTerm) (u : RowTerm) (out : List RowTerm) → not (is_zero u.coef) ≡ true → merged ts (u ∷ []) ≡ Some out → with_term ts u ≡ out
+merged-one-some [] u out z h = put-there u.place u.coef [] z ∙ some_is h
+merged-one-some (t ∷ ts) u out z h = by_tests (nat_lt t.place u.place) (nat_lt u.place t.place) (merged-one-some ts u) h
+  where
+    by_rest : (o : Option (List RowTerm)) → ((x : List RowTerm) → o ≡ Some x → with_term ts u ≡ x) → option_map (λ us. t ∷ us) o ≡ Some out → t ∷ with_term ts u ≡ out
+    by_rest None ih h = absurd cc
+    by_rest (Some x) ih h = ap (λ us. t ∷ us) (ih x refl) ∙ some_is h
+
+    by_range : (b : Bool) → put_fit t.place (cond b (Some (t.coef +ℤ u.coef)) None) (Some ts) ≡ Some out → put (record { place = t.place; coef = t.coef +ℤ u.coef }) ts ≡ out
+    by_range true h = some_is h
+    by_range false h = absurd cc
+
+    by_tests : (b c : Bool) → ((x : List RowTerm) → not (is_zero u.coef) ≡ true → merged ts (u ∷ []) ≡ Some x → with_term ts u ≡ x)
+        → cond b (option_map (λ us. t ∷ us) (merged ts (u ∷ []))) (cond c (Some (u ∷ t ∷ ts)) (put_fit t.place (fit (t.coef +ℤ u.coef)) (merged ts []))) ≡ Some out
+        → cond b (t ∷ with_term ts u) (cond c (put u (t ∷ ts)) (put (record { place = t.place; coef = t.coef +ℤ u.coef }) ts)) ≡ out
+    by_tests true c ih h = by_rest (merged ts (u ∷ [])) (λ x e. ih x z e) h
+    by_tests false true ih h = put-there u.place u.coef (t ∷ ts) z ∙ some_is h
+    by_tests false false ih h = by_range (in_range (t.coef +ℤ u.coef)) (ap (put_fit t.place (fit (t.coef +ℤ u.coef))) (sym (merged-none ts)) ∙ h)
+
+merged-put-some : (ts : List RowTerm) (u : RowTerm) (out : List RowTerm) → none_zero ts ≡ true → merged ts (put u []) ≡ Some out → with_term ts u ≡ out
+merged-put-some ts u out n h = by_test (is_zero u.coef) refl h
+  where
+    not_it : (b : Bool) → b ≡ false → not b ≡ true
+    not_it b h = grind arith
+
+    by_test : (b : Bool) → is_zero u.coef ≡ b → merged ts (cond b [] (u ∷ [])) ≡ Some out → with_term ts u ≡ out
+    by_test true e h = with_term-zero ts u n e ∙ some_is (sym (merged-none ts) ∙ h)
+    by_test false e h = merged-one-some ts u out (not_it (is_zero u.coef) e) h
+
+collected-some : (so_far ts out : List RowTerm) → none_zero so_far ≡ true → collected so_far ts ≡ Some out → fold with_term so_far ts ≡ out
+collected-some so_far [] out n h = some_is h
+collected-some so_far (t ∷ ts) out n h = collected-some (with_term so_far t) ts out (with_term-none_zero so_far t n) (by_next (merged so_far (put t [])) (λ x e. merged-put-some so_far t x n e) h)
+  where
+    by_next : (o : Option (List RowTerm)) → ((x : List RowTerm) → o ≡ Some x → with_term so_far t ≡ x) → option_and_then (λ next. collected next ts) o ≡ Some out → collected (with_term so_far t) ts ≡ Some out
+    by_next None f h = absurd cc
+    by_next (Some x) f h = ap (λ next. collected next ts) (f x refl) ∙ h
+
+-- A row of terms, where there is one, holds the terms added up.
+pub row_of-some : (ts : List RowTerm) (bound : ℤ) (out : Row) → row_of ts bound ≡ Some out → out ≡ record { terms = added_up ts; bound = bound }
+row_of-some ts bound out h = by_terms (collected [] ts) (λ x e. collected-some [] ts x refl e) h
+  where
+    by_terms : (o : Option (List RowTerm)) → ((x : List RowTerm) → o ≡ Some x → added_up ts ≡ x) → option_map (λ us. record { terms = us; bound = bound }) o ≡ Some out → out ≡ record { terms = added_up ts; bound = bound }
+    by_terms None f h = absurd cc
+    by_terms (Some x) f h = sym (ap (λ us. record { terms = us; bound = bound }) (f x refl) ∙ some_is h)
+
+-- ---- the size of a sum
 
 fold-size : (so_far ts : List RowTerm) → size_of_terms (fold with_term so_far ts) ≤ size_of_terms so_far + size_of_terms ts
 fold-size so_far [] = omega arith

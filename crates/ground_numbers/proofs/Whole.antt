@@ -15,7 +15,7 @@ use Rattle.obligation_list.specs.Breaking.{Breaks, Holds}
 use Rattle.proof_lines.specs.declared.problem.AtomKind.{AtomKind}
 use Rattle.proof_lines.specs.declared.problem.AtomKind.TheVariants.{Plain}
 use Rattle.proof_lines.specs.Clauses.{all_true as clauses_true}
-use Rattle.proof_lines.specs.Problems.{Meaning, kind_true, atom_true, makes_true, HasNoInterpretation}
+use Rattle.proof_lines.specs.Problems.{fits, Meaning, kind_true, atom_true, makes_true, HasNoInterpretation}
 use Rattle.ground_problem.specs.Symbols.{Symbolic, Interpretation, all_true}
 use Rattle.ground_problem.specs.Problem.{formulas_of}
 use Rattle.ground_problem.specs.Readback.{ReadFrom}
@@ -24,10 +24,11 @@ use Rattle.ground_problem.proofs.Second.{second_direction}
 use Rattle.ground_numbers.specs.Numbered.{Numbered, all_hold, is_below}
 use Rattle.ground_numbers.specs.Numbers.{Atom, same_atom, has_atom, row_atom, Table, numbered}
 use Rattle.ground_numbers.specs.Clauses.{all_names, all_clauses}
-use Rattle.ground_numbers.specs.Problem.{arguments_of, table_of, numbered_of, kind_of, problem, problem_of, interpretation_of}
+use Rattle.ground_numbers.specs.Problem.{arguments_of, table_of, numbered_of, kind_of, rows_placed, problem, problem_of, interpretation_of}
 use Rattle.ground_numbers.proofs.Lookups.{get-map}
 use Rattle.ground_numbers.proofs.Growing.{AllNamesIn, naming_all-has, numbered-below}
 use Rattle.ground_numbers.proofs.Meant.{atom_says, all-mean, no_atom, integer_values, atom_values, values-agree, meaning-agrees}
+use Rattle.ground_numbers.proofs.Placed.{naming_all-placed, problem-fits}
 use Rattle.ground_numbers.proofs.Clausal.{clauses-sound}
 use Rattle.ground_numbers.proofs.Named.{SameBelow, clauses-complete}
 
@@ -127,3 +128,14 @@ Broken d ob i = (w : World) × (s : Listing) × (cs : List Call) × (es : List �
 
 pub meaning_breaks : (d : Specification) (ob : Obligation) (m : Meaning) → is_specification d ≡ true → IsObligation d ob → all_hold (atom_true m (map kind_of (table_of d ob).atoms)) (numbered_of d ob) ≡ true → Broken d ob (interpretation_of (table_of d ob) m)
 meaning_breaks d ob m t io h = second_direction d ob (interpretation_of (table_of d ob) m) t io (sym (numbers_are_names d ob m) ∙ h)
+
+-- ---- what keeps within its limits
+
+pub table_placed : (d : Specification) (ob : Obligation) → rows_placed (table_of d ob) ≡ true
+table_placed d ob = naming_all-placed (record { atoms = []; ints = arguments_of d ob }) (formulas_of d ob) refl
+
+pub numbered_below : (d : Specification) (ob : Obligation) → list_all (is_below (length (table_of d ob).atoms)) (numbered_of d ob) ≡ true
+numbered_below d ob = all-below (table_of d ob) (formulas_of d ob) (names-of d ob)
+
+pub problem_fits : (d : Specification) (ob : Obligation) → fits (problem_of d ob) ≡ true
+problem_fits d ob = problem-fits (table_of d ob) (numbered_of d ob) (table_placed d ob) (numbered_below d ob)

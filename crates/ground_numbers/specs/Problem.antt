@@ -1,12 +1,13 @@
 -- The problem of an obligation: clauses over numbered atoms.
-use Rattle.std.specs.Prelude.{ℕ, suc, pos, cond, ◌&&◌, List, [], ◌∷◌, ◌++◌, map, length, replicate}
+use Rattle.std.specs.Prelude.{ℕ, suc, pos, Bool, cond, ◌&&◌, List, [], ◌∷◌, ◌++◌, map, length, replicate}
+use Rattle.std.specs.List.{list_all}
 use Rattle.spec_core.specs.declared.operation.Param.{Param as Parameter}
 use Rattle.spec_core.specs.Specification.{Specification}
 use Rattle.spec_core.specs.Typed.{is_int}
 use Rattle.obligation_list.specs.declared.obligation.Obligation.{Obligation}
 use Rattle.proof_lines.specs.declared.problem.AtomKind.{AtomKind}
 use Rattle.proof_lines.specs.declared.problem.AtomKind.TheVariants.{Plain, Row as OfRow}
-use Rattle.proof_lines.specs.Problems.{PlainProblem, Meaning}
+use Rattle.proof_lines.specs.Problems.{PlainProblem, names_below, Meaning}
 use Rattle.ground_problem.specs.Symbols.{Integer, argument, Interpretation}
 use Rattle.ground_problem.specs.Constants.{params_of}
 use Rattle.ground_problem.specs.Problem.{formulas_of}
@@ -44,6 +45,10 @@ abbrev pub kind_of : Atom → AtomKind
 kind_of (same_atom a b) = Plain
 kind_of (has_atom k r t) = Plain
 kind_of (row_atom r) = OfRow r
+
+-- the places of the rows of a table are numbers of its integers
+abbrev pub rows_placed : Table → Bool
+rows_placed o = list_all (names_below (length o.ints)) (map kind_of o.atoms)
 
 -- The problem of formulas over the numbers of a table: the atoms keep their numbers, and after them come those that name parts.
 abbrev pub problem : Table → List Numbered → PlainProblem

@@ -3,7 +3,7 @@ use Rattle.std.specs.Prelude.{ℕ, ◌+◌, ◌^◌, ℤ, unsigned_abs, nat_le, 
 use Rattle.std.specs.List.{list_all}
 use Rattle.lin_rows.specs.declared.term.RowTerm.{RowTerm}
 use Rattle.lin_rows.specs.Rows.{Row}
-use Rattle.ground_numbers.specs.Numbers.{Atom, same_atom, has_atom, row_atom}
+use Rattle.ground_numbers.specs.Numbers.{Atom, same_atom, has_atom, row_atom, Table}
 
 -- the sizes of the coefficients together
 abbrev pub size_of_terms : List RowTerm → ℕ
@@ -25,3 +25,7 @@ abbrev pub is_small_atom : Atom → Bool
 is_small_atom (same_atom a b) = true
 is_small_atom (has_atom k r t) = true
 is_small_atom (row_atom r) = is_small_row r
+
+-- no row of a table has a larger one
+abbrev pub rows_small : Table → Bool
+rows_small o = list_all is_small_atom o.atoms

@@ -1,6 +1,8 @@
 // The laws of numbers and clauses.
 
-ghost use Rattle.std.specs.Prelude.{◌≡◌, ◌^◌, ℕ, nat_lt, ℤ, true, Some, List, ◌++◌, map};
+ghost use Rattle.std.specs.Prelude.{◌≡◌, ◌^◌, ◌==◌, ℕ, suc, nat_lt, ℤ, true, Some, List, ◌∷◌, ◌++◌, map, length};
+ghost use Rattle.std.specs.List.{list_all};
+ghost use Rattle.std.specs.Str.{bytes_eq};
 ghost use Rattle.spec_core.specs.declared.world.World.{World};
 ghost use Rattle.spec_core.specs.declared.world.Call.{Call};
 ghost use Rattle.spec_core.specs.Specification.{Specification};
@@ -10,16 +12,18 @@ ghost use Rattle.obligation_list.specs.declared.obligation.Obligation.{Obligatio
 ghost use Rattle.obligation_list.specs.Breaking.{Breaks, Holds};
 ghost use Rattle.obligation_list.specs.Obligations.{IsObligation};
 ghost use Rattle.lin_rows.specs.declared.term.RowTerm.{RowTerm};
+ghost use Rattle.lin_rows.specs.Rows.{Row};
 ghost use Rattle.lin_rows.specs.Sums.{row_of};
-ghost use Rattle.proof_lines.specs.Problems.{Meaning, atom_true, makes_true, HasNoInterpretation};
+ghost use Rattle.proof_lines.specs.Problems.{fits, Meaning, atom_true, makes_true, HasNoInterpretation};
 ghost use Rattle.ground_problem.specs.Symbols.{Symbolic, all_true};
 ghost use Rattle.ground_problem.specs.Problem.{formulas_of};
 ghost use Rattle.ground_problem.specs.Readback.{ReadFrom};
-ghost use Rattle.ground_numbers.specs.Numbered.{Numbered, all_hold};
+ghost use Rattle.ground_numbers.specs.Stages.{stage_of, stage_before, latest_call};
+ghost use Rattle.ground_numbers.specs.Numbered.{Numbered, all_hold, is_below};
 ghost use Rattle.ground_numbers.specs.Numbers.{Table, added_up, numbered, naming_all};
-ghost use Rattle.ground_numbers.specs.Sizes.{size_of_terms};
+ghost use Rattle.ground_numbers.specs.Sizes.{size_of_terms, rows_small};
 ghost use Rattle.ground_numbers.specs.Steps.{steps_after};
-ghost use Rattle.ground_numbers.specs.Problem.{table_of, numbered_of, kind_of, problem_of, interpretation_of};
+ghost use Rattle.ground_numbers.specs.Problem.{table_of, numbered_of, kind_of, rows_placed, problem, problem_of, interpretation_of};
 
 /// Formulas that are numbered as they come have the numbers of the final table: a number stays as the table grows.
 pub fn law_steps_are_numbers()
@@ -53,8 +57,29 @@ pub fn law_meaning_breaks()
     ensures { (d : Specification) (ob : Obligation) (m : Meaning) → is_specification d ≡ true → IsObligation d ob → all_hold (atom_true m (map kind_of (table_of d ob).atoms)) (numbered_of d ob) ≡ true → (w : World) × (s : Listing) × (cs : List Call) × (es : List ℕ) × Breaks d ob w s cs es × ReadFrom d ob (interpretation_of (table_of d ob) m) w s cs }
 {}
 
-/// A row of terms is never out of range where the sizes of their coefficients are together in the range of a row: it holds the terms
-/// added up.
+/// The numbers of stages are one to one, and a stage after the entry is the one before it with its latest call.
+pub fn law_stage_numbers()
+    ensures same { (m n : ℕ) → bytes_eq (stage_of m) (stage_of n) ≡ (m == n) }
+    ensures made { (n : ℕ) → stage_of (suc n) ≡ latest_call (suc n) ∷ stage_of (stage_before (suc n)) }
+{}
+
+/// A row of terms holds the terms added up. It is never out of range where the sizes of their coefficients are together in the range
+/// of a row.
 pub fn law_row_of_terms()
-    ensures { (ts : List RowTerm) (bound : ℤ) → nat_lt (size_of_terms ts) (2 ^ 127) ≡ true → row_of ts bound ≡ Some (record { terms = added_up ts; bound = bound }) }
+    ensures terms { (ts : List RowTerm) (bound : ℤ) (row : Row) → row_of ts bound ≡ Some row → row ≡ record { terms = added_up ts; bound = bound } }
+    ensures in_range { (ts : List RowTerm) (bound : ℤ) → nat_lt (size_of_terms ts) (2 ^ 127) ≡ true → row_of ts bound ≡ Some (record { terms = added_up ts; bound = bound }) }
+{}
+
+/// The problem of formulas is one that the type of problems keeps, where the formulas name atoms of the table, and the places of its
+/// rows are numbers of its integers.
+pub fn law_problem_fits()
+    ensures { (o : Table) (fs : List Numbered) → rows_placed o ≡ true → list_all (is_below (length o.atoms)) fs ≡ true → fits (problem o fs) ≡ true }
+{}
+
+/// Both hold of an obligation's table and formulas, and no coefficient and no bound of a row is beyond 10^20.
+pub fn law_obligation_fits()
+    ensures rows { (d : Specification) (ob : Obligation) → rows_placed (table_of d ob) ≡ true }
+    ensures formulas { (d : Specification) (ob : Obligation) → list_all (is_below (length (table_of d ob).atoms)) (numbered_of d ob) ≡ true }
+    ensures problem { (d : Specification) (ob : Obligation) → fits (problem_of d ob) ≡ true }
+    ensures numbers { (d : Specification) (ob : Obligation) → is_specification d ≡ true → rows_small (table_of d ob) ≡ true }
 {}
