@@ -15,3 +15,4 @@ pub mod Placed
 pub mod Moderate
 pub mod Groups
 pub mod Small
+pub mod Arguments

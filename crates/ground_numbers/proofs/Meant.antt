@@ -91,3 +91,11 @@ meaning-agrees o rest m = record { atoms = λ a h. ap (kind_true m (number_of o 
     says (same_atom a b) h = ap (λ c. c && m.truth (number_of o (same_atom a b))) (sym h)
     says (has_atom k r t) h = ap (λ c. c && m.truth (number_of o (has_atom k r t))) (sym h)
     says (row_atom r) h = refl
+
+-- the whole numbers of the names are those of the meaning, or 0
+pub integers-pass : (o : Table) (m : Meaning) (test : ℤ → Bool) → test (pos 0) ≡ true → ((n : ℕ) → test (m.number n) ≡ true) → (y : Integer) → test ((interpretation_of o m).int y) ≡ true
+integers-pass o m test z h y = by_test (has_integer o y)
+  where
+    by_test : (b : Bool) → test (cond b (m.number (integer_of o y)) (pos 0)) ≡ true
+    by_test true = h (integer_of o y)
+    by_test false = z

@@ -9,7 +9,8 @@
 mod laws;
 
 pub use laws::{
-    law_broken_has_meaning, law_clauses_make_formulas_true, law_meaning_breaks,
-    law_numbers_are_names, law_obligation_fits, law_problem_fits, law_refuted_problem_holds,
-    law_row_of_terms, law_stage_numbers, law_steps_are_numbers,
+    law_arguments_are_first, law_broken_has_meaning, law_clauses_make_formulas_true,
+    law_integers_are_of_meaning, law_meaning_breaks, law_numbers_are_names, law_obligation_fits,
+    law_problem_fits, law_refuted_problem_holds, law_row_of_terms, law_stage_numbers,
+    law_steps_are_numbers,
 };
