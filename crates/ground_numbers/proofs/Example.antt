@@ -129,3 +129,25 @@ shop-table : table_of shop (Stable 0 0 0) ≡ record {
 }
 unfolding shop row one less
 shop-table = refl
+
+-- The three equalities of sums that stand in an "or" are named by the atoms 12 to 14.
+shop-clauses : (problem_of shop (Stable 0 0 0)).clauses ≡
+    (yes 0 ∷ [])
+    ∷ (yes 1 ∷ [])
+    ∷ (yes 2 ∷ [])
+    ∷ (yes 3 ∷ [])
+    ∷ (nay 4 ∷ [])
+    ∷ (nay 4 ∷ [])
+    ∷ (nay 5 ∷ [])
+    ∷ (nay 4 ∷ yes 12 ∷ [])
+    ∷ (nay 12 ∷ yes 6 ∷ [])
+    ∷ (nay 12 ∷ yes 7 ∷ [])
+    ∷ (yes 4 ∷ yes 13 ∷ [])
+    ∷ (nay 13 ∷ yes 8 ∷ [])
+    ∷ (nay 13 ∷ yes 9 ∷ [])
+    ∷ (nay 4 ∷ yes 14 ∷ [])
+    ∷ (nay 14 ∷ yes 10 ∷ [])
+    ∷ (nay 14 ∷ yes 11 ∷ [])
+    ∷ []
+unfolding shop yes nay
+shop-clauses = refl
