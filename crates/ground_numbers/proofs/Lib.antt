@@ -16,3 +16,4 @@ pub mod Moderate
 pub mod Groups
 pub mod Small
 pub mod Arguments
+pub mod Meeting
