@@ -3,17 +3,17 @@ pub mod Sameness
 pub mod Growing
 pub mod Stepping
 pub mod Staged
-pub mod Example
-pub mod Valued
-pub mod Meant
-pub mod Folding
-pub mod Clausal
-pub mod Named
-pub mod Whole
-pub mod Summed
-pub mod Placed
-pub mod Moderate
-pub mod Groups
-pub mod Small
-pub mod Arguments
 pub mod Meeting
+pub mod Placed
+mod Example
+mod Valued
+mod Meant
+mod Folding
+mod Clausal
+mod Named
+mod Whole
+mod Summed
+mod Moderate
+mod Groups
+mod Small
+mod Arguments
