@@ -1,4 +1,4 @@
--- Small problems, computed: two calls that raise a flag, and a sale after another sale.
+-- Small problems, computed: two calls that raise a flag, and a sale after another sale; parts that are named, and names without a row.
 use Rattle.std.specs.Prelude.{◌≡◌, ℤ, pos, negsuc, true, false, List, [], ◌∷◌, ℕ}
 use Rattle.std.proofs.Common.{refl}
 use Rattle.spec_core.specs.declared.formula.Elem.TheVariants.{Param, Var}
@@ -19,7 +19,10 @@ use Rattle.lin_rows.specs.Rows.{Row}
 use Rattle.proof_lines.specs.declared.clause.Lit.{Lit}
 use Rattle.proof_lines.specs.declared.problem.AtomKind.TheVariants as atom
 use Rattle.proof_lines.specs.Clauses.{lit_of}
-use Rattle.ground_problem.specs.Symbols.{argument, reading}
+use Rattle.ground_problem.specs.Symbols.{Integer, argument, reading, number, multiple, at_most}
+use Rattle.ground_numbers.specs.Numbered.{Numbered, known, literal, negation, conjunction, disjunction}
+use Rattle.ground_numbers.specs.Steps.{steps}
+use Rattle.ground_numbers.specs.Clauses.{all_clauses}
 use Rattle.ground_numbers.specs.Numbers.{same_atom, has_atom, row_atom}
 use Rattle.ground_numbers.specs.Problem.{table_of, problem_of}
 
@@ -151,3 +154,58 @@ shop-clauses : (problem_of shop (Stable 0 0 0)).clauses ≡
     ∷ []
 unfolding shop yes nay
 shop-clauses = refl
+
+-- ---- parts of parts
+
+abbrev atom_true : ℕ → Numbered
+atom_true n = literal n true
+
+-- An "or" of two "and"s and a literal, the first of which holds an "or" with an "and" of its own; then a negation, an "or" that says
+-- one thing twice, one that says nothing, and one more "and" in an "or".
+nested : List Numbered
+nested =
+    conjunction (disjunction (conjunction (conjunction (atom_true 0) (atom_true 1)) (disjunction (atom_true 2) (conjunction (atom_true 3) (atom_true 4)))) (disjunction (conjunction (atom_true 5) (negation (atom_true 6))) (atom_true 0))) (known true)
+    ∷ negation (disjunction (atom_true 0) (conjunction (atom_true 1) (atom_true 2)))
+    ∷ disjunction (atom_true 3) (atom_true 3)
+    ∷ disjunction (known false) (negation (known true))
+    ∷ disjunction (conjunction (atom_true 1) (atom_true 2)) (atom_true 5)
+    ∷ []
+
+nested-clauses : all_clauses 7 nested ≡
+    (yes 7 ∷ yes 8 ∷ yes 0 ∷ [])
+    ∷ (nay 7 ∷ yes 0 ∷ [])
+    ∷ (nay 7 ∷ yes 1 ∷ [])
+    ∷ (nay 7 ∷ yes 2 ∷ yes 9 ∷ [])
+    ∷ (nay 9 ∷ yes 3 ∷ [])
+    ∷ (nay 9 ∷ yes 4 ∷ [])
+    ∷ (nay 8 ∷ yes 5 ∷ [])
+    ∷ (nay 8 ∷ nay 6 ∷ [])
+    ∷ (nay 0 ∷ [])
+    ∷ (nay 1 ∷ nay 2 ∷ [])
+    ∷ (yes 3 ∷ [])
+    ∷ []
+    ∷ (yes 10 ∷ yes 5 ∷ [])
+    ∷ (nay 10 ∷ yes 1 ∷ [])
+    ∷ (nay 10 ∷ yes 2 ∷ [])
+    ∷ []
+unfolding nested yes nay
+nested-clauses = refl
+
+-- ---- names without a row
+
+abbrev first_argument : Integer
+first_argument = argument 0 0
+
+abbrev second_argument : Integer
+second_argument = argument 0 1
+
+-- 2x + 3 - 2x <= y - y + 2 is false and no atom; x and y have numbers all the same.
+cancelled : steps (record { atoms = []; ints = [] }) (at_most (multiple (pos 2) first_argument ∷ number (pos 3) ∷ multiple (negsuc 1) first_argument ∷ []) (multiple (pos 1) second_argument ∷ multiple (negsuc 0) second_argument ∷ []) (pos 2))
+    ≡ record { table = record { atoms = []; ints = first_argument ∷ second_argument ∷ [] }; form = known false }
+cancelled = refl
+
+-- x + 3 < y - x + 1 is 2x - y <= -3.
+added : steps (record { atoms = []; ints = [] }) (at_most (multiple (pos 1) first_argument ∷ number (pos 3) ∷ []) (multiple (pos 1) second_argument ∷ multiple (negsuc 0) first_argument ∷ number (pos 1) ∷ []) (negsuc 0))
+    ≡ record { table = record { atoms = row_atom (row (record { place = 0; coef = pos 2 } ∷ less 1 ∷ []) (negsuc 2)) ∷ []; ints = first_argument ∷ second_argument ∷ [] }; form = literal 0 true }
+unfolding row less
+added = refl
