@@ -1,0 +1,5 @@
+pub mod Keys
+pub mod Symbols
+pub mod Known
+pub mod Making
+pub mod Formulas

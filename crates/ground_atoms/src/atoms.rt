@@ -1,0 +1,155 @@
+// The numbering: which atoms and integer names have numbers, and which readings they name.
+ghost use Rattle.std.specs.Prelude.{◌≡◌, ◌++◌, IfOk, OnOk, slice_get, option_copied, map};
+ghost use Rattle.std.specs.Option.{option_map};
+ghost use Rattle.ground_numbers.specs.Numbers as numbers;
+ghost use Rattle.ground_atoms.specs.Symbols.{atom_of, integer_of, reading_of};
+ghost use Rattle.ground_atoms.specs.Known.{Known, nothing, know_atom, know_integer, unless_known, reading_of_atom};
+ghost use Rattle.ground_problem.specs.Definitions.{reading_of_integer};
+
+use crate::atom::{Atom, IntName, NamedReading};
+use indexmap::IndexSet;
+use items::Items;
+use spec_core::Thing;
+use std::alloc::{AllocError, Global};
+use std::marker::Model;
+
+/// The atoms and the integer names so far, in the order of their numbers, and the readings that they name, in the order in which
+/// they were first named. Equal ones have one number, and a number stays.
+#[derive(Drop)]
+pub struct Atoms {
+    atoms: IndexSet<Atom>,
+    ints: IndexSet<IntName>,
+    named: Items<NamedReading>,
+    alloc: Global,
+}
+
+impl Model for Atoms {
+    ghost use Rattle.std.specs.Prelude.{map};
+    ghost use Rattle.ground_atoms.specs.Known.{Known};
+
+    ghost Value = { Known };
+
+    ghost use Rattle.ground_atoms.specs.Symbols.{atom_of, integer_of, reading_of};
+
+    ghost view = { λ a. record { table = record { atoms = map atom_of a.atoms.keys; ints = map integer_of a.ints.keys }; named = map reading_of a.named } };
+}
+
+impl Atoms {
+    /// A numbering of nothing.
+    pub fn new(alloc: Global) -> Atoms
+        ensures { result ≡ nothing }
+    {
+        Atoms {
+            atoms: IndexSet::new(alloc),
+            ints: IndexSet::new(alloc),
+            named: Items::new(alloc),
+            alloc,
+        }
+    }
+
+    #[tactic(auto, using(crate::proofs::Same::atoms_known, crate::proofs::Same::atom_place, crate::proofs::Same::atom_among))]
+    /// The number of an atom: the place of an equal one, else the next number. After a refusal others keep their numbers.
+    pub fn number_of(&mut self, atom: Atom) -> Result<u32, AllocError>
+        ensures known { OnOk result (self.new ≡ know_atom self.old (atom_of atom)) }
+        ensures number { IfOk result (λ n. n ≡ numbers.number_of self.old.table (atom_of atom)) }
+    {
+        let is_known = self.atoms.contains(&atom);
+        note_atom(self.alloc, is_known, &atom, &mut self.named)?;
+        let Ok((index, _)) = self.atoms.insert_full(atom) else {
+            return Err(AllocError);
+        };
+        as_number(index)
+    }
+
+    #[tactic(auto, using(crate::proofs::Same::integers_known, crate::proofs::Same::integer_place, crate::proofs::Same::integer_among))]
+    /// The number of an integer name: the place of an equal one, else the next number. After a refusal others keep their numbers.
+    pub fn int_of(&mut self, name: IntName) -> Result<u32, AllocError>
+        ensures known { OnOk result (self.new ≡ know_integer self.old (integer_of name)) }
+        ensures number { IfOk result (λ n. n ≡ numbers.integer_of self.old.table (integer_of name)) }
+    {
+        let is_known = self.ints.contains(&name);
+        note_integer(self.alloc, is_known, &name, &mut self.named)?;
+        let Ok((index, _)) = self.ints.insert_full(name) else {
+            return Err(AllocError);
+        };
+        as_number(index)
+    }
+
+    /// The atom of a number; none where the number isn't below the number of atoms.
+    pub fn atom(&self, n: u32) -> Option<&Atom>
+        ensures { option_map atom_of (option_copied result) ≡ slice_get self.now.table.atoms n }
+    {
+        self.atoms.get_index(n as usize)
+    }
+
+    /// The integer name of a number; none where the number isn't below the number of names.
+    pub fn int(&self, n: u32) -> Option<&IntName>
+        ensures { option_map integer_of (option_copied result) ≡ slice_get self.now.table.ints n }
+    {
+        self.ints.get_index(n as usize)
+    }
+
+    /// The readings that atoms and integer names name, in the order in which they were first named.
+    pub fn named(&self) -> &[NamedReading]
+        ensures { map reading_of result.now ≡ self.now.named }
+    {
+        self.named.as_slice()
+    }
+}
+
+// A place as a number.
+fn as_number(place: usize) -> Result<u32, AllocError>
+    ensures { IfOk result (λ n. n ≡ place) }
+{
+    match u32::try_from(place) {
+        Ok(number) => Ok(number),
+        Err(_) => Err(AllocError),
+    }
+}
+
+// Appends the reading that an atom names, if any, unless the atom is known.
+fn note_atom(
+    alloc: Global,
+    is_known: bool,
+    atom: &Atom,
+    named: &mut Items<NamedReading>,
+) -> Result<(), AllocError>
+    ensures { OnOk result (map reading_of named.new ≡ unless_known is_known (map reading_of named.old) (reading_of_atom (atom_of atom.now))) }
+{
+    match atom {
+        Atom::Has {
+            stage,
+            relation,
+            tuple,
+        } if !is_known => named.push(NamedReading {
+            stage: *stage,
+            thing: Thing::Relation(*relation),
+            tuple: tuple.copy(alloc)?,
+        }),
+        _ => Ok(()),
+    }
+}
+
+// Appends the reading that an integer name names, if any, unless the name is known.
+fn note_integer(
+    alloc: Global,
+    is_known: bool,
+    name: &IntName,
+    named: &mut Items<NamedReading>,
+) -> Result<(), AllocError>
+    ensures { OnOk result (map reading_of named.new ≡ unless_known is_known (map reading_of named.old) (reading_of_integer (integer_of name.now))) }
+{
+    match name {
+        IntName::Count {
+            stage,
+            part: 0,
+            counter,
+            key,
+        } if !is_known => named.push(NamedReading {
+            stage: *stage,
+            thing: Thing::Counter(*counter),
+            tuple: key.copy(alloc)?,
+        }),
+        _ => Ok(()),
+    }
+}

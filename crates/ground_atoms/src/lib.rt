@@ -1,0 +1,25 @@
+// The numbering of ground atoms and integer names, and formulas over their numbers.
+//
+// It stands on `ground_numbers`, whose tables it holds, and on `lin_rows`. Formulas are numbered as they are made, from left to
+// right; the readings that they name are kept in the order in which they are first named. Definitions, in specs/: `Symbols` (what
+// atoms, names, readings and summands of a program stand for), `Known` (what a numbering knows), `Making` (formulas that are
+// numbered as they are made), `Formulas` (what formulas of a program are); `Keys` serves the hashing of rows.
+#![tactic(auto)]
+
+pub mod atom;
+pub mod atoms;
+pub mod call;
+pub mod formula;
+pub mod keyed_row;
+pub mod part;
+pub mod rows;
+pub mod tuple;
+
+pub use atom::{Atom, IntName, NamedReading};
+pub use atoms::Atoms;
+pub use call::{GroundArg, GroundCall};
+pub use formula::GroundFormula;
+pub use keyed_row::KeyedRow;
+pub use part::SumPart;
+pub use rows::at_most;
+pub use tuple::Tuple;
