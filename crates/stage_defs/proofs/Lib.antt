@@ -1,0 +1,3 @@
+pub mod Products
+pub mod Updates
+pub mod Joined

@@ -1,0 +1,50 @@
+-- What a formula of the specification is read in: the readings, the call, and the constants of its parameters.
+use Rattle.std.specs.Prelude.{◌≡◌, ℕ, List}
+use Rattle.spec_core.specs.declared.update.Thing.TheVariants as thing
+use Rattle.spec_core.specs.UpdateLine.{UpdateLine}
+use Rattle.spec_core.specs.Specification.{Specification, op_of}
+use Rattle.ground_problem.specs.Symbols.{Symbolic, has}
+use Rattle.ground_problem.specs.Formulas.{Caller, Readings, at_stage, at_start}
+use Rattle.ground_problem.specs.Definitions.{define_has, define_count, has_updated, updates_of}
+use Rattle.ground_numbers.specs.Stages.{stage_of, stage_before, latest_call}
+use Rattle.ground_atoms.specs.Known.{Known}
+use Rattle.ground_atoms.specs.Making.{make}
+use Rattle.ground_atoms.specs.Formulas.{form_of, consts_of_args}
+use Rattle.ground_atoms.specs.declared.call.GroundCall.{GroundCall}
+use Rattle.ground_atoms.specs.declared.formula.GroundFormula.{GroundFormula}
+use Rattle.stage_defs.specs.declared.setting.Stage.{Stage}
+use Rattle.stage_defs.specs.declared.setting.Stage.TheVariants.{Initial, Numbered}
+use Rattle.stage_defs.specs.declared.setting.Setting.{Setting}
+
+-- the readings of the initial state, or those at a stage
+abbrev pub readings_of : Specification → Stage → Readings
+readings_of d Initial = at_start d
+readings_of d (Numbered k) = at_stage (stage_of k)
+
+abbrev pub readings_in : Setting → Readings
+readings_in s = readings_of s.spec.now s.stage
+
+abbrev pub caller_in : Setting → Caller
+caller_in s = record { call = s.call; params = consts_of_args s.args.now }
+
+-- a program's formula is this one, made from left to right
+abbrev pub IsMade : Known → Symbolic → Known → GroundFormula → Type 0
+IsMade old f new made = make old f ≡ record { known = new; form = form_of made }
+
+-- ---- definitions of the readings at a stage after the entry, by the call that it follows
+
+abbrev pub caller_at : GroundCall → ℕ → Caller
+caller_at call k = record { call = latest_call k; params = consts_of_args call.args }
+
+abbrev pub before : ℕ → Readings
+before k = at_stage (stage_of (stage_before k))
+
+abbrev pub has_definition : Specification → GroundCall → ℕ → ℕ → List ℕ → List Symbolic
+has_definition d call k r t = define_has (before k) (caller_at call k) (op_of d call.op).updates (has (stage_of k) r t) r t
+
+abbrev pub count_definition : Specification → GroundCall → ℕ → ℕ → List ℕ → List Symbolic
+count_definition d call k i t = define_count (before k) (caller_at call k) (op_of d call.op).updates (stage_of k) i t
+
+-- what updates make of a relation's reading
+abbrev pub updated : Readings → Caller → List UpdateLine → ℕ → List ℕ → Symbolic
+updated r c us k t = has_updated r c t (updates_of (thing.Relation k) us) (r.has k t)

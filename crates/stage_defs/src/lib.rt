@@ -1,0 +1,24 @@
+// Formulas of a specification at a stage, and the definitions of readings after a call.
+//
+// It stands on `ground_atoms`, by which formulas are numbered as they are made, and on `ground_problem`, whose definitions these
+// formulas are. Definitions, in specs/: `Settings` (what a formula is read in, and when a program's formula is a definition's);
+// `Parts` serves the proofs alone.
+#![tactic(auto)]
+
+pub mod acting;
+pub mod comparing;
+pub mod connecting;
+pub mod counting;
+pub mod formulas;
+pub mod having;
+pub mod setting;
+pub mod stages;
+pub mod sums;
+
+pub use comparing::{equal, has, same_const, unequal};
+pub use connecting::{both, either, negated};
+pub use counting::define_count;
+pub use formulas::formula;
+pub use having::define_has;
+pub use setting::{Setting, Stage};
+pub use sums::reading_part;
