@@ -1,0 +1,10 @@
+pub mod Exact
+pub mod Names
+pub mod Clean
+pub mod NumberFields
+pub mod HeadLines
+pub mod LogLines
+pub mod EvidenceLines
+pub mod SpecNames
+pub mod WitnessLines
+pub mod BlockLines

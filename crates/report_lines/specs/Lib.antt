@@ -1,0 +1,8 @@
+pub mod Words
+pub mod Formats
+pub mod Fields
+pub mod Heads
+pub mod Blocks
+pub mod Logs
+pub mod Evidence
+pub mod Witnesses
