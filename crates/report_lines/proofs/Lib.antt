@@ -1,5 +1,5 @@
 pub mod Exact
-pub mod Names
+pub mod Among
 pub mod Clean
 pub mod NumberFields
 pub mod HeadLines
@@ -8,3 +8,8 @@ pub mod EvidenceLines
 pub mod SpecNames
 pub mod WitnessLines
 pub mod BlockLines
+pub mod FirstWord
+pub mod Loops
+pub mod Finding
+pub mod Splitting
+pub mod WholeLines

@@ -1,6 +1,7 @@
 -- The names of a specification are distinct words without spaces and line feeds.
-use Rattle.std.proofs.Common.{◌≡◌, ℕ, zero, suc, Bool, true, false, not, ◌&&◌, ◌||◌, List, [], ◌∷◌, ◌++◌, map, get_or, refl, ap, subst, ◌∙◌}
-use Rattle.std.specs.Prelude.{◌==◌}
+use Rattle.std.proofs.Common.{◌≡◌, ℕ, zero, suc, ◌≤◌, length, lit≤, Bool, true, false, not, ◌&&◌, ◌||◌, List, [], ◌∷◌, ◌++◌, map, get_or, refl, ap, subst, ◌∙◌}
+use Rattle.std.specs.Prelude.{◌==◌, nat_le}
+use Rattle.spec_core.specs.Limits.{most_relations, most_counters, most_operations}
 use Rattle.std.specs.List.{list_all}
 use Rattle.std.proofs.lemmas.Bool.{false≢true, and_parts, and_from}
 use Rattle.std.proofs.lemmas.Bool.Decides.{nat_tests}
@@ -97,6 +98,20 @@ names_of d h =
       invariant_parts = parts_front (map (λ i. i.name) d.invariants) (operation_names d) from_invariants;
       operation_parts = parts_back (map (λ i. i.name) d.invariants) (operation_names d) from_invariants;
     }
+
+-- ---- how many there are
+
+small : (n most : ℕ) → nat_le n most ≡ true → most ≤ 255 → n ≤ 255
+small n most h le = grind (arith, nat_tests)
+
+pub few_relations : (d : Specification) → is_specification d ≡ true → length d.relations ≤ 255
+few_relations d h = small (length d.relations) most_relations (parts_of d h).few_relations (lit≤ tt)
+
+pub few_counters : (d : Specification) → is_specification d ≡ true → length d.counters ≤ 255
+few_counters d h = small (length d.counters) most_counters (parts_of d h).few_counters (lit≤ tt)
+
+pub few_operations : (d : Specification) → is_specification d ≡ true → length d.operations ≤ 255
+few_operations d h = small (length d.operations) most_operations (parts_of d h).few_operations (lit≤ tt)
 
 -- ---- one name
 

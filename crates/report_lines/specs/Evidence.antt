@@ -9,7 +9,7 @@ use Rattle.report_lines.specs.declared.evidence.RowsLine.{RowsLine}
 use Rattle.report_lines.specs.declared.evidence.RangeLine.{RangeLine}
 use Rattle.report_lines.specs.Formats.{Format, both, behind, seen, or_else, counted}
 use Rattle.report_lines.specs.Fields.{most_count, count_format, integer_format}
-use Rattle.report_lines.specs.Logs.{used_words}
+use Rattle.report_lines.specs.Logs.{used_words, decision_words}
 
 -- ---- too many rows
 
@@ -31,7 +31,7 @@ product_words = both used_words (both count_format (both count_format count_form
 
 -- behind `value` and `sum`: the used literals and the steps, a row, a place, and the values behind their number
 abbrev pub values_words : Format ((List Lit × List RowStep) × (ℕ × (ℕ × List ℤ)))
-values_words = both used_words (both count_format (both count_format (counted most_count integer_format)))
+values_words = both used_words decision_words
 
 abbrev pub RangeParts : Type 0
 RangeParts = ((List Lit × List RowStep) × (ℕ × (ℕ × ℕ))) ⊎ (((List Lit × List RowStep) × (ℕ × (ℕ × List ℤ))) ⊎ ((List Lit × List RowStep) × (ℕ × (ℕ × List ℤ))))

@@ -6,7 +6,7 @@ use Rattle.std.proofs.Common.{inl, inr}
 use Rattle.std.specs.List.{list_all, flat_map}
 use Rattle.std.specs.Str.{bytes_eq}
 use Rattle.word_cut.specs.Whole.{size_read, read_of}
-use Rattle.report_lines.specs.Words.{is_part}
+use Rattle.report_lines.specs.Words.{parts, joined, is_part}
 
 infixl 10 ◌>>=◌
 abbrev pub ◌>>=◌ : {A B : Type 0} → Option A → (A → Option B) → Option B
@@ -16,6 +16,10 @@ None >>= f = None
 -- a value and the words behind it
 abbrev pub Read : Type 0 → Type 0
 Read A = Option (A × List (List ℕ))
+
+-- what was read, seen as another value
+abbrev pub mapped : {A B : Type 0} → (A → B) → Read A → Read B
+mapped to r = r >>= λ x. Some (to x.0, x.1)
 
 pub record Format (A : Type 0) : Type 0 where
   -- the words of a value
@@ -215,3 +219,8 @@ pub record IsExact {A : Type 0} (f : Format A) : Type 0 where
 -- What is written are words without a space and without a line feed.
 pub record IsClean {A : Type 0} (f : Format A) : Type 0 where
   pub parts : (a : A) → f.fits a ≡ true → list_all is_part (f.put a) ≡ true
+
+-- A line that fits is read as the value that it was written from, and a line that is read is the one that is written.
+pub record IsLine {A : Type 0} (f : Format A) : Type 0 where
+  pub written : (a : A) → f.fits a ≡ true → read f (parts (joined (f.put a))) ≡ Some a
+  pub only_that : (line : List ℕ) (a : A) → read f (parts line) ≡ Some a → (line ≡ joined (f.put a)) × (f.fits a ≡ true)

@@ -24,6 +24,11 @@ abbrev pub literal_of : List ℕ → Option Lit
 literal_of [] = None
 literal_of (b ∷ bs) = if b == 43 then with_sign true (size_read bs) else (if b == 45 then with_sign false (size_read bs) else None)
 
+-- a literal whose atom a line can name
+abbrev pub small_literal : Option Lit → Option Lit
+small_literal None = None
+small_literal (Some l) = if nat_le l.atom most_count then Some l else None
+
 abbrev pub literal_format : Format Lit
 literal_format = word literal_text literal_of (λ l. nat_le l.atom most_count)
 

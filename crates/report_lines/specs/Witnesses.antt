@@ -11,6 +11,7 @@ use Rattle.spec_core.specs.World.{size_of}
 use Rattle.spec_core.specs.Truth.{int_eq}
 use Rattle.report_lines.specs.declared.witness.Fact.{Fact}
 use Rattle.report_lines.specs.declared.witness.Reading.{Reading}
+use Rattle.report_lines.specs.declared.witness.Due.{Due}
 use Rattle.report_lines.specs.declared.witness.Shown.{Shown}
 use Rattle.report_lines.specs.declared.witness.Shown.TheVariants as shown
 use Rattle.report_lines.specs.Formats.{Format, among, chain, both, behind, seen, only, Case, case, or_else, times, each_of}
@@ -123,12 +124,6 @@ of_shown (shown.Fact f) = inl f
 of_shown (shown.Reading r) = inr (inl r)
 of_shown (shown.Call c) = inr (inr (inl c))
 of_shown (shown.At es) = inr (inr (inr es))
-
--- Where the next line of a witness may stand: the relations and counters that are still due, and the number of elements at the end.
-pub record Due : Type 0 where
-  pub relation : ℕ
-  pub counter : ℕ
-  pub elements : ℕ
 
 abbrev pub shown_words : Specification → World → Due → Format ShownParts
 shown_words d w due = or_else (codes "true") (fact_format d w due.relation) (or_else (codes "count") (reading_format d w due.counter) (or_else (codes "call") (call_format d) (behind (codes "at") (at_format due.elements))))

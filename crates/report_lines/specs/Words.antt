@@ -13,6 +13,10 @@ parts bytes = slice_split (λ b. b == 32) bytes
 abbrev pub joined : List (List ℕ) → List ℕ
 joined words = join_with_byte 32 words
 
+-- the text of a line: its words, and a line feed
+abbrev pub line_text : List (List ℕ) → List ℕ
+line_text words = joined words ++ 10 ∷ []
+
 -- words with a space before each
 abbrev pub spaced : List (List ℕ) → List ℕ
 spaced [] = []

@@ -1,4 +1,19 @@
-// What a line of evidence says.
+// The lines of evidence: what they say, and reading them.
+
+ghost use Rattle.std.specs.Prelude.{◌≡◌, ◌∷◌, ◌++◌, [], OnOk};
+ghost use Rattle.std.specs.Fmt.{decimal};
+ghost use Rattle.proof_lines.specs.declared.line.RangeWhat.TheVariants.{Product};
+ghost use Rattle.std.proofs.Common.{inl, inr};
+ghost use Rattle.report_lines.specs.Formats.{both, mapped};
+ghost use Rattle.report_lines.specs.Fields.{count_format};
+ghost use Rattle.report_lines.specs.Evidence.{rows_format, product_words, values_words, to_range, range_format};
+ghost use Rattle.report_lines.specs.Words.{left, spaced, line_text, Gives};
+
+use crate::fields::count;
+use crate::log::{decided, put_used, put_values, used};
+use crate::words::{ReadError, Words, keyword, next};
+use crate::writing::put_number;
+use std::alloc::{AllocError, Global};
 
 use items::Items;
 use proof_lines::{Lit, RangeWhat, RowStep};
@@ -16,4 +31,167 @@ pub struct RangeLine {
     pub used: Items<Lit>,
     pub steps: Items<RowStep>,
     pub what: RangeWhat,
+}
+
+/// `rows`, the used literals and the steps.
+pub fn read_rows(alloc: Global, words: Words<'_>) -> Result<(RowsLine, Words<'_>), ReadError>
+    ensures { Gives (λ x. (x.0, left x.1)) result (rows_format.get (left words.entry)) }
+{
+    let rest = keyword(words, b"rows")?;
+    used(alloc, rest)
+}
+
+fn place(words: Words<'_>) -> Result<(RangeWhat, Words<'_>), ReadError>
+    ensures { Gives (λ x. (x.0, left x.1)) result (mapped (λ x. Product x.0 x.1.0 x.1.1) ((both count_format (both count_format count_format)).get (left words.entry))) }
+{
+    let (left, rest) = count(words)?;
+    let (right, rest) = count(rest)?;
+    let (place, rest) = count(rest)?;
+    Ok((RangeWhat::Product { left, right, place }, rest))
+}
+
+fn product(alloc: Global, words: Words<'_>) -> Result<(RangeLine, Words<'_>), ReadError>
+    ensures { Gives (λ x. (x.0, left x.1)) result (mapped (λ x. to_range (inl x)) (product_words.get (left words.entry))) }
+{
+    let (rows, rest) = used(alloc, words)?;
+    let (what, rest) = place(rest)?;
+    Ok((
+        RangeLine {
+            used: rows.used,
+            steps: rows.steps,
+            what,
+        },
+        rest,
+    ))
+}
+
+fn value(alloc: Global, words: Words<'_>) -> Result<(RangeLine, Words<'_>), ReadError>
+    ensures { Gives (λ x. (x.0, left x.1)) result (mapped (λ x. to_range (inr (inl x))) (values_words.get (left words.entry))) }
+{
+    let (rows, rest) = used(alloc, words)?;
+    let (decision, rest) = decided(alloc, rest)?;
+    Ok((
+        RangeLine {
+            used: rows.used,
+            steps: rows.steps,
+            what: RangeWhat::Value {
+                row: decision.first,
+                place: decision.second,
+                values: decision.values,
+            },
+        },
+        rest,
+    ))
+}
+
+fn sum(alloc: Global, words: Words<'_>) -> Result<(RangeLine, Words<'_>), ReadError>
+    ensures { Gives (λ x. (x.0, left x.1)) result (mapped (λ x. to_range (inr (inr x))) (values_words.get (left words.entry))) }
+{
+    let (rows, rest) = used(alloc, words)?;
+    let (decision, rest) = decided(alloc, rest)?;
+    Ok((
+        RangeLine {
+            used: rows.used,
+            steps: rows.steps,
+            what: RangeWhat::Sum {
+                row: decision.first,
+                place: decision.second,
+                values: decision.values,
+            },
+        },
+        rest,
+    ))
+}
+
+/// `product ..`, `value ..` or `sum ..`.
+pub fn read_range(alloc: Global, words: Words<'_>) -> Result<(RangeLine, Words<'_>), ReadError>
+    ensures { Gives (λ x. (x.0, left x.1)) result (range_format.get (left words.entry)) }
+{
+    let (word, rest) = next(words)?;
+    if word == b"product".as_slice() {
+        return product(alloc, rest);
+    }
+    if word == b"value".as_slice() {
+        return value(alloc, rest);
+    }
+    if word == b"sum".as_slice() {
+        return sum(alloc, rest);
+    }
+    Err(ReadError::Form)
+}
+
+/// Appends the line of evidence of too many rows.
+pub fn write_rows(out: &mut Vec<u8>, used: &[Lit], steps: &[RowStep]) -> Result<(), AllocError>
+    ensures { OnOk result (out.new.items ≡ out.old.items ++ line_text (rows_format.put (record { used = used.now; steps = steps.now }))) }
+{
+    out.extend_from_slice(b"rows")?;
+    put_used(out, used, steps)?;
+    out.push(b'\n')?;
+    Ok(())
+}
+
+fn put_product(out: &mut Vec<u8>, left: u32, right: u32, place: u32) -> Result<(), AllocError>
+    ensures { OnOk result (out.new.items ≡ out.old.items ++ spaced (decimal left ∷ decimal right ∷ decimal place ∷ [])) }
+{
+    put_number(out, left as u64)?;
+    put_number(out, right as u64)?;
+    put_number(out, place as u64)?;
+    Ok(())
+}
+
+fn write_product(
+    out: &mut Vec<u8>,
+    used: &[Lit],
+    steps: &[RowStep],
+    left: u32,
+    right: u32,
+    place: u32,
+) -> Result<(), AllocError>
+    ensures { OnOk result (out.new.items ≡ out.old.items ++ line_text (range_format.put (record { used = used.now; steps = steps.now; what = Product left right place }))) }
+{
+    out.extend_from_slice(b"product")?;
+    put_used(out, used, steps)?;
+    put_product(out, left, right, place)?;
+    out.push(b'\n')?;
+    Ok(())
+}
+
+fn write_values(
+    out: &mut Vec<u8>,
+    word: &[u8],
+    used: &[Lit],
+    steps: &[RowStep],
+    row: u32,
+    place: u32,
+    values: &[i128],
+) -> Result<(), AllocError>
+    ensures { OnOk result (out.new.items ≡ out.old.items ++ line_text (word.now ∷ values_words.put ((used.now, steps.now), (row, (place, values.now))))) }
+{
+    out.extend_from_slice(word)?;
+    put_used(out, used, steps)?;
+    put_values(out, row, place, values)?;
+    out.push(b'\n')?;
+    Ok(())
+}
+
+/// Appends the line of evidence of a number beyond the range.
+pub fn write_range(
+    out: &mut Vec<u8>,
+    used: &[Lit],
+    steps: &[RowStep],
+    what: &RangeWhat,
+) -> Result<(), AllocError>
+    ensures { OnOk result (out.new.items ≡ out.old.items ++ line_text (range_format.put (record { used = used.now; steps = steps.now; what = what.now }))) }
+{
+    match what {
+        RangeWhat::Product { left, right, place } => {
+            write_product(out, used, steps, *left, *right, *place)
+        }
+        RangeWhat::Value { row, place, values } => {
+            write_values(out, b"value", used, steps, *row, *place, values.as_slice())
+        }
+        RangeWhat::Sum { row, place, values } => {
+            write_values(out, b"sum", used, steps, *row, *place, values.as_slice())
+        }
+    }
 }

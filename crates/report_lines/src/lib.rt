@@ -11,7 +11,15 @@
 #![tactic(auto)]
 
 pub mod evidence;
+pub mod fields;
 pub mod head;
+mod laws;
+pub mod list;
+pub mod log;
+mod names;
 pub mod verdict;
 pub mod witness;
 pub mod words;
+mod writing;
+
+pub use laws::{law_blocks, law_heads, law_logs, law_witnesses};

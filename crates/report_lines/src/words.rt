@@ -1,13 +1,12 @@
 // The words of a line, without a copy of them.
 
-ghost use Rattle.std.specs.Prelude.{◌≡◌, ◌==◌, ◌≤◌, ◌<◌, length, MatchOption};
+ghost use Rattle.std.specs.Prelude.{◌≡◌, ◌==◌, ◌≤◌, length, map};
 ghost use Rattle.std.specs.List.{position_or_len};
-ghost use Rattle.report_lines.specs.Formats.{key_at, number, is_empty};
+ghost use Rattle.report_lines.specs.Formats.{key_at, these_at, is_empty};
 ghost use Rattle.report_lines.specs.Words.{left, parts, next_of, Gives};
 ghost use Rattle.report_lines.specs.declared.words.ReadError.TheVariants.{Memory};
 
 use std::alloc::{AllocError, AllocFailed};
-use word_cut::read_number;
 
 /// Why words are not read.
 #[derive(Debug, Drop)]
@@ -36,6 +35,87 @@ impl<T: Drop> From<AllocFailed<T>> for ReadError {
 /// The words of a line that are left: those of `rest`, or none where the line is over.
 #[derive(Clone, Copy)]
 pub struct Words<'a> {
-    pub rest: &'a [u8],
-    pub over: bool,
+    rest: &'a [u8],
+    over: bool,
+}
+
+impl<'a> Words<'a> {
+    /// All words of a line.
+    pub fn of(line: &'a [u8]) -> Words<'a>
+        ensures { left result ≡ parts line.now }
+    {
+        Words {
+            rest: line,
+            over: false,
+        }
+    }
+
+    /// Whether no words are left.
+    pub fn is_over(self) -> bool
+        ensures { result ≡ is_empty (left self.entry) }
+    {
+        self.over
+    }
+}
+
+fn word_len(bytes: &[u8]) -> usize
+    ensures len { result ≡ position_or_len (λ b. b == 32) bytes.now }
+    ensures within { result ≤ length bytes.now }
+{
+    for (place, byte) in bytes.iter().enumerate() {
+        if *byte == b' ' {
+            return place;
+        }
+    }
+    bytes.len()
+}
+
+/// The next word, and the words behind it.
+pub fn next(words: Words<'_>) -> Result<(&[u8], Words<'_>), ReadError>
+    ensures { Gives (λ x. (x.0.now, left x.1)) result (next_of (left words.entry)) }
+{
+    if words.over {
+        return Err(ReadError::Form);
+    }
+    let len = word_len(words.rest);
+    if len == words.rest.len() {
+        return Ok((
+            words.rest,
+            Words {
+                rest: words.rest,
+                over: true,
+            },
+        ));
+    }
+    Ok((
+        &words.rest[..len],
+        Words {
+            rest: &words.rest[len + 1..],
+            over: false,
+        },
+    ))
+}
+
+/// The words behind a word that must be next.
+pub fn keyword<'a>(words: Words<'a>, key: &[u8]) -> Result<Words<'a>, ReadError>
+    ensures { Gives (λ x. (tt, left x)) result (key_at key.now (left words.entry)) }
+{
+    let (word, rest) = next(words)?;
+    if word != key {
+        return Err(ReadError::Form);
+    }
+    Ok(rest)
+}
+
+/// The words behind some words that must be next.
+pub fn these<'a>(words: Words<'a>, keys: &[&[u8]]) -> Result<Words<'a>, ReadError>
+    ensures { Gives (λ x. (tt, left x)) result (these_at (map (λ w. w.now) keys.now) (left words.entry)) }
+{
+    match keys {
+        [] => Ok(words),
+        [key, keys @ ..] => {
+            let rest = keyword(words, *key)?;
+            these(rest, keys)
+        }
+    }
 }

@@ -1,0 +1,45 @@
+// What follows from the definitions: each line is read exactly as it is written.
+
+ghost use Rattle.std.specs.Prelude.{◌≡◌, ◌<◌, ℕ, List, Bool, true};
+ghost use Rattle.spec_core.specs.declared.world.World.{World};
+ghost use Rattle.spec_core.specs.Specification.{Specification};
+ghost use Rattle.spec_core.specs.Typed.{is_specification};
+ghost use Rattle.obligation_list.specs.declared.obligation.Obligation.{Obligation};
+ghost use Rattle.obligation_list.specs.Obligations.{IsObligation};
+ghost use Rattle.report_lines.specs.declared.witness.Due.{Due};
+ghost use Rattle.report_lines.specs.Words.{is_part};
+ghost use Rattle.report_lines.specs.Formats.{IsLine};
+ghost use Rattle.report_lines.specs.Heads.{title_format, budget_format, obligations_format, summary_format, outcome_format};
+ghost use Rattle.report_lines.specs.Blocks.{obligation_format, verdict_format};
+ghost use Rattle.report_lines.specs.Logs.{log_format};
+ghost use Rattle.report_lines.specs.Evidence.{rows_format, range_format};
+ghost use Rattle.report_lines.specs.Witnesses.{size_format, const_format, shown_format};
+
+/// The lines that stand once.
+pub fn law_heads()
+    ensures title { IsLine title_format }
+    ensures budget { IsLine budget_format }
+    ensures obligations { IsLine obligations_format }
+    ensures summary { IsLine summary_format }
+    ensures outcome { IsLine outcome_format }
+{}
+
+/// The first two lines of a block.
+pub fn law_blocks()
+    ensures obligation { (d : Specification) (ob : Obligation) → is_specification d ≡ true → IsObligation d ob → IsLine (obligation_format d ob) }
+    ensures verdict { IsLine verdict_format }
+{}
+
+/// The lines of a log, and of evidence.
+pub fn law_logs()
+    ensures log { (drops : Bool) → IsLine (log_format drops) }
+    ensures rows { IsLine rows_format }
+    ensures range { IsLine range_format }
+{}
+
+/// The lines of a witness.
+pub fn law_witnesses()
+    ensures size { (sort : List ℕ) → is_part sort ≡ true → IsLine (size_format sort) }
+    ensures constant { (name : List ℕ) (size : ℕ) → is_part name ≡ true → IsLine (const_format name size) }
+    ensures shown { (d : Specification) (w : World) (due : Due) → is_specification d ≡ true → IsLine (shown_format d w due) }
+{}
