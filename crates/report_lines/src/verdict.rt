@@ -113,11 +113,7 @@ pub fn read_obligation<'a>(
     Ok(((), rest))
 }
 
-fn due<'a>(
-    spec: &Spec,
-    obligation: Obligation,
-    words: Words<'a>,
-) -> Result<Words<'a>, ReadError>
+fn due<'a>(spec: &Spec, obligation: Obligation, words: Words<'a>) -> Result<Words<'a>, ReadError>
     ensures { Gives (λ x. (tt, left x)) result ((obligation_format spec.now obligation).get (left words.entry)) }
 {
     match obligation {
@@ -139,7 +135,10 @@ fn due<'a>(
             let mut buffer = Buffer::new();
             let line = buffer.format(line as u32 + 1).as_bytes();
             let operation = operation_name(spec, op);
-            these(words, &[b"stable", operation, line, operation_name(spec, other)])
+            these(
+                words,
+                &[b"stable", operation, line, operation_name(spec, other)],
+            )
         }
     }
 }

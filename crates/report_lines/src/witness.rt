@@ -197,11 +197,7 @@ fn read_call<'a>(
 }
 
 // Behind `at`: so many elements.
-fn read_at<'a>(
-    alloc: Global,
-    count: u32,
-    words: Words<'a>,
-) -> Result<(Shown, Words<'a>), ReadError>
+fn read_at<'a>(alloc: Global, count: u32, words: Words<'a>) -> Result<(Shown, Words<'a>), ReadError>
     ensures { Gives (λ x. (x.0, left x.1)) result (mapped (λ x. to_shown (inr (inr (inr x)))) ((at_format count).get (left words.entry))) }
 {
     let (elements, rest) = times(alloc, count, words)?;
