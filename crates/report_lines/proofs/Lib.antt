@@ -13,3 +13,4 @@ pub mod Loops
 pub mod Finding
 pub mod Splitting
 pub mod WholeLines
+pub mod StateLines

@@ -1,19 +1,21 @@
 // What follows from the definitions: each line is read exactly as it is written.
 
-ghost use Rattle.std.specs.Prelude.{◌≡◌, ◌<◌, ℕ, List, Bool, true};
+ghost use Rattle.std.specs.Prelude.{◌≡◌, ◌∷◌, [], ℕ, ℤ, List, Bool, true, get_or, codes};
 ghost use Rattle.spec_core.specs.declared.world.World.{World};
-ghost use Rattle.spec_core.specs.Specification.{Specification};
+ghost use Rattle.spec_core.specs.Specification.{Specification, relation_places, counter_keys};
+ghost use Rattle.spec_core.specs.Fits.{fits_places};
+ghost use Rattle.spec_core.specs.StateText.{true_line, count_line};
 ghost use Rattle.spec_core.specs.Typed.{is_specification};
 ghost use Rattle.obligation_list.specs.declared.obligation.Obligation.{Obligation};
 ghost use Rattle.obligation_list.specs.Obligations.{IsObligation};
 ghost use Rattle.report_lines.specs.declared.witness.Due.{Due};
-ghost use Rattle.report_lines.specs.Words.{is_part};
+ghost use Rattle.report_lines.specs.Words.{is_part, line_text};
 ghost use Rattle.report_lines.specs.Formats.{IsLine};
 ghost use Rattle.report_lines.specs.Heads.{title_format, budget_format, obligations_format, summary_format, outcome_format};
 ghost use Rattle.report_lines.specs.Blocks.{obligation_format, verdict_format};
 ghost use Rattle.report_lines.specs.Logs.{log_format};
 ghost use Rattle.report_lines.specs.Evidence.{rows_format, range_format};
-ghost use Rattle.report_lines.specs.Witnesses.{size_format, const_format, shown_format};
+ghost use Rattle.report_lines.specs.Witnesses.{relation_names, counter_names, is_other, size_format, const_format, fact_format, reading_format, shown_format};
 
 /// The lines that stand once.
 pub fn law_heads()
@@ -42,4 +44,12 @@ pub fn law_witnesses()
     ensures size { (sort : List ℕ) → is_part sort ≡ true → IsLine (size_format sort) }
     ensures constant { (name : List ℕ) (size : ℕ) → is_part name ≡ true → IsLine (const_format name size) }
     ensures shown { (d : Specification) (w : World) (due : Due) → is_specification d ≡ true → IsLine (shown_format d w due) }
+{}
+
+/// The lines by which a state is shown are those of the tuples that hold and of the values that aren't 0.
+pub fn law_states()
+    ensures fact { (d : Specification) (w : World) (from k : ℕ) (t : List ℕ) → fits_places w (relation_places d k) t ≡ true
+        → true_line (get_or (relation_names d) k []) t ≡ line_text (codes "true" ∷ (fact_format d w from).put (record { relation = k; tuple = t })) }
+    ensures reading { (d : Specification) (w : World) (from k : ℕ) (t : List ℕ) (v : ℤ) → fits_places w (counter_keys d k) t ≡ true → is_other v ≡ true
+        → count_line (get_or (counter_names d) k []) (t, v) ≡ line_text (codes "count" ∷ (reading_format d w from).put (record { counter = k; key = t; value = v })) }
 {}

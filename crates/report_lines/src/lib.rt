@@ -22,4 +22,4 @@ pub mod witness;
 pub mod words;
 mod writing;
 
-pub use laws::{law_blocks, law_heads, law_logs, law_witnesses};
+pub use laws::{law_blocks, law_heads, law_logs, law_states, law_witnesses};
