@@ -1,0 +1,4 @@
+pub mod Verdicts
+pub mod Events
+pub mod Feeding
+pub mod Gathering

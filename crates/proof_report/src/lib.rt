@@ -1,0 +1,19 @@
+// The text of a report: the verdicts on the obligations of a specification, with what each rests on.
+//
+// It knows lines and verdicts and decides nothing: whether a log is good, and whether a witness breaks its obligation, is asked
+// elsewhere. It stands on `report_lines`, which has the formats of single lines, and on what verdicts are made of: `obligation_list`
+// for obligations and witnesses, `proof_lines` for logs and evidence.
+//
+// Definitions, in the order in which a reader needs them: specs/Verdicts (verdicts as plain data, and which may stand in a report),
+// specs/Texts (the text of a report, block by block), specs/Events (what its lines say), specs/Feeding (reading line by line: the
+// line that may come at each place, what it must say besides, and the place behind it), specs/Gathering (the verdicts that lines
+// say).
+#![tactic(auto)]
+
+pub mod event;
+pub mod kind;
+pub mod place;
+pub mod verdict;
+
+pub use kind::{ReportKind, ReportRefused};
+pub use verdict::{Block, Cause, Ended, Fed, Report, Verdict};
