@@ -1,2 +1,4 @@
 pub mod Sound
 pub mod Complete
+pub mod Lines
+pub mod Whole
