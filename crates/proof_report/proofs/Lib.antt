@@ -2,3 +2,4 @@ pub mod Sound
 pub mod Complete
 pub mod Lines
 pub mod Whole
+pub mod Ordered

@@ -13,6 +13,7 @@
 pub mod event;
 pub mod kind;
 pub mod place;
+mod saying;
 pub mod verdict;
 
 pub use kind::{ReportKind, ReportRefused};
