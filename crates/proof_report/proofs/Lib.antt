@@ -3,3 +3,4 @@ pub mod Complete
 pub mod Lines
 pub mod Whole
 pub mod Ordered
+pub mod FewElements

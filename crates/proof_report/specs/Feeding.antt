@@ -22,7 +22,8 @@ use Rattle.report_lines.specs.Heads.{title_format, budget_format, obligations_fo
 use Rattle.report_lines.specs.Blocks.{obligation_format, verdict_format}
 use Rattle.report_lines.specs.Logs.{log_format}
 use Rattle.report_lines.specs.Evidence.{rows_format, range_format}
-use Rattle.report_lines.specs.Witnesses.{size_format, const_format, Due, shown_format}
+use Rattle.report_lines.specs.declared.witness.Due.{Due}
+use Rattle.report_lines.specs.Witnesses.{size_format, const_format, shown_format}
 use Rattle.proof_report.specs.declared.event.Event.{Event}
 use Rattle.proof_report.specs.declared.event.Event.TheVariants as events
 use Rattle.proof_report.specs.declared.place.PartialWitness.{PartialWitness}

@@ -16,15 +16,15 @@ pub enum Event {
     /// How many obligations there are.
     Count(u32),
     /// The first line of a block.
-    Opened(u32),
+    Opened(u64),
     /// The line of a verdict word.
     Begin(VerdictWord),
     /// A line of a log.
     Log(Line),
     /// A sort and its size.
-    Size(u8, u32),
+    Size(usize, u32),
     /// A constant and its element.
-    Const(u8, u32),
+    Const(usize, u32),
     /// A line of a witness behind those of its world.
     Shown(Shown),
     Rows(RowsLine),

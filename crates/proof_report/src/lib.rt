@@ -13,6 +13,8 @@
 pub mod event;
 pub mod kind;
 pub mod place;
+mod elements;
+mod reading;
 mod saying;
 pub mod verdict;
 

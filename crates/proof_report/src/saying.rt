@@ -168,8 +168,8 @@ pub fn says(spec: &Spec, obligations: &[Obligation], state: &State, event: &Even
 {
     match event {
         Event::Count(count) => *count as usize == obligations.len(),
-        Event::Size(place, _) => (*place as usize) < spec.sorts.len(),
-        Event::Const(place, _) => (*place as usize) < spec.consts.len(),
+        Event::Size(place, _) => *place < spec.sorts.len(),
+        Event::Const(place, _) => *place < spec.consts.len(),
         Event::Shown(shown) => may_show(
             obligation_due(spec, obligations, &state.tally),
             &state.place,
