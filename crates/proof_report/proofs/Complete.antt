@@ -28,6 +28,7 @@ use Rattle.proof_report.specs.declared.place.LogOf.{LogOf}
 use Rattle.proof_report.specs.declared.place.LogOf.TheVariants as log_of
 use Rattle.proof_report.specs.declared.place.Place.{Place}
 use Rattle.proof_report.specs.declared.place.Place.TheVariants as places
+use Rattle.proof_report.specs.declared.place.Stage.TheVariants as stages
 use Rattle.proof_report.specs.declared.place.State.{State}
 use Rattle.proof_report.specs.Verdicts.{VerdictForm, proved, refuted, instances, lines, rows, range, obligation_at, obligation_count, call_count, const_at, are_sizes, are_consts, are_facts, are_readings, are_calls, are_elements, fact_behind, reading_behind, relation_due, counter_due, is_log, may_drop, is_verdict, are_verdicts, ReportForm, is_report}
 use Rattle.proof_report.specs.Events.{told, no_verdicts, with_proved, with_refuted, with_undecided, with_verdict, outcome_of, log_lines, size_lines, const_lines, fact_lines, reading_lines, call_lines, witness_lines, verdict_lines, block_lines, report_lines}
@@ -54,7 +55,7 @@ Ends d t n cs xs = (are_calls d (obligation_at d (told t)) n cs ≡ true) × (ar
 abbrev end_lines : List Call → List ℕ → List Event → List Event
 end_lines cs xs es = call_lines cs (events.Shown (shown.At xs) ∷ es)
 
-calls_go : (d : Specification) (ver : ℕ) (t : Tally) (p : PartialWitness) (cs : List Call) (xs : List ℕ) (es : List Event) → Ends d t (length p.calls) cs xs → Admits d ver (with_refuted t) places.Due es → Admits d ver t (places.Calls p) (end_lines cs xs es)
+calls_go : (d : Specification) (ver : ℕ) (t : Tally) (p : PartialWitness) (cs : List Call) (xs : List ℕ) (es : List Event) → Ends d t (length p.calls) cs xs → Admits d ver (with_refuted t) places.Due es → Admits d ver t (places.Showing stages.Calls p) (end_lines cs xs es)
 unfolding admits
 calls_go d ver t p [] xs es fit h = and_from _ _ (and_from _ _ fit.1 fit.0) h
 calls_go d ver t p (c ∷ cs) xs es fit h =
@@ -64,7 +65,7 @@ calls_go d ver t p (c ∷ cs) xs es fit h =
     and_from _ _ k.0 (calls_go d ver t (with_call c p) cs xs es (more, fit.1) h)
 
 calls_go_behind : (d : Specification) (ver : ℕ) (t : Tally) (p : PartialWitness) (cs : List Call) (xs : List ℕ) (es : List Event) → Ends d t (length p.calls) cs xs → Admits d ver (with_refuted t) places.Due es
-    → Admits d ver t (places.Facts p) (end_lines cs xs es) × Admits d ver t (places.Readings p) (end_lines cs xs es)
+    → Admits d ver t (places.Showing stages.Facts p) (end_lines cs xs es) × Admits d ver t (places.Showing stages.Readings p) (end_lines cs xs es)
 unfolding admits
 calls_go_behind d ver t p [] xs es fit h = (and_from _ _ (and_from _ _ fit.1 fit.0) h, and_from _ _ (and_from _ _ fit.1 fit.0) h)
 calls_go_behind d ver t p (c ∷ cs) xs es fit h =
@@ -75,7 +76,7 @@ calls_go_behind d ver t p (c ∷ cs) xs es fit h =
     (and_from _ _ k.0 rest, and_from _ _ k.0 rest)
 
 readings_go : (d : Specification) (ver : ℕ) (t : Tally) (p : PartialWitness) (rs : List Reading) (cs : List Call) (xs : List ℕ) (es : List Event) → are_readings d p.world (last_of p.readings) rs ≡ true → Ends d t (length p.calls) cs xs
-    → Admits d ver (with_refuted t) places.Due es → Admits d ver t (places.Readings p) (reading_lines rs (end_lines cs xs es))
+    → Admits d ver (with_refuted t) places.Due es → Admits d ver t (places.Showing stages.Readings p) (reading_lines rs (end_lines cs xs es))
 unfolding admits
 readings_go d ver t p [] cs xs es fit ends h = (calls_go_behind d ver t p cs xs es ends h).1
 readings_go d ver t p (r ∷ rs) cs xs es fit ends h =
@@ -84,7 +85,7 @@ readings_go d ver t p (r ∷ rs) cs xs es fit ends h =
     and_from _ _ k.0 (readings_go d ver t (with_reading r p) rs cs xs es more ends h)
 
 readings_go_behind : (d : Specification) (ver : ℕ) (t : Tally) (p : PartialWitness) (rs : List Reading) (cs : List Call) (xs : List ℕ) (es : List Event) → are_readings d p.world (last_of p.readings) rs ≡ true → Ends d t (length p.calls) cs xs
-    → Admits d ver (with_refuted t) places.Due es → Admits d ver t (places.Facts p) (reading_lines rs (end_lines cs xs es))
+    → Admits d ver (with_refuted t) places.Due es → Admits d ver t (places.Showing stages.Facts p) (reading_lines rs (end_lines cs xs es))
 unfolding admits
 readings_go_behind d ver t p [] cs xs es fit ends h = (calls_go_behind d ver t p cs xs es ends h).0
 readings_go_behind d ver t p (r ∷ rs) cs xs es fit ends h =
@@ -93,7 +94,7 @@ readings_go_behind d ver t p (r ∷ rs) cs xs es fit ends h =
     and_from _ _ k.0 (readings_go d ver t (with_reading r p) rs cs xs es more ends h)
 
 facts_go : (d : Specification) (ver : ℕ) (t : Tally) (p : PartialWitness) (fs : List Fact) (rs : List Reading) (cs : List Call) (xs : List ℕ) (es : List Event) → are_facts d p.world (last_of p.facts) fs ≡ true → are_readings d p.world (last_of p.readings) rs ≡ true
-    → Ends d t (length p.calls) cs xs → Admits d ver (with_refuted t) places.Due es → Admits d ver t (places.Facts p) (fact_lines fs (reading_lines rs (end_lines cs xs es)))
+    → Ends d t (length p.calls) cs xs → Admits d ver (with_refuted t) places.Due es → Admits d ver t (places.Showing stages.Facts p) (fact_lines fs (reading_lines rs (end_lines cs xs es)))
 unfolding admits
 facts_go d ver t p [] rs cs xs es fit more ends h = readings_go_behind d ver t p rs cs xs es more ends h
 facts_go d ver t p (f ∷ fs) rs cs xs es fit more ends h =
@@ -111,12 +112,12 @@ const_goes : (d : Specification) (ver : ℕ) (t : Tally) (w : World) (x : ℕ) �
 const_goes d ver t w x fit lt = let same : eqb (length w.consts) (length w.consts) ≡ true = eq-eqb _ _ refl in rw same (and_from _ _ fit lt)
 
 consts_go : (d : Specification) (ver : ℕ) (t : Tally) (w : World) (xs : List ℕ) (es : List Event) → are_consts d (record { sizes = w.sizes; consts = w.consts ++ xs }) (length w.consts) xs ≡ true
-    → Admits d ver t (places.Facts (no_witness (record { sizes = w.sizes; consts = w.consts ++ xs }))) es → Admits d ver t (at_consts d w) (const_lines (length w.consts) xs es)
+    → Admits d ver t (places.Showing stages.Facts (no_witness (record { sizes = w.sizes; consts = w.consts ++ xs }))) es → Admits d ver t (at_consts d w) (const_lines (length w.consts) xs es)
 unfolding admits
 consts_go d ver t w [] es fit h =
-    let k : Admits d ver t (places.Facts (no_witness w)) es = subst (λ (ys : List ℕ). Admits d ver t (places.Facts (no_witness (record { sizes = w.sizes; consts = ys }))) es) (append-nil w.consts) h in
+    let k : Admits d ver t (places.Showing stages.Facts (no_witness w)) es = subst (λ (ys : List ℕ). Admits d ver t (places.Showing stages.Facts (no_witness (record { sizes = w.sizes; consts = ys }))) es) (append-nil w.consts) h in
     let all : eqb (length w.consts) (length d.consts) ≡ true = fit in
-    subst (λ (b : Bool). Admits d ver t (cond b (places.Facts (no_witness w)) (places.Consts w)) es) (sym all) k
+    subst (λ (b : Bool). Admits d ver t (cond b (places.Showing stages.Facts (no_witness w)) (places.Consts w)) es) (sym all) k
 consts_go d ver t w (x ∷ xs) es fit h =
     let a = and_parts (ltb (length w.consts) (length d.consts)) ((const_format (const_at d (length w.consts)).name (size_of w (const_at d (length w.consts)).sort)).fits x && are_consts d (record { sizes = w.sizes; consts = w.consts ++ (x ∷ xs) }) (suc (length w.consts)) xs) fit in
     let b = and_parts ((const_format (const_at d (length w.consts)).name (size_of w (const_at d (length w.consts)).sort)).fits x) (are_consts d (record { sizes = w.sizes; consts = w.consts ++ (x ∷ xs) }) (suc (length w.consts)) xs) a.1 in
@@ -124,10 +125,10 @@ consts_go d ver t w (x ∷ xs) es fit h =
     let all : (w.consts ++ x ∷ []) ++ xs ≡ w.consts ++ (x ∷ xs) = append_assoc w.consts (x ∷ []) xs in
     let fits_on : are_consts d (record { sizes = w.sizes; consts = (w.consts ++ x ∷ []) ++ xs }) (length (w.consts ++ x ∷ [])) xs ≡ true =
           subst (λ (ys : List ℕ). are_consts d (record { sizes = w.sizes; consts = ys }) (length (w.consts ++ x ∷ [])) xs ≡ true) (sym all) (subst (λ (m : ℕ). are_consts d (record { sizes = w.sizes; consts = w.consts ++ (x ∷ xs) }) m xs ≡ true) (sym many) b.1) in
-    let rest = consts_go d ver t (with_const x w) xs es fits_on (subst (λ (ys : List ℕ). Admits d ver t (places.Facts (no_witness (record { sizes = w.sizes; consts = ys }))) es) (sym all) h) in
+    let rest = consts_go d ver t (with_const x w) xs es fits_on (subst (λ (ys : List ℕ). Admits d ver t (places.Showing stages.Facts (no_witness (record { sizes = w.sizes; consts = ys }))) es) (sym all) h) in
     let less : eqb (length w.consts) (length d.consts) ≡ false = in_order _ _ (ltb-true _ _ a.0) in
     let rest_at : Admits d ver t (at_consts d (with_const x w)) (const_lines (suc (length w.consts)) xs es) = subst (λ (m : ℕ). Admits d ver t (at_consts d (with_const x w)) (const_lines m xs es)) many rest in
-    subst (λ (b : Bool). Admits d ver t (cond b (places.Facts (no_witness w)) (places.Consts w)) (const_lines (length w.consts) (x ∷ xs) es)) (sym less) (and_from _ _ (const_goes d ver t w x b.0 a.0) rest_at)
+    subst (λ (b : Bool). Admits d ver t (cond b (places.Showing stages.Facts (no_witness w)) (places.Consts w)) (const_lines (length w.consts) (x ∷ xs) es)) (sym less) (and_from _ _ (const_goes d ver t w x b.0 a.0) rest_at)
 
 size_goes : (d : Specification) (ver : ℕ) (t : Tally) (w : World) (x : ℕ) → (size_format (get_or d.sorts (length w.sizes) [])).fits x ≡ true → ltb (length w.sizes) (length d.sorts) ≡ true
     → goes d (at ver t (places.Sizes w)) (events.Size (length w.sizes) x) ≡ true

@@ -4,3 +4,4 @@ pub mod Lines
 pub mod Whole
 pub mod Ordered
 pub mod FewElements
+pub mod States

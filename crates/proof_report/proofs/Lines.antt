@@ -37,6 +37,7 @@ use Rattle.proof_report.specs.declared.event.Event.{Event}
 use Rattle.proof_report.specs.declared.event.Event.TheVariants as events
 use Rattle.proof_report.specs.declared.place.Place.{Place}
 use Rattle.proof_report.specs.declared.place.Place.TheVariants as places
+use Rattle.proof_report.specs.declared.place.Stage.TheVariants as stages
 use Rattle.proof_report.specs.declared.place.State.{State}
 use Rattle.proof_report.specs.Verdicts.{obligation_at, obligation_count, const_at}
 use Rattle.proof_report.specs.Events.{told, words, shown_words}
@@ -268,9 +269,9 @@ line_good d ver t places.Rows ok = rows_good d
 line_good d ver t places.Range ok = range_good d
 line_good d ver t (places.Sizes w) ok = size_good d (length w.sizes)
 line_good d ver t (places.Consts w) ok = const_good d w (length w.consts)
-line_good d ver t (places.Facts p) ok = shown_good d p.world (due_facts d (obligation_at d (told t)) p) ok
-line_good d ver t (places.Readings p) ok = shown_good d p.world (due_readings d (obligation_at d (told t)) p) ok
-line_good d ver t (places.Calls p) ok = shown_good d p.world (due_calls d (obligation_at d (told t))) ok
+line_good d ver t (places.Showing stages.Facts p) ok = shown_good d p.world (due_facts d (obligation_at d (told t)) p) ok
+line_good d ver t (places.Showing stages.Readings p) ok = shown_good d p.world (due_readings d (obligation_at d (told t)) p) ok
+line_good d ver t (places.Showing stages.Calls p) ok = shown_good d p.world (due_calls d (obligation_at d (told t))) ok
 line_good d ver t places.Last ok = last_good d
 line_good d ver t places.Over ok = none_good d
 

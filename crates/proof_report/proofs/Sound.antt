@@ -32,6 +32,7 @@ use Rattle.proof_report.specs.declared.place.LogOf.{LogOf}
 use Rattle.proof_report.specs.declared.place.LogOf.TheVariants as log_of
 use Rattle.proof_report.specs.declared.place.Place.{Place}
 use Rattle.proof_report.specs.declared.place.Place.TheVariants as places
+use Rattle.proof_report.specs.declared.place.Stage.TheVariants as stages
 use Rattle.proof_report.specs.declared.place.State.{State}
 use Rattle.proof_report.specs.Verdicts.{VerdictForm, proved, refuted, instances, lines, rows, range, obligation_at, obligation_count, call_count, const_at, are_sizes, are_consts, are_facts, are_readings, are_calls, are_elements, fact_behind, reading_behind, relation_due, counter_due, is_verdict, are_verdicts, ReportForm, is_report}
 use Rattle.proof_report.specs.Events.{told, no_verdicts, with_proved, with_refuted, with_undecided, with_verdict, outcome_of, log_lines, size_lines, const_lines, fact_lines, reading_lines, call_lines, verdict_lines, block_lines, report_lines}
@@ -134,9 +135,9 @@ Fine d ver t places.Rows es g = (es ≡ events.Rows g.rows_line ∷ block_lines 
 Fine d ver t places.Range es g = (es ≡ events.Range g.range_line ∷ block_lines (with_undecided t) g.verdicts) × Rest d ver (with_undecided t) g × (range_format.fits g.range_line ≡ true) × (g.log ≡ [])
 Fine d ver t (places.Sizes w) es g = SizesFine d ver t w es g
 Fine d ver t (places.Consts w) es g = ConstsFine d ver t w es g
-Fine d ver t (places.Facts p) es g = WitnessFine d ver t p es g
-Fine d ver t (places.Readings p) es g = WitnessFine d ver t p es g × (g.facts ≡ [])
-Fine d ver t (places.Calls p) es g = WitnessFine d ver t p es g × (g.facts ≡ []) × (g.readings ≡ [])
+Fine d ver t (places.Showing stages.Facts p) es g = WitnessFine d ver t p es g
+Fine d ver t (places.Showing stages.Readings p) es g = WitnessFine d ver t p es g × (g.facts ≡ [])
+Fine d ver t (places.Showing stages.Calls p) es g = WitnessFine d ver t p es g × (g.facts ≡ []) × (g.readings ≡ [])
 Fine d ver t places.Last es g = (es ≡ events.Last (outcome_of t) ∷ []) × (g.verdicts ≡ []) × (g.log ≡ [])
 Fine d ver t places.Over es g = (es ≡ []) × (g.verdicts ≡ []) × (g.log ≡ [])
 
@@ -240,7 +241,7 @@ end_step d ver t p xs es g fit all h =
 -- ---- worlds
 
 consts_fine : (d : Specification) (ver : ℕ) (t : Tally) (w : World) (b : Bool) (es : List Event) (g : Gathered) → eqb (length w.consts) (length d.consts) ≡ b
-    → Fine d ver t (cond b (places.Facts (no_witness w)) (places.Consts w)) es g → ConstsFine d ver t w es g
+    → Fine d ver t (cond b (places.Showing stages.Facts (no_witness w)) (places.Consts w)) es g → ConstsFine d ver t w es g
 consts_fine d ver t w false es g n h = h
 consts_fine d ver t w true es g n h =
     let same : w.consts ≡ w.consts ++ g.consts = sym (ap (λ (xs : List ℕ). w.consts ++ xs) h.no_consts ∙ append-nil w.consts) in
@@ -355,18 +356,18 @@ due_step d ver t false _ es n ok h = absurd (false≢true ok)
 -- ---- one line
 
 shown_step : (d : Specification) (ver : ℕ) (t : Tally) (p : Place) (x : Shown) (es : List Event) → goes d (at ver t p) (events.Shown x) ≡ true → FineAt d (after d (at ver t p) (events.Shown x)) es (gather es) → Fine d ver t p (events.Shown x ∷ es) (with_event (events.Shown x) (gather es))
-shown_step d ver t (places.Facts p) (shown.Fact f) es ok h = let c = and_parts _ _ ok in fact_step d ver t p f es (gather es) c.0 c.1 h
-shown_step d ver t (places.Facts p) (shown.Reading r) es ok h = let c = and_parts _ _ ok in (reading_step d ver t p r es (gather es) c.0 c.1 h).0
-shown_step d ver t (places.Facts p) (shown.Call a) es ok h = let c = and_parts _ _ ok in (call_step d ver t p a es (gather es) c.0 c.1 h).0
-shown_step d ver t (places.Facts p) (shown.At xs) es ok h = let c = and_parts _ _ ok in (end_step d ver t p xs es (gather es) c.0 c.1 h).0
-shown_step d ver t (places.Readings p) (shown.Fact f) es ok h = absurd (false≢true (and_parts _ _ ok).1)
-shown_step d ver t (places.Readings p) (shown.Reading r) es ok h = let c = and_parts _ _ ok in reading_step d ver t p r es (gather es) c.0 c.1 h
-shown_step d ver t (places.Readings p) (shown.Call a) es ok h = let c = and_parts _ _ ok in let k = call_step d ver t p a es (gather es) c.0 c.1 h in (k.0, k.1)
-shown_step d ver t (places.Readings p) (shown.At xs) es ok h = let c = and_parts _ _ ok in let k = end_step d ver t p xs es (gather es) c.0 c.1 h in (k.0, k.1)
-shown_step d ver t (places.Calls p) (shown.Fact f) es ok h = absurd (false≢true (and_parts _ _ ok).1)
-shown_step d ver t (places.Calls p) (shown.Reading r) es ok h = absurd (false≢true (and_parts _ _ ok).1)
-shown_step d ver t (places.Calls p) (shown.Call a) es ok h = let c = and_parts _ _ ok in call_step d ver t p a es (gather es) c.0 c.1 h
-shown_step d ver t (places.Calls p) (shown.At xs) es ok h = let c = and_parts _ _ ok in end_step d ver t p xs es (gather es) c.0 c.1 h
+shown_step d ver t (places.Showing stages.Facts p) (shown.Fact f) es ok h = let c = and_parts _ _ ok in fact_step d ver t p f es (gather es) c.0 c.1 h
+shown_step d ver t (places.Showing stages.Facts p) (shown.Reading r) es ok h = let c = and_parts _ _ ok in (reading_step d ver t p r es (gather es) c.0 c.1 h).0
+shown_step d ver t (places.Showing stages.Facts p) (shown.Call a) es ok h = let c = and_parts _ _ ok in (call_step d ver t p a es (gather es) c.0 c.1 h).0
+shown_step d ver t (places.Showing stages.Facts p) (shown.At xs) es ok h = let c = and_parts _ _ ok in (end_step d ver t p xs es (gather es) c.0 c.1 h).0
+shown_step d ver t (places.Showing stages.Readings p) (shown.Fact f) es ok h = absurd (false≢true (and_parts _ _ ok).1)
+shown_step d ver t (places.Showing stages.Readings p) (shown.Reading r) es ok h = let c = and_parts _ _ ok in reading_step d ver t p r es (gather es) c.0 c.1 h
+shown_step d ver t (places.Showing stages.Readings p) (shown.Call a) es ok h = let c = and_parts _ _ ok in let k = call_step d ver t p a es (gather es) c.0 c.1 h in (k.0, k.1)
+shown_step d ver t (places.Showing stages.Readings p) (shown.At xs) es ok h = let c = and_parts _ _ ok in let k = end_step d ver t p xs es (gather es) c.0 c.1 h in (k.0, k.1)
+shown_step d ver t (places.Showing stages.Calls p) (shown.Fact f) es ok h = absurd (false≢true (and_parts _ _ ok).1)
+shown_step d ver t (places.Showing stages.Calls p) (shown.Reading r) es ok h = absurd (false≢true (and_parts _ _ ok).1)
+shown_step d ver t (places.Showing stages.Calls p) (shown.Call a) es ok h = let c = and_parts _ _ ok in call_step d ver t p a es (gather es) c.0 c.1 h
+shown_step d ver t (places.Showing stages.Calls p) (shown.At xs) es ok h = let c = and_parts _ _ ok in end_step d ver t p xs es (gather es) c.0 c.1 h
 shown_step d ver t p x es ok h = absurd (false≢true (and_parts ((line_at d (at ver t p)).fits (events.Shown x)) false ok).1)
 
 same_shown : (d : Specification) (ver : ℕ) (t : Tally) (p : PartialWitness) (g h : Gathered) → g.facts ≡ h.facts → g.readings ≡ h.readings → g.calls ≡ h.calls → g.elements ≡ h.elements → g.verdicts ≡ h.verdicts → g.log ≡ h.log
@@ -451,9 +452,9 @@ step d ver t (places.Sizes w) (events.Size i n) es ok h = size_step d ver t w i 
 step d ver t (places.Sizes w) _ es ok h = absurd (false≢true ok)
 step d ver t (places.Consts w) (events.Const j x) es ok h = const_step d ver t w j x es ok h
 step d ver t (places.Consts w) _ es ok h = absurd (false≢true ok)
-step d ver t (places.Facts p) _ es ok h = absurd (false≢true ok)
-step d ver t (places.Readings p) _ es ok h = absurd (false≢true ok)
-step d ver t (places.Calls p) _ es ok h = absurd (false≢true ok)
+step d ver t (places.Showing stages.Facts p) _ es ok h = absurd (false≢true ok)
+step d ver t (places.Showing stages.Readings p) _ es ok h = absurd (false≢true ok)
+step d ver t (places.Showing stages.Calls p) _ es ok h = absurd (false≢true ok)
 step d ver t places.Last (events.Last o) es ok h =
     let c = and_parts (outcome_format.fits o) (same_outcome o (outcome_of t)) ok in
     let m = is_same_outcome o (outcome_of t) c.1 in

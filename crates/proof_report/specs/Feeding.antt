@@ -31,6 +31,7 @@ use Rattle.proof_report.specs.declared.place.LogOf.{LogOf}
 use Rattle.proof_report.specs.declared.place.LogOf.TheVariants as log_of
 use Rattle.proof_report.specs.declared.place.Place.{Place}
 use Rattle.proof_report.specs.declared.place.Place.TheVariants as places
+use Rattle.proof_report.specs.declared.place.Stage.TheVariants as stages
 use Rattle.proof_report.specs.declared.place.State.{State}
 use Rattle.proof_report.specs.declared.kind.ReportKind.{ReportKind}
 use Rattle.proof_report.specs.declared.kind.ReportKind.TheVariants as kinds
@@ -171,9 +172,9 @@ place_line d version t places.Rows = rows_line
 place_line d version t places.Range = range_line
 place_line d version t (places.Sizes w) = size_line d (length w.sizes)
 place_line d version t (places.Consts w) = const_line d w (length w.consts)
-place_line d version t (places.Facts p) = shown_line d p.world (due_facts d (obligation_at d (told t)) p)
-place_line d version t (places.Readings p) = shown_line d p.world (due_readings d (obligation_at d (told t)) p)
-place_line d version t (places.Calls p) = shown_line d p.world (due_calls d (obligation_at d (told t)))
+place_line d version t (places.Showing stages.Facts p) = shown_line d p.world (due_facts d (obligation_at d (told t)) p)
+place_line d version t (places.Showing stages.Readings p) = shown_line d p.world (due_readings d (obligation_at d (told t)) p)
+place_line d version t (places.Showing stages.Calls p) = shown_line d p.world (due_calls d (obligation_at d (told t)))
 place_line d version t places.Last = last_line
 place_line d version t places.Over = none
 
@@ -199,12 +200,12 @@ call_or_end ob p (shown.At es) = length p.calls == call_count ob
 
 -- what a witness may show next: facts rise, values rise and stand behind them, and then come the calls and the elements
 abbrev pub may_show : Obligation → Place → Shown → Bool
-may_show ob (places.Facts p) (shown.Fact f) = fact_behind (last_of p.facts) f
-may_show ob (places.Facts p) (shown.Reading r) = reading_behind (last_of p.readings) r
-may_show ob (places.Facts p) s = call_or_end ob p s
-may_show ob (places.Readings p) (shown.Reading r) = reading_behind (last_of p.readings) r
-may_show ob (places.Readings p) s = call_or_end ob p s
-may_show ob (places.Calls p) s = call_or_end ob p s
+may_show ob (places.Showing stages.Facts p) (shown.Fact f) = fact_behind (last_of p.facts) f
+may_show ob (places.Showing stages.Facts p) (shown.Reading r) = reading_behind (last_of p.readings) r
+may_show ob (places.Showing stages.Facts p) s = call_or_end ob p s
+may_show ob (places.Showing stages.Readings p) (shown.Reading r) = reading_behind (last_of p.readings) r
+may_show ob (places.Showing stages.Readings p) s = call_or_end ob p s
+may_show ob (places.Showing stages.Calls p) s = call_or_end ob p s
 may_show ob _ s = false
 
 abbrev pub says : Specification → State → Event → Bool
@@ -241,7 +242,7 @@ no_witness w = record { world = w; facts = []; readings = []; calls = [] }
 
 -- where the world has its sizes, and where it has its constants too
 abbrev pub at_consts : Specification → World → Place
-at_consts d w = if length w.consts == length d.consts then places.Facts (no_witness w) else places.Consts w
+at_consts d w = if length w.consts == length d.consts then places.Showing stages.Facts (no_witness w) else places.Consts w
 
 abbrev pub at_sizes : Specification → World → Place
 at_sizes d w = if length w.sizes == length d.sorts then at_consts d w else places.Sizes w
@@ -286,15 +287,26 @@ with_call c p = record { world = p.world; facts = p.facts; readings = p.readings
 
 -- what was shown, at a place behind the world
 abbrev pub shown_at : Place → PartialWitness
-shown_at (places.Facts p) = p
-shown_at (places.Readings p) = p
-shown_at (places.Calls p) = p
+shown_at (places.Showing stage p) = p
 shown_at _ = no_witness no_world
 
+abbrev pub fact_at : Fact → Place → Place
+fact_at f (places.Showing stages.Facts p) = places.Showing stages.Facts (with_fact f p)
+fact_at f p = p
+
+abbrev pub reading_at : Reading → Place → Place
+reading_at r (places.Showing stages.Facts p) = places.Showing stages.Readings (with_reading r p)
+reading_at r (places.Showing stages.Readings p) = places.Showing stages.Readings (with_reading r p)
+reading_at r p = p
+
+abbrev pub call_at : Call → Place → Place
+call_at c (places.Showing stage p) = places.Showing stages.Calls (with_call c p)
+call_at c p = p
+
 abbrev pub showed : Shown → State → State
-showed (shown.Fact f) s = put_at s (places.Facts (with_fact f (shown_at s.place)))
-showed (shown.Reading r) s = put_at s (places.Readings (with_reading r (shown_at s.place)))
-showed (shown.Call c) s = put_at s (places.Calls (with_call c (shown_at s.place)))
+showed (shown.Fact f) s = put_at s (fact_at f s.place)
+showed (shown.Reading r) s = put_at s (reading_at r s.place)
+showed (shown.Call c) s = put_at s (call_at c s.place)
 showed (shown.At es) s = closed s.version (with_refuted s.tally)
 
 abbrev pub after : Specification → State → Event → State

@@ -14,8 +14,10 @@ pub mod event;
 pub mod kind;
 pub mod place;
 mod elements;
+mod moving;
 mod reading;
 mod saying;
+mod showing;
 pub mod verdict;
 
 pub use kind::{ReportKind, ReportRefused};

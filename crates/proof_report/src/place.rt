@@ -23,6 +23,15 @@ pub enum LogOf {
     Range,
 }
 
+/// What a witness may show next: facts, and what stands behind them; readings, and what stands behind them; or the next call, and
+/// the elements behind all calls.
+#[derive(Clone, Copy, PartialEq, Eq, Debug)]
+pub enum Stage {
+    Facts,
+    Readings,
+    Calls,
+}
+
 /// Which line may come next.
 #[derive(Drop)]
 pub enum Place {
@@ -43,12 +52,8 @@ pub enum Place {
     Sizes(World),
     /// The element of the next constant.
     Consts(World),
-    /// A fact, or what may stand behind the facts.
-    Facts(PartialWitness),
-    /// A reading, or what may stand behind the readings.
-    Readings(PartialWitness),
-    /// The next call, or the elements where all calls are there.
-    Calls(PartialWitness),
+    /// What a witness shows in its world.
+    Showing(Stage, PartialWitness),
     /// The last word.
     Last,
     /// Nothing.

@@ -10,7 +10,7 @@ ghost use Rattle.proof_report.specs.Feeding.{last_of, line_at, title_line, budge
 
 use crate::elements::element_count;
 use crate::event::Event;
-use crate::place::{LogOf, PartialWitness, Place, State};
+use crate::place::{LogOf, PartialWitness, Place, Stage, State};
 use crate::saying::{all_told, obligation_due, told};
 use obligation_list::Obligation;
 use report_lines::evidence::{read_range, read_rows};
@@ -267,17 +267,17 @@ fn front<'a>(
         Place::Range => range(alloc, words),
         Place::Sizes(world) => size(spec, world, words),
         Place::Consts(world) => constant(spec, world, words),
-        Place::Facts(witness) => {
+        Place::Showing(Stage::Facts, witness) => {
             let obligation = obligation_due(spec, obligations, &state.tally);
             let due = due_facts(spec, obligation, witness);
             shown(alloc, spec, &witness.world, due, words)
         }
-        Place::Readings(witness) => {
+        Place::Showing(Stage::Readings, witness) => {
             let obligation = obligation_due(spec, obligations, &state.tally);
             let due = due_readings(spec, obligation, witness);
             shown(alloc, spec, &witness.world, due, words)
         }
-        Place::Calls(witness) => {
+        Place::Showing(Stage::Calls, witness) => {
             let obligation = obligation_due(spec, obligations, &state.tally);
             let due = due_calls(spec, obligation);
             shown(alloc, spec, &witness.world, due, words)

@@ -9,7 +9,7 @@ ghost use Rattle.proof_report.specs.Events.{told, outcome_of};
 ghost use Rattle.proof_report.specs.Feeding.{last_of, says, may_show, call_or_end, same_tally, same_outcome};
 
 use crate::event::Event;
-use crate::place::{PartialWitness, Place, State};
+use crate::place::{PartialWitness, Place, Stage, State};
 use obligation_list::Obligation;
 use report_lines::head::{Outcome, Tally};
 use report_lines::witness::{Fact, Reading, Shown};
@@ -116,16 +116,16 @@ fn may_show(obligation: Obligation, place: &Place, shown: &Shown) -> bool
     ensures { result ≡ may_show obligation place.now shown.now }
 {
     match place {
-        Place::Facts(witness) => match shown {
+        Place::Showing(Stage::Facts, witness) => match shown {
             Shown::Fact(fact) => fact_behind(witness.facts.as_slice(), fact),
             Shown::Reading(reading) => reading_behind(witness.readings.as_slice(), reading),
             _ => call_or_end(obligation, witness, shown),
         },
-        Place::Readings(witness) => match shown {
+        Place::Showing(Stage::Readings, witness) => match shown {
             Shown::Reading(reading) => reading_behind(witness.readings.as_slice(), reading),
             _ => call_or_end(obligation, witness, shown),
         },
-        Place::Calls(witness) => call_or_end(obligation, witness, shown),
+        Place::Showing(Stage::Calls, witness) => call_or_end(obligation, witness, shown),
         _ => false,
     }
 }
