@@ -5,3 +5,4 @@ pub mod Whole
 pub mod Ordered
 pub mod FewElements
 pub mod States
+pub mod Kept
