@@ -34,6 +34,10 @@ use Rattle.proof_report.specs.Verdicts.{obligation_at, obligation_count, const_a
 use Rattle.proof_report.specs.Events.{told, no_verdicts, with_proved, with_refuted, with_undecided}
 use Rattle.proof_report.specs.Feeding.{line_at, due_line, last_of, says, log_left, log_ended, no_witness, no_world, at_consts, at_sizes, begun, with_size, with_const, with_fact, with_reading, with_call, after, goes}
 use Rattle.proof_report.specs.Reader.{fact_fits, reading_fits, IsShowing, AreSizes, AreConsts, IsKept}
+use Rattle.spec_core.specs.Typed.{is_specification}
+use Rattle.obligation_list.proofs.Counting.{few_obligations}
+use Rattle.report_lines.specs.Formats.{read}
+use Rattle.proof_report.proofs.Lines.{line_ok}
 use Rattle.proof_report.proofs.Sound.{at, one_more}
 
 
@@ -216,3 +220,28 @@ keeps d ver t (places.Showing stages.Calls p) _ ok h = absurd (false≢true ok)
 keeps d ver t places.Last (events.Last o) ok h = h
 keeps d ver t places.Last _ ok h = absurd (false≢true ok)
 keeps d ver t places.Over _ ok h = absurd (false≢true ok)
+
+-- a line that is read and is true goes on, and keeps what is kept
+pub goes_on : (d : Specification) (s : State) (e : Event) → (line_at d s).fits e ≡ true → says d s e ≡ true → IsKept d s.tally s.place → IsKept d (after d s e).tally (after d s e).place
+goes_on d s e fit true_ h = keeps d s.version s.tally s.place e (and_from _ _ fit true_) h
+
+pub read_fits : (d : Specification) (s : State) (ws : List (List ℕ)) (e : Event) → is_specification d ≡ true → read (line_at d s) ws ≡ Some e → (line_at d s).fits e ≡ true
+read_fits d s ws e ok h = (line_ok d s ws e ok h).1
+
+at_most : (d : Specification) → is_specification d ≡ true → (n : ℕ) → n ≤ obligation_count d → n < 4294967295
+at_most d ok n h = let f = few_obligations d ok in omega (arith, f)
+
+pub few_told : (d : Specification) (t : Tally) (p : Place) → is_specification d ≡ true → IsKept d t p → told t < 4294967295
+few_told d t places.Title ok h = at_most d ok (told t) h
+few_told d t places.Budget ok h = at_most d ok (told t) h
+few_told d t places.Count ok h = at_most d ok (told t) h
+few_told d t places.Due ok h = at_most d ok (told t) h
+few_told d t places.Last ok h = at_most d ok (told t) h
+few_told d t places.Over ok h = at_most d ok (told t) h
+few_told d t places.Opened ok h = at_most d ok (told t) (omega arith)
+few_told d t (places.Log k n) ok h = at_most d ok (told t) (omega arith)
+few_told d t places.Rows ok h = at_most d ok (told t) (omega arith)
+few_told d t places.Range ok h = at_most d ok (told t) (omega arith)
+few_told d t (places.Sizes w) ok h = let r = h.0 in at_most d ok (told t) (omega arith)
+few_told d t (places.Consts w) ok h = let r = h.0 in at_most d ok (told t) (omega arith)
+few_told d t (places.Showing stage p) ok h = let r = h.0 in at_most d ok (told t) (omega arith)

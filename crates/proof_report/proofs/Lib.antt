@@ -6,3 +6,4 @@ pub mod Ordered
 pub mod FewElements
 pub mod States
 pub mod Kept
+pub mod Answering

@@ -1,5 +1,5 @@
 -- What a reader of a report keeps between two lines, and what it tells of each.
-use Rattle.std.specs.Prelude.{◌≡◌, ℕ, zero, suc, ◌<◌, ◌≤◌, nat_lt, nat_le, Bool, true, false, ◌&&◌, ◌==◌, List, [], ◌∷◌, length, map, take, Option, Some, None, Result, Ok, Err}
+use Rattle.std.specs.Prelude.{◌≡◌, ℕ, zero, suc, ◌<◌, ◌≤◌, nat_lt, nat_le, Bool, true, false, ◌&&◌, ◌==◌, ◌^◌, List, [], ◌∷◌, length, map, take, Option, Some, None, Result, Ok, Err}
 use Rattle.std.specs.List.{list_all}
 use Rattle.spec_core.specs.declared.world.World.{World}
 use Rattle.spec_core.specs.declared.world.Call.{Call}
@@ -32,7 +32,16 @@ use Rattle.proof_report.specs.declared.verdict.Ended.TheVariants as ended
 use Rattle.proof_report.specs.declared.verdict.Fed.{Fed}
 use Rattle.proof_report.specs.Verdicts.{obligation_count}
 use Rattle.proof_report.specs.Events.{told}
-use Rattle.proof_report.specs.Feeding.{shown_at}
+use Rattle.proof_report.specs.declared.feeding.Told.{Told}
+use Rattle.proof_report.specs.declared.feeding.Refusal.{Refusal}
+use Rattle.proof_report.specs.declared.feeding.Refusal.TheVariants as refusal
+use Rattle.proof_report.specs.declared.kind.Fault.{Fault}
+use Rattle.proof_report.specs.declared.kind.ReportKind.{ReportKind}
+use Rattle.proof_report.specs.declared.kind.ReportKind.TheVariants as kinds
+use Rattle.proof_report.specs.declared.kind.ReportRefused.{ReportRefused}
+use Rattle.proof_report.specs.declared.kind.ReportRefused.TheVariants as refused
+use Rattle.report_lines.specs.Words.{parts}
+use Rattle.proof_report.specs.Feeding.{shown_at, judged, fed, start, is_over}
 
 -- ---- what a line tells
 
@@ -158,3 +167,73 @@ IsKept d t (places.Sizes w) = (told t < obligation_count d) × AreSizes d w × (
 IsKept d t (places.Consts w) = (told t < obligation_count d) × AreSizes d w × (length w.sizes ≡ length d.sorts) × AreConsts d w
 IsKept d t (places.Showing stage p) = (told t < obligation_count d) × IsShowing d p
 IsKept d t _ = told t ≤ obligation_count d
+
+-- ---- one line
+
+-- the budget that it states
+abbrev pub budget_of : Event → Option ℕ
+budget_of (events.Budget n) = Some n
+budget_of _ = None
+
+-- What is answered to a line that says something, with the state behind it.
+abbrev pub IsTaken : Specification → State → Event → State → Result Told Refusal → Type 0
+IsTaken d s e u (Ok x) = (judged d s (Some e) ≡ Ok (e, u)) × Tells d s e x.fed × (x.budget ≡ budget_of e)
+IsTaken d s e u (Err (refusal.Line k)) = (judged d s (Some e) ≡ Err k) × (u ≡ s)
+IsTaken d s e u (Err refusal.Memory) = u ≡ s
+
+-- What is answered to a line of these words.
+abbrev pub IsStep : Specification → State → List (List ℕ) → State → Result Told Refusal → Type 0
+IsStep d s words u (Ok x) = (e : Event) × (fed d s words ≡ Ok (e, u)) × Tells d s e x.fed × (x.budget ≡ budget_of e)
+IsStep d s words u (Err (refusal.Line k)) = (fed d s words ≡ Err k) × (u ≡ s)
+IsStep d s words u (Err refusal.Memory) = u ≡ s
+
+-- ---- a reader
+
+-- What a reader of a report on a specification has read: where it stands behind so many lines, the budget if it was stated, and
+-- the first fault.
+pub record ReaderForm : Type 0 where
+  pub spec : Specification
+  pub state : State
+  pub number : ℕ
+  pub budget : Option ℕ
+  pub fault : Option Fault
+
+abbrev pub stated : Option ℕ → Option ℕ → Option ℕ
+stated None before = before
+stated (Some n) before = Some n
+
+abbrev pub read_on : ReaderForm → Result (Event × State) ReportKind → Result (Event × ReaderForm) Fault
+read_on r (Ok x) = Ok (x.0, record { spec = r.spec; state = x.1; number = suc r.number; budget = stated (budget_of x.0) r.budget; fault = None })
+read_on r (Err k) = Err (record { number = suc r.number; kind = k })
+
+abbrev pub read_behind : ReaderForm → List (List ℕ) → Option Fault → Result (Event × ReaderForm) Fault
+read_behind r words (Some f) = Err f
+read_behind r words None = read_on r (fed r.spec r.state words)
+
+-- What the next line says and the reader behind it, or the first fault of the lines so far.
+abbrev pub read_line : ReaderForm → List ℕ → Result (Event × ReaderForm) Fault
+read_line r text = read_behind r (parts text) r.fault
+
+-- What is answered to the next line. A fault stays, and want of memory changes nothing.
+abbrev pub IsAnswered : ReaderForm → List ℕ → ReaderForm → Result Fed ReportRefused → Type 0
+IsAnswered r text q (Ok f) = (e : Event) × (read_line r text ≡ Ok (e, q)) × Tells r.spec r.state e f
+IsAnswered r text q (Err (refused.Line n k)) = (read_line r text ≡ Err (record { number = n; kind = k })) × (q ≡ record r { fault = Some (record { number = n; kind = k }) })
+IsAnswered r text q (Err refused.Memory) = q ≡ r
+
+-- what is wrong where the lines end: the first fault, or that a line is missing
+abbrev pub end_fault : ReaderForm → Bool → Option Fault → Option Fault
+end_fault r over (Some f) = Some f
+end_fault r true None = None
+end_fault r false None = Some (record { number = suc r.number; kind = kinds.Form })
+
+abbrev pub fault_at_end : ReaderForm → Option Fault
+fault_at_end r = end_fault r (is_over r.state.place) r.fault
+
+abbrev pub IsFinished : ReaderForm → Result (Unit {0}) ReportRefused → Type 0
+IsFinished r (Ok u) = fault_at_end r ≡ None
+IsFinished r (Err (refused.Line n k)) = fault_at_end r ≡ Some (record { number = n; kind = k })
+IsFinished r (Err refused.Memory) = suc r.number ≡ 2 ^ 32
+
+-- before the first line
+abbrev pub first_reader : Specification → ReaderForm
+first_reader d = record { spec = d; state = start; number = 0; budget = None; fault = None }

@@ -23,6 +23,13 @@ pub enum ReportKind {
     Dropped,
 }
 
+/// The first line that is wrong, and what is wrong with it.
+#[derive(Clone, Copy, PartialEq, Eq, Debug)]
+pub struct Fault {
+    pub number: u32,
+    pub kind: ReportKind,
+}
+
 /// Why a report isn't taken.
 #[derive(Clone, Copy, PartialEq, Eq, Debug)]
 pub enum ReportRefused {

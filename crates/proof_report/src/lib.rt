@@ -11,14 +11,17 @@
 #![tactic(auto)]
 
 pub mod event;
+mod feeding;
 pub mod kind;
 pub mod place;
 mod elements;
 mod moving;
+mod reader;
 mod reading;
 mod saying;
 mod showing;
 pub mod verdict;
 
-pub use kind::{ReportKind, ReportRefused};
+pub use kind::{Fault, ReportKind, ReportRefused};
+pub use reader::ReportReader;
 pub use verdict::{Block, Cause, Ended, Fed, Report, Verdict};
