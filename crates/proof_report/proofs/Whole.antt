@@ -1,5 +1,5 @@
 -- Lines are fed to the end exactly where they are the text of a report, and of one alone.
-use Rattle.std.proofs.Common.{◌≡◌, ℕ, suc, ◌≤◌, true, List, [], ◌∷◌, ◌++◌, map, length, Option, Some, None, Result, Ok, Err, inl, inr, refl, sym, ap, subst, ◌∙◌}
+use Rattle.std.proofs.Common.{◌≡◌, ℕ, suc, ◌≤◌, true, List, [], ◌∷◌, ◌++◌, map, length, Option, Some, None, Result, Ok, Err, inl, inr, refl, sym, ap, subst, ◌∙◌, arith}
 use Rattle.std.proofs.lemmas.Bool.{and_parts, and_from}
 use Rattle.std.proofs.lemmas.List.{append-nil}
 use Rattle.spec_core.specs.declared.world.Call.{Call}
@@ -23,6 +23,7 @@ use Rattle.proof_report.specs.Verdicts.{VerdictForm, proved, refuted, instances,
 use Rattle.proof_report.specs.Events.{no_verdicts, with_verdict, log_lines, size_lines, const_lines, fact_lines, reading_lines, call_lines, witness_lines, verdict_lines, block_lines, report_lines, words, text}
 use Rattle.proof_report.specs.Feeding.{◌>>=◌, line_at, says, judged, after, fed, fed_all, start, is_over, goes, admits, IsFed}
 use Rattle.proof_report.specs.Gathering.{Gathered, with_event, gather, report_of}
+use Rattle.obligation_list.proofs.Counting.{few_obligations}
 use Rattle.proof_report.proofs.Sound.{admitted_is_report}
 use Rattle.proof_report.proofs.Complete.{report_is_admitted}
 use Rattle.proof_report.proofs.Lines.{line_ok, line_again}
@@ -195,3 +196,14 @@ one_report d r q ok small v w e =
     let k = text_is_fed d q ok small w in
     let same : (report_lines d r, p.0) ≡ (report_lines d q, k.0) = done_is (report_lines d r, p.0) (report_lines d q, k.0) (sym p.1 ∙ ap (fed_all d start) e ∙ k.1) in
     sym (report_gathered d r) ∙ ap (λ (x : List Event × State). report_of x.0) same ∙ report_gathered d q
+
+-- ---- the same of well-formed specifications, which have few obligations
+
+small : (d : Specification) → is_specification d ≡ true → obligation_count d ≤ most_count
+small d ok = let f = few_obligations d ok in omega (arith, f)
+
+pub report_text_is_fed : (d : Specification) (r : ReportForm) → is_specification d ≡ true → is_report d r ≡ true → IsFed d (text d r) (report_lines d r)
+report_text_is_fed d r ok v = text_is_fed d r ok (small d ok) v
+
+pub report_is_one : (d : Specification) (r q : ReportForm) → is_specification d ≡ true → is_report d r ≡ true → is_report d q ≡ true → text d r ≡ text d q → r ≡ q
+report_is_one d r q ok v w e = one_report d r q ok (small d ok) v w e

@@ -15,6 +15,7 @@ mod feeding;
 pub mod kind;
 pub mod place;
 mod elements;
+mod laws;
 mod moving;
 mod reader;
 mod reading;
@@ -23,5 +24,6 @@ mod showing;
 pub mod verdict;
 
 pub use kind::{Fault, ReportKind, ReportRefused};
+pub use laws::{law_fed_is_text, law_one_report, law_text_is_fed};
 pub use reader::ReportReader;
 pub use verdict::{Block, Cause, Ended, Fed, Report, Verdict};
