@@ -1,5 +1,6 @@
 pub mod Verdicts
 pub mod Events
+pub mod Texts
 pub mod Feeding
 pub mod Gathering
 pub mod Reader

@@ -21,9 +21,11 @@ mod reader;
 mod reading;
 mod saying;
 mod showing;
+mod writing;
 pub mod verdict;
 
 pub use kind::{Fault, ReportKind, ReportRefused};
 pub use laws::{law_fed_is_text, law_one_report, law_text_is_fed};
 pub use reader::ReportReader;
+pub use writing::{write_end, write_head, write_verdict};
 pub use verdict::{Block, Cause, Ended, Fed, Report, Verdict};

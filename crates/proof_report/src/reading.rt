@@ -116,7 +116,7 @@ fn due<'a>(
     opened(spec, obligation, told(tally), words)
 }
 
-fn sort_name(spec: &Spec, place: usize) -> &[u8]
+pub fn sort_name(spec: &Spec, place: usize) -> &[u8]
     ensures { result.now ≡ get_or spec.now.sorts place [] }
 {
     match spec.sorts.as_slice().get(place) {
@@ -137,7 +137,7 @@ fn size<'a>(
     Ok((Event::Size(place, size), rest))
 }
 
-fn const_name(spec: &Spec, place: usize) -> &[u8]
+pub fn const_name(spec: &Spec, place: usize) -> &[u8]
     ensures { result.now ≡ (const_at spec.now place).name }
 {
     match spec.consts.as_slice().get(place) {
