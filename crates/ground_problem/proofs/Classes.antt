@@ -2,22 +2,8 @@
 use Rattle.std.proofs.Common.{◌≡◌, ℕ, zero, suc, ◌+◌, ◌<◌, ◌==◌, Bool, true, false, cond, ◌||◌, inl, inr, List, [], ◌∷◌, ◌++◌, length, slice_index, refl, sym, ◌∙◌, ap, subst, arith}
 use Rattle.std.proofs.lemmas.Bool.{eqb-true, or_cases, or_left, or_right}
 use Rattle.std.proofs.lemmas.Bool.Decides.{nat_tests}
+use Rattle.ground_problem.specs.Classes.{any_like, firsts, place_like}
 use Rattle.ground_problem.proofs.Choices.{one_of}
-
--- whether one of them is like it
-abbrev pub any_like : (ℕ → ℕ → Bool) → ℕ → List ℕ → Bool
-any_like like c [] = false
-any_like like c (x ∷ xs) = like x c || any_like like c xs
-
--- the first of each class
-abbrev pub firsts : (ℕ → ℕ → Bool) → List ℕ → List ℕ → List ℕ
-firsts like seen [] = []
-firsts like seen (x ∷ xs) = cond (any_like like x seen) (firsts like seen xs) (x ∷ firsts like (seen ++ x ∷ []) xs)
-
--- the place of the first that is like it
-abbrev pub place_like : (ℕ → ℕ → Bool) → ℕ → List ℕ → ℕ
-place_like like c [] = 0
-place_like like c (x ∷ xs) = cond (like x c) 0 (suc (place_like like c xs))
 
 one_of_here : (x : ℕ) (xs : List ℕ) → one_of x (x ∷ xs) ≡ true
 one_of_here x xs = grind (arith, nat_tests)

@@ -1,6 +1,6 @@
 -- The world, the state, the calls and the elements that an interpretation gives, where it makes the list of an obligation true.
 use Rattle.std.proofs.Common.{◌≡◌, ℕ, zero, suc, ◌+◌, ◌<◌, ◌≤◌, ◌==◌, nat_lt, ℤ, pos, Bool, true, inl, inr, None, unwrap_or, List, [], ◌∷◌, ◌++◌, map, length, get_or, slice_get, slice_index, slice_index_or, unsigned_abs, filter, flat_map, refl, sym, ◌∙◌, ap, subst, arith}
-use Rattle.std.specs.List.{list_all}
+use Rattle.std.specs.List.{list_all, range_with_len}
 use Rattle.std.proofs.lemmas.List.{length-map}
 use Rattle.std.proofs.lemmas.Bool.{lt-ltb, ltb-true, eq-eqb, eqb-true, and_parts, and_from, or_cases}
 use Rattle.spec_core.specs.declared.operation.Operation.{Operation}
@@ -23,6 +23,7 @@ use Rattle.ground_problem.specs.Formulas.{caller}
 use Rattle.ground_problem.specs.Definitions.{Reading, definition, readings_after, with_definitions}
 use Rattle.ground_problem.specs.Equality.{equality, rising, congruent_pairs, congruence}
 use Rattle.ground_problem.specs.Problem.{stated, formulas_of}
+use Rattle.ground_problem.specs.Readback.{arguments_from, held, held_count}
 use Rattle.effectors.specs.Effect.{is_thing}
 use Rattle.ground_problem.proofs.Choices.{one_of}
 use Rattle.ground_problem.proofs.First.{call_at, Setting}
@@ -31,12 +32,12 @@ use Rattle.ground_problem.proofs.Groups.{all_append}
 use Rattle.ground_problem.proofs.Names.{EachOf, StageIn, after_names, stated_names, with_names}
 use Rattle.ground_problem.proofs.Closed.{each_in, at_in, rows_in}
 use Rattle.ground_problem.proofs.Worlds.{HasSort, has_sort, append_left, append_right, element, element_below, firsts_of, constant_of}
-use Rattle.ground_problem.proofs.Rows.{HaveSorts, SameRead, rows_same, has_back, count_back}
+use Rattle.ground_problem.proofs.Rows.{HaveSorts, SameRead, rows_same}
 use Rattle.ground_problem.proofs.Sorted.{own_sort, params_sorted, elements_sorted}
 use Rattle.ground_problem.proofs.Places.{Place}
 use Rattle.ground_problem.proofs.Existing.{operation_there, operation_typed, sorts_exist}
 use Rattle.ground_problem.proofs.Placed.{with_places, stated_places}
-use Rattle.ground_problem.proofs.Values.{split_at, numbers, numbers_length, numbers_at, numbers_out, list_at, arguments_from, element_at, number_at, arguments_fit, listed_has, listed_count, held_fit, entries_fit, all_lists_fit, all_values_fit}
+use Rattle.ground_problem.proofs.Values.{split_at, numbers_length, numbers_at, numbers_out, list_at, element_at, number_at, arguments_fit, listed_has, listed_count, held_fit, entries_fit, all_lists_fit, all_values_fit}
 
 -- what the formulas of each thing say, of one thing
 thing_piece : (m : Interpretation) (g : Thing → List Symbolic) (make : ℕ → Thing) (xs : List ℕ) (i : ℕ) → one_of i xs ≡ true → all_true m (flat_map g (map make xs)) ≡ true → all_true m (g (make i)) ≡ true
@@ -56,13 +57,13 @@ sort_exists p [] s n h k = absurd cc
 sort_exists p (x ∷ ss) s zero h k = subst (λ (y : ℕ). p y ≡ true) (eqb-true x s k) (and_parts (p x) (list_all p ss) h).0
 sort_exists p (x ∷ ss) s (suc n) h k = sort_exists p ss s n (and_parts (p x) (list_all p ss) h).1 k
 
-sorted_from : (all ss : List ℕ) (from n : ℕ) → n ≡ length ss → ((j s : ℕ) → HasSort ss s j → HasSort all s (from + j)) → HaveSorts all ss (numbers from n)
+sorted_from : (all ss : List ℕ) (from n : ℕ) → n ≡ length ss → ((j s : ℕ) → HasSort ss s j → HasSort all s (from + j)) → HaveSorts all ss (range_with_len from n)
 sorted_from all [] from zero e f = tt
 sorted_from all [] from (suc n) e f = absurd (omega arith)
 sorted_from all (s ∷ ss) from zero e f = absurd (omega arith)
 sorted_from all (s ∷ ss) from (suc n) e f = (
   (let q : from + 0 ≡ from = omega arith in subst (λ (x : ℕ). HasSort all s x) q (f 0 s (eq-eqb s s refl))),
-  sorted_from all ss (suc from) n (omega arith) (λ j v k. (let q : from + suc j ≡ suc from + j = omega arith in subst (λ (x : ℕ). HasSort all v x) q (f (suc j) v k))),
+  sorted_from all ss (from + 1) n (omega arith) (λ j v k. (let q : from + suc j ≡ from + 1 + j = omega arith in subst (λ (x : ℕ). HasSort all v x) q (f (suc j) v k))),
 )
 
 none_past : {X : Type 0} (xs : List X) (x : X) (n : ℕ) → length xs ≤ n → get_or xs n x ≡ x
@@ -109,7 +110,7 @@ module _ (d : Specification) (ob : Obligation) (m : Interpretation) (h : all_tru
   size s = length (firsts_of m z.sorts axioms s)
 
   abbrev pub w : World
-  w = record { sizes = map size (numbers 0 (length d.sorts)); consts = map val (numbers 0 (length d.consts)) }
+  w = record { sizes = map size (range_with_len 0 (length d.sorts)); consts = map val (range_with_len 0 (length d.consts)) }
 
   abbrev pub rows : Thing → List (List ℕ)
   rows x = rising (filter (λ q. is_thing q.thing x) entries)
@@ -117,15 +118,15 @@ module _ (d : Specification) (ob : Obligation) (m : Interpretation) (h : all_tru
   -- what is read at the entry, of every thing
   abbrev pub r : Reads
   r = record {
-    has = λ i u. has_back (map val) (m.has [] i) (rows (thing.Relation i)) u;
-    count = λ i u. count_back (map val) (λ v. m.int (reading [] i v)) (rows (thing.Counter i)) u;
+    has = λ i u. held (map val) (m.has [] i) (rows (thing.Relation i)) u;
+    count = λ i u. held_count (map val) (λ v. m.int (reading [] i v)) (rows (thing.Counter i)) u;
   }
 
   -- the state
   abbrev pub listing : Listing
   listing = record {
-    relations = map (λ i. map (map val) (filter (m.has [] i) (rows (thing.Relation i)))) (numbers 0 (length d.relations));
-    counters = map (λ i. map (λ v. (map val v, m.int (reading [] i v))) (rows (thing.Counter i))) (numbers 0 (length d.counters));
+    relations = map (λ i. map (map val) (filter (m.has [] i) (rows (thing.Relation i)))) (range_with_len 0 (length d.relations));
+    counters = map (λ i. map (λ v. (map val v, m.int (reading [] i v))) (rows (thing.Counter i))) (range_with_len 0 (length d.counters));
   }
 
   abbrev pub call_of : ℕ → ℕ → Call
@@ -170,7 +171,7 @@ module _ (d : Specification) (ob : Obligation) (m : Interpretation) (h : all_tru
 
   pub world : is_world d w ≡ true
   world = and_from (length w.sizes == length d.sorts) (fits_places w (map (λ c. c.sort) d.consts) w.consts) (eq-eqb (length w.sizes) (length d.sorts) (numbers_length size 0 (length d.sorts)))
-      (sorted_fit (map (λ c. c.sort) d.consts) (numbers 0 (length d.consts)) (sorted_from z.sorts (map (λ c. c.sort) d.consts) 0 (length d.consts) (sym (length-map d.consts (λ c. c.sort))) (λ j s k. (let e : j ≡ 0 + j = omega arith in subst (λ (x : ℕ). HasSort z.sorts s x) e (own_sort d ob j s k)))))
+      (sorted_fit (map (λ c. c.sort) d.consts) (range_with_len 0 (length d.consts)) (sorted_from z.sorts (map (λ c. c.sort) d.consts) 0 (length d.consts) (sym (length-map d.consts (λ c. c.sort))) (λ j s k. (let e : j ≡ 0 + j = omega arith in subst (λ (x : ℕ). HasSort z.sorts s x) e (own_sort d ob j s k)))))
 
   pub elements_fit_here : fits_places w (elements_of d ob) es ≡ true
   elements_fit_here = sorted_fit (elements_of d ob) z.elements (elements_sorted d ob)

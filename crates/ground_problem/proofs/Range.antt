@@ -1,6 +1,6 @@
 -- The values that an interpretation gives are read from it.
 use Rattle.std.proofs.Common.{◌≡◌, ℕ, zero, suc, ◌+◌, ◌≤◌, ℤ, pos, Bool, true, false, cond, inl, inr, Option, None, Some, unwrap_or, List, [], ◌∷◌, ◌++◌, map, length, get_or, slice_get, slice_index, slice_index_or, refl, sym, ◌∙◌, ap, subst, arith}
-use Rattle.std.specs.List.{list_all}
+use Rattle.std.specs.List.{list_all, range_with_len}
 use Rattle.std.proofs.lemmas.Bool.{and_from}
 use Rattle.spec_core.specs.declared.spec.Counter.{Counter}
 use Rattle.spec_core.specs.declared.update.Thing.TheVariants as thing
@@ -18,9 +18,9 @@ use Rattle.ground_problem.specs.Constants.{of_sort}
 use Rattle.ground_problem.specs.Formulas.{caller}
 use Rattle.ground_problem.specs.Problem.{formulas_of}
 use Rattle.ground_problem.specs.Readback.{all_listed, ReadFrom}
-use Rattle.ground_problem.proofs.Classes.{any_like, firsts}
+use Rattle.ground_problem.specs.Classes.{any_like, firsts}
 use Rattle.ground_problem.proofs.Worlds.{like}
-use Rattle.ground_problem.proofs.Values.{split_at, numbers, numbers_out, number_at}
+use Rattle.ground_problem.proofs.Values.{split_at, numbers_out, number_at}
 use Rattle.ground_problem.proofs.Given as given
 
 -- there are at most as many first ones as there are
@@ -59,9 +59,9 @@ module _ (d : Specification) (ob : Obligation) (m : Interpretation) (h : all_tru
       each_row i [] = refl
       each_row i (u ∷ us) = and_from (test (m.int (reading [] i u))) _ (p (reading [] i u)) (each_row i us)
 
-      each : (from n : ℕ) → list_all (λ values. list_all (λ (e : List ℕ × ℤ). test e.1) values) (map (λ i. map (λ v. (map (given.val d ob m h t io) v, m.int (reading [] i v))) (given.rows d ob m h t io (thing.Counter i))) (numbers from n)) ≡ true
+      each : (from n : ℕ) → list_all (λ values. list_all (λ (e : List ℕ × ℤ). test e.1) values) (map (λ i. map (λ v. (map (given.val d ob m h t io) v, m.int (reading [] i v))) (given.rows d ob m h t io (thing.Counter i))) (range_with_len from n)) ≡ true
       each from zero = refl
-      each from (suc n) = and_from _ _ (each_row from (given.rows d ob m h t io (thing.Counter from))) (each (suc from) n)
+      each from (suc n) = and_from _ _ (each_row from (given.rows d ob m h t io (thing.Counter from))) (each (from + 1) n)
 
   some_call : (from : ℕ) (os : List ℕ) (n : ℕ) (c : Call) → slice_get (given.calls_from d ob m h t io from os) n ≡ Some c → given.call_of d ob m h t io (from + n) (slice_index os n) ≡ c
   some_call from [] n c e = absurd cc

@@ -8,6 +8,7 @@ use Rattle.std.proofs.lemmas.Int.{ints}
 use Rattle.spec_core.specs.declared.update.Thing.{Thing}
 use Rattle.spec_core.specs.declared.update.Thing.TheVariants as thing
 use Rattle.spec_core.specs.State.{is_in}
+use Rattle.ground_problem.specs.Readback.{held, held_count}
 use Rattle.ground_problem.specs.Symbols.{reading, Interpretation, is_true, all_true, all_parts, same_const}
 use Rattle.ground_problem.specs.Equality.{equality, tuples_same, readings_same, congruent, congruent_pairs}
 use Rattle.ground_problem.proofs.Updated.{parts_mean}
@@ -30,16 +31,8 @@ and_left a b h = (and_parts a b h).0
 and_right : (a b : Bool) → (a && b) ≡ true → b ≡ true
 and_right a b h = (and_parts a b h).1
 
--- the number of the first of these with this value, and 0 where there is none
-abbrev pub count_back : (List ℕ → List ℕ) → (List ℕ → ℤ) → List (List ℕ) → List ℕ → ℤ
-count_back val at [] t = pos 0
-count_back val at (u ∷ us) t = cond (bytes_eq (val u) t) (at u) (count_back val at us t)
-
-abbrev pub has_back : (List ℕ → List ℕ) → (List ℕ → Bool) → List (List ℕ) → List ℕ → Bool
-has_back val at us t = list_any (λ u. bytes_eq (val u) t && at u) us
-
 -- where equal values have equal readings, the reading of each is found again
-pub has_found : (val : List ℕ → List ℕ) (at : List ℕ → Bool) (us : List (List ℕ)) → ((t u : List ℕ) → is_in t us ≡ true → is_in u us ≡ true → val t ≡ val u → at t ≡ at u) → (u : List ℕ) → is_in u us ≡ true → has_back val at us (val u) ≡ at u
+pub has_found : (val : List ℕ → List ℕ) (at : List ℕ → Bool) (us : List (List ℕ)) → ((t u : List ℕ) → is_in t us ≡ true → is_in u us ≡ true → val t ≡ val u → at t ≡ at u) → (u : List ℕ) → is_in u us ≡ true → held val at us (val u) ≡ at u
 has_found val at us h u k = by_test (at u) refl
   where
     yes : at u ≡ true → list_any (λ t. bytes_eq (val t) (val u) && at t) us ≡ true
@@ -58,7 +51,7 @@ has_found val at us h u k = by_test (at u) refl
     by_test true e = yes e ∙ sym e
     by_test false e = is_false _ (no e) ∙ sym e
 
-pub count_found : (val : List ℕ → List ℕ) (at : List ℕ → ℤ) (us : List (List ℕ)) → ((t u : List ℕ) → is_in t us ≡ true → is_in u us ≡ true → val t ≡ val u → at t ≡ at u) → (u : List ℕ) → is_in u us ≡ true → count_back val at us (val u) ≡ at u
+pub count_found : (val : List ℕ → List ℕ) (at : List ℕ → ℤ) (us : List (List ℕ)) → ((t u : List ℕ) → is_in t us ≡ true → is_in u us ≡ true → val t ≡ val u → at t ≡ at u) → (u : List ℕ) → is_in u us ≡ true → held_count val at us (val u) ≡ at u
 count_found val at [] h u k = absurd cc
 count_found val at (x ∷ us) h u k = by_test (bytes_eq (val x) (val u)) refl (λ l. count_found val at us (λ t v p q. h t v (right (bytes_eq t x) (is_in t us) p) (right (bytes_eq v x) (is_in v us) q)) u l)
   where
@@ -71,7 +64,7 @@ count_found val at (x ∷ us) h u k = by_test (bytes_eq (val x) (val u)) refl (�
         left : (a b : Bool) → a ≡ true → (a || b) ≡ true
         left a b h = grind arith
 
-    by_test : (b : Bool) → bytes_eq (val x) (val u) ≡ b → (is_in u us ≡ true → count_back val at us (val u) ≡ at u) → cond b (at x) (count_back val at us (val u)) ≡ at u
+    by_test : (b : Bool) → bytes_eq (val x) (val u) ≡ b → (is_in u us ≡ true → held_count val at us (val u) ≡ at u) → cond b (at x) (held_count val at us (val u)) ≡ at u
     by_test true e ih = h x u here k ((bytes_eq-Decides (val x) (val u)).0 e)
     by_test false e ih = elim (or_cases (bytes_eq u x) (is_in u us) k) [
       | inr l ↦ ih l

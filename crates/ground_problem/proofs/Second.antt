@@ -21,7 +21,7 @@ use Rattle.spec_core.specs.Specification.{Specification, op_of, no_line, places_
 use Rattle.spec_core.specs.State.{Listing, Reads, reads}
 use Rattle.spec_core.specs.Truth.{int_eq, is_exists, line_true, lines_true}
 use Rattle.spec_core.specs.Meaning.{invariant_line, inv, pre, initial}
-use Rattle.spec_core.specs.Fits.{fits_places, AgreeOn}
+use Rattle.spec_core.specs.Fits.{fits_places, is_state, AgreeOn}
 use Rattle.spec_core.specs.Typed.{is_number, sort_of, same_sort, body_typed, summand_typed, term_typed, form_typed, is_line, is_invariant, is_specification}
 use Rattle.spec_core.proofs.Lists.{list_all-get_or}
 use Rattle.spec_core.proofs.Parts.{parts_of, operation_parts}
@@ -32,7 +32,7 @@ use Rattle.token_rules.specs.Conflict.{conflicts}
 use Rattle.obligation_list.specs.declared.obligation.Obligation.{Obligation}
 use Rattle.obligation_list.specs.declared.obligation.Obligation.TheVariants.{Init, Safety, Commute, Stable}
 use Rattle.obligation_list.specs.Obligations.{IsThing, IsObligation}
-use Rattle.obligation_list.specs.Breaking.{operations_of, elements_of, requires_line, failing_vars, line_at, reads_same, bool_eq, IsCallOf, Breaks}
+use Rattle.obligation_list.specs.Breaking.{operations_of, elements_of, requires_line, failing_vars, line_at, reads_same, bool_eq, IsCallOf, BreaksInit, Breaks}
 use Rattle.ground_problem.specs.Symbols.{argument, Part, Symbolic, Interpretation, part_value, sum_value, is_true, all_true, same_const}
 use Rattle.ground_problem.specs.Constants.{Constants, chosen_vars}
 use Rattle.ground_problem.specs.Formulas.{caller, nobody, at_stage, at_start, const_of, part_of_body, part_of, parts_of as symbolic_parts, comparison, formula, instances}
@@ -40,7 +40,7 @@ use Rattle.ground_problem.specs.Entry.{invariants_hold, lines_hold, calls_ready,
 use Rattle.ground_problem.specs.Conclusion.{line_fails, differ, conclusion}
 use Rattle.ground_problem.specs.Definitions.{definition, readings, readings_after}
 use Rattle.ground_problem.specs.Problem.{formulas_of}
-use Rattle.ground_problem.specs.Readback.{ReadFrom}
+use Rattle.ground_problem.specs.Readback.{world_of, calls_of, elements_at, IsEntry, ReadFrom}
 use Rattle.ground_problem.proofs.Means.{one_sort}
 use Rattle.ground_problem.proofs.Free.{Side, rules_mean}
 use Rattle.ground_problem.proofs.Agree.{after_everywhere, start_everywhere, start_agrees}
@@ -148,8 +148,8 @@ module _ (d : Specification) (ob : Obligation) (m : Interpretation) (h : all_tru
       i.line (not-true (is_exists i.line.prefix) lt3.0) lt3.1 (of_left (NamedAll d ob m h t io) here more nf) (append_left m here more hl))
       (invariants_back is lt2.1 (of_right (NamedAll d ob m h t io) here more nf) (append_right m here more hl))
 
-  pub invariant_back : EachOf (NamedAll d ob m h t io) (invariants_hold d z) → all_true m (invariants_hold d z) ≡ true → inv d w (reads (given.listing d ob m h t io)) ≡ true
-  invariant_back nf hl = inv_agrees d w (reads (given.listing d ob m h t io)) r t (given.world d ob m h t io) (given.state_reads d ob m h t io) ∙ invariants_back d.invariants (parts_of d t).invariants nf hl
+  pub invariant_back : (s : Reads) → AgreeOn d w s r → EachOf (NamedAll d ob m h t io) (invariants_hold d z) → all_true m (invariants_hold d z) ≡ true → inv d w s ≡ true
+  invariant_back s agree nf hl = inv_agrees d w s r t (given.world d ob m h t io) agree ∙ invariants_back d.invariants (parts_of d t).invariants nf hl
 
   -- ---- 2
   calls_back : (n : ℕ) (os : List ℕ) (owns : List (List (List ℕ))) → ((j : ℕ) → slice_index (operations_of ob) (n + j) ≡ slice_index os j) → n + length os ≡ length (operations_of ob) → AllSorted z.sorts (map (λ o. map chosen_vars (op_of d o).requires_) os) owns
@@ -186,8 +186,8 @@ module _ (d : Specification) (ob : Obligation) (m : Interpretation) (h : all_tru
   pub is_call_n : (n : ℕ) → n < length (operations_of ob) → IsCallOf d w (slice_index (operations_of ob) n) (call_n n)
   is_call_n n lt = record { operation = refl; fits = given.call_fits_here d ob m h t io n lt }
 
-  pub pre_back : (n : ℕ) → n < length (operations_of ob) → pre d w (call_n n) (reads (given.listing d ob m h t io)) ≡ true
-  pre_back n lt = pre_agrees d w (reads (given.listing d ob m h t io)) r t (given.world d ob m h t io) (given.state_reads d ob m h t io) (call_n n) (given.call_fits_here d ob m h t io n lt)
+  pub pre_back : (s : Reads) → AgreeOn d w s r → (n : ℕ) → n < length (operations_of ob) → pre d w (call_n n) s ≡ true
+  pre_back s agree n lt = pre_agrees d w s r t (given.world d ob m h t io) agree (call_n n) (given.call_fits_here d ob m h t io n lt)
       ∙ subst (λ (c : Call). lines_true w r c.args (op_n n).requires_ ≡ true) (given.call_here d ob m h t io n lt) (call_ready n lt)
 
   -- ---- 3
@@ -275,32 +275,23 @@ reads_same_back : (d : Specification) (w : World) (x : Thing) (es : List ℕ) �
 reads_same_back d w (thing.Relation k) es l f a b r s p q h = (let u = p.has k es l f in let v = q.has k es l f in (λ i. bool_eq (u i) (v i)) ∙ h)
 reads_same_back d w (thing.Counter k) es l f a b r s p q h = (let u = p.count k es l f in let v = q.count k es l f in (λ i. int_eq (u i) (v i)) ∙ h)
 
--- what breaks an obligation, read from an interpretation
-abbrev pub BrokenBy : Specification → Obligation → Interpretation → Type 0
-BrokenBy d ob m = (w : World) × (s : Listing) × (cs : List Call) × (es : List ℕ) × Breaks d ob w s cs es × ReadFrom d ob m w s cs
-
-pub second_direction : (d : Specification) (ob : Obligation) (m : Interpretation) → is_specification d ≡ true → IsObligation d ob → all_true m (formulas_of d ob) ≡ true → BrokenBy d ob m
-second_direction d (Init i) m t io h =
+-- What an interpretation that makes the list true gives breaks the obligation, with any state that reads what it says of the entry.
+pub entry_breaks : (d : Specification) (ob : Obligation) (m : Interpretation) (s : Listing) → is_specification d ≡ true → IsObligation d ob → all_true m (formulas_of d ob) ≡ true → is_state d (world_of d ob m) s ≡ true → IsEntry d ob m s
+    → Breaks d ob (world_of d ob m) s (calls_of d ob m) (elements_at d ob m)
+entry_breaks d (Init i) m s t io h fits entry =
     let w = given.w d (Init i) m h t io in
     let es = given.es d (Init i) m h t io in
     let fit = given.elements_fit_here d (Init i) m h t io in
-    let fails = start_fails d (Init i) m h t io i refl (conclusion_named d (Init i) m h t io) (conclusion_holds d (Init i) m h t io) in (
-      w,
-      initial d w,
-      [],
-      es,
-      record {
-        world = given.world d (Init i) m h t io;
-        state = initial_is_state d w;
-        elements = fit;
-        broken = record { start = refl; fails = line_at_agrees d w (given.world d (Init i) m h t io) [] [] refl (reads (initial d w)) (start_everywhere d) (start_agrees d w) (invariant_line d i) (invariant_typed d t i) es fit ∙ fails };
-      },
-      start_read_from d (Init i) m h t io,
-    )
-second_direction d (Safety n i) m t io h =
+    let fails = start_fails d (Init i) m h t io i refl (conclusion_named d (Init i) m h t io) (conclusion_holds d (Init i) m h t io) in
+    record {
+      world = given.world d (Init i) m h t io;
+      state = fits;
+      elements = fit;
+      broken = subst (λ (r : Reads). BreaksInit d i w r es) (sym entry) (record { start = refl; fails = line_at_agrees d w (given.world d (Init i) m h t io) [] [] refl (reads (initial d w)) (start_everywhere d) (start_agrees d w) (invariant_line d i) (invariant_typed d t i) es fit ∙ fails });
+    }
+entry_breaks d (Safety n i) m s t io h fits entry =
     let ob = Safety n i in
     let w = given.w d ob m h t io in
-    let s = given.listing d ob m h t io in
     let r = given.r d ob m h t io in
     let es = given.es d ob m h t io in
     let fit = given.elements_fit_here d ob m h t io in
@@ -308,28 +299,21 @@ second_direction d (Safety n i) m t io h =
     let a = call_n d ob m h t io 0 in
     let is_a = is_call_n d ob m h t io 0 zeroth in
     let fails = invariant_fails d ob m h t io 0 i refl (conclusion_named d ob m h t io) (conclusion_holds d ob m h t io) in
-    let agree = call_agrees d w t (given.world d ob m h t io) n a is_a (reads s) r (given.state_reads d ob m h t io) in (
-      w,
-      s,
-      a ∷ [],
-      es,
-      record {
-        world = given.world d ob m h t io;
-        state = given.state d ob m h t io;
-        elements = fit;
-        broken = record {
-          call = is_a;
-          invariant = invariant_back d ob m h t io (entry_named d ob m h t io) (entry_holds d ob m h t io);
-          ready = pre_back d ob m h t io 0 zeroth;
-          fails = line_at_agrees d w (given.world d ob m h t io) [] [] refl (after d w a (reads s)) (after_everywhere d w a r) agree (invariant_line d i) (invariant_typed d t i) es fit ∙ fails;
-        };
-      },
-      read_from d ob m h t io,
-    )
-second_direction d (Commute n p x) m t io h =
+    let agree = call_agrees d w t (given.world d ob m h t io) n a is_a (reads s) r entry in
+    record {
+      world = given.world d ob m h t io;
+      state = fits;
+      elements = fit;
+      broken = record {
+        call = is_a;
+        invariant = invariant_back d ob m h t io (reads s) entry (entry_named d ob m h t io) (entry_holds d ob m h t io);
+        ready = pre_back d ob m h t io (reads s) entry 0 zeroth;
+        fails = line_at_agrees d w (given.world d ob m h t io) [] [] refl (after d w a (reads s)) (after_everywhere d w a r) agree (invariant_line d i) (invariant_typed d t i) es fit ∙ fails;
+      };
+    }
+entry_breaks d (Commute n p x) m s t io h fits entry =
     let ob = Commute n p x in
     let w = given.w d ob m h t io in
-    let s = given.listing d ob m h t io in
     let r = given.r d ob m h t io in
     let es = given.es d ob m h t io in
     let world = given.world d ob m h t io in
@@ -340,38 +324,31 @@ second_direction d (Commute n p x) m t io h =
     let b = call_n d ob m h t io 1 in
     let is_a = is_call_n d ob m h t io 0 zeroth in
     let is_b = is_call_n d ob m h t io 1 first in
-    let agree = given.state_reads d ob m h t io in
+    let agree = entry in
     let after_a = call_agrees d w t world n a is_a (reads s) r agree in
     let after_b = call_agrees d w t world p b is_b (reads s) r agree in
     let one = call_agrees d w t world p b is_b (after d w a (reads s)) (after_everywhere d w a r) after_a in
     let other = call_agrees d w t world n a is_a (after d w b (reads s)) (after_everywhere d w b r) after_b in
-    let fails = differ_back d ob m h t io x 1 0 0 1 (conclusion_named_first d ob m h t io).0 (conclusion_holds d ob m h t io) in (
-      w,
-      s,
-      a ∷ b ∷ [],
-      es,
-      record {
-        world = world;
-        state = given.state d ob m h t io;
-        elements = fit;
-        broken = record {
-          first = is_a;
-          second = is_b;
-          together = record {
-            invariant = invariant_back d ob m h t io (entry_named d ob m h t io) (entry_holds d ob m h t io);
-            first = pre_back d ob m h t io 0 zeroth;
-            second = pre_back d ob m h t io 1 first;
-            apart = apart_back d ob m h t io zeroth first (free_holds d ob m h t io);
-          };
-          fails = reads_same_back d w x es io.2 fit (after d w b (after d w a (reads s))) (after d w a (after d w b (reads s))) (after_everywhere d w b (after_everywhere d w a r)) (after_everywhere d w a (after_everywhere d w b r)) one other fails;
+    let fails = differ_back d ob m h t io x 1 0 0 1 (conclusion_named_first d ob m h t io).0 (conclusion_holds d ob m h t io) in
+    record {
+      world = world;
+      state = fits;
+      elements = fit;
+      broken = record {
+        first = is_a;
+        second = is_b;
+        together = record {
+          invariant = invariant_back d ob m h t io (reads s) entry (entry_named d ob m h t io) (entry_holds d ob m h t io);
+          first = pre_back d ob m h t io (reads s) entry 0 zeroth;
+          second = pre_back d ob m h t io (reads s) entry 1 first;
+          apart = apart_back d ob m h t io zeroth first (free_holds d ob m h t io);
         };
-      },
-      read_from d ob m h t io,
-    )
-second_direction d (Stable n l p) m t io h =
+        fails = reads_same_back d w x es io.2 fit (after d w b (after d w a (reads s))) (after d w a (after d w b (reads s))) (after_everywhere d w b (after_everywhere d w a r)) (after_everywhere d w a (after_everywhere d w b r)) one other fails;
+      };
+    }
+entry_breaks d (Stable n l p) m s t io h fits entry =
     let ob = Stable n l p in
     let w = given.w d ob m h t io in
-    let s = given.listing d ob m h t io in
     let r = given.r d ob m h t io in
     let es = given.es d ob m h t io in
     let world = given.world d ob m h t io in
@@ -383,27 +360,43 @@ second_direction d (Stable n l p) m t io h =
     let is_a = is_call_n d ob m h t io 0 zeroth in
     let is_b = is_call_n d ob m h t io 1 first in
     let typed : is_line d (op_of d n).params (requires_line d n l) ≡ true = list_all-get_or (is_line d (op_of d n).params) (op_of d n).requires_ (operation_parts d (op_of d n) (operation_typed d ob t io 0 zeroth)).requires_ l no_line refl in
-    let agree = call_agrees d w t world p b is_b (reads s) r (given.state_reads d ob m h t io) in
-    let fails = requires_fails d ob m h t io 0 1 zeroth (requires_line d n l) typed refl (conclusion_named d ob m h t io) (conclusion_holds d ob m h t io) in (
-      w,
-      s,
-      a ∷ b ∷ [],
-      es,
-      record {
-        world = world;
-        state = given.state d ob m h t io;
-        elements = fit;
-        broken = record {
-          first = is_a;
-          second = is_b;
-          together = record {
-            invariant = invariant_back d ob m h t io (entry_named d ob m h t io) (entry_holds d ob m h t io);
-            first = pre_back d ob m h t io 0 zeroth;
-            second = pre_back d ob m h t io 1 first;
-            apart = apart_back d ob m h t io zeroth first (free_holds d ob m h t io);
-          };
-          fails = line_at_agrees d w world (op_of d n).params a.args (and_parts (nat_lt n (length d.operations)) _ is_a.fits).1 (after d w b (reads s)) (after_everywhere d w b r) agree (requires_line d n l) typed es fit ∙ fails;
+    let agree = call_agrees d w t world p b is_b (reads s) r entry in
+    let fails = requires_fails d ob m h t io 0 1 zeroth (requires_line d n l) typed refl (conclusion_named d ob m h t io) (conclusion_holds d ob m h t io) in
+    record {
+      world = world;
+      state = fits;
+      elements = fit;
+      broken = record {
+        first = is_a;
+        second = is_b;
+        together = record {
+          invariant = invariant_back d ob m h t io (reads s) entry (entry_named d ob m h t io) (entry_holds d ob m h t io);
+          first = pre_back d ob m h t io (reads s) entry 0 zeroth;
+          second = pre_back d ob m h t io (reads s) entry 1 first;
+          apart = apart_back d ob m h t io zeroth first (free_holds d ob m h t io);
         };
-      },
-      read_from d ob m h t io,
-    )
+        fails = line_at_agrees d w world (op_of d n).params a.args (and_parts (nat_lt n (length d.operations)) _ is_a.fits).1 (after d w b (reads s)) (after_everywhere d w b r) agree (requires_line d n l) typed es fit ∙ fails;
+      };
+    }
+
+-- what breaks an obligation, read from an interpretation
+abbrev pub BrokenBy : Specification → Obligation → Interpretation → Type 0
+BrokenBy d ob m = (w : World) × (s : Listing) × (cs : List Call) × (es : List ℕ) × Breaks d ob w s cs es × ReadFrom d ob m w s cs
+
+pub second_direction : (d : Specification) (ob : Obligation) (m : Interpretation) → is_specification d ≡ true → IsObligation d ob → all_true m (formulas_of d ob) ≡ true → BrokenBy d ob m
+second_direction d (Init i) m t io h =
+    let ob = Init i in
+    let s = initial d (world_of d ob m) in
+    (world_of d ob m, s, calls_of d ob m, elements_at d ob m, entry_breaks d ob m s t io h (initial_is_state d (world_of d ob m)) refl, start_read_from d ob m h t io)
+second_direction d (Safety n i) m t io h =
+    let ob = Safety n i in
+    let s = given.listing d ob m h t io in
+    (world_of d ob m, s, calls_of d ob m, elements_at d ob m, entry_breaks d ob m s t io h (given.state d ob m h t io) (given.state_reads d ob m h t io), read_from d ob m h t io)
+second_direction d (Commute n p x) m t io h =
+    let ob = Commute n p x in
+    let s = given.listing d ob m h t io in
+    (world_of d ob m, s, calls_of d ob m, elements_at d ob m, entry_breaks d ob m s t io h (given.state d ob m h t io) (given.state_reads d ob m h t io), read_from d ob m h t io)
+second_direction d (Stable n l p) m t io h =
+    let ob = Stable n l p in
+    let s = given.listing d ob m h t io in
+    (world_of d ob m, s, calls_of d ob m, elements_at d ob m, entry_breaks d ob m s t io h (given.state d ob m h t io) (given.state_reads d ob m h t io), read_from d ob m h t io)

@@ -5,9 +5,10 @@ use Rattle.std.proofs.lemmas.Bool.Decides.{nat_tests}
 use Rattle.spec_core.specs.Typed.{is_sort}
 use Rattle.ground_problem.specs.Symbols.{Symbolic, always, same, Interpretation, is_true, all_true, same_const}
 use Rattle.ground_problem.specs.Constants.{of_sort}
+use Rattle.ground_problem.specs.Classes.{any_like, firsts, place_like}
 use Rattle.ground_problem.specs.Equality.{three_agree, agree_with_pairs, equality}
 use Rattle.ground_problem.proofs.Choices.{one_of, in_sort}
-use Rattle.ground_problem.proofs.Classes.{any_like, firsts, place_like, firsts_in, firsts_cover, place_below, place_is_like, place_same, firsts_apart, place_of_first, one_of_index}
+use Rattle.ground_problem.proofs.Classes.{firsts_in, firsts_cover, place_below, place_is_like, place_same, firsts_apart, place_of_first, one_of_index}
 
 -- the constant at this place has this sort
 abbrev pub HasSort : List ℕ → ℕ → ℕ → Type 0

@@ -6,4 +6,5 @@ pub mod Conclusion
 pub mod Definitions
 pub mod Equality
 pub mod Problem
+pub mod Classes
 pub mod Readback
