@@ -1,0 +1,90 @@
+// Truth values are folded, and "not" is moved inward to the literals.
+ghost use Rattle.std.specs.Prelude.{◌≡◌, true, false, IfOk};
+ghost use Rattle.proof_lines.specs.Clauses.{same_bool};
+ghost use Rattle.ground_numbers.specs.Clauses.{folded, fold_all, fold_any};
+ghost use Rattle.ground_atoms.specs.Formulas.{form_of};
+ghost use Rattle.clausify.specs.Formulas.{folded_of};
+
+use crate::normal::{Folded, Normal};
+use ground_atoms::GroundFormula;
+use proof_lines::Lit;
+use std::alloc::{AllocError, Global};
+
+fn fold_all(alloc: Global, left: Folded, right: Folded) -> Result<Folded, AllocError>
+    ensures { IfOk result (λ f. folded_of f ≡ fold_all (folded_of left) (folded_of right)) }
+{
+    match left {
+        Folded::Settled(true) => Ok(right),
+        Folded::Settled(false) => Ok(Folded::Settled(false)),
+        Folded::Unsettled(f) => match right {
+            Folded::Settled(true) => Ok(Folded::Unsettled(f)),
+            Folded::Settled(false) => Ok(Folded::Settled(false)),
+            Folded::Unsettled(g) => Ok(Folded::Unsettled(Normal::All(
+                Box::new(alloc, f)?,
+                Box::new(alloc, g)?,
+            ))),
+        },
+    }
+}
+
+fn fold_any(alloc: Global, left: Folded, right: Folded) -> Result<Folded, AllocError>
+    ensures { IfOk result (λ f. folded_of f ≡ fold_any (folded_of left) (folded_of right)) }
+{
+    match left {
+        Folded::Settled(true) => Ok(Folded::Settled(true)),
+        Folded::Settled(false) => Ok(right),
+        Folded::Unsettled(f) => match right {
+            Folded::Settled(true) => Ok(Folded::Settled(true)),
+            Folded::Settled(false) => Ok(Folded::Unsettled(f)),
+            Folded::Unsettled(g) => Ok(Folded::Unsettled(Normal::Any(
+                Box::new(alloc, f)?,
+                Box::new(alloc, g)?,
+            ))),
+        },
+    }
+}
+
+// "And" of two folded formulas, or "or" where `all` is false.
+fn fold(alloc: Global, all: bool, left: Folded, right: Folded) -> Result<Folded, AllocError>
+    ensures all { all ≡ true → IfOk result (λ f. folded_of f ≡ fold_all (folded_of left) (folded_of right)) }
+    ensures any { all ≡ false → IfOk result (λ f. folded_of f ≡ fold_any (folded_of left) (folded_of right)) }
+{
+    if all {
+        fold_all(alloc, left, right)
+    } else {
+        fold_any(alloc, left, right)
+    }
+}
+
+// The value, or its negation where `sign` is false.
+fn signed(sign: bool, value: bool) -> bool
+    ensures { result ≡ same_bool sign value }
+{
+    if sign { value } else { !value }
+}
+
+/// The formula, or its negation where `sign` is false, with truth values folded and "not" at the literals alone.
+pub fn folded(alloc: Global, sign: bool, form: &GroundFormula) -> Result<Folded, AllocError>
+    ensures { IfOk result (λ f. folded_of f ≡ folded sign (form_of form.now)) }
+{
+    match form {
+        GroundFormula::Truth(value) => Ok(Folded::Settled(signed(sign, *value))),
+        GroundFormula::Lit(atom, positive) => {
+            Ok(Folded::Unsettled(Normal::Lit(Lit {
+                atom: *atom,
+                positive: signed(sign, *positive),
+            })))
+        }
+        GroundFormula::Not(inner) => folded(alloc, !sign, inner),
+        GroundFormula::And(left, right) => {
+            let f = folded(alloc, sign, left)?;
+            let g = folded(alloc, sign, right)?;
+            fold(alloc, sign, f, g)
+        }
+        GroundFormula::Or(left, right) => {
+            let f = folded(alloc, sign, left)?;
+            let g = folded(alloc, sign, right)?;
+            fold(alloc, !sign, f, g)
+        }
+    }
+}

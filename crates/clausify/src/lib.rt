@@ -1,0 +1,15 @@
+// From numbered formulas to the clauses of a problem.
+//
+// Truth values are folded, "not" is moved to the literals, and each "and" inside an "or" is named by a new atom: so the clauses grow
+// with the formulas, and no part is written twice. It stands on `ground_numbers`, where the clauses of formulas are defined
+// (specs/Clauses and specs/Problem), on `ground_atoms`, whose formulas and atoms it reads, and on `proof_lines`, whose problems it
+// makes. specs/Formulas says what the formulas of the code are.
+#![tactic(auto)]
+
+mod folding;
+mod listing;
+mod normal;
+mod problem;
+mod writing;
+
+pub use problem::problem_of;
