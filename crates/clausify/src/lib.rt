@@ -12,4 +12,5 @@ mod normal;
 mod problem;
 mod writing;
 
+pub use listing::write_clauses;
 pub use problem::problem_of;

@@ -11,7 +11,7 @@ use proof_lines::Clause;
 use std::alloc::{AllocError, Global};
 
 /// Appends the clauses of these formulas in turn. `next` is the first naming atom, and the answer the next one.
-pub fn write_all(
+pub fn write_clauses(
     alloc: Global,
     next: u32,
     forms: &[GroundFormula],

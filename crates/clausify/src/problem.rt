@@ -7,7 +7,7 @@ ghost use Rattle.ground_numbers.specs.Problem.{kind_of, problem};
 ghost use Rattle.ground_atoms.specs.Symbols.{atom_of};
 ghost use Rattle.ground_atoms.specs.Formulas.{form_of};
 
-use crate::listing::write_all;
+use crate::listing::write_clauses;
 use ground_atoms::{Atom, Atoms, GroundFormula};
 use items::Items;
 use proof_lines::{AtomKind, Problem};
@@ -74,7 +74,7 @@ pub fn problem_of(
         return Err(AllocError);
     };
     let mut clauses = Items::new(alloc);
-    let end = write_all(alloc, first, formulas, &mut clauses)?;
+    let end = write_clauses(alloc, first, formulas, &mut clauses)?;
     let named = with_names(kinds, end - first)?;
     Ok(Problem {
         atoms: named,

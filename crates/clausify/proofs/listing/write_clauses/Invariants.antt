@@ -1,7 +1,7 @@
 use Rattle.std.proofs.Common.{◌≡◌, ◌+◌, ◌++◌, map, drop}
 use Rattle.ground_numbers.specs.Clauses.{all_clauses, all_names}
 use Rattle.ground_atoms.specs.Formulas.{form_of}
-use Rattle.clausify.proofs.listing.write_all.Given as goal
+use Rattle.clausify.proofs.listing.write_clauses.Given as goal
 
 abbrev pub invariant-loop-form : goal.invariant-loop-form
 invariant-loop-form l = record {
