@@ -6,7 +6,7 @@ use Rattle.lin_rows.specs.Numbers.{is_zero}
 use Rattle.lin_rows.specs.Rows.{Row, coefficient_at}
 use Rattle.proof_lines.specs.Steps.{row_at, is_positive, is_negative}
 use Rattle.linear_ints.specs.Fractions.{size}
-use Rattle.linear_ints.specs.Ends.{names_none}
+use Rattle.theory_api.specs.Ends.{names_none}
 use Rattle.linear_ints.specs.Sides.{is_on, IsBoundAt, Attains, IsGreatest}
 
 -- the coefficient of a row on a side isn't 0

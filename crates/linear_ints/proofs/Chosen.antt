@@ -9,9 +9,9 @@ use Rattle.proof_lines.specs.Problems.{row_true}
 use Rattle.proof_lines.specs.Splits.{other_names}
 use Rattle.theory_api.specs.Chosen.{Choice, is_named, chosen_point, are_driven, AreChosen}
 use Rattle.linear_ints.specs.Points.{with_value, values_of, is_filled_but}
-use Rattle.linear_ints.specs.Ends.{after}
+use Rattle.theory_api.specs.Ends.{after}
 use Rattle.linear_ints.proofs.Points.{all-one, all-two, are_among-chosen}
-use Rattle.linear_ints.proofs.Ends.{are_among-turned}
+use Rattle.theory_api.proofs.Ends.{are_among-turned}
 
 -- the chosen values of the other names of one row, and of two
 pub chosen-one : (held : List Row) (choices : List Choice) (place : ℕ) (r : Row) → list_any is_contradiction held ≡ false → are_driven held [] choices ≡ true → is_filled_but (after [] choices) place r ≡ true

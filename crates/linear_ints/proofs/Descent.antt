@@ -18,13 +18,13 @@ use Rattle.theory_api.specs.Chosen.{Choice, is_named, chosen_point}
 use Rattle.theory_api.specs.Elimination.{stage}
 use Rattle.linear_ints.specs.Points.{with_value, values_of}
 use Rattle.linear_ints.specs.Splitting.{Meet}
-use Rattle.linear_ints.specs.Ends.{after}
+use Rattle.theory_api.specs.Ends.{after}
 use Rattle.linear_ints.specs.Deciding.{nearest, Says, Lowest, Highest}
 use Rattle.linear_ints.specs.Standing.{place_at, TrueFrom}
 use Rattle.linear_ints.specs.Descent.{Pair, Eliminated, Descended, Within}
 use Rattle.linear_ints.proofs.Points.{chosen-unnamed}
 use Rattle.linear_ints.proofs.Chosen.{constant-true}
-use Rattle.linear_ints.proofs.Ends.{after-more, are_driven-more}
+use Rattle.theory_api.proofs.Ends.{after-more, are_driven-more}
 use Rattle.linear_ints.proofs.Deciding.{low-satisfied, high-satisfied, nearest-driven, nearest-within, split-apart}
 use Rattle.linear_ints.proofs.Standing.{stage-zero, true-next, combined-true}
 use Rattle.linear_ints.proofs.Filling.{all-named}

@@ -27,7 +27,7 @@ use Rattle.linear_ints.specs.declared.bounds.Fault.{Fault}
 use Rattle.linear_ints.specs.declared.bounds.Fault.TheVariants.{Sum as IsSum, Value as IsValue}
 use Rattle.linear_ints.specs.Fractions.{size, InOrder, IsInGap}
 use Rattle.linear_ints.specs.Points.{values_of, is_filled_but}
-use Rattle.linear_ints.specs.Ends.{names_none, after, last_stage}
+use Rattle.theory_api.specs.Ends.{names_none, after, last_stage}
 use Rattle.linear_ints.specs.Ceilings.{IsBound, is_beyond as is_above_state}
 use Rattle.linear_ints.specs.Deciding.{nearest, Says, Lowest, Highest}
 use Rattle.linear_ints.specs.Standing.{place_at}
@@ -39,7 +39,7 @@ use Rattle.linear_ints.proofs.Splitting.{lt_so, le_is, rest_is}
 use Rattle.linear_ints.proofs.Combining.{in_order}
 use Rattle.linear_ints.proofs.Chosen.{chosen-one, chosen-two, point_of-set}
 use Rattle.linear_ints.proofs.Points.{chosen-unnamed}
-use Rattle.linear_ints.proofs.Ends.{after-more, eliminate-beyond}
+use Rattle.theory_api.proofs.Ends.{after-more, eliminate-beyond}
 use Rattle.linear_ints.proofs.Deciding.{gap-apart}
 use Rattle.linear_ints.proofs.Standing.{combined-true}
 use Rattle.linear_ints.proofs.Filling.{filled-at}

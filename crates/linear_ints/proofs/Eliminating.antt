@@ -11,13 +11,13 @@ use Rattle.proof_lines.specs.Steps.{row_at, is_positive, is_negative}
 use Rattle.proof_lines.specs.Numbers.{stands_in, are_different}
 use Rattle.theory_api.specs.Elimination.{stage}
 use Rattle.linear_ints.specs.declared.tableau.Tableau.{Tableau}
-use Rattle.linear_ints.specs.Ends.{names_none}
+use Rattle.theory_api.specs.Ends.{names_none}
 use Rattle.linear_ints.specs.Standing.{place_at, IsCombined, IsCombinedAt}
 use Rattle.linear_ints.specs.Descent.{Pair, Paired, Eliminated}
 use Rattle.linear_ints.specs.Tableaux.{IsTableau, IsElimination, Grown, IsGrown, CanAllMeet, AreCombined, AreTaken}
 use Rattle.linear_ints.specs.Sides.{is_on, IsSide}
 use Rattle.linear_ints.proofs.Splitting.{lt_so}
-use Rattle.linear_ints.proofs.Ends.{eliminate-place}
+use Rattle.theory_api.proofs.Ends.{eliminate-place}
 use Rattle.linear_ints.proofs.Pairing.{paired-place}
 use Rattle.linear_ints.proofs.Growing.{row_at-grown, taken-append, paired-append}
 use Rattle.linear_ints.proofs.SideLemmas.{get_or-last}

@@ -8,7 +8,7 @@ use Rattle.proof_lines.specs.Steps.{no_row, row_at}
 use Rattle.proof_lines.specs.Evidence.{same_row}
 use Rattle.proof_lines.proofs.Certificates.{same_row-is}
 use Rattle.linear_ints.specs.declared.tableau.Tableau.{Tableau}
-use Rattle.linear_ints.specs.Ends.{names_none}
+use Rattle.theory_api.specs.Ends.{names_none}
 use Rattle.linear_ints.specs.Standing.{IsCombinedAt}
 use Rattle.linear_ints.specs.Descent.{Paired}
 use Rattle.linear_ints.specs.Tableaux.{Grown, CanMeet, AreTaken}

@@ -14,11 +14,12 @@ use Rattle.proof_lines.specs.Steps.{row_at}
 use Rattle.proof_lines.specs.Evidence.{same_row, all_different}
 use Rattle.theory_api.specs.Laws.{IsConflict, IsTooMany}
 use Rattle.linear_ints.specs.declared.tableau.Tableau.{Tableau}
-use Rattle.linear_ints.specs.Ends.{names_none}
+use Rattle.theory_api.specs.Ends.{names_none}
 use Rattle.linear_ints.specs.Standing.{IsCombinedAt}
-use Rattle.linear_ints.specs.Tableaux.{IsRun, IsTableau, CanMeet, IsGrown, row_limit}
+use Rattle.proof_lines.specs.Evidence.{row_limit}
+use Rattle.linear_ints.specs.Tableaux.{IsRun, IsTableau, CanMeet, IsGrown}
 use Rattle.linear_ints.specs.Needed.{is_needed}
-use Rattle.linear_ints.proofs.Cancels.{all_different-more}
+use Rattle.theory_api.proofs.Cancels.{all_different-more}
 use Rattle.linear_ints.proofs.Growing.{grown-refl, held-at, row_at-append}
 use Rattle.linear_ints.proofs.Pairing.{row_at-last}
 use Rattle.linear_ints.proofs.Runs.{with_step, step_of, run-step, combined-sum}

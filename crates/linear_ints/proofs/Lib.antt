@@ -2,7 +2,6 @@ pub mod Fractions
 pub mod Combining
 pub mod Points
 pub mod Splitting
-pub mod Ends
 pub mod Driven
 pub mod Unsettled
 pub mod Chosen
@@ -14,7 +13,6 @@ pub mod Descent
 pub mod Models
 pub mod Pairing
 pub mod Ranges
-pub mod Cancels
 pub mod Runs
 pub mod Stopping
 pub mod Growing

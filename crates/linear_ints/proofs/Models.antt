@@ -9,7 +9,7 @@ use Rattle.proof_lines.specs.Evidence.{in_state}
 use Rattle.proof_lines.specs.Problems.{row_true}
 use Rattle.theory_api.specs.Chosen.{Choice, chosen_point}
 use Rattle.theory_api.specs.Laws.{IsModel, all_satisfied}
-use Rattle.linear_ints.specs.Ends.{after}
+use Rattle.theory_api.specs.Ends.{after}
 use Rattle.linear_ints.specs.Descent.{Descended, IsHeld}
 use Rattle.linear_ints.proofs.Splitting.{le_so, le_is}
 

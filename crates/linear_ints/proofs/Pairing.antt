@@ -6,10 +6,10 @@ use Rattle.lin_rows.specs.Rows.{Row, has_no_terms, is_contradiction, coefficient
 use Rattle.lin_rows.specs.Cancelling.{combined}
 use Rattle.proof_lines.specs.Steps.{row_at}
 use Rattle.theory_api.specs.Elimination.{stage}
-use Rattle.linear_ints.specs.Ends.{names_none}
+use Rattle.theory_api.specs.Ends.{names_none}
 use Rattle.linear_ints.specs.Standing.{place_at, IsCombined}
 use Rattle.linear_ints.specs.Descent.{Pair, Paired}
-use Rattle.linear_ints.proofs.Ends.{row_at-more}
+use Rattle.theory_api.proofs.Ends.{row_at-more}
 
 -- a row that names no place of the order stands behind it
 pub stage-none : (order : List ℕ) (r : Row) → names_none order r ≡ true → stage order r ≡ length order

@@ -10,9 +10,9 @@ use Rattle.proof_lines.specs.Evidence.{range_shown, all_cancel, is_beyond}
 use Rattle.theory_api.specs.Elimination.{stage, first_place, meet, eliminate, ends_in_order}
 use Rattle.theory_api.specs.Laws.{IsBeyond}
 use Rattle.linear_ints.specs.declared.tableau.Tableau.{Tableau}
-use Rattle.linear_ints.specs.Ends.{last_stage}
+use Rattle.theory_api.specs.Ends.{last_stage}
 use Rattle.linear_ints.specs.Tableaux.{IsRun, CanMeet}
-use Rattle.linear_ints.proofs.Ends.{eliminate-beyond, stage-last, last_stage-below}
+use Rattle.theory_api.proofs.Ends.{eliminate-beyond, stage-last, last_stage-below}
 use Rattle.linear_ints.proofs.Ranges.{beyond-product}
 use Rattle.linear_ints.proofs.Runs.{above-named, below-named}
 use Rattle.linear_ints.proofs.Stopping.{given-some}

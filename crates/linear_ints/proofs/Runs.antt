@@ -23,9 +23,9 @@ use Rattle.theory_api.specs.Laws.{rows_at, is_some_row}
 use Rattle.linear_ints.specs.declared.tableau.Tableau.{Tableau}
 use Rattle.linear_ints.specs.Tableaux.{IsRun, CanMeet}
 use Rattle.linear_ints.proofs.Splitting.{lt_so}
-use Rattle.linear_ints.proofs.Ends.{held_rows-more, row_at-more, steps-held, step_row-combined, cancels-combined, eliminate-row, eliminate-step}
+use Rattle.theory_api.proofs.Ends.{held_rows-more, row_at-more, steps-held, step_row-combined, cancels-combined, eliminate-row, eliminate-step}
 use Rattle.linear_ints.proofs.Pairing.{row_at-last}
-use Rattle.linear_ints.proofs.Cancels.{all_cancel-row, all_cancel-step, cancels-at}
+use Rattle.theory_api.proofs.Cancels.{all_cancel-row, all_cancel-step, cancels-at}
 use Rattle.linear_ints.proofs.Standing.{zero-sum, zero-tightened}
 
 -- A HELD ROW MORE

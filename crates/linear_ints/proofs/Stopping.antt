@@ -9,8 +9,9 @@ use Rattle.proof_lines.specs.Steps.{row_at, refutes_so, last_row}
 use Rattle.proof_lines.specs.Evidence.{all_different, all_cancel, rows_shown}
 use Rattle.theory_api.specs.Laws.{rows_at, is_some_row, are_given, IsConflict, IsTooMany}
 use Rattle.linear_ints.specs.declared.tableau.Tableau.{Tableau}
-use Rattle.linear_ints.specs.Tableaux.{IsRun, row_limit}
-use Rattle.linear_ints.proofs.Ends.{length-with_steps}
+use Rattle.proof_lines.specs.Evidence.{row_limit}
+use Rattle.linear_ints.specs.Tableaux.{IsRun}
+use Rattle.proof_lines.proofs.KeptLines.{length-with_steps}
 use Rattle.linear_ints.proofs.Pairing.{row_at-last}
 
 -- THE CERTIFICATES of a tableau that stops

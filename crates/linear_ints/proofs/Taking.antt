@@ -13,8 +13,9 @@ use Rattle.proof_lines.proofs.Certificates.{all_at}
 use Rattle.theory_api.specs.Laws.{IsConflict, IsTooMany}
 use Rattle.linear_ints.specs.declared.tableau.Tableau.{Tableau}
 use Rattle.linear_ints.specs.Descent.{Paired}
-use Rattle.linear_ints.specs.Tableaux.{IsRun, IsTaking, IsElimination, AreTaken, row_limit}
-use Rattle.linear_ints.proofs.Cancels.{all_different-more}
+use Rattle.proof_lines.specs.Evidence.{row_limit}
+use Rattle.linear_ints.specs.Tableaux.{IsRun, IsTaking, IsElimination, AreTaken}
+use Rattle.theory_api.proofs.Cancels.{all_different-more}
 use Rattle.linear_ints.proofs.Growing.{held-at, taken-append}
 use Rattle.linear_ints.proofs.Pairing.{row_at-last}
 use Rattle.linear_ints.proofs.Runs.{with_given, run-given}

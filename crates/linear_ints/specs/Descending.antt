@@ -12,7 +12,7 @@ use Rattle.linear_ints.specs.declared.bounds.Fault.TheVariants.{Sum, Value}
 use Rattle.linear_ints.specs.declared.bounds.FaultAt.{FaultAt}
 use Rattle.linear_ints.specs.Fractions.{size}
 use Rattle.linear_ints.specs.Ceilings.{is_beyond}
-use Rattle.linear_ints.specs.Ends.{after}
+use Rattle.theory_api.specs.Ends.{after}
 use Rattle.linear_ints.specs.Descent.{Descended}
 use Rattle.linear_ints.specs.Standing.{place_at}
 use Rattle.linear_ints.specs.Sides.{is_on, IsGreatest}

@@ -6,7 +6,7 @@ use Rattle.lin_rows.specs.Divisors.{tightened}
 use Rattle.proof_lines.specs.Steps.{row_at}
 use Rattle.theory_api.specs.Chosen.{Choice, is_named, chosen_point, are_driven}
 use Rattle.theory_api.specs.Elimination.{stage}
-use Rattle.linear_ints.specs.Ends.{after}
+use Rattle.theory_api.specs.Ends.{after}
 use Rattle.linear_ints.specs.Deciding.{Says}
 use Rattle.linear_ints.specs.Standing.{place_at, TrueFrom, IsCombined}
 

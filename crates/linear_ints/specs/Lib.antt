@@ -2,7 +2,6 @@
 pub mod Fractions
 pub mod Points
 pub mod Splitting
-pub mod Ends
 pub mod Driven
 pub mod Ceilings
 pub mod Deciding

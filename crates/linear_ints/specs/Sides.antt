@@ -4,7 +4,7 @@ use Rattle.lin_rows.specs.Rows.{Row, coefficient_at, point_of}
 use Rattle.proof_lines.specs.Steps.{row_at, is_positive, is_negative}
 use Rattle.proof_lines.specs.Splits.{rest_at}
 use Rattle.linear_ints.specs.Fractions.{size}
-use Rattle.linear_ints.specs.Ends.{names_none}
+use Rattle.theory_api.specs.Ends.{names_none}
 use Rattle.linear_ints.specs.Ceilings.{IsBound}
 
 -- THE SIDES OF A PLACE: its upper rows, whose coefficient is positive, and its lower rows.

@@ -6,19 +6,15 @@ use Rattle.lin_rows.specs.Rows.{Row, is_row, is_contradiction, coefficient_at}
 use Rattle.lin_rows.specs.Divisors.{tightened}
 use Rattle.proof_lines.specs.Steps.{row_at, held_rows}
 use Rattle.proof_lines.specs.Numbers.{stands_in, are_different}
-use Rattle.proof_lines.specs.Evidence.{all_different, all_cancel}
+use Rattle.proof_lines.specs.Evidence.{row_limit, all_different, all_cancel}
 use Rattle.theory_api.specs.Elimination.{eliminate}
 use Rattle.theory_api.specs.Laws.{rows_at, is_some_row}
 use Rattle.linear_ints.specs.declared.tableau.Tableau.{Tableau}
-use Rattle.linear_ints.specs.Ends.{names_none}
+use Rattle.theory_api.specs.Ends.{names_none}
 use Rattle.linear_ints.specs.Standing.{IsCombinedAt}
 use Rattle.linear_ints.specs.Descent.{Paired}
 
 -- THE TABLEAU: the rows that are held while places are eliminated.
-
--- as many held rows end the elimination
-abbrev pub row_limit : ℕ
-row_limit = 10000
 
 -- the held rows are the used given ones, tightened, and those of the steps. Each step eliminates, in the order of the places so far,
 -- and each place that a held row names is eliminated or left

@@ -9,7 +9,7 @@ ghost use Rattle.linear_ints.specs.Fractions.{size};
 ghost use Rattle.linear_ints.specs.Listed.{listed};
 ghost use Rattle.linear_ints.specs.Sides.{IsBoundAt, IsGreatest};
 ghost use Rattle.linear_ints.specs.Standing.{place_at};
-ghost use Rattle.linear_ints.specs.Tableaux.{row_limit};
+ghost use Rattle.proof_lines.specs.Evidence.{row_limit};
 
 use crate::ceiling::bound;
 use crate::order::Order;

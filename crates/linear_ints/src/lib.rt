@@ -9,7 +9,8 @@
 // lowest value, the upper rows a highest one, and it gets the number nearest to 0 between them.
 //
 // Why that is right. (1) Each new row follows from the two it is made of, and tightening keeps all whole points. So where a row without
-// terms and with a negative bound is made, no whole numbers satisfy the given rows, and the steps so far are a Farkas line: Conflict.
+// terms and with a negative bound is made, no whole numbers satisfy the given rows, and the steps so far are a Farkas line: Conflict,
+// which is trimmed to the rows and steps that the contradiction rests on.
 // (2) Say that all rows that come after a place are true at the values chosen so far. The rows of the place then name no place without a
 // value but that one, so each is a bound for it, a fraction; and as the combination of an upper row u and a lower row l is true, the
 // fraction of l is at most that of u. So over fractions there is always a value. Over whole numbers there is one unless the greatest
@@ -22,14 +23,16 @@
 // that leaves it is Sum, and a bound beyond the range of a state is Value (Range). Each answer has its certificate by construction.
 //
 // What it costs. One place with m upper and n lower rows takes m * n steps, and so the next place with the fewest pairs is taken each
-// time. The rows may grow doubly exponentially in the number of places; the limit of rows bounds this. A new row is compared with all
-// that are held.
+// time. The rows may grow doubly exponentially in the number of places; the limit of rows bounds this. Whether a new row is held is
+// asked of an index of fingerprints, whether a place is eliminated of a flag. For each place all held rows are gone through, once for the
+// pairs of all places and once for each side.
 //
-// Files, in the order in which a reader needs them: src/tableau (the rows that are held), src/take (the given rows), src/steps (the
+// Files, in the order in which a reader needs them: src/held, src/order and src/tableau (the rows that are held, the places that are
+// eliminated, and both together), src/places and src/take (the places of the given rows, and those rows), src/steps (the
 // pairs of a place), src/sides and src/choosing (the rows of a place, the next place), src/eliminate (all places), src/ceiling and
-// src/bounds (what a row says of a value), src/descend (the values), src/eliminator (the solver). Definitions: specs/Tableaux (what a
-// tableau keeps), specs/Stops (the reasons to stop), specs/Sides and specs/Descending (what is known while values are chosen); the
-// others are steps of the proofs.
+// src/bounds (what a row says of a value), src/descend (the values), src/trim (what a conflict rests on), src/eliminator (the solver).
+// Definitions: specs/Tableaux (what a tableau keeps), specs/Stops (the reasons to stop), specs/Sides and specs/Descending (what is
+// known while values are chosen); the others are steps of the proofs.
 #![tactic(auto)]
 
 pub mod bounds;

@@ -4,9 +4,9 @@ ghost use Rattle.std.specs.List.{list_all};
 ghost use Rattle.lin_rows.specs.Rows.{coefficient_at};
 ghost use Rattle.proof_lines.specs.Numbers.{stands_in};
 ghost use Rattle.proof_lines.specs.Steps.{is_negative, is_positive};
-ghost use Rattle.linear_ints.specs.Ends.{names_none};
+ghost use Rattle.theory_api.specs.Ends.{names_none};
 ghost use Rattle.linear_ints.specs.Sides.{is_on, IsSide};
-ghost use Rattle.linear_ints.specs.Tableaux.{row_limit};
+ghost use Rattle.proof_lines.specs.Evidence.{row_limit};
 
 use crate::order::Order;
 use crate::tableau::Tableau;

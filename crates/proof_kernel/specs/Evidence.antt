@@ -7,7 +7,7 @@ use Rattle.proof_lines.specs.declared.line.RangeWhat.{RangeWhat}
 use Rattle.proof_lines.specs.Clauses.{sub, is_empty, holds_both_ways}
 use Rattle.proof_lines.specs.Steps.{line_rows}
 use Rattle.proof_kernel.specs.Rules.{State, live_of}
-use Rattle.proof_lines.specs.Evidence.{rows_shown, range_shown}
+use Rattle.proof_lines.specs.Evidence.{row_limit, rows_shown, range_shown}
 
 -- A FRESH LOG.
 
@@ -27,10 +27,10 @@ is_fresh s = list_all (λ o. is_some o) s.slots && each_new (live_of (take s.giv
 -- THE EVIDENCE AFTER A LOG. In both, no atom is used both ways, and the rows and steps keep the rules of a Farkas line but for its
 -- contradiction.
 
--- too many rows: 10,000 different ones
+-- too many rows, all different
 abbrev pub rows_hold : State → List Lit → List RowStep → Bool
 rows_hold s used steps =
-    (length used + length steps == 10000) && (not (holds_both_ways used) && rows_shown steps (line_rows s.atoms used steps))
+    (length used + length steps == row_limit) && (not (holds_both_ways used) && rows_shown steps (line_rows s.atoms used steps))
 
 -- a number beyond the range
 abbrev pub range_holds : State → List Lit → List RowStep → RangeWhat → Bool

@@ -46,7 +46,11 @@ abbrev pub all_different : List Row → Bool
 all_different [] = true
 all_different (r ∷ rows) = not (list_any (same_row r) rows) && all_different rows
 
--- TOO MANY ROWS: 10,000 different rows. No atom is used both ways, and the rows and steps keep the rules of a Farkas line but for
+-- as many rows are too many
+abbrev pub row_limit : ℕ
+row_limit = 10000
+
+-- TOO MANY ROWS: so many different rows. No atom is used both ways, and the rows and steps keep the rules of a Farkas line but for
 -- its contradiction.
 abbrev pub rows_shown : List RowStep → Result (List Row) Why → Bool
 rows_shown steps (Ok rows) = all_different rows && all_cancel rows steps

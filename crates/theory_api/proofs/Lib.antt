@@ -1,2 +1,4 @@
 pub mod Standing
 pub mod Refuted
+pub mod Ends
+pub mod Cancels

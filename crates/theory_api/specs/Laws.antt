@@ -8,7 +8,7 @@ use Rattle.proof_lines.specs.declared.line.RangeWhat.TheVariants.{Product, Value
 use Rattle.proof_lines.specs.Problems.{row_true}
 use Rattle.proof_lines.specs.Steps.{row_at, held_rows, refutes}
 use Rattle.proof_lines.specs.Splits.{splits, other_names, at_most}
-use Rattle.proof_lines.specs.Evidence.{same_row, in_state, rows_shown, range_shown}
+use Rattle.proof_lines.specs.Evidence.{same_row, in_state, row_limit, rows_shown, range_shown}
 use Rattle.theory_api.specs.declared.answer.TheoryAnswer.{TheoryAnswer}
 use Rattle.theory_api.specs.declared.answer.TheoryAnswer.TheVariants.{Model, Conflict, Split, Rows, Range, Memory}
 use Rattle.theory_api.specs.Chosen.{AreChosen}
@@ -71,10 +71,10 @@ pub record IsSplit (ints : ℕ) (rows : List Row) (place : ℕ) (at : ℤ) (used
   pub chosen : AreChosen held (other_names place (row_at held low ∷ row_at held high ∷ [])) values
   pub eliminated : AreEliminations held steps None
 
--- ROWS: ten thousand different rows, by elimination.
+-- ROWS: as many different rows as are too many, by elimination.
 pub record IsTooMany (rows : List Row) (used : List ℕ) (steps : List RowStep) : Type 0 where
   pub given : are_given rows used ≡ true
-  pub count : length used + length steps ≡ 10000
+  pub count : length used + length steps ≡ row_limit
   pub shown : rows_shown steps (held_rows (rows_at rows used) steps) ≡ true
   pub held : List Row
   pub held_is : held_rows (rows_at rows used) steps ≡ Ok held

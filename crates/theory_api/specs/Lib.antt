@@ -1,3 +1,4 @@
 pub mod Chosen
 pub mod Elimination
 pub mod Laws
+pub mod Ends

@@ -6,7 +6,7 @@ use Rattle.linear_ints.specs.declared.bounds.FaultAt.{FaultAt}
 use Rattle.linear_ints.specs.Standing.{place_at}
 use Rattle.linear_ints.specs.Sides.{IsGreatest}
 use Rattle.linear_ints.specs.Descending.{IsFaultAt}
-use Rattle.linear_ints.specs.Tableaux.{row_limit}
+use Rattle.proof_lines.specs.Evidence.{row_limit}
 use Rattle.linear_ints.proofs.bounds.side_bound.Goals as goal
 
 pub bounds-order-stage : goal.bounds-order-stage

@@ -2,7 +2,7 @@ use Rattle.std.proofs.Common.{sym, subst, List, length, ◌<◌}
 use Rattle.std.specs.Prelude.{IfOk}
 use Rattle.lin_rows.specs.Rows.{Row}
 use Rattle.linear_ints.specs.Sides.{IsSide}
-use Rattle.linear_ints.specs.Tableaux.{row_limit}
+use Rattle.proof_lines.specs.Evidence.{row_limit}
 use Rattle.linear_ints.proofs.sides.side_of.Goals as goal
 
 pub side-requires : goal.side-requires

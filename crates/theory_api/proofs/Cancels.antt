@@ -11,7 +11,7 @@ use Rattle.lin_rows.specs.Rows.{Row, coefficient_at}
 use Rattle.proof_lines.specs.declared.line.RowStep.{RowStep}
 use Rattle.proof_lines.specs.Evidence.{cancels_at, cancels_some, cancels, all_cancel, same_row, all_different}
 use Rattle.proof_lines.specs.Steps.{row_at}
-use Rattle.linear_ints.proofs.Ends.{row_at-more}
+use Rattle.theory_api.proofs.Ends.{row_at-more}
 
 -- a place with a coefficient is the place of a term
 any-place : (test : ℕ → Bool) (ts : List RowTerm) (p : ℕ) → is_zero (coefficient_at ts p) ≡ false → test p ≡ true → list_any (λ t. test t.place) ts ≡ true

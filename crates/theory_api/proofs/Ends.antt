@@ -4,7 +4,7 @@ use Rattle.std.specs.Prelude.{◌==◌, nat_lt, nat_le}
 use Rattle.std.specs.List.{list_any}
 use Rattle.std.specs.Ordering.{int_eq}
 use Rattle.std.proofs.lemmas.List.{length-append, get_or_append_left}
-use Rattle.std.proofs.lemmas.Bool.Decides.{nat_tests}
+use Rattle.std.proofs.lemmas.Bool.Decides.{nat_tests, Decides-int_eq}
 use Rattle.lin_rows.specs.declared.combining.Combined.{Combined}
 use Rattle.lin_rows.specs.Numbers.{is_zero}
 use Rattle.lin_rows.specs.Rows.{Row, coefficient_at}
@@ -19,11 +19,11 @@ use Rattle.proof_lines.specs.declared.line.Why.TheVariants.{Place, Multiplier, R
 use Rattle.proof_lines.specs.Evidence.{cancels_at}
 use Rattle.proof_lines.specs.Refusals.{then_, or_broken}
 use Rattle.proof_lines.specs.Steps.{no_row, row_at, step_row, with_steps, held_rows, is_negative, is_positive}
+use Rattle.proof_lines.proofs.KeptLines.{length-with_steps}
 use Rattle.proof_lines.proofs.Sound.{ok_is}
 use Rattle.theory_api.specs.Chosen.{Choice, is_named, is_driven, are_driven, is_among, are_among}
 use Rattle.theory_api.specs.Elimination.{stage, first_place, meet, eliminates, ends_in_order, eliminate}
-use Rattle.linear_ints.specs.Ends.{last_stage, steps_below, names_none, after}
-use Rattle.linear_ints.proofs.Points.{int_eq-refl}
+use Rattle.theory_api.specs.Ends.{last_stage, steps_below, names_none, after}
 
 sign : (one other : ℤ) → is_negative (least_factor one other) ≡ false
 sign one other = le-ltb (unsigned_abs other / common_divisor (unsigned_abs one ∷ unsigned_abs other ∷ [])) 0 (omega arith)
@@ -44,15 +44,6 @@ with_steps-more rows (t ∷ steps) held s r h k = by_row (step_row rows t) h (λ
 
 pub held_rows-more : (given : List Row) (steps : List RowStep) (held : List Row) (s : RowStep) (r : Row) → held_rows given steps ≡ Ok held → step_row held s ≡ Ok r → held_rows given (steps ++ s ∷ []) ≡ Ok (held ++ r ∷ [])
 held_rows-more given steps held s r h k = with_steps-more (map tightened given) steps held s r h k
-
-pub length-with_steps : (rows : List Row) (steps : List RowStep) (held : List Row) → with_steps rows steps ≡ Ok held → length held ≡ length rows + length steps
-length-with_steps rows [] held h = let e = ap (λ (l : List Row). length l) (ok_is rows held (Ok rows) refl h) in omega arith
-length-with_steps rows (t ∷ steps) held h = by_row (step_row rows t) h (λ q. length-with_steps (rows ++ q ∷ []) steps held)
-  where
-    by_row : (o : Result Row Why) → then_ o (λ q. with_steps (rows ++ q ∷ []) steps) ≡ Ok held
-        → ((q : Row) → with_steps (rows ++ q ∷ []) steps ≡ Ok held → length held ≡ length (rows ++ q ∷ []) + length steps) → length held ≡ length rows + suc (length steps)
-    by_row (Ok q) e f = let g = f q e in let l = length-append rows (q ∷ []) in omega arith
-    by_row (Err w) e f = absurd cc
 
 le_lt : (a n m : ℕ) → nat_lt a n ≡ true → n ≤ m → nat_lt a m ≡ true
 le_lt a n m h k = grind (arith, nat_tests)
@@ -103,7 +94,7 @@ cancels-combined l r i j place c p q e =
     subst (λ (d : Combined). cancels_at l r (record { left = i; right = j; first = d.first; second = d.second }) place ≡ true) w.2
     (and_from (is_positive (coefficient_at l.terms place) && is_negative (coefficient_at r.terms place)) (int_eq (first_factor l r place) (first_factor l r place) && int_eq (second_factor l r place) (second_factor l r place))
     (and_from (is_positive (coefficient_at l.terms place)) (is_negative (coefficient_at r.terms place)) p q)
-    (and_from (int_eq (first_factor l r place) (first_factor l r place)) (int_eq (second_factor l r place) (second_factor l r place)) (int_eq-refl (first_factor l r place)) (int_eq-refl (second_factor l r place))))
+    (and_from (int_eq (first_factor l r place) (first_factor l r place)) (int_eq (second_factor l r place) (second_factor l r place)) ((Decides-int_eq (first_factor l r place) (first_factor l r place)).1 refl) ((Decides-int_eq (second_factor l r place) (second_factor l r place)).1 refl)))
 
 -- ELIMINATION: MORE AT THE END
 
