@@ -1,5 +1,5 @@
-// Tests of ground problems by public calls: problems worked by hand, with their clauses.
+// Tests of ground problems by public calls: numbers worked by hand.
 #![tactic(auto)]
 
 #[cfg(test)]
-mod clauses;
+mod numbering;
