@@ -262,25 +262,32 @@ fn end_of<S: Source, E: Source>(
     Ok(Ended { status, written })
 }
 
-/// Where a run fails: a call of the first source, of the second, of the sink.
+/// What may fail: the source of the specification, that of the schedule, the sink.
 #[derive(Clone, Copy)]
-enum Failing {
-    Nothing,
-    Spec(u32),
-    Schedule(u32),
-    Out(u32),
+enum Port {
+    Spec,
+    Schedule,
+    Out,
+}
+
+/// A call of a port, by its number.
+#[derive(Clone, Copy)]
+struct Call {
+    port: Port,
+    number: u32,
 }
 
 /// How a row ends where a call fails.
-fn row_end(alloc: Global, row: &Row, failing: Failing) -> Result<Ended, AllocError> {
+fn row_end(alloc: Global, row: &Row, failing: Option<Call>) -> Result<Ended, AllocError> {
     let mut spec_fails = Vec::new(alloc);
     let mut extra_fails = Vec::new(alloc);
     let mut write_fails = Vec::new(alloc);
-    match failing {
-        Failing::Nothing => {}
-        Failing::Spec(call) => spec_fails.push(call)?,
-        Failing::Schedule(call) => extra_fails.push(call)?,
-        Failing::Out(call) => write_fails.push(call)?,
+    if let Some(call) = failing {
+        match call.port {
+            Port::Spec => spec_fails.push(call.number)?,
+            Port::Schedule => extra_fails.push(call.number)?,
+            Port::Out => write_fails.push(call.number)?,
+        }
     }
     let mut spec = MemSource::new(Vec::from_slice(alloc, row.spec)?, 100, spec_fails);
     let mut extra = MemSource::new(Vec::from_slice(alloc, row.schedule)?, 100, extra_fails);
@@ -293,26 +300,21 @@ fn row_end(alloc: Global, row: &Row, failing: Failing) -> Result<Ended, AllocErr
 #[test]
 fn prints_what_the_schedule_comes_to(rt: HostRuntime) {
     for row in &ROWS {
-        let end = row_end(rt.alloc(), row, Failing::Nothing).expect(&rt, "memory");
+        let end = row_end(rt.alloc(), row, None).expect(&rt, "memory");
         assert!(rt; end.status == row.status && end.written == Some(row.text.len()));
     }
 }
 
 /// How many runs of a row a failing call stops, where the calls of one port fail one after the other up to the first run that ends as
 /// the row does. A failing source leaves nothing written, a failing sink a front of the text.
-fn stopped_runs(
-    alloc: Global,
-    row: &Row,
-    at: fn(u32) -> Failing,
-) -> Result<Option<u32>, AllocError> {
-    for call in 0..100 {
-        let failing = at(call);
-        let end = row_end(alloc, row, failing)?;
+fn stopped_runs(alloc: Global, row: &Row, port: Port) -> Result<Option<u32>, AllocError> {
+    for number in 0..100 {
+        let end = row_end(alloc, row, Some(Call { port, number }))?;
         if end.status == row.status {
-            return Ok(Some(call));
+            return Ok(Some(number));
         }
-        let as_wanted = match failing {
-            Failing::Out(_) => end.status == 7 && end.written.is_some(),
+        let as_wanted = match port {
+            Port::Out => end.status == 7 && end.written.is_some(),
             _ => end.status == 6 && end.written == Some(0),
         };
         if !as_wanted {
@@ -325,11 +327,11 @@ fn stopped_runs(
 #[test]
 fn names_the_port_that_failed(rt: HostRuntime) {
     let row = &ROWS[0];
-    let spec = stopped_runs(rt.alloc(), row, Failing::Spec).expect(&rt, "memory");
+    let spec = stopped_runs(rt.alloc(), row, Port::Spec).expect(&rt, "memory");
     assert!(rt; spec == Some(5));
-    let schedule = stopped_runs(rt.alloc(), row, Failing::Schedule).expect(&rt, "memory");
+    let schedule = stopped_runs(rt.alloc(), row, Port::Schedule).expect(&rt, "memory");
     assert!(rt; schedule == Some(4));
-    let out = stopped_runs(rt.alloc(), row, Failing::Out).expect(&rt, "memory");
+    let out = stopped_runs(rt.alloc(), row, Port::Out).expect(&rt, "memory");
     assert!(rt; out == Some(29));
 }
 
