@@ -6,7 +6,8 @@ use crate::summaries::{Summary, is_found, made, summary_of};
 use items::Items;
 use proof_lines::{AtomKind, Clause, Lit, Problem};
 use sat_core::{Answer, solve_plain};
-use std::alloc::{AllocError, Global};
+use std::alloc::Global;
+use std::process::Abort;
 use theory_api::NoInts;
 
 /// A literal.
@@ -15,22 +16,21 @@ pub fn lit(atom: u32, positive: bool) -> Lit {
 }
 
 // A problem over plain atoms.
-fn plain(alloc: Global, atoms: u32, clauses: Items<Clause>) -> Result<Problem, AllocError> {
-    match plain_kinds(alloc, atoms) {
-        Ok(kinds) => made(kinds, 0, clauses),
-        Err(error) => {
-            drop(clauses);
-            Err(error)
-        }
-    }
+fn plain(rt: &impl Abort, alloc: Global, atoms: u32, clauses: Items<Clause>) -> Problem {
+    made(rt, plain_kinds(rt, alloc, atoms), 0, clauses)
 }
 
-fn plain_kinds(alloc: Global, atoms: u32) -> Result<Items<AtomKind>, AllocError> {
+fn plain_kinds(rt: &impl Abort, alloc: Global, atoms: u32) -> Items<AtomKind> {
     let mut kinds = Items::new(alloc);
     for _ in 0..atoms {
-        kinds.push(AtomKind::Plain)?;
+        kinds.push(AtomKind::Plain).expect(rt, "memory");
     }
-    Ok(kinds)
+    kinds
+}
+
+/// A clause of some literals.
+pub fn clause(rt: &impl Abort, alloc: Global, lits: &[Lit]) -> Clause {
+    Clause::of(alloc, lits).expect(rt, "memory")
 }
 
 fn is_plain(atom: &AtomKind) -> bool
@@ -79,20 +79,22 @@ fn asked(alloc: Global, problem: &Problem, budget: u32) -> Summary {
 }
 
 // One atom, with clauses of one literal each.
-fn units(alloc: Global, signs: &[bool]) -> Result<Problem, AllocError> {
+fn units(rt: &impl Abort, alloc: Global, signs: &[bool]) -> Problem {
     let mut clauses = Items::new(alloc);
     for sign in signs {
-        clauses.push(Clause::of(alloc, &[lit(0, *sign)])?)?;
+        clauses
+            .push(clause(rt, alloc, &[lit(0, *sign)]))
+            .expect(rt, "memory");
     }
-    plain(alloc, 1, clauses)
+    plain(rt, alloc, 1, clauses)
 }
 
 #[test]
 fn one_atom_is_not_both(rt: HostRuntime) {
-    let alloc = rt.alloc();
-    let both = units(alloc, &[true, false]).expect(&rt, "memory");
-    assert_eq!(rt; asked(alloc, &both, 10), Summary::Unsat(1));
+    let both = units(&rt, rt.alloc(), &[true, false]);
+    let found = asked(rt.alloc(), &both, 10);
     drop(both);
+    assert!(rt; found == Summary::Unsat(1));
 }
 
 // Whether the search finds an interpretation with just these truths.
@@ -105,31 +107,28 @@ fn is_answered(alloc: Global, problem: &Problem, truths: &[bool]) -> bool {
 
 #[test]
 fn one_atom_is_true(rt: HostRuntime) {
-    let alloc = rt.alloc();
-    let one = units(alloc, &[true]).expect(&rt, "memory");
-    assert!(rt; is_answered(alloc, &one, &[true]));
+    let one = units(&rt, rt.alloc(), &[true]);
+    let found = is_answered(rt.alloc(), &one, &[true]);
     drop(one);
+    assert!(rt; found);
 }
 
 // A pigeon is in one of the holes. The atom `5 * hole + pigeon` says that the pigeon is in the hole.
-fn housed(alloc: Global, pigeon: u32, holes: u32) -> Result<Clause, AllocError>
+fn housed(rt: &impl Abort, alloc: Global, pigeon: u32, holes: u32) -> Clause
     requires pigeon { pigeon < 5 }
     requires holes { holes ≤ 5 }
 {
     let mut clause = Clause::empty(alloc);
     for hole in 0..holes {
-        clause.insert(lit(5 * hole + pigeon, true))?;
+        clause
+            .insert(lit(5 * hole + pigeon, true))
+            .expect(rt, "memory");
     }
-    Ok(clause)
+    clause
 }
 
 // A hole doesn't hold a pigeon and an earlier one.
-fn apart(
-    alloc: Global,
-    clauses: &mut Items<Clause>,
-    hole: u32,
-    pigeon: u32,
-) -> Result<(), AllocError>
+fn apart(rt: &impl Abort, alloc: Global, clauses: &mut Items<Clause>, hole: u32, pigeon: u32)
     requires hole { hole < 5 }
     requires pigeon { pigeon < 5 }
 {
@@ -138,68 +137,71 @@ fn apart(
             lit(5 * hole + earlier, false),
             lit(5 * hole + pigeon, false),
         ];
-        clauses.push(Clause::of(alloc, &lits)?)?;
+        clauses.push(clause(rt, alloc, &lits)).expect(rt, "memory");
     }
-    Ok(())
 }
 
-fn all_apart(alloc: Global, clauses: &mut Items<Clause>, hole: u32) -> Result<(), AllocError>
+fn all_apart(rt: &impl Abort, alloc: Global, clauses: &mut Items<Clause>, hole: u32)
     requires { hole < 5 }
 {
     for pigeon in 0..5 {
-        apart(alloc, clauses, hole, pigeon)?;
+        apart(rt, alloc, clauses, hole, pigeon);
     }
-    Ok(())
 }
 
 // Five pigeons are in some holes, no two in one.
-fn pigeons(alloc: Global, holes: u32) -> Result<Problem, AllocError>
+fn pigeons(rt: &impl Abort, alloc: Global, holes: u32) -> Problem
     requires { holes ≤ 5 }
 {
     let mut clauses = Items::new(alloc);
     for pigeon in 0..5 {
-        clauses.push(housed(alloc, pigeon, holes)?)?;
+        clauses
+            .push(housed(rt, alloc, pigeon, holes))
+            .expect(rt, "memory");
     }
     for hole in 0..holes {
-        all_apart(alloc, &mut clauses, hole)?;
+        all_apart(rt, alloc, &mut clauses, hole);
     }
-    plain(alloc, 5 * holes, clauses)
+    plain(rt, alloc, 5 * holes, clauses)
 }
 
 #[test]
 fn five_pigeons_are_not_in_four_holes(rt: HostRuntime) {
-    let alloc = rt.alloc();
-    let crowded = pigeons(alloc, 4).expect(&rt, "memory");
-    assert!(rt; matches!(asked(alloc, &crowded, 10000), Summary::Unsat(_)));
-    assert_eq!(rt; asked(alloc, &crowded, 3), Summary::Lines(3));
+    let crowded = pigeons(&rt, rt.alloc(), 4);
+    let found = asked(rt.alloc(), &crowded, 10000);
+    let stopped = asked(rt.alloc(), &crowded, 3);
     drop(crowded);
+    assert!(rt; matches!(found, Summary::Unsat(_)));
+    assert!(rt; stopped == Summary::Lines(3));
 }
 
 #[test]
 fn five_pigeons_are_in_five_holes(rt: HostRuntime) {
-    let alloc = rt.alloc();
-    let roomy = pigeons(alloc, 5).expect(&rt, "memory");
-    assert_eq!(rt; asked(alloc, &roomy, 10000), Summary::Sat(25));
+    let roomy = pigeons(&rt, rt.alloc(), 5);
+    let found = asked(rt.alloc(), &roomy, 10000);
     drop(roomy);
+    assert!(rt; found == Summary::Sat(25));
 }
 
 // The first atom, and each atom implies the next.
-fn chain(alloc: Global, atoms: u32) -> Result<Problem, AllocError>
+fn chain(rt: &impl Abort, alloc: Global, atoms: u32) -> Problem
     requires { 0 < atoms }
 {
     let mut clauses = Items::new(alloc);
-    clauses.push(Clause::of(alloc, &[lit(0, true)])?)?;
+    clauses
+        .push(clause(rt, alloc, &[lit(0, true)]))
+        .expect(rt, "memory");
     for atom in 0..atoms - 1 {
         let lits = [lit(atom, false), lit(atom + 1, true)];
-        clauses.push(Clause::of(alloc, &lits)?)?;
+        clauses.push(clause(rt, alloc, &lits)).expect(rt, "memory");
     }
-    plain(alloc, atoms, clauses)
+    plain(rt, alloc, atoms, clauses)
 }
 
 #[test]
 fn a_long_chain(rt: HostRuntime) {
-    let alloc = rt.alloc();
-    let implied = chain(alloc, 2000).expect(&rt, "memory");
-    assert_eq!(rt; asked(alloc, &implied, 1), Summary::Sat(2000));
+    let implied = chain(&rt, rt.alloc(), 2000);
+    let found = asked(rt.alloc(), &implied, 1);
     drop(implied);
+    assert!(rt; found == Summary::Sat(2000));
 }

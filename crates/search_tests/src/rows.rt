@@ -3,14 +3,15 @@ ghost use Rattle.std.specs.Prelude.{◌≡◌, true};
 ghost use Rattle.lin_rows.specs.Numbers.{in_range};
 ghost use Rattle.lin_rows.specs.Rows.{all_in_range};
 
-use crate::clauses::lit;
+use crate::clauses::{clause, lit};
 use crate::known::{Known, term};
 use crate::summaries::{Summary, is_found, made, summary_of};
 use items::Items;
 use lin_rows::{RowTerm, row_of};
 use proof_lines::{AtomKind, Clause, Problem};
 use sat_core::solve_plain;
-use std::alloc::{AllocError, Global};
+use std::alloc::Global;
+use std::process::Abort;
 
 // Atoms of rows, each of which is to be true.
 #[derive(Drop)]
@@ -26,39 +27,32 @@ fn no_rows(alloc: Global) -> Rows {
     }
 }
 
-fn kind(alloc: Global, terms: &[RowTerm], bound: i128) -> Result<AtomKind, AllocError>
+fn kind(rt: &impl Abort, alloc: Global, terms: &[RowTerm], bound: i128) -> AtomKind
     requires terms { all_in_range terms.now ≡ true }
     requires bound { in_range bound ≡ true }
 {
     match row_of(alloc, terms, bound) {
-        Ok(row) => Ok(AtomKind::Row(row)),
-        Err(_) => Err(AllocError),
+        Ok(row) => AtomKind::Row(row),
+        Err(_) => panic!(rt; "no row"),
     }
 }
 
-fn add(
-    alloc: Global,
-    rows: &mut Rows,
-    atom: u32,
-    terms: &[RowTerm],
-    bound: i128,
-) -> Result<(), AllocError>
+fn add(rt: &impl Abort, alloc: Global, rows: &mut Rows, atom: u32, terms: &[RowTerm], bound: i128)
     requires terms { all_in_range terms.now ≡ true }
     requires bound { in_range bound ≡ true }
 {
-    rows.kinds.push(kind(alloc, terms, bound)?)?;
-    rows.clauses.push(Clause::of(alloc, &[lit(atom, true)])?)
+    rows.kinds
+        .push(kind(rt, alloc, terms, bound))
+        .expect(rt, "memory");
+    rows.clauses
+        .push(clause(rt, alloc, &[lit(atom, true)]))
+        .expect(rt, "memory");
 }
 
-// The problem of the rows that were added, if all were.
-fn problem_of(rows: Rows, added: Result<(), AllocError>, ints: u32) -> Result<Problem, AllocError> {
-    match added {
-        Ok(()) => made(rows.kinds, ints, rows.clauses),
-        Err(error) => {
-            drop(rows);
-            Err(error)
-        }
-    }
+// The problem of the rows that were added.
+fn problem_of(rt: &impl Abort, rows: Rows, ints: u32) -> Problem {
+    let Rows { kinds, clauses } = rows;
+    made(rt, kinds, ints, clauses)
 }
 
 // What the search answers with the solver that knows a few lists, in short.
@@ -70,31 +64,27 @@ fn asked(alloc: Global, problem: &Problem, budget: u32) -> Summary {
 }
 
 // `0 <= -1`.
-fn contradiction(alloc: Global) -> Result<Problem, AllocError> {
+fn contradiction(rt: &impl Abort, alloc: Global) -> Problem {
     let mut rows = no_rows(alloc);
-    let added = add(alloc, &mut rows, 0, &[], -1);
-    problem_of(rows, added, 0)
+    add(rt, alloc, &mut rows, 0, &[], -1);
+    problem_of(rt, rows, 0)
 }
 
 #[test]
 fn rows_in_conflict(rt: HostRuntime) {
-    let alloc = rt.alloc();
-    let problem = contradiction(alloc).expect(&rt, "memory");
-    assert_eq!(rt; asked(alloc, &problem, 2), Summary::Unsat(2));
+    let problem = contradiction(&rt, rt.alloc());
+    let found = asked(rt.alloc(), &problem, 2);
     drop(problem);
-}
-
-fn add_gap(alloc: Global, rows: &mut Rows) -> Result<(), AllocError> {
-    add(alloc, rows, 0, &[term(0, 2), term(1, 3)], 4)?;
-    add(alloc, rows, 1, &[term(0, -2), term(1, -3)], -4)?;
-    add(alloc, rows, 2, &[term(1, -1)], -1)
+    assert!(rt; found == Summary::Unsat(2));
 }
 
 // `2x + 3y <= 4`, `-2x - 3y <= -4` and `-y <= -1`.
-fn gap(alloc: Global) -> Result<Problem, AllocError> {
+fn gap(rt: &impl Abort, alloc: Global) -> Problem {
     let mut rows = no_rows(alloc);
-    let added = add_gap(alloc, &mut rows);
-    problem_of(rows, added, 2)
+    add(rt, alloc, &mut rows, 0, &[term(0, 2), term(1, 3)], 4);
+    add(rt, alloc, &mut rows, 1, &[term(0, -2), term(1, -3)], -4);
+    add(rt, alloc, &mut rows, 2, &[term(1, -1)], -1);
+    problem_of(rt, rows, 2)
 }
 
 // Whether the search finds just these truths and numbers.
@@ -107,24 +97,25 @@ fn is_answered(alloc: Global, problem: &Problem, truths: &[bool], ints: &[i128])
 
 #[test]
 fn rows_with_a_gap(rt: HostRuntime) {
-    let alloc = rt.alloc();
-    let problem = gap(alloc).expect(&rt, "memory");
-    assert!(rt; is_answered(alloc, &problem, &[true, true, true], &[-1, 2]));
-    assert_eq!(rt; asked(alloc, &problem, 0), Summary::Lines(0));
+    let problem = gap(&rt, rt.alloc());
+    let found = is_answered(rt.alloc(), &problem, &[true, true, true], &[-1, 2]);
+    let stopped = asked(rt.alloc(), &problem, 0);
     drop(problem);
+    assert!(rt; found);
+    assert!(rt; stopped == Summary::Lines(0));
 }
 
 // `-x <= -(10^15 + 1)`.
-fn far(alloc: Global) -> Result<Problem, AllocError> {
+fn far(rt: &impl Abort, alloc: Global) -> Problem {
     let mut rows = no_rows(alloc);
-    let added = add(alloc, &mut rows, 0, &[term(0, -1)], -1000000000000001);
-    problem_of(rows, added, 1)
+    add(rt, alloc, &mut rows, 0, &[term(0, -1)], -1000000000000001);
+    problem_of(rt, rows, 1)
 }
 
 #[test]
 fn a_number_beyond(rt: HostRuntime) {
-    let alloc = rt.alloc();
-    let problem = far(alloc).expect(&rt, "memory");
-    assert_eq!(rt; asked(alloc, &problem, 0), Summary::Range);
+    let problem = far(&rt, rt.alloc());
+    let found = asked(rt.alloc(), &problem, 0);
     drop(problem);
+    assert!(rt; found == Summary::Range);
 }

@@ -3,7 +3,8 @@ use items::Items;
 use proof_kernel::{check_lines, check_log, check_range};
 use proof_lines::{AtomKind, Clause, Line, Problem, RangeEvidence};
 use sat_core::Answer;
-use std::alloc::{AllocError, Global};
+use std::alloc::Global;
+use std::process::Abort;
 
 /// An answer whose log or evidence, if it has one, is accepted by the proof kernel.
 #[derive(Clone, Copy, PartialEq, Eq, Debug)]
@@ -61,13 +62,9 @@ pub fn is_found(answer: &Answer, truths: &[bool], ints: &[i128]) -> bool {
 }
 
 /// The problem over some atoms and numbers with some clauses.
-pub fn made(
-    kinds: Items<AtomKind>,
-    ints: u32,
-    clauses: Items<Clause>,
-) -> Result<Problem, AllocError> {
+pub fn made(rt: &impl Abort, kinds: Items<AtomKind>, ints: u32, clauses: Items<Clause>) -> Problem {
     match Problem::new(kinds, ints, clauses) {
-        Some(problem) => Ok(problem),
-        None => Err(AllocError),
+        Some(problem) => problem,
+        None => panic!(rt; "no problem"),
     }
 }
