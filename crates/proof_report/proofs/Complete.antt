@@ -1,6 +1,6 @@
 -- The lines of a report are fed to the end.
-use Rattle.std.proofs.Common.{◌≡◌, ℕ, zero, suc, ◌+◌, ◌≤◌, ◌<◌, Bool, true, false, ◌&&◌, cond, eqb, ltb, leb, List, [], ◌∷◌, ◌++◌, length, get_or, Option, Some, None, refl, sym, ap, subst, ◌∙◌, arith, append_assoc, le-leb}
-use Rattle.std.proofs.lemmas.Bool.{false≢true, eq-eqb, eqb-true, ne_eqb, and_parts, and_from, ltb-true, lt-ltb}
+use Rattle.std.proofs.Common.{◌≡◌, ℕ, suc, ◌≤◌, ◌<◌, Bool, true, false, ◌&&◌, cond, eqb, ltb, leb, List, [], ◌∷◌, ◌++◌, length, get_or, Option, Some, None, refl, sym, subst, arith, append_assoc, le-leb}
+use Rattle.std.proofs.lemmas.Bool.{eq-eqb, eqb-true, ne_eqb, and_parts, and_from, ltb-true}
 use Rattle.std.proofs.lemmas.List.{append-nil}
 use Rattle.std.specs.List.{list_all}
 use Rattle.spec_core.specs.declared.world.World.{World}
@@ -11,13 +11,11 @@ use Rattle.proof_lines.specs.declared.line.Line.{Line}
 use Rattle.report_lines.specs.declared.head.Tally.{Tally}
 use Rattle.report_lines.specs.declared.head.Outcome.{Outcome}
 use Rattle.report_lines.specs.declared.head.Outcome.TheVariants as outcomes
-use Rattle.report_lines.specs.declared.verdict.VerdictWord.TheVariants as word
 use Rattle.report_lines.specs.declared.witness.Fact.{Fact}
 use Rattle.report_lines.specs.declared.witness.Reading.{Reading}
 use Rattle.report_lines.specs.declared.witness.Shown.TheVariants as shown
 use Rattle.report_lines.specs.Fields.{most_count}
-use Rattle.report_lines.specs.Heads.{title_format, budget_format, summary_format, outcome_format}
-use Rattle.report_lines.specs.Blocks.{verdict_format}
+use Rattle.report_lines.specs.Heads.{title_format, budget_format, outcome_format}
 use Rattle.report_lines.specs.Logs.{log_format}
 use Rattle.report_lines.specs.Evidence.{rows_format, range_format}
 use Rattle.report_lines.specs.Witnesses.{size_format, const_format, fact_format, reading_format, call_format}
@@ -29,11 +27,10 @@ use Rattle.proof_report.specs.declared.place.LogOf.TheVariants as log_of
 use Rattle.proof_report.specs.declared.place.Place.{Place}
 use Rattle.proof_report.specs.declared.place.Place.TheVariants as places
 use Rattle.proof_report.specs.declared.place.Stage.TheVariants as stages
-use Rattle.proof_report.specs.declared.place.State.{State}
 use Rattle.proof_report.specs.Verdicts.{VerdictForm, proved, refuted, instances, lines, rows, range, obligation_at, obligation_count, call_count, const_at, are_sizes, are_consts, are_facts, are_readings, are_calls, are_elements, fact_behind, reading_behind, relation_due, counter_due, is_log, may_drop, is_verdict, are_verdicts, ReportForm, is_report}
-use Rattle.proof_report.specs.Events.{told, no_verdicts, with_proved, with_refuted, with_undecided, with_verdict, outcome_of, log_lines, size_lines, const_lines, fact_lines, reading_lines, call_lines, witness_lines, verdict_lines, block_lines, report_lines}
-use Rattle.proof_report.specs.Feeding.{line_at, last_of, drops_in, says, same_outcome, log_ended, log_left, no_witness, no_world, at_consts, at_sizes, begun, with_size, with_const, with_fact, with_reading, with_call, closed, after, goes, admits, start, is_over}
-use Rattle.proof_report.proofs.Sound.{at, last_of-end, one_more, one_told, within}
+use Rattle.proof_report.specs.Events.{told, no_verdicts, with_refuted, with_verdict, outcome_of, log_lines, size_lines, const_lines, fact_lines, reading_lines, call_lines, witness_lines, verdict_lines, block_lines, report_lines}
+use Rattle.proof_report.specs.Feeding.{last_of, drops_in, same_outcome, log_ended, log_left, no_witness, no_world, at_consts, at_sizes, with_size, with_const, with_fact, with_reading, with_call, closed, goes, admits, start}
+use Rattle.proof_report.proofs.Sound.{at, last_of-end, one_more, one_told}
 
 -- lines that are fed to the end from a place on
 abbrev Admits : Specification → ℕ → Tally → Place → List Event → Type 0
@@ -124,7 +121,7 @@ consts_go d ver t w (x ∷ xs) es fit h =
     let many : length (w.consts ++ x ∷ []) ≡ suc (length w.consts) = one_more w.consts x in
     let all : (w.consts ++ x ∷ []) ++ xs ≡ w.consts ++ (x ∷ xs) = append_assoc w.consts (x ∷ []) xs in
     let fits_on : are_consts d (record { sizes = w.sizes; consts = (w.consts ++ x ∷ []) ++ xs }) (length (w.consts ++ x ∷ [])) xs ≡ true =
-          subst (λ (ys : List ℕ). are_consts d (record { sizes = w.sizes; consts = ys }) (length (w.consts ++ x ∷ [])) xs ≡ true) (sym all) (subst (λ (m : ℕ). are_consts d (record { sizes = w.sizes; consts = w.consts ++ (x ∷ xs) }) m xs ≡ true) (sym many) b.1) in
+    subst (λ (ys : List ℕ). are_consts d (record { sizes = w.sizes; consts = ys }) (length (w.consts ++ x ∷ [])) xs ≡ true) (sym all) (subst (λ (m : ℕ). are_consts d (record { sizes = w.sizes; consts = w.consts ++ (x ∷ xs) }) m xs ≡ true) (sym many) b.1) in
     let rest = consts_go d ver t (with_const x w) xs es fits_on (subst (λ (ys : List ℕ). Admits d ver t (places.Showing stages.Facts (no_witness (record { sizes = w.sizes; consts = ys }))) es) (sym all) h) in
     let less : eqb (length w.consts) (length d.consts) ≡ false = in_order _ _ (ltb-true _ _ a.0) in
     let rest_at : Admits d ver t (at_consts d (with_const x w)) (const_lines (suc (length w.consts)) xs es) = subst (λ (m : ℕ). Admits d ver t (at_consts d (with_const x w)) (const_lines m xs es)) many rest in
@@ -160,7 +157,7 @@ witness_goes d ver t p xs es fit h =
     let e = and_parts (are_readings d p.world None p.readings) _ c.1 in
     let f = and_parts (are_calls d (obligation_at d (told t)) 0 p.calls) _ e.1 in
     sizes_go d ver t no_world p.world.sizes _ a.0 (consts_go d ver t (record { sizes = p.world.sizes; consts = [] }) p.world.consts _ b.0
-      (facts_go d ver t (no_witness p.world) p.facts p.readings p.calls xs es c.0 e.0 f h))
+    (facts_go d ver t (no_witness p.world) p.facts p.readings p.calls xs es c.0 e.0 f h))
 
 -- ---- blocks
 

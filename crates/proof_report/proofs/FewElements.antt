@@ -1,5 +1,5 @@
 -- A conclusion fails at few elements.
-use Rattle.std.proofs.Common.{◌≡◌, ℕ, ◌≤◌, true, cond, leb, List, [], length, get_or, refl, ap, arith, inl, inr, lit≤}
+use Rattle.std.proofs.Common.{◌≡◌, ℕ, ◌≤◌, true, cond, leb, List, [], length, get_or, ap, arith, inl, inr, lit≤}
 use Rattle.std.proofs.lemmas.Bool.{and_parts, leb-true, cases_lt}
 use Rattle.std.specs.List.{list_all}
 use Rattle.spec_core.specs.declared.line.Prefix.{Prefix}
@@ -9,7 +9,7 @@ use Rattle.spec_core.specs.declared.operation.Operation.{Operation}
 use Rattle.spec_core.specs.declared.spec.Invariant.{Invariant}
 use Rattle.spec_core.specs.declared.update.Thing.{Thing}
 use Rattle.spec_core.specs.declared.update.Thing.TheVariants as thing
-use Rattle.spec_core.specs.Limits.{most_variables, most_places, most_keys}
+use Rattle.spec_core.specs.Limits.{most_variables}
 use Rattle.spec_core.specs.Line.{Line}
 use Rattle.spec_core.specs.Specification.{Specification, no_line, no_invariant, no_operation, op_of, places_of}
 use Rattle.spec_core.specs.Fits.{is_plain}

@@ -1,9 +1,8 @@
 -- What a state keeps is kept by each line that goes on.
-use Rattle.std.proofs.Common.{◌≡◌, ℕ, zero, suc, ◌+◌, ◌<◌, ◌≤◌, ℤ, Bool, true, false, ◌&&◌, cond, eqb, leb, ltb, List, [], ◌∷◌, ◌++◌, length, map, take, get_or, Option, Some, None, refl, sym, ap, subst, ◌∙◌, arith, take_all, unsigned_abs, le-leb}
-use Rattle.std.proofs.lemmas.Bool.{false≢true, eq-eqb, eqb-true, eqb-false, ne_eqb, and_parts, and_from, ltb-true, lt-ltb, leb-true}
-use Rattle.std.proofs.lemmas.List.{append-nil, length-append, length-map}
+use Rattle.std.proofs.Common.{◌≡◌, ℕ, zero, suc, ◌<◌, ◌≤◌, Bool, true, false, ◌&&◌, cond, eqb, leb, ltb, List, [], ◌∷◌, ◌++◌, length, map, take, get_or, Some, None, refl, sym, subst, ◌∙◌, arith, take_all}
+use Rattle.std.proofs.lemmas.Bool.{false≢true, eq-eqb, eqb-true, eqb-false, and_parts, and_from, ltb-true, lt-ltb}
+use Rattle.std.proofs.lemmas.List.{length-map}
 use Rattle.std.proofs.lemmas.List.Folds.{list_all-append}
-use Rattle.std.specs.List.{list_all}
 use Rattle.spec_core.specs.declared.spec.Const.{Const}
 use Rattle.spec_core.specs.declared.world.World.{World}
 use Rattle.spec_core.specs.Limits.{most_elements}
@@ -19,7 +18,6 @@ use Rattle.report_lines.specs.declared.witness.Shown.{Shown}
 use Rattle.report_lines.specs.declared.witness.Shown.TheVariants as shown
 use Rattle.report_lines.specs.Formats.{Format, fits_some, list_fits, among}
 use Rattle.report_lines.specs.Fields.{most_count, element_format}
-use Rattle.report_lines.specs.Blocks.{obligation_format}
 use Rattle.report_lines.specs.Witnesses.{size_format, const_format, tuple_words, fact_format, reading_format, relation_names, counter_names}
 use Rattle.proof_report.specs.declared.event.Event.{Event}
 use Rattle.proof_report.specs.declared.event.Event.TheVariants as events
@@ -30,16 +28,15 @@ use Rattle.proof_report.specs.declared.place.Stage.TheVariants as stages
 use Rattle.proof_report.specs.declared.place.Place.{Place}
 use Rattle.proof_report.specs.declared.place.Place.TheVariants as places
 use Rattle.proof_report.specs.declared.place.State.{State}
-use Rattle.proof_report.specs.Verdicts.{obligation_at, obligation_count, const_at, no_const, relation_due, counter_due}
-use Rattle.proof_report.specs.Events.{told, no_verdicts, with_proved, with_refuted, with_undecided}
-use Rattle.proof_report.specs.Feeding.{line_at, due_line, last_of, says, log_left, log_ended, no_witness, no_world, at_consts, at_sizes, begun, with_size, with_const, with_fact, with_reading, with_call, after, goes}
+use Rattle.proof_report.specs.Verdicts.{obligation_count, const_at, no_const, relation_due, counter_due}
+use Rattle.proof_report.specs.Events.{told}
+use Rattle.proof_report.specs.Feeding.{line_at, due_line, last_of, says, log_left, no_witness, no_world, at_consts, at_sizes, begun, with_size, with_const, with_fact, with_reading, with_call, after, goes}
 use Rattle.proof_report.specs.Reader.{fact_fits, reading_fits, IsShowing, AreSizes, AreConsts, IsKept}
 use Rattle.spec_core.specs.Typed.{is_specification}
 use Rattle.obligation_list.proofs.Counting.{few_obligations}
 use Rattle.report_lines.specs.Formats.{read}
 use Rattle.proof_report.proofs.Lines.{line_ok}
 use Rattle.proof_report.proofs.Sound.{at, one_more}
-
 
 -- ---- worlds
 
@@ -95,9 +92,9 @@ size_keeps d ver t w i n ok h =
     let i_is : i ≡ length w.sizes = eqb-true i (length w.sizes) c.0 in
     let lt = ltb-true i (length d.sorts) c.2 in
     let sizes : AreSizes d (with_size n w) = record {
-          within = omega (arith, one_more w.sizes n);
-          few = list_all-append (λ n. leb n most_elements) w.sizes (n ∷ []) ∙ and_from _ _ h.1.few (and_from _ _ c.1 refl);
-        } in
+      within = omega (arith, one_more w.sizes n);
+      few = list_all-append (λ n. leb n most_elements) w.sizes (n ∷ []) ∙ and_from _ _ h.1.few (and_from _ _ c.1 refl);
+    } in
     at_sizes_kept d t (with_size n w) (eqb (length (w.sizes ++ n ∷ [])) (length d.sorts)) refl h.0 sizes h.2
 
 const_keeps : (d : Specification) (ver : ℕ) (t : Tally) (w : World) (i n : ℕ) → goes d (at ver t (places.Consts w)) (events.Const i n) ≡ true → IsKept d t (places.Consts w) → IsKept d t (at_consts d (with_const n w))
@@ -111,10 +108,10 @@ const_keeps d ver t w i n ok h =
     let fit : ltb n (size_of w (get_or (map (λ c. c.sort) d.consts) j 0)) ≡ true = subst (λ (s : ℕ). ltb n (size_of w s) ≡ true) (sym (sort_at d.consts j)) e.1 in
     let all = one_fits w (map (λ c. c.sort) d.consts) w.consts n (omega arith) h.3.fits fit in
     let consts : AreConsts d (with_const n w) = record {
-          within = omega (arith, one_more w.consts n);
-          fits = subst (λ (k : ℕ). fits_places (with_const n w) (take k (map (λ c. c.sort) d.consts)) (w.consts ++ n ∷ []) ≡ true) (sym (one_more w.consts n))
-            (sym (same_fits w (with_const n w) (take (suc j) (map (λ c. c.sort) d.consts)) (w.consts ++ n ∷ []) refl) ∙ all);
-        } in
+      within = omega (arith, one_more w.consts n);
+      fits = subst (λ (k : ℕ). fits_places (with_const n w) (take k (map (λ c. c.sort) d.consts)) (w.consts ++ n ∷ []) ≡ true) (sym (one_more w.consts n))
+          (sym (same_fits w (with_const n w) (take (suc j) (map (λ c. c.sort) d.consts)) (w.consts ++ n ∷ []) refl) ∙ all);
+    } in
     at_consts_kept d t (with_const n w) (eqb (length (w.consts ++ n ∷ [])) (length d.consts)) refl h.0 (record { within = h.1.within; few = h.1.few }) h.2 consts
 
 -- ---- what a witness shows

@@ -1,15 +1,14 @@
 -- The line that may come at a place is read exactly where it is the line of something that can be said there.
-use Rattle.std.proofs.Common.{◌≡◌, ℕ, zero, suc, ℤ, pos, negsuc, Bool, true, false, ◌&&◌, cond, eqb, List, [], ◌∷◌, ◌++◌, map, length, get_or, Option, Some, None, refl, sym, ap, ◌∙◌, decimal}
+use Rattle.std.proofs.Common.{◌≡◌, ℕ, zero, suc, ℤ, pos, negsuc, Bool, true, false, cond, eqb, List, [], ◌∷◌, ◌++◌, map, length, get_or, Some, None, refl, sym, ap, ◌∙◌, decimal}
 use Rattle.std.specs.Prelude.{codes}
 use Rattle.std.specs.Fmt.{signed_decimal}
-use Rattle.std.specs.List.{flat_map, list_all}
+use Rattle.std.specs.List.{flat_map}
 use Rattle.std.proofs.lemmas.Bool.{false≢true, eqb-true, eq-eqb, and_parts}
 use Rattle.std.proofs.lemmas.Option.{none-some, same_Some}
 use Rattle.spec_core.specs.declared.operation.Kind.{Kind}
 use Rattle.spec_core.specs.declared.operation.Kind.TheVariants.{Sort, Int}
 use Rattle.spec_core.specs.declared.operation.Param.{Param as Parameter}
 use Rattle.spec_core.specs.declared.world.World.{World}
-use Rattle.spec_core.specs.declared.world.Call.{Call}
 use Rattle.spec_core.specs.Specification.{Specification, relation_places, counter_keys, op_of}
 use Rattle.spec_core.specs.World.{size_of}
 use Rattle.spec_core.specs.Typed.{is_specification}
@@ -22,12 +21,12 @@ use Rattle.report_lines.specs.declared.verdict.VerdictWord.{VerdictWord}
 use Rattle.report_lines.specs.declared.witness.Shown.{Shown}
 use Rattle.report_lines.specs.declared.witness.Shown.TheVariants as shown
 use Rattle.report_lines.specs.declared.witness.Due.{Due}
-use Rattle.report_lines.specs.Formats.{Format, Case, case, none, put_some, fits_some, list_put, list_fits, among, read}
-use Rattle.report_lines.specs.Fields.{count_format, element_format, value_format}
+use Rattle.report_lines.specs.Formats.{Format, none, put_some, fits_some, list_put, list_fits, among, read}
+use Rattle.report_lines.specs.Fields.{count_format, element_format}
 use Rattle.report_lines.specs.Blocks.{obligation_words, obligation_format}
 use Rattle.report_lines.specs.Witnesses.{size_format, const_format, shown_format, tuple_words, argument_format, arguments_words, relation_names, counter_names, operation_names}
 use Rattle.report_lines.specs.Formats.{IsExact}
-use Rattle.report_lines.proofs.Exact.{IsCase, case_exact, none_exact, read_ok, read_again}
+use Rattle.report_lines.proofs.Exact.{case_exact, none_exact, read_ok, read_again}
 use Rattle.report_lines.proofs.HeadLines.{title_exact, budget_exact, obligations_exact, summary_exact, outcome_exact}
 use Rattle.report_lines.proofs.BlockLines.{obligation_exact, verdict_exact}
 use Rattle.report_lines.proofs.LogLines.{log_exact}

@@ -1,6 +1,6 @@
 -- What lines say that are fed to the end is the report that is gathered from it.
-use Rattle.std.proofs.Common.{◌≡◌, ℕ, zero, suc, ◌+◌, ◌≤◌, ◌<◌, Bool, true, false, ◌&&◌, cond, eqb, ltb, List, [], ◌∷◌, ◌++◌, length, get_or, Option, Some, None, refl, sym, ap, subst, ◌∙◌, arith, append_assoc}
-use Rattle.std.proofs.lemmas.Bool.{false≢true, eq-eqb, eqb-true, and_parts, and_from, ltb-true, lt-ltb}
+use Rattle.std.proofs.Common.{◌≡◌, ℕ, zero, suc, ◌≤◌, Bool, true, false, ◌&&◌, cond, eqb, ltb, List, [], ◌∷◌, ◌++◌, length, get_or, Option, Some, None, refl, sym, ap, subst, ◌∙◌, arith, append_assoc}
+use Rattle.std.proofs.lemmas.Bool.{false≢true, eqb-true, and_parts, and_from, ltb-true, lt-ltb}
 use Rattle.std.proofs.lemmas.List.{append-nil, length-append}
 use Rattle.std.specs.List.{list_all}
 use Rattle.spec_core.specs.declared.world.World.{World}
@@ -8,7 +8,6 @@ use Rattle.spec_core.specs.declared.world.Call.{Call}
 use Rattle.spec_core.specs.Specification.{Specification}
 use Rattle.spec_core.specs.World.{size_of}
 use Rattle.proof_lines.specs.declared.line.Line.{Line}
-use Rattle.obligation_list.specs.declared.obligation.Obligation.{Obligation}
 use Rattle.report_lines.specs.declared.head.Tally.{Tally}
 use Rattle.report_lines.specs.declared.head.Outcome.{Outcome}
 use Rattle.report_lines.specs.declared.head.Outcome.TheVariants as outcomes
@@ -18,7 +17,6 @@ use Rattle.report_lines.specs.declared.witness.Fact.{Fact}
 use Rattle.report_lines.specs.declared.witness.Reading.{Reading}
 use Rattle.report_lines.specs.declared.witness.Shown.{Shown}
 use Rattle.report_lines.specs.declared.witness.Shown.TheVariants as shown
-use Rattle.report_lines.specs.Fields.{most_count}
 use Rattle.report_lines.specs.Formats.{Format, fits_some}
 use Rattle.report_lines.specs.Heads.{title_format, budget_format, obligations_format, summary_format, outcome_format}
 use Rattle.report_lines.specs.Blocks.{obligation_format, verdict_format}
@@ -34,10 +32,10 @@ use Rattle.proof_report.specs.declared.place.Place.{Place}
 use Rattle.proof_report.specs.declared.place.Place.TheVariants as places
 use Rattle.proof_report.specs.declared.place.Stage.TheVariants as stages
 use Rattle.proof_report.specs.declared.place.State.{State}
-use Rattle.proof_report.specs.Verdicts.{VerdictForm, proved, refuted, instances, lines, rows, range, obligation_at, obligation_count, call_count, const_at, are_sizes, are_consts, are_facts, are_readings, are_calls, are_elements, fact_behind, reading_behind, relation_due, counter_due, is_verdict, are_verdicts, ReportForm, is_report}
+use Rattle.proof_report.specs.Verdicts.{VerdictForm, obligation_at, obligation_count, call_count, const_at, are_sizes, are_consts, are_facts, are_readings, are_calls, are_elements, fact_behind, reading_behind, relation_due, counter_due, is_verdict, are_verdicts, is_report}
 use Rattle.proof_report.specs.Events.{told, no_verdicts, with_proved, with_refuted, with_undecided, with_verdict, outcome_of, log_lines, size_lines, const_lines, fact_lines, reading_lines, call_lines, verdict_lines, block_lines, report_lines}
-use Rattle.proof_report.specs.Feeding.{line_at, last_of, drops_in, due_line, says, same_tally, same_outcome, log_ended, log_left, no_witness, no_world, at_consts, at_sizes, begun, with_size, with_const, with_fact, with_reading, with_call, call_or_end, after, goes, admits, start, is_over}
-use Rattle.proof_report.specs.Gathering.{Gathered, gathered_witness, with_event, gather, report_of}
+use Rattle.proof_report.specs.Feeding.{line_at, last_of, drops_in, due_line, says, same_tally, same_outcome, log_left, no_witness, no_world, at_consts, begun, with_size, with_const, with_fact, with_reading, with_call, after, goes, admits, start}
+use Rattle.proof_report.specs.Gathering.{Gathered, with_event, gather, report_of}
 
 abbrev pub at : ℕ → Tally → Place → State
 at ver t p = record { version = ver; place = p; tally = t }
@@ -203,13 +201,15 @@ reading_step : (d : Specification) (ver : ℕ) (t : Tally) (p : PartialWitness) 
     → ReadingsFine d ver t (with_reading r p) es g → ReadingsFine d ver t p (events.Shown (shown.Reading r) ∷ es) (with_event (events.Shown (shown.Reading r)) g)
 reading_step d ver t p r es g fit behind h =
     let w = h.0 in
-    let es_are : es ≡ readings_on t g = subst (λ (fs : List Fact). es ≡ fact_lines fs (readings_on t g)) h.1 w.lines_are in
-    (record {
-      lines_are = subst (λ (fs : List Fact). events.Shown (shown.Reading r) ∷ es ≡ fact_lines fs (events.Shown (shown.Reading r) ∷ readings_on t g)) (sym h.1) (ap (λ (x : List Event). events.Shown (shown.Reading r) ∷ x) es_are);
-      shown = reading_shown d ver t p r g fit behind w.shown;
-      no_sizes = w.no_sizes;
-      no_consts = w.no_consts;
-    }, h.1)
+    let es_are : es ≡ readings_on t g = subst (λ (fs : List Fact). es ≡ fact_lines fs (readings_on t g)) h.1 w.lines_are in (
+      record {
+        lines_are = subst (λ (fs : List Fact). events.Shown (shown.Reading r) ∷ es ≡ fact_lines fs (events.Shown (shown.Reading r) ∷ readings_on t g)) (sym h.1) (ap (λ (x : List Event). events.Shown (shown.Reading r) ∷ x) es_are);
+        shown = reading_shown d ver t p r g fit behind w.shown;
+        no_sizes = w.no_sizes;
+        no_consts = w.no_consts;
+      },
+      h.1,
+    )
 
 abbrev CallsFine : Specification → ℕ → Tally → PartialWitness → List Event → Gathered → Type 0
 CallsFine d ver t p es g = WitnessFine d ver t p es g × (g.facts ≡ []) × (g.readings ≡ [])
@@ -219,24 +219,30 @@ call_step : (d : Specification) (ver : ℕ) (t : Tally) (p : PartialWitness) (c 
 call_step d ver t p c es g fit more h =
     let w = h.0 in
     let es_are : es ≡ calls_on t g = subst (λ (rs : List Reading). es ≡ reading_lines rs (calls_on t g)) h.2 (subst (λ (fs : List Fact). es ≡ fact_lines fs (readings_on t g)) h.1 w.lines_are) in
-    let own : events.Shown (shown.Call c) ∷ es ≡ events.Shown (shown.Call c) ∷ calls_on t g = ap (λ (x : List Event). events.Shown (shown.Call c) ∷ x) es_are in
-    (record {
-      lines_are = subst (λ (fs : List Fact). events.Shown (shown.Call c) ∷ es ≡ fact_lines fs (reading_lines g.readings (events.Shown (shown.Call c) ∷ calls_on t g))) (sym h.1)
-        (subst (λ (rs : List Reading). events.Shown (shown.Call c) ∷ es ≡ reading_lines rs (events.Shown (shown.Call c) ∷ calls_on t g)) (sym h.2) own);
-      shown = call_shown d ver t p c g fit more w.shown;
-      no_sizes = w.no_sizes;
-      no_consts = w.no_consts;
-    }, h.1, h.2)
+    let own : events.Shown (shown.Call c) ∷ es ≡ events.Shown (shown.Call c) ∷ calls_on t g = ap (λ (x : List Event). events.Shown (shown.Call c) ∷ x) es_are in (
+      record {
+        lines_are = subst (λ (fs : List Fact). events.Shown (shown.Call c) ∷ es ≡ fact_lines fs (reading_lines g.readings (events.Shown (shown.Call c) ∷ calls_on t g))) (sym h.1)
+            (subst (λ (rs : List Reading). events.Shown (shown.Call c) ∷ es ≡ reading_lines rs (events.Shown (shown.Call c) ∷ calls_on t g)) (sym h.2) own);
+        shown = call_shown d ver t p c g fit more w.shown;
+        no_sizes = w.no_sizes;
+        no_consts = w.no_consts;
+      },
+      h.1,
+      h.2,
+    )
 
 end_step : (d : Specification) (ver : ℕ) (t : Tally) (p : PartialWitness) (xs : List ℕ) (es : List Event) (g : Gathered) → are_elements d (obligation_at d (told t)) xs ≡ true → eqb (length p.calls) (call_count (obligation_at d (told t))) ≡ true
     → Fine d ver (with_refuted t) places.Due es g → CallsFine d ver t p (events.Shown (shown.At xs) ∷ es) (with_event (events.Shown (shown.At xs)) g)
-end_step d ver t p xs es g fit all h =
-    (record {
-      lines_are = ap (λ (x : List Event). events.Shown (shown.At xs) ∷ x) h.0;
-      shown = record { facts = refl; readings = refl; calls = all; elements = fit; rest = h.1; no_log = h.2 };
-      no_sizes = refl;
-      no_consts = refl;
-    }, refl, refl)
+end_step d ver t p xs es g fit all h = (
+  record {
+    lines_are = ap (λ (x : List Event). events.Shown (shown.At xs) ∷ x) h.0;
+    shown = record { facts = refl; readings = refl; calls = all; elements = fit; rest = h.1; no_log = h.2 };
+    no_sizes = refl;
+    no_consts = refl;
+  },
+  refl,
+  refl,
+)
 
 -- ---- worlds
 
@@ -275,28 +281,38 @@ next d ver n m vs e h = subst (λ (i : ℕ). are_verdicts d ver i vs ≡ true) e
 
 begin_step : (d : Specification) (ver : ℕ) (t : Tally) (b : VerdictWord) (es : List Event) (g : Gathered) → FineAt d (begun d b ver t) es g → verdict_format.fits b ≡ true → Fine d ver t places.Opened (events.Begin b ∷ es) (with_event (events.Begin b) g)
 begin_step d ver t (word.Proved n) es g h fit =
-    let k = log_fine d ver t log_of.Proved n es g h in
-    (subst (λ (m : ℕ). events.Begin (word.Proved n) ∷ es ≡ events.Begin (word.Proved m) ∷ log_lines g.log (block_lines (with_proved t) g.verdicts)) (sym k.count) (ap (λ (x : List Event). events.Begin (word.Proved n) ∷ x) k.lines_are),
-     and_from _ _ (and_from _ _ (let c = k.count in rw c fit) k.each) (next d ver _ _ g.verdicts (one_told t).0 k.rest), refl)
+    let k = log_fine d ver t log_of.Proved n es g h in (
+      subst (λ (m : ℕ). events.Begin (word.Proved n) ∷ es ≡ events.Begin (word.Proved m) ∷ log_lines g.log (block_lines (with_proved t) g.verdicts)) (sym k.count) (ap (λ (x : List Event). events.Begin (word.Proved n) ∷ x) k.lines_are),
+      and_from _ _ (and_from _ _ (let c = k.count in rw c fit) k.each) (next d ver _ _ g.verdicts (one_told t).0 k.rest),
+      refl,
+    )
 begin_step d ver t word.Refuted es g h fit =
     let k = sizes_fine d ver t no_world (eqb 0 (length d.sorts)) es g refl h in
-    let s = k.shown in
-    (ap (λ (x : List Event). events.Begin word.Refuted ∷ x) k.lines_are,
-     and_from _ _ (and_from _ _ k.sizes (and_from _ _ k.consts (and_from _ _ s.facts (and_from _ _ s.readings (and_from _ _ s.calls s.elements))))) (next d ver _ _ g.verdicts (one_told t).1 s.rest), refl)
+    let s = k.shown in (
+      ap (λ (x : List Event). events.Begin word.Refuted ∷ x) k.lines_are,
+      and_from _ _ (and_from _ _ k.sizes (and_from _ _ k.consts (and_from _ _ s.facts (and_from _ _ s.readings (and_from _ _ s.calls s.elements))))) (next d ver _ _ g.verdicts (one_told t).1 s.rest),
+      refl,
+    )
 begin_step d ver t word.Instances es g h fit =
     (ap (λ (x : List Event). events.Begin word.Instances ∷ x) h.0, and_from _ _ refl (next d ver _ _ g.verdicts (one_told t).2 h.1), refl)
 begin_step d ver t (word.Lines n) es g h fit =
-    let k = log_fine d ver t log_of.Lines n es g h in
-    (subst (λ (m : ℕ). events.Begin (word.Lines n) ∷ es ≡ events.Begin (word.Lines m) ∷ log_lines g.log (block_lines (with_undecided t) g.verdicts)) (sym k.count) (ap (λ (x : List Event). events.Begin (word.Lines n) ∷ x) k.lines_are),
-     and_from _ _ (and_from _ _ (let c = k.count in rw c fit) k.each) (next d ver _ _ g.verdicts (one_told t).2 k.rest), refl)
+    let k = log_fine d ver t log_of.Lines n es g h in (
+      subst (λ (m : ℕ). events.Begin (word.Lines n) ∷ es ≡ events.Begin (word.Lines m) ∷ log_lines g.log (block_lines (with_undecided t) g.verdicts)) (sym k.count) (ap (λ (x : List Event). events.Begin (word.Lines n) ∷ x) k.lines_are),
+      and_from _ _ (and_from _ _ (let c = k.count in rw c fit) k.each) (next d ver _ _ g.verdicts (one_told t).2 k.rest),
+      refl,
+    )
 begin_step d ver t (word.Rows n) es g h fit =
-    let k = log_fine d ver t log_of.Rows n es g h in
-    (subst (λ (m : ℕ). events.Begin (word.Rows n) ∷ es ≡ events.Begin (word.Rows m) ∷ log_lines g.log (events.Rows g.rows_line ∷ block_lines (with_undecided t) g.verdicts)) (sym k.count) (ap (λ (x : List Event). events.Begin (word.Rows n) ∷ x) k.lines_are),
-     and_from _ _ (and_from _ _ (and_from _ _ (let c = k.count in rw c fit) k.each) k.evidence) (next d ver _ _ g.verdicts (one_told t).2 k.rest), refl)
+    let k = log_fine d ver t log_of.Rows n es g h in (
+      subst (λ (m : ℕ). events.Begin (word.Rows n) ∷ es ≡ events.Begin (word.Rows m) ∷ log_lines g.log (events.Rows g.rows_line ∷ block_lines (with_undecided t) g.verdicts)) (sym k.count) (ap (λ (x : List Event). events.Begin (word.Rows n) ∷ x) k.lines_are),
+      and_from _ _ (and_from _ _ (and_from _ _ (let c = k.count in rw c fit) k.each) k.evidence) (next d ver _ _ g.verdicts (one_told t).2 k.rest),
+      refl,
+    )
 begin_step d ver t (word.Range n) es g h fit =
-    let k = log_fine d ver t log_of.Range n es g h in
-    (subst (λ (m : ℕ). events.Begin (word.Range n) ∷ es ≡ events.Begin (word.Range m) ∷ log_lines g.log (events.Range g.range_line ∷ block_lines (with_undecided t) g.verdicts)) (sym k.count) (ap (λ (x : List Event). events.Begin (word.Range n) ∷ x) k.lines_are),
-     and_from _ _ (and_from _ _ (and_from _ _ (let c = k.count in rw c fit) k.each) k.evidence) (next d ver _ _ g.verdicts (one_told t).2 k.rest), refl)
+    let k = log_fine d ver t log_of.Range n es g h in (
+      subst (λ (m : ℕ). events.Begin (word.Range n) ∷ es ≡ events.Begin (word.Range m) ∷ log_lines g.log (events.Range g.range_line ∷ block_lines (with_undecided t) g.verdicts)) (sym k.count) (ap (λ (x : List Event). events.Begin (word.Range n) ∷ x) k.lines_are),
+      and_from _ _ (and_from _ _ (and_from _ _ (let c = k.count in rw c fit) k.each) k.evidence) (next d ver _ _ g.verdicts (one_told t).2 k.rest),
+      refl,
+    )
 
 pub within : (d : Specification) (ver i : ℕ) (vs : List VerdictForm) → are_verdicts d ver i vs ≡ true → i ≤ obligation_count d
 within d ver i [] h = let e = eqb-true i (obligation_count d) h in omega arith
@@ -410,7 +426,7 @@ const_step d ver t w i n es ok h =
     record {
       lines_are = (λ j. events.Const (i_is j) n ∷ es) ∙ ap (λ (x : List Event). events.Const (length w.consts) n ∷ x) (k.lines_are ∙ ap (λ (m : ℕ). const_lines m g.consts (facts_on t g)) many);
       consts = and_from _ _ (subst (λ (m : ℕ). ltb m (length d.consts) ≡ true) i_is c.2) (and_from _ _ c.1 (subst (λ (m : ℕ). are_consts d (record { sizes = w.sizes; consts = w.consts ++ (n ∷ g.consts) }) m g.consts ≡ true) many
-        (subst (λ (xs : List ℕ). are_consts d (record { sizes = w.sizes; consts = xs }) (length (w.consts ++ n ∷ [])) g.consts ≡ true) all k.consts)));
+          (subst (λ (xs : List ℕ). are_consts d (record { sizes = w.sizes; consts = xs }) (length (w.consts ++ n ∷ [])) g.consts ≡ true) all k.consts)));
       shown = same_shown d ver t _ g (with_event (events.Const i n) g) refl refl refl refl refl refl (subst (λ (xs : List ℕ). ShownFine d ver t (no_witness (record { sizes = w.sizes; consts = xs })) g) all k.shown);
       no_sizes = k.no_sizes;
     }

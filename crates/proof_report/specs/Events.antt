@@ -2,7 +2,7 @@
 use Rattle.std.specs.Prelude.{ℕ, suc, ◌+◌, nat_lt, if◌then◌else◌, List, [], ◌∷◌, ◌++◌, map, length, get_or, codes}
 use Rattle.std.specs.Fmt.{decimal, signed_decimal}
 use Rattle.spec_core.specs.declared.world.Call.{Call}
-use Rattle.spec_core.specs.Specification.{Specification, op_of}
+use Rattle.spec_core.specs.Specification.{Specification}
 use Rattle.proof_lines.specs.declared.line.Line.{Line}
 use Rattle.report_lines.specs.declared.head.Tally.{Tally}
 use Rattle.report_lines.specs.declared.head.Outcome.{Outcome}

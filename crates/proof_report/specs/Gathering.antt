@@ -63,8 +63,18 @@ with_event _ g = g
 
 abbrev pub nothing_gathered : Gathered
 nothing_gathered = record {
-  version = 0; budget = 0; log = []; sizes = []; consts = []; facts = []; readings = []; calls = []; elements = [];
-  rows_line = record { used = []; steps = [] }; range_line = record { used = []; steps = []; what = Product 0 0 0 }; verdicts = [];
+  version = 0;
+  budget = 0;
+  log = [];
+  sizes = [];
+  consts = [];
+  facts = [];
+  readings = [];
+  calls = [];
+  elements = [];
+  rows_line = record { used = []; steps = [] };
+  range_line = record { used = []; steps = []; what = Product 0 0 0 };
+  verdicts = [];
 }
 
 abbrev pub gather : List Event → Gathered

@@ -1,8 +1,7 @@
 -- What a reader of a report keeps between two lines, and what it tells of each.
-use Rattle.std.specs.Prelude.{◌≡◌, ℕ, zero, suc, ◌<◌, ◌≤◌, nat_lt, nat_le, Bool, true, false, ◌&&◌, ◌==◌, ◌^◌, List, [], ◌∷◌, length, map, take, Option, Some, None, Result, Ok, Err}
+use Rattle.std.specs.Prelude.{◌≡◌, ℕ, zero, suc, ◌<◌, ◌≤◌, nat_lt, nat_le, Bool, true, false, ◌&&◌, ◌^◌, List, [], ◌∷◌, length, map, take, Option, Some, None, Result, Ok, Err}
 use Rattle.std.specs.List.{list_all}
 use Rattle.spec_core.specs.declared.world.World.{World}
-use Rattle.spec_core.specs.declared.world.Call.{Call}
 use Rattle.spec_core.specs.Limits.{most_elements}
 use Rattle.spec_core.specs.Specification.{Specification, relation_places, counter_keys}
 use Rattle.spec_core.specs.State.{Reads, reads, nothing, with_has, with_count}
@@ -16,7 +15,6 @@ use Rattle.report_lines.specs.declared.verdict.VerdictWord.{VerdictWord}
 use Rattle.report_lines.specs.declared.verdict.VerdictWord.TheVariants as word
 use Rattle.report_lines.specs.declared.witness.Fact.{Fact}
 use Rattle.report_lines.specs.declared.witness.Reading.{Reading}
-use Rattle.report_lines.specs.declared.witness.Shown.{Shown}
 use Rattle.report_lines.specs.declared.witness.Shown.TheVariants as shown
 use Rattle.proof_report.specs.declared.event.Event.{Event}
 use Rattle.proof_report.specs.declared.event.Event.TheVariants as events
@@ -25,7 +23,6 @@ use Rattle.proof_report.specs.declared.place.LogOf.TheVariants as log_of
 use Rattle.proof_report.specs.declared.place.PartialWitness.{PartialWitness}
 use Rattle.proof_report.specs.declared.place.Place.{Place}
 use Rattle.proof_report.specs.declared.place.Place.TheVariants as places
-use Rattle.proof_report.specs.declared.place.Stage.TheVariants as stages
 use Rattle.proof_report.specs.declared.place.State.{State}
 use Rattle.proof_report.specs.declared.verdict.Ended.{Ended}
 use Rattle.proof_report.specs.declared.verdict.Ended.TheVariants as ended

@@ -1,5 +1,5 @@
 -- The text of a report as it is written, block by block.
-use Rattle.std.specs.Prelude.{◌≡◌, ℕ, zero, suc, true, List, [], ◌∷◌, ◌++◌, map, length, get_or, codes}
+use Rattle.std.specs.Prelude.{◌≡◌, ℕ, suc, true, List, [], ◌∷◌, ◌++◌, length, get_or, codes}
 use Rattle.std.specs.Fmt.{decimal}
 use Rattle.std.specs.List.{flat_map, list_all}
 use Rattle.spec_core.specs.declared.world.Call.{Call}
@@ -25,8 +25,8 @@ use Rattle.proof_report.specs.declared.verdict.Verdict.{Verdict}
 use Rattle.proof_report.specs.declared.verdict.Verdict.TheVariants as verdicts
 use Rattle.proof_report.specs.declared.verdict.Cause.{Cause}
 use Rattle.proof_report.specs.declared.verdict.Cause.TheVariants as causes
-use Rattle.proof_report.specs.Verdicts.{const_at, obligation_at, obligation_count}
-use Rattle.proof_report.specs.Events.{no_verdicts, outcome_of}
+use Rattle.proof_report.specs.Verdicts.{const_at, obligation_count}
+use Rattle.proof_report.specs.Events.{outcome_of}
 
 -- the lines of a log
 abbrev pub log_text : List Line → List ℕ

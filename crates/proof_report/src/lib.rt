@@ -10,22 +10,22 @@
 // say).
 #![tactic(auto)]
 
+mod elements;
 pub mod event;
 mod feeding;
 pub mod kind;
-pub mod place;
-mod elements;
 mod laws;
 mod moving;
+pub mod place;
 mod reader;
 mod reading;
 mod saying;
 mod showing;
-mod writing;
 pub mod verdict;
+mod writing;
 
 pub use kind::{Fault, ReportKind, ReportRefused};
 pub use laws::{law_fed_is_text, law_one_report, law_text_is_fed};
 pub use reader::ReportReader;
-pub use writing::{write_end, write_head, write_verdict};
 pub use verdict::{Block, Cause, Ended, Fed, Report, Verdict};
+pub use writing::{write_end, write_head, write_verdict};

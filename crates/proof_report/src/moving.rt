@@ -318,7 +318,11 @@ fn range_told(spec: &Spec, state: &mut State, range: RangeLine) -> Fed
 {
     state.tally.undecided += 1;
     state.place = Place::Due;
-    told(None, None, Some(Ended::Range(range.used, range.steps, range.what)))
+    told(
+        None,
+        None,
+        Some(Ended::Range(range.used, range.steps, range.what)),
+    )
 }
 
 // Behind a line that stands once, or begins a block.

@@ -125,11 +125,7 @@ pub fn sort_name(spec: &Spec, place: usize) -> &[u8]
     }
 }
 
-fn size<'a>(
-    spec: &Spec,
-    world: &World,
-    words: Words<'a>,
-) -> Result<(Event, Words<'a>), ReadError>
+fn size<'a>(spec: &Spec, world: &World, words: Words<'a>) -> Result<(Event, Words<'a>), ReadError>
     ensures { Gives (λ x. (x.0, left x.1)) result ((size_line spec.now (length world.now.sizes)).get (left words.entry)) }
 {
     let place = world.sizes.len();
