@@ -63,6 +63,6 @@ replayed_safely (Some Spell) (Some bytes) extra status c a = absurd (cc c)
 replayed_safely (Some (Check budget)) (Some bytes) extra status c a = absurd (cc c)
 replayed_safely (Some Replay) (Some bytes) extra status c a = record {
   unbroken = λ d is safe e. let at = a (omega (arith, e)) in
-  told_replay bytes extra at.0 d is safe (subst (λ n. IsAnswerTo (Some Replay) (Some bytes) extra n at.0) e at.1);
+      told_replay bytes extra at.0 d is safe (subst (λ n. IsAnswerTo (Some Replay) (Some bytes) extra n at.0) e at.1);
   alike = λ d more s is safe told e. (schedule_safely d safe more s e).alike;
 }

@@ -1,14 +1,13 @@
 -- A replay of a safe specification breaks no invariant.
-use Rattle.std.proofs.Common.{◌≡◌, ℕ, zero, suc, Bool, true, false, length, Ok, Err, List, [], ◌∷◌, get_or, replicate, Option, None, Some, refl, sym, ap, ◌∙◌, subst, arith}
+use Rattle.std.proofs.Common.{◌≡◌, ℕ, zero, suc, Bool, true, false, length, Ok, Err, List, [], ◌∷◌, get_or, Option, None, Some, refl, ap, ◌∙◌, arith}
 use Rattle.std.specs.Prelude.{slice_get, nat_le, if◌then◌else◌}
 use Rattle.std.specs.List.{list_all}
 use Rattle.std.proofs.lemmas.Bool.{and_parts}
 use Rattle.std.specs.Option.{is_none}
 use Rattle.spec_core.specs.declared.world.World.{World}
 use Rattle.spec_core.specs.Specification.{Specification}
-use Rattle.spec_core.specs.State.{Reads}
 use Rattle.spec_core.specs.StateText.{state_text}
-use Rattle.spec_core.specs.Meaning.{inv, broken_at}
+use Rattle.spec_core.specs.Meaning.{broken_at}
 use Rattle.spec_core.specs.Fits.{is_world}
 use Rattle.spec_core.specs.Limits.{most_elements}
 use Rattle.schedule_json.specs.declared.schedule.Schedule.{Schedule}
@@ -19,7 +18,6 @@ use Rattle.schedule_json.proofs.Fits.{schedule_fits}
 use Rattle.obligation_list.specs.Breaking.{Safe}
 use Rattle.obligation_list.proofs.Refuted.{none_broken}
 use Rattle.executions.specs.Orders.{AreIn, IsOrder}
-use Rattle.executions.specs.Convergence.{Converges}
 use Rattle.executions.proofs.Safety.{converges}
 use Rattle.replica_replay.specs.declared.step.Step.{Step}
 use Rattle.replica_replay.specs.Held.{Held, none_held, IsHeld}
@@ -29,8 +27,8 @@ use Rattle.replay_text.specs.declared.stop.Stop.{Stop}
 use Rattle.replay_text.specs.declared.stop.Stop.TheVariants as stop
 use Rattle.replay_text.specs.Text.{status_of}
 use Rattle.replay_text.specs.Recorded.{status_read, schedule_status}
-use Rattle.replay_text.specs.Course.{Course, stopped, with_event, unless_broken, replica_of, state_at, after_outcome, course_from, course}
-use Rattle.replay_text.specs.Safely.{PrintAlike, GoesSafely}
+use Rattle.replay_text.specs.Course.{Course, unless_broken, replica_of, state_at, after_outcome, course_from, course}
+use Rattle.replay_text.specs.Safely.{GoesSafely}
 
 none_taken : (n k : ℕ) (taken : List ℕ) → slice_get (none_held n).taken k ≡ Some taken → taken ≡ []
 none_taken zero k taken e = absurd (cc e)

@@ -1,10 +1,9 @@
 -- What a step of the code leads to, and where its loop over the steps ends. This serves the code and its proofs.
-use Rattle.std.specs.Prelude.{◌≡◌, ℕ, List, ◌++◌, length, Option}
+use Rattle.std.specs.Prelude.{◌≡◌, ℕ, List, ◌++◌, length}
 use Rattle.spec_core.specs.declared.world.World.{World}
 use Rattle.spec_core.specs.Specification.{Specification}
 use Rattle.spec_core.specs.Meaning.{broken_at}
 use Rattle.replica_replay.specs.declared.step.Step.{Step}
-use Rattle.replica_replay.specs.declared.step.StepRefused.{StepRefused}
 use Rattle.replica_replay.specs.Held.{Held}
 use Rattle.replica_replay.specs.Steps.{accepted, refused, outcome}
 use Rattle.replay_text.specs.declared.stop.Stop.{Stop}

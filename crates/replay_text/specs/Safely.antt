@@ -4,10 +4,9 @@ use Rattle.spec_core.specs.declared.world.World.{World}
 use Rattle.spec_core.specs.Specification.{Specification}
 use Rattle.spec_core.specs.StateText.{state_text}
 use Rattle.executions.specs.Orders.{AreIn}
-use Rattle.replica_replay.specs.declared.step.Step.{Step}
 use Rattle.replica_replay.specs.Steps.{state_of}
 use Rattle.replay_text.specs.declared.stop.Stop.TheVariants as stop
-use Rattle.replay_text.specs.Course.{Course, course}
+use Rattle.replay_text.specs.Course.{Course}
 
 -- replicas that have taken the same events, in whichever order, print the same lines of their states
 abbrev pub PrintAlike : Specification → World → Course → Type 0

@@ -1,16 +1,15 @@
 -- One of some distinct names is read as its place.
-use Rattle.std.proofs.Common.{◌≡◌, ℕ, zero, suc, ◌+◌, ◌-◌, ◌<◌, ◌≤◌, Bool, true, false, not, cond, ◌&&◌, ◌||◌, leb, List, [], ◌∷◌, ◌++◌, length, drop, get_or, Option, Some, None, ◌⊎◌, inl, inr, refl, sym, ap, subst, ◌∙◌, arith, length-drop, le-leb}
+use Rattle.std.proofs.Common.{◌≡◌, ℕ, zero, suc, ◌+◌, ◌-◌, ◌<◌, ◌≤◌, Bool, true, false, not, ◌&&◌, ◌||◌, List, [], ◌∷◌, length, drop, get_or, Some, inl, inr, refl, sym, ap, subst, ◌∙◌, arith, length-drop}
 use Rattle.std.specs.Prelude.{nat_lt, nat_le}
-use Rattle.std.specs.List.{list_any}
 use Rattle.std.specs.Str.{bytes_eq}
-use Rattle.std.proofs.lemmas.Bool.{and_parts, and_from, false≢true, leb-true}
+use Rattle.std.proofs.lemmas.Bool.{and_parts, false≢true}
 use Rattle.std.proofs.lemmas.Bool.Decides.{nat_tests}
 use Rattle.std.proofs.lemmas.Option.{none-some, same_Some}
 use Rattle.std.proofs.lemmas.List.{get_or-drop}
 use Rattle.spec_core.specs.State.{is_in}
 use Rattle.spec_core.specs.Typed.{all_distinct}
-use Rattle.report_lines.specs.Formats.{Format, IsExact, word_at, word, place_from, among}
-use Rattle.report_lines.proofs.Exact.{chosen, same_bytes, itself, word_exact, IsExactWord}
+use Rattle.report_lines.specs.Formats.{IsExact, place_from, among}
+use Rattle.report_lines.proofs.Exact.{chosen, same_bytes, itself, word_exact}
 
 -- ---- found
 

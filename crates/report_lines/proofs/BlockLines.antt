@@ -1,7 +1,6 @@
 -- The first two lines of a block are exact and clean.
-use Rattle.std.proofs.Common.{◌≡◌, ℕ, zero, suc, ◌+◌, ◌<◌, ◌≤◌, Bool, true, List, [], ◌∷◌, map, get_or, ◌⊎◌, inl, inr, refl, sym, subst, lit≤}
+use Rattle.std.proofs.Common.{◌≡◌, ℕ, zero, suc, ◌+◌, ◌≤◌, true, List, [], ◌∷◌, map, get_or, ◌⊎◌, inl, inr, refl, sym, subst}
 use Rattle.std.specs.Prelude.{codes}
-use Rattle.std.specs.Fmt.{decimal}
 use Rattle.std.specs.List.{list_all}
 use Rattle.std.proofs.lemmas.Bool.{and_from}
 use Rattle.word_cut.specs.Whole.{greatest}
@@ -11,16 +10,16 @@ use Rattle.spec_core.specs.declared.spec.Counter.{Counter}
 use Rattle.spec_core.specs.declared.operation.Operation.{Operation}
 use Rattle.spec_core.specs.declared.update.Thing.{Thing}
 use Rattle.spec_core.specs.declared.update.Thing.TheVariants as thing
-use Rattle.spec_core.specs.Specification.{Specification, no_relation, no_counter, no_invariant, no_operation, op_of}
+use Rattle.spec_core.specs.Specification.{Specification, no_relation, no_counter, no_invariant, no_operation}
 use Rattle.spec_core.specs.Typed.{is_specification}
 use Rattle.obligation_list.specs.declared.obligation.Obligation.{Obligation}
 use Rattle.obligation_list.specs.declared.obligation.Obligation.TheVariants.{Init, Safety, Commute, Stable}
 use Rattle.report_lines.specs.declared.verdict.VerdictWord.{VerdictWord}
 use Rattle.report_lines.specs.declared.verdict.VerdictWord.TheVariants as words
 use Rattle.report_lines.specs.Words.{is_part}
-use Rattle.report_lines.specs.Formats.{Format, IsExact, IsClean, nothing, behind, these, seen, or_else}
-use Rattle.report_lines.specs.Fields.{most_count, count_format}
-use Rattle.report_lines.specs.Blocks.{invariant_name, operation_name, thing_name, obligation_words, obligation_format, to_cause, to_verdict, of_verdict, cause_words, undecided_words, verdict_words, verdict_format}
+use Rattle.report_lines.specs.Formats.{Format, IsExact, IsClean, nothing, behind}
+use Rattle.report_lines.specs.Fields.{count_format}
+use Rattle.report_lines.specs.Blocks.{invariant_name, operation_name, thing_name, obligation_words, obligation_format, to_verdict, of_verdict, cause_words, undecided_words, verdict_words, verdict_format}
 use Rattle.report_lines.proofs.Exact.{nothing_exact, these_exact, behind_exact, seen_exact, or_exact, or_apart, behind_apart}
 use Rattle.report_lines.proofs.Clean.{decimal_part, nothing_clean, these_clean, behind_clean, seen_clean, or_clean}
 use Rattle.report_lines.proofs.SpecNames.{names_of, name_part}

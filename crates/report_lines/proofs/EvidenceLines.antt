@@ -1,14 +1,12 @@
 -- The lines of evidence are exact and clean.
-use Rattle.std.proofs.Common.{◌≡◌, ℕ, Bool, true, List, ◌⊎◌, inl, inr, refl}
+use Rattle.std.proofs.Common.{◌≡◌, ℕ, List, inl, inr, refl}
 use Rattle.std.specs.Prelude.{codes, ℤ}
 use Rattle.proof_lines.specs.declared.clause.Lit.{Lit}
 use Rattle.proof_lines.specs.declared.line.RowStep.{RowStep}
 use Rattle.proof_lines.specs.declared.line.RangeWhat.{RangeWhat}
 use Rattle.proof_lines.specs.declared.line.RangeWhat.TheVariants.{Product, Value, Sum}
-use Rattle.report_lines.specs.declared.evidence.RowsLine.{RowsLine}
-use Rattle.report_lines.specs.declared.evidence.RangeLine.{RangeLine}
-use Rattle.report_lines.specs.Formats.{Format, IsExact, IsClean, both, behind, seen, or_else, counted}
-use Rattle.report_lines.specs.Fields.{count_format, integer_format}
+use Rattle.report_lines.specs.Formats.{Format, IsExact, IsClean, behind}
+use Rattle.report_lines.specs.Fields.{integer_format}
 use Rattle.report_lines.specs.Logs.{used_words}
 use Rattle.report_lines.specs.Evidence.{to_rows, of_rows, rows_format, product_words, values_words, RangeParts, to_range, of_what, of_range, range_words, range_format}
 use Rattle.report_lines.proofs.Exact.{chain_exact, behind_exact, seen_exact, or_exact, or_apart, behind_apart}

@@ -1,11 +1,9 @@
 -- The lines that stand once in a report are exact and clean.
-use Rattle.std.proofs.Common.{◌≡◌, ℕ, ◌≤◌, Bool, true, List, ◌⊎◌, inl, inr, refl, lit≤}
+use Rattle.std.proofs.Common.{◌≡◌, ◌⊎◌, inl, inr, refl, lit≤}
 use Rattle.std.specs.Prelude.{codes, nat_le}
-use Rattle.report_lines.specs.declared.head.Tally.{Tally}
 use Rattle.report_lines.specs.declared.head.Outcome.{Outcome}
 use Rattle.report_lines.specs.declared.head.Outcome.TheVariants as outcomes
-use Rattle.report_lines.specs.Formats.{Format, IsExact, IsClean, nothing, key, number, both, behind, seen, only, or_else}
-use Rattle.report_lines.specs.Fields.{count_format}
+use Rattle.report_lines.specs.Formats.{IsExact, IsClean, nothing, key, number}
 use Rattle.report_lines.specs.Heads.{title_format, most_budget, budget_format, obligations_format, to_tally, of_tally, counts_format, summary_format, to_outcome, of_outcome, outcome_words, outcome_format}
 use Rattle.report_lines.proofs.Exact.{nothing_exact, key_exact, number_exact, chain_exact, behind_exact, seen_exact, only_exact, or_exact, or_apart, key_apart}
 use Rattle.report_lines.proofs.Clean.{nothing_clean, key_clean, number_clean, chain_clean, behind_clean, seen_clean, only_clean, or_clean}

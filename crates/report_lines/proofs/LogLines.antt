@@ -1,19 +1,17 @@
 -- The lines of a log are exact and clean.
-use Rattle.std.proofs.Common.{◌≡◌, ℕ, ◌≤◌, Bool, true, false, cond, ◌&&◌, eqb, leb, List, [], ◌∷◌, Option, Some, None, ◌⊎◌, inl, inr, refl, sym, ap, subst, ◌∙◌, arith, le_trans, lit≤}
-use Rattle.std.specs.Prelude.{codes, ℤ}
-use Rattle.std.specs.Fmt.{decimal}
-use Rattle.std.proofs.lemmas.Bool.{and_parts, and_from, false≢true, eqb-true, leb-true}
+use Rattle.std.proofs.Common.{◌≡◌, ℕ, ◌≤◌, Bool, true, false, cond, eqb, leb, List, [], ◌∷◌, Option, Some, None, inl, inr, refl, sym, ap, ◌∙◌, le_trans, lit≤}
+use Rattle.std.specs.Prelude.{codes}
+use Rattle.std.proofs.lemmas.Bool.{and_from, eqb-true, leb-true}
 use Rattle.std.proofs.lemmas.Option.{none-some, same_Some}
 use Rattle.word_cut.specs.Whole.{size_read, greatest}
 use Rattle.proof_lines.specs.declared.clause.Lit.{Lit}
-use Rattle.proof_lines.specs.declared.line.RowStep.{RowStep}
 use Rattle.proof_lines.specs.declared.line.Line.{Line}
 use Rattle.proof_lines.specs.declared.line.Line.TheVariants.{Resolve, Farkas, Split, Drop}
-use Rattle.report_lines.specs.Formats.{Format, IsExact, IsClean, word, both, behind, seen, only, or_else, counted}
+use Rattle.report_lines.specs.Formats.{Format, IsExact, IsClean, behind}
 use Rattle.report_lines.specs.Fields.{most_count, count_format, integer_format}
 use Rattle.report_lines.specs.Words.{is_part}
 use Rattle.report_lines.specs.Logs.{literal_text, with_sign, literal_of, literal_format, to_step, of_step, step_words, step_format, used_words, resolve_words, decision_words, split_words, drop_words, LineParts, to_line, of_line, line_words, line_format, may_stand, log_format}
-use Rattle.report_lines.proofs.Exact.{chosen, size_ok, size_again, IsExactWord, word_exact, chain_exact, behind_exact, seen_exact, only_exact, or_exact, or_apart, behind_apart}
+use Rattle.report_lines.proofs.Exact.{chosen, size_ok, size_again, word_exact, chain_exact, behind_exact, seen_exact, only_exact, or_exact, or_apart, behind_apart}
 use Rattle.report_lines.proofs.Clean.{decimal_part, word_clean, chain_clean, behind_clean, seen_clean, only_clean, or_clean}
 use Rattle.report_lines.proofs.NumberFields.{count_exact, count_clean, integer_exact, integer_clean, list_exact, list_clean}
 

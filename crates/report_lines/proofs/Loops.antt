@@ -65,7 +65,7 @@ each_goes_on {K} {A} f front ks i k ws x after total lt at h so_far =
     let s : i + 1 ≡ suc i = omega arith in
     let one : list_at f (k ∷ drop (suc i) ks) ws ≡ cons_to x (list_at f (drop (suc i) ks) after) = rw h refl in
     let two : with_front front (list_at f (drop i ks) ws) ≡ with_front (front ++ x ∷ []) (list_at f (drop (suc i) ks) after) =
-        ap (with_front front) (each_rest f ks i k ws lt at ∙ one) ∙ regrouped front x (list_at f (drop (suc i) ks) after) in
+    ap (with_front front) (each_rest f ks i k ws lt at ∙ one) ∙ regrouped front x (list_at f (drop (suc i) ks) after) in
     rw s (sym two ∙ so_far)
 
 pub each_ends : {K A : Type 0} (f : K → Format A) (e : ReadError) (front : List A) (ks : List K) (i : ℕ) (k : K) (ws : List (List ℕ)) (total : Read (List A)) → i < length ks → k ≡ get_or ks i k → Fails e ((f k).get ws)

@@ -1,9 +1,9 @@
 -- The fields of numbers, and one of the names of a specification.
-use Rattle.std.proofs.Common.{◌≡◌, ℕ, ◌≤◌, Bool, true, List, lit≤}
+use Rattle.std.proofs.Common.{ℕ, lit≤}
 use Rattle.std.specs.Prelude.{nat_lt}
 use Rattle.word_cut.specs.Whole.{greatest}
 use Rattle.spec_core.specs.Limits.{greatest_value, most_elements}
-use Rattle.report_lines.specs.Formats.{Format, IsExact, IsClean, number, whole, only, counted}
+use Rattle.report_lines.specs.Formats.{Format, IsExact, IsClean, counted}
 use Rattle.report_lines.specs.Fields.{most_count, count_format, integer_format, value_format, elements_format, element_format}
 use Rattle.report_lines.proofs.Exact.{number_exact, whole_exact, only_exact, counted_exact}
 use Rattle.report_lines.proofs.Clean.{number_clean, whole_clean, only_clean, counted_clean}

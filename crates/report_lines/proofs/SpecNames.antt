@@ -1,9 +1,9 @@
 -- The names of a specification are distinct words without spaces and line feeds.
-use Rattle.std.proofs.Common.{◌≡◌, ℕ, zero, suc, ◌≤◌, length, lit≤, Bool, true, false, not, ◌&&◌, ◌||◌, List, [], ◌∷◌, ◌++◌, map, get_or, refl, ap, subst, ◌∙◌}
+use Rattle.std.proofs.Common.{◌≡◌, ℕ, zero, suc, ◌≤◌, length, lit≤, Bool, true, false, not, ◌||◌, List, [], ◌∷◌, ◌++◌, map, get_or, refl, subst}
 use Rattle.std.specs.Prelude.{◌==◌, nat_le}
 use Rattle.spec_core.specs.Limits.{most_relations, most_counters, most_operations}
 use Rattle.std.specs.List.{list_all}
-use Rattle.std.proofs.lemmas.Bool.{false≢true, and_parts, and_from}
+use Rattle.std.proofs.lemmas.Bool.{and_parts, and_from}
 use Rattle.std.proofs.lemmas.Bool.Decides.{nat_tests}
 use Rattle.std.proofs.Common.{arith}
 use Rattle.std.proofs.lemmas.List.Folds.{list_all-append, list_any-append}

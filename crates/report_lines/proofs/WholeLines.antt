@@ -1,9 +1,9 @@
 -- A format that is exact and clean, and writes some word, is the format of a line.
-use Rattle.std.proofs.Common.{◌≡◌, ℕ, Bool, true, false, List, [], ◌∷◌, Some, ◌⊎◌, inl, inr, refl, sym, ap, ◌∙◌}
+use Rattle.std.proofs.Common.{◌≡◌, ℕ, true, false, List, [], ◌∷◌, sym, ap, ◌∙◌}
 use Rattle.std.specs.List.{list_all}
 use Rattle.std.proofs.lemmas.Bool.{false≢true}
 use Rattle.report_lines.specs.Words.{parts, joined, is_part}
-use Rattle.report_lines.specs.Formats.{Format, IsExact, IsClean, IsLine, is_empty, read, behind, or_else, seen, only}
+use Rattle.report_lines.specs.Formats.{Format, IsExact, IsClean, IsLine, is_empty, read}
 use Rattle.report_lines.proofs.Exact.{read_ok, read_again}
 use Rattle.report_lines.proofs.Splitting.{parts_joined, joined_parts}
 

@@ -1,5 +1,5 @@
 -- The lines of a witness are exact and clean.
-use Rattle.std.proofs.Common.{◌≡◌, ℕ, zero, suc, Bool, true, List, [], Option, Some, None, ◌⊎◌, inl, inr, refl, ap, ◌∙◌}
+use Rattle.std.proofs.Common.{◌≡◌, ℕ, true, List, Some, ◌⊎◌, inl, inr, refl, ap}
 use Rattle.std.specs.Prelude.{codes, ℤ, pos, negsuc}
 use Rattle.std.proofs.lemmas.Option.{none-some, same_Some}
 use Rattle.spec_core.specs.declared.operation.Kind.{Kind}
@@ -10,15 +10,13 @@ use Rattle.spec_core.specs.declared.world.Call.{Call}
 use Rattle.spec_core.specs.Specification.{Specification, relation_places, counter_keys, op_of}
 use Rattle.spec_core.specs.World.{size_of}
 use Rattle.spec_core.specs.Typed.{is_specification}
-use Rattle.report_lines.specs.declared.witness.Fact.{Fact}
 use Rattle.report_lines.specs.declared.witness.Reading.{Reading}
 use Rattle.report_lines.specs.declared.witness.Due.{Due}
 use Rattle.report_lines.specs.declared.witness.Shown.{Shown}
 use Rattle.report_lines.specs.declared.witness.Shown.TheVariants as shown
 use Rattle.report_lines.specs.Words.{is_part}
-use Rattle.report_lines.specs.Formats.{Format, IsExact, IsClean, among, chain, both, behind, seen, only, case, or_else, times, each_of}
+use Rattle.report_lines.specs.Formats.{Format, IsExact, IsClean, among, both, behind, only, or_else}
 use Rattle.report_lines.specs.Fields.{count_format, value_format, element_format}
-use Rattle.report_lines.specs.Witnesses
 use Rattle.report_lines.specs.Witnesses.{size_format, const_format, tuple_words, relation_names, counter_names, operation_names, to_fact, of_fact, fact_words, fact_format, to_reading, of_reading, is_other, reading_words, reading_format, natural, natural_of, argument_format, arguments_words, to_call, of_call, call_words, call_format, at_format, ShownParts, to_shown, of_shown, shown_words, shown_format}
 use Rattle.report_lines.proofs.Exact.{IsCase, chain_exact, behind_exact, seen_exact, only_exact, case_exact, times_exact, each_exact, or_exact, or_apart, behind_apart}
 use Rattle.report_lines.proofs.Clean.{chain_clean, behind_clean, seen_clean, only_clean, case_clean, times_clean, each_clean, or_clean, among_clean}

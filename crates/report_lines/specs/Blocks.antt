@@ -9,7 +9,7 @@ use Rattle.obligation_list.specs.declared.obligation.Obligation.{Obligation}
 use Rattle.obligation_list.specs.declared.obligation.Obligation.TheVariants.{Init, Safety, Commute, Stable}
 use Rattle.report_lines.specs.declared.verdict.VerdictWord.{VerdictWord}
 use Rattle.report_lines.specs.declared.verdict.VerdictWord.TheVariants as words
-use Rattle.report_lines.specs.Formats.{Format, nothing, key, behind, these, seen, or_else}
+use Rattle.report_lines.specs.Formats.{Format, nothing, behind, these, seen, or_else}
 use Rattle.report_lines.specs.Fields.{count_format}
 
 -- ---- the obligation

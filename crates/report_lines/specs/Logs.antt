@@ -1,5 +1,5 @@
 -- The lines of a log.
-use Rattle.std.specs.Prelude.{ℕ, Bool, true, false, ◌||◌, if◌then◌else◌, ◌==◌, nat_le, ℤ, List, [], ◌∷◌, Option, Some, None, ◌⊎◌, codes}
+use Rattle.std.specs.Prelude.{ℕ, Bool, true, false, if◌then◌else◌, ◌==◌, nat_le, ℤ, List, [], ◌∷◌, Option, Some, None, ◌⊎◌, codes}
 use Rattle.std.specs.Fmt.{decimal}
 use Rattle.std.proofs.Common.{inl, inr}
 use Rattle.word_cut.specs.Whole.{size_read}

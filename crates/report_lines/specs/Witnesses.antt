@@ -1,5 +1,5 @@
 -- The lines of a witness: the world, what holds in its state, the calls and the elements.
-use Rattle.std.specs.Prelude.{ℕ, zero, suc, ℤ, pos, negsuc, Bool, not, List, map, Option, Some, None, ◌⊎◌, codes}
+use Rattle.std.specs.Prelude.{ℕ, ℤ, pos, negsuc, Bool, not, List, map, Option, Some, None, ◌⊎◌, codes}
 use Rattle.std.proofs.Common.{inl, inr}
 use Rattle.spec_core.specs.declared.operation.Kind.{Kind}
 use Rattle.spec_core.specs.declared.operation.Kind.TheVariants.{Sort, Int}

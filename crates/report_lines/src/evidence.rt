@@ -13,10 +13,9 @@ use crate::fields::count;
 use crate::log::{decided, put_used, put_values, used};
 use crate::words::{ReadError, Words, keyword, next};
 use crate::writing::put_number;
-use std::alloc::{AllocError, Global};
-
 use items::Items;
 use proof_lines::{Lit, RangeWhat, RowStep};
+use std::alloc::{AllocError, Global};
 
 /// The used literals and the steps of rows that became too many.
 #[derive(Drop)]

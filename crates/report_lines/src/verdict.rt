@@ -170,7 +170,11 @@ pub fn write_obligation(
             let mut buffer = Buffer::new();
             let line = buffer.format(line as u32 + 1).as_bytes();
             let operation = operation_name(spec, op);
-            write_words(out, b"stable", &[operation, line, operation_name(spec, other)])
+            write_words(
+                out,
+                b"stable",
+                &[operation, line, operation_name(spec, other)],
+            )
         }
     }
 }

@@ -1,8 +1,7 @@
 -- A schedule that is read fits its specification.
-use Rattle.std.proofs.Common.{◌≡◌, ℕ, ℤ, pos, negsuc, suc, ◌+◌, ◌<◌, ◌≤◌, Bool, true, false, ◌&&◌, ◌==◌, List, [], ◌∷◌, length, map, get_or, Option, None, Some, option_and_then, Result, Ok, Err, IfOk, refl, sym, ap, ◌∙◌, subst, arith}
+use Rattle.std.proofs.Common.{◌≡◌, ℕ, ℤ, pos, negsuc, suc, ◌<◌, ◌≤◌, Bool, true, false, ◌&&◌, ◌==◌, List, [], ◌∷◌, length, map, get_or, Option, None, Some, option_and_then, Ok, Err, IfOk, refl, ap, subst, arith}
 use Rattle.std.specs.Prelude.{nat_le, nat_lt, if◌then◌else◌, codes}
 use Rattle.std.proofs.lemmas.Bool.Decides.{nat_tests}
-use Rattle.std.proofs.lemmas.Bool.{and_from}
 use Rattle.std.specs.List.{list_all}
 use Rattle.serde_json.specs.Data.{Data, Items, no_items, item}
 use Rattle.serde_json.specs.Find.{get, as_array}
@@ -11,19 +10,18 @@ use Rattle.spec_core.specs.declared.spec.Const.{Const}
 use Rattle.spec_core.specs.declared.world.World.{World}
 use Rattle.spec_core.specs.Limits.{most_elements}
 use Rattle.spec_core.specs.Specification.{Specification}
-use Rattle.spec_core.specs.Fits.{fits_places, is_world, world_fits}
+use Rattle.spec_core.specs.Fits.{fits_places, world_fits}
 use Rattle.replica_replay.specs.declared.step.Step.{Step}
 use Rattle.schedule_json.specs.declared.refusal.Path.{Path}
 use Rattle.schedule_json.specs.declared.refusal.Path.TheVariants as path
 use Rattle.schedule_json.specs.declared.refusal.Fault.TheVariants as fault
 use Rattle.schedule_json.specs.Parts.{natural, whole, has_exactly}
-use Rattle.schedule_json.specs.declared.refusal.Fault.{Fault}
 use Rattle.schedule_json.specs.declared.refusal.ScheduleRefused.{ScheduleRefused}
 use Rattle.schedule_json.specs.declared.schedule.Schedule.{Schedule}
 use Rattle.schedule_json.specs.Checks.{Checked, located, need, with_some, and_then, with_first}
-use Rattle.schedule_json.specs.Worlds.{size_limit, in_limit, number_below, sizes_at, sizes_of, elements_at, elements_of, const_names, world_of}
+use Rattle.schedule_json.specs.Worlds.{size_limit, in_limit, sizes_at, sizes_of, elements_at, elements_of, const_names, world_of}
 use Rattle.schedule_json.specs.Recorded.{most_steps, at_step, step_of, steps_at, steps_of}
-use Rattle.schedule_json.specs.Schedules.{most_replicas, value_of, count_of, replicas_of, schedule_keys, schedule_of, schedule_from}
+use Rattle.schedule_json.specs.Schedules.{most_replicas, value_of, count_of, replicas_of, schedule_keys, schedule_from}
 use Rattle.schedule_json.specs.Fitting.{IsScheduleOf}
 
 -- ---- what has passed a check

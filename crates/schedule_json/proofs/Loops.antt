@@ -1,6 +1,5 @@
 -- Lists that are checked one by one, with those found so far in front.
 use Rattle.std.proofs.Common.{◌≡◌, ℤ, List, [], ◌∷◌, ◌++◌, Option, None, Some, option_map, Ok, Err, refl, ap, append_assoc, sym, append-nil}
-use Rattle.schedule_json.specs.declared.refusal.ScheduleRefused.{ScheduleRefused}
 use Rattle.schedule_json.specs.Checks.{Checked, with_first}
 
 -- what was found, and then what further checks give

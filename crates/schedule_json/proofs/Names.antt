@@ -1,15 +1,14 @@
 -- The names of a specification are text.
-use Rattle.std.proofs.Common.{◌≡◌, ℕ, zero, suc, ◌<◌, Bool, true, false, ◌&&◌, ◌||◌, ◌==◌, List, [], ◌∷◌, ◌++◌, map, refl, arith}
-use Rattle.std.specs.Prelude.{nat_le, slice_index}
+use Rattle.std.proofs.Common.{◌≡◌, ℕ, zero, suc, ◌<◌, true, List, [], ◌∷◌, ◌++◌, refl, arith}
 use Rattle.std.proofs.lemmas.Bool.{and_parts}
 use Rattle.std.proofs.lemmas.Bool.Decides.{nat_tests}
 use Rattle.std.proofs.lemmas.List.Folds.{list_all-append}
 use Rattle.std.proofs.lemmas.Str.{IsUtf8-from_ascii, is_utf8-from_IsUtf8}
 use Rattle.std.specs.List.{list_all}
 use Rattle.std.specs.Str.{IsAscii, is_utf8}
-use Rattle.spec_core.specs.Name.{is_letter, is_digit, is_name, is_name_byte, is_word, is_word_name}
+use Rattle.spec_core.specs.Name.{is_letter, is_name, is_name_byte, is_word, is_word_name}
 use Rattle.spec_core.specs.Specification.{Specification}
-use Rattle.spec_core.specs.Typed.{is_specification, global_names, names_from_consts, names_from_relations}
+use Rattle.spec_core.specs.Typed.{is_specification, names_from_consts, names_from_relations}
 use Rattle.spec_core.proofs.Parts.{parts_of}
 use Rattle.schedule_json.specs.Worlds.{const_names}
 

@@ -1,5 +1,5 @@
 -- What stands in a JSON value, as the kit's functions find it.
-use Rattle.std.proofs.Common.{◌≡◌, ℕ, zero, suc, ◌-◌, ◌<◌, get_or, Bool, true, List, [], ◌∷◌, length, take, drop, map, Option, Some, None, refl, ap, sym, ◌∙◌, arith}
+use Rattle.std.proofs.Common.{◌≡◌, ℕ, zero, suc, ◌-◌, ◌<◌, get_or, Bool, true, List, [], ◌∷◌, length, take, drop, map, Some, refl, ap, sym, arith}
 use Rattle.std.proofs.Math.Seq.{take-length}
 use Rattle.std.proofs.lemmas.Bool.{and_parts}
 use Rattle.std.specs.List.{list_all}
@@ -7,8 +7,8 @@ use Rattle.std.proofs.lemmas.Str.{IsUtf8-from_is_utf8}
 use Rattle.std.specs.Str.{is_utf8, IsUtf8}
 use Rattle.serde_json.specs.Data.{Data}
 use Rattle.serde_json.specs.Find.{as_object}
-use Rattle.serde_json.specs.View.{view, members_view, items_view}
-use Rattle.serde_json.specs.Events.{members_len, items_len}
+use Rattle.serde_json.specs.View.{members_view, items_view}
+use Rattle.serde_json.specs.Events.{items_len}
 use Rattle.serde_json.proofs.Views.{Entry, members_len-members_view, items_len-items_view}
 use Rattle.serde_json.specs.declared.value.Value.{Value}
 use Rattle.schedule_json.specs.Parts.{member_count}

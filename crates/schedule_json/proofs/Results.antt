@@ -1,10 +1,10 @@
 -- What a whole check gives, from what its last part gives.
-use Rattle.std.proofs.Common.{◌≡◌, ℕ, ◌<◌, ◌≤◌, ◌⊎◌, Bool, true, false, List, length, Option, None, Some, option_and_then, Result, Ok, Err, IfOk, IfErr, refl, sym, subst, arith}
+use Rattle.std.proofs.Common.{◌≡◌, ℕ, ◌<◌, ◌≤◌, ◌⊎◌, Bool, true, false, List, length, Option, None, Some, option_and_then, Ok, Err, IfOk, IfErr, refl, sym, subst, arith}
 use Rattle.std.specs.Prelude.{nat_le}
 use Rattle.std.proofs.lemmas.Str.{is_utf8-from_IsUtf8, IsUtf8-from_is_utf8}
 use Rattle.std.proofs.lemmas.Bool.Decides.{nat_tests}
 use Rattle.std.specs.Str.{is_utf8, IsUtf8}
-use Rattle.serde_json.specs.Data.{Data, Items}
+use Rattle.serde_json.specs.Data.{Data}
 use Rattle.serde_json.specs.Find.{as_array}
 use Rattle.serde_json.specs.Read.{read}
 use Rattle.serde_json.specs.View.{items_view}
@@ -12,11 +12,10 @@ use Rattle.serde_json.specs.Events.{items_len}
 use Rattle.serde_json.specs.declared.value.Value.{Value}
 use Rattle.spec_core.specs.Specification.{Specification}
 use Rattle.schedule_json.specs.declared.refusal.Path.TheVariants as path
-use Rattle.schedule_json.specs.declared.refusal.ScheduleRefused.{ScheduleRefused}
 use Rattle.schedule_json.specs.declared.refusal.ScheduleRefused.TheVariants as refused
 use Rattle.schedule_json.specs.Checks.{Checked}
 use Rattle.schedule_json.specs.Recorded.{most_steps, steps_at, steps_of}
-use Rattle.schedule_json.specs.Schedules.{value_of, schedule_of, schedule_from}
+use Rattle.schedule_json.specs.Schedules.{schedule_of, schedule_from}
 use Rattle.schedule_json.proofs.Reading.{items_length}
 
 -- a check with one answer is another with the same answer

@@ -1,5 +1,5 @@
 -- What every schedule of a specification keeps.
-use Rattle.std.specs.Prelude.{◌≡◌, ℕ, ◌≤◌, true, length}
+use Rattle.std.specs.Prelude.{◌≡◌, ◌≤◌, true, length}
 use Rattle.spec_core.specs.Specification.{Specification}
 use Rattle.spec_core.specs.Fits.{world_fits}
 use Rattle.schedule_json.specs.declared.schedule.Schedule.{Schedule}

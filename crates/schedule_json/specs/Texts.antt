@@ -1,5 +1,5 @@
 -- What is written where a text is no schedule.
-use Rattle.std.specs.Prelude.{ℕ, ◌^◌, List, [], ◌∷◌, ◌++◌, codes, decimal}
+use Rattle.std.specs.Prelude.{ℕ, List, [], ◌∷◌, ◌++◌, codes, decimal}
 use Rattle.schedule_json.specs.declared.refusal.Path.{Path}
 use Rattle.schedule_json.specs.declared.refusal.Path.TheVariants as path
 use Rattle.schedule_json.specs.declared.refusal.ScheduleRefused.{ScheduleRefused}

@@ -8,8 +8,8 @@ ghost use Rattle.schedule_json.specs.Recorded.{number as number_of, name as name
 
 use crate::parts::{has_members, natural};
 use crate::refusal::{Path, ScheduleRefused};
-use replica_replay::Step;
 use items::Items;
+use replica_replay::Step;
 use serde_json::Value;
 use spec_core::Name;
 use std::alloc::{AllocError, Global};

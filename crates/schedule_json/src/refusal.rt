@@ -50,13 +50,9 @@ pub enum ScheduleRefused {
     /// It isn't JSON.
     Json,
     /// What stands at a place isn't of the form that is asked there.
-    Shape {
-        path: Path,
-    },
+    Shape { path: Path },
     /// A number, or a list, at a place is too large or too small.
-    Size {
-        path: Path,
-    },
+    Size { path: Path },
     /// There was no memory.
     Memory,
 }

@@ -10,9 +10,9 @@ ghost use Rattle.schedule_json.specs.Fitting.{IsScheduleOf};
 use crate::parts::has_members;
 use crate::recorded::read_steps;
 use crate::refusal::{Fault, Path, ScheduleRefused};
-use replica_replay::Step;
 use crate::worlds::read_world;
 use items::Items;
+use replica_replay::Step;
 use serde_json::Value;
 use spec_core::{Spec, World};
 use std::alloc::Global;
@@ -77,11 +77,7 @@ fn from_value(alloc: Global, spec: &Spec, value: &Value) -> Result<Schedule, Sch
 
 /// Reads a schedule of a specification. The first check that fails is answered, in the order of the members `sizes`, `constants`,
 /// `replicas` and `steps`.
-pub fn read_schedule(
-    alloc: Global,
-    spec: &Spec,
-    bytes: &[u8],
-) -> Result<Schedule, ScheduleRefused>
+pub fn read_schedule(alloc: Global, spec: &Spec, bytes: &[u8]) -> Result<Schedule, ScheduleRefused>
     ensures ok { IfOk result (λ schedule. schedule_from spec.now bytes.now ≡ Ok schedule) }
     ensures err { IfErr result (λ why. (why ≡ ScheduleRefused.Memory) ⊎ (schedule_from spec.now bytes.now ≡ Err why)) }
     ensures fits { IfOk result (IsScheduleOf spec.now) }

@@ -12,17 +12,21 @@ returns-in-Specified-clause-ends g c = λ bytes h.
     let tree = tree_of c.in-Specified.tree in
     let d = c.in-Specified.spec in
     let read = subst (IsReadingOf bytes) c.in-Specified.is h in
-    let ends = c.do_job.ensures.ends in
-    (ends.0, ends.1,
-    Ends-map (IsOutcome job tree d ends.0) (IsAnswerFor job bytes ends.0) (IsOutcomeFront job tree d ends.0) (IsFrontFor job bytes ends.0) c.do_job.result _ _ _ _
-    (λ s t done. inr (tree, d, read, done)) (λ front left. inr (tree, d, read, left)) ends.2)
+    let ends = c.do_job.ensures.ends in (
+      ends.0,
+      ends.1,
+      Ends-map (IsOutcome job tree d ends.0) (IsAnswerFor job bytes ends.0) (IsOutcomeFront job tree d ends.0) (IsFrontFor job bytes ends.0) c.do_job.result _ _ _ _
+          (λ s t done. inr (tree, d, read, done)) (λ front left. inr (tree, d, read, left)) ends.2,
+    )
 
 pub returns-in-Refused-clause-ends : goal.returns-in-Refused-clause-ends
 returns-in-Refused-clause-ends g c = λ bytes h.
     let job = c.args.job in let text = c.as_slice.result.now in
     let given = some_told (g.E.Source.left c.args.extra.now) in
     let said = subst (IsReadingOf bytes) c.in-Refused.is h in
-    let text_is = c.as_slice.ensures.value ∙ said.2 in
-    (given.0, given.1,
-    Ends-map (IsOne 3 text) (IsAnswerFor job bytes given.0) (IsFrontOf text) (IsFrontFor job bytes given.0) c.write_answer.result _ _ _ _
-    (λ s t one. inl (said.0, said.1, (one.0, one.1 ∙ text_is))) (λ front left. inl (said.0, said.1, (left.0, left.1 ∙ ap (take left.0) text_is))) c.write_answer.ensures.ends)
+    let text_is = c.as_slice.ensures.value ∙ said.2 in (
+      given.0,
+      given.1,
+      Ends-map (IsOne 3 text) (IsAnswerFor job bytes given.0) (IsFrontOf text) (IsFrontFor job bytes given.0) c.write_answer.result _ _ _ _
+          (λ s t one. inl (said.0, said.1, (one.0, one.1 ∙ text_is))) (λ front left. inl (said.0, said.1, (left.0, left.1 ∙ ap (take left.0) text_is))) c.write_answer.ensures.ends,
+    )

@@ -1,4 +1,4 @@
-use Rattle.std.proofs.Common.{◌≡◌, subst, ◌∙◌, ap, true, List, get_or, []}
+use Rattle.std.proofs.Common.{◌≡◌, subst, true, get_or, []}
 use Rattle.spec_core.specs.Specification.{Specification}
 use Rattle.spec_core.specs.State.{reads}
 use Rattle.spec_core.specs.Fits.{is_state}

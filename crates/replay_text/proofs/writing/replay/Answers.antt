@@ -1,4 +1,4 @@
-use Rattle.std.proofs.Common.{◌≡◌, ap, ◌∙◌, ◌++◌, refl, List, ℕ}
+use Rattle.std.proofs.Common.{ap, ◌∙◌, ◌++◌, List, ℕ}
 use Rattle.spec_core.specs.declared.world.World.{World}
 use Rattle.replay_text.specs.Text.{replay_text, replay_status}
 use Rattle.replay_text.proofs.writing.replay.Goals as goal

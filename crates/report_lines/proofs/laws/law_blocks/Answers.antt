@@ -1,4 +1,4 @@
-use Rattle.std.proofs.Common.{◌≡◌, ℕ, ◌+◌, ◌<◌, ◌≤◌, true, refl, lit≤, le_trans, arith, length}
+use Rattle.std.proofs.Common.{◌≡◌, ℕ, ◌+◌, ◌<◌, ◌≤◌, true, refl, arith, length}
 use Rattle.word_cut.specs.Whole.{greatest}
 use Rattle.spec_core.specs.Specification.{Specification, op_of}
 use Rattle.spec_core.specs.Typed.{is_specification}

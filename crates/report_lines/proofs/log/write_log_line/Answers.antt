@@ -15,10 +15,10 @@ returns-in_ok-push-in-Split-2 c =
     let start = c.push.new.self.items in
     let end = c.put_values.new.out.items in
     let used_is : c.put_used.new.out.items ≡ c.put_place.new.out.items ++ spaced used =
-        c.in_ok-put_used-in-Split.ensures ∙ (λ i. c.put_place.new.out.items ++ spaced (used_words.put (c.as_slice-in-Split.ensures i, c.as_slice-in-Split-2.ensures i))) in
+    c.in_ok-put_used-in-Split.ensures ∙ (λ i. c.put_place.new.out.items ++ spaced (used_words.put (c.as_slice-in-Split.ensures i, c.as_slice-in-Split-2.ensures i))) in
     let decides_is : end ≡ c.put_used.new.out.items ++ spaced decides =
-        c.in_ok-put_values-in-Split.ensures ∙ (λ i. c.put_used.new.out.items ++ spaced (decision_words.put (s.low, (s.high, c.as_slice-in-Split-3.ensures i)))) in
+    c.in_ok-put_values-in-Split.ensures ∙ (λ i. c.put_used.new.out.items ++ spaced (decision_words.put (s.low, (s.high, c.as_slice-in-Split-3.ensures i)))) in
     let before = more start c.put_place.new.out.items c.put_used.new.out.items place used c.in_ok-put_place-in-Split.ensures used_is in
     let all = more start c.put_used.new.out.items end (place ++ used) decides before decides_is in
     subst (λ (l : Line). c.push-in-Split.new.self.items ≡ c.args.out.now.items ++ line_text (line_format.put l)) (sym c.in-Split.is)
-        (written c.args.out.now.items start end c.push-in-Split.new.self.items (115 ∷ []) ((place ++ used) ++ decides) c.in_ok-push-in-Split.ensures.items all c.in_ok-push-in-Split-2.ensures.items)
+    (written c.args.out.now.items start end c.push-in-Split.new.self.items (115 ∷ []) ((place ++ used) ++ decides) c.in_ok-push-in-Split.ensures.items all c.in_ok-push-in-Split-2.ensures.items)

@@ -1,4 +1,4 @@
-use Rattle.std.proofs.Common.{◌≡◌, true, true≢false, sym, ◌∙◌, inr, refl}
+use Rattle.std.proofs.Common.{true≢false, sym, ◌∙◌, inr, refl}
 use Rattle.serde_json.specs.View.{view}
 use Rattle.schedule_json.proofs.Results.{ok_along, err_along, schedule_from-value, schedule_from-none}
 use Rattle.schedule_json.proofs.Fits.{fits_along}

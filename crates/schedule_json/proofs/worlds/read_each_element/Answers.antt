@@ -1,5 +1,3 @@
-use Rattle.std.proofs.Common.{subst, sym, ◌≡◌, true}
-use Rattle.std.specs.Str.{is_utf8}
 use Rattle.schedule_json.proofs.Reading.{text_at}
 use Rattle.schedule_json.proofs.worlds.read_each_element.Goals as goal
 

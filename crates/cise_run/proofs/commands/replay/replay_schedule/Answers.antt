@@ -13,10 +13,12 @@ write_answer-requires g c =
 
 pub returns-in-Ok-clause-ends : goal.returns-in-Ok-clause-ends
 returns-in-Ok-clause-ends g c =
-    let d = c.args.spec.now in let r = c.in-Ok.report in let given = c.in-Ok.ensures.ok in
-    (given.0, given.1,
-    Ends-one (IsReplayed d given.0) r.status c.deref.result.now c.write_answer.result _ _ _ _
-    (record { status_is = given.2.status_is; text_is = c.deref.ensures.value ∙ given.2.text_is }) c.write_answer.ensures.ends)
+    let d = c.args.spec.now in let r = c.in-Ok.report in let given = c.in-Ok.ensures.ok in (
+      given.0,
+      given.1,
+      Ends-one (IsReplayed d given.0) r.status c.deref.result.now c.write_answer.result _ _ _ _
+          (record { status_is = given.2.status_is; text_is = c.deref.ensures.value ∙ given.2.text_is }) c.write_answer.ensures.ends,
+    )
 
 pub returns-in-Err-Fault-clause-ends : goal.returns-in-Err-Fault-clause-ends
 returns-in-Err-Fault-clause-ends g c =

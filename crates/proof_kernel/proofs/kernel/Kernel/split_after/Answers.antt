@@ -2,18 +2,6 @@ use Rattle.std.proofs.Common.{arith}
 use Rattle.std.proofs.lemmas.Grind.{common_steps}
 use Rattle.proof_kernel.proofs.kernel.Kernel.split_after.Goals as goal
 
-pub returns-then-low-rows-clause-exact : goal.returns-then-low-rows-clause-exact
-returns-then-low-rows-clause-exact c = grind (arith, common_steps)
-
-pub returns-then-low-rows-clause-kept : goal.returns-then-low-rows-clause-kept
-returns-then-low-rows-clause-kept c = grind (arith, common_steps)
-
-pub bounds-rows-low : goal.bounds-rows-low
-bounds-rows-low c = grind (arith, common_steps)
-
-pub bounds-rows-high : goal.bounds-rows-high
-bounds-rows-high c = grind (arith, common_steps)
-
 pub returns-in_default-clause-exact : goal.returns-in_default-clause-exact
 returns-in_default-clause-exact c = grind (arith, common_steps)
 
