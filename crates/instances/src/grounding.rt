@@ -1,0 +1,133 @@
+// The ground problem of an obligation.
+ghost use Rattle.std.specs.Prelude.{◌≡◌, ◌++◌, [], map, IfOk};
+ghost use Rattle.obligation_list.specs.Breaking as breaking;
+ghost use Rattle.obligation_list.specs.Obligations.{IsObligation};
+ghost use Rattle.ground_problem.specs.Constants.{constants_of};
+ghost use Rattle.ground_problem.specs.Equality as equality;
+ghost use Rattle.ground_problem.specs.Problem.{formulas_of};
+ghost use Rattle.ground_atoms.specs.Symbols.{reading_of};
+ghost use Rattle.instances.specs.Limited.{Appends};
+ghost use Rattle.instances.specs.Calls.{constants_in, calls_of, numbered_arguments};
+ghost use Rattle.instances.specs.Ground.{IsGround};
+
+use crate::agreeing::add_congruence;
+use crate::constants::{Named, constants, operations_of};
+use crate::defining::readings_after;
+use crate::equating::add_equality;
+use crate::listing::add_all_defined;
+use crate::numbering::number_arguments;
+use crate::refused::GroundRefused;
+use crate::things::things_of;
+use ground_atoms::{Atoms, GroundCall, GroundFormula, NamedReading};
+use ground_numbers::law_arguments_are_first;
+use items::Items;
+use obligation_list::Obligation;
+use spec_core::{Spec, Thing};
+use std::alloc::{AllocError, Global};
+
+/// The ground problem of an obligation: the sort of each constant, the calls at constants, the elements of the conclusion, the
+/// atoms and the integer names by their numbers, and the formulas over these numbers.
+#[derive(Drop)]
+pub struct Grounded {
+    pub consts: Items<u8>,
+    pub calls: Items<GroundCall>,
+    pub elements: Items<u32>,
+    pub atoms: Atoms,
+    pub formulas: Items<GroundFormula>,
+}
+
+// The numbering in which the whole numbers among the arguments of these operations' calls have the first numbers.
+fn numbered(alloc: Global, spec: &Spec, ob: &Obligation, ops: &[u8]) -> Result<Atoms, AllocError>
+    requires { ops.now ≡ breaking.operations_of ob.now }
+    ensures { IfOk result (λ atoms. atoms ≡ numbered_arguments spec.now ob.now) }
+{
+    let _ob = ob;
+    let mut atoms = Atoms::new(alloc);
+    number_arguments(&mut atoms, spec, ops)?;
+    law_arguments_are_first();
+    Ok(atoms)
+}
+
+// Appends that equality goes over constants of one sort, and that these things read the same at equal tuples.
+fn add_equal(
+    atoms: &mut Atoms,
+    alloc: Global,
+    spec: &Spec,
+    sorts: &[u8],
+    readings: &[NamedReading],
+    things: &[Thing],
+    out: &mut Items<GroundFormula>,
+) -> Result<(), GroundRefused>
+    ensures { Appends result out.old atoms.old (equality.equality 0 sorts.now ++ equality.congruence (map reading_of readings.now) things.now) out.new atoms.new }
+{
+    match add_equality(atoms, alloc, sorts, out) {
+        Ok(()) => {}
+        Err(refused) => return Err(refused),
+    }
+    add_congruence(atoms, alloc, spec, readings, things, out)
+}
+
+// Appends all formulas of an obligation.
+fn add_all(
+    atoms: &mut Atoms,
+    alloc: Global,
+    spec: &Spec,
+    ob: &Obligation,
+    ops: &[u8],
+    named: &Named,
+    out: &mut Items<GroundFormula>,
+) -> Result<(), GroundRefused>
+    requires member { IsObligation spec.now ob.now }
+    requires ops { ops.now ≡ breaking.operations_of ob.now }
+    requires calls { named.now.calls ≡ calls_of spec.now ob.now }
+    requires constants { constants_in named.now ≡ constants_of spec.now ob.now }
+    requires out { out.now ≡ [] }
+    requires atoms { atoms.now ≡ numbered_arguments spec.now ob.now }
+    ensures { Appends result [] (numbered_arguments spec.now ob.now) (formulas_of spec.now ob.now) out.new atoms.new }
+{
+    match add_all_defined(atoms, alloc, spec, ob, ops, named, out) {
+        Ok(()) => {}
+        Err(refused) => return Err(refused),
+    }
+    let readings = readings_after(alloc, atoms, 0)?;
+    let things = things_of(alloc, spec)?;
+    add_equal(
+        atoms,
+        alloc,
+        spec,
+        named.sorts.as_slice(),
+        readings.as_slice(),
+        things.as_slice(),
+        out,
+    )
+}
+
+/// The ground problem of an obligation of the specification. It has too many formulas exactly where the list has more than 20,000.
+pub fn ground(alloc: Global, spec: &Spec, ob: &Obligation) -> Result<Grounded, GroundRefused>
+    requires { IsObligation spec.now ob.now }
+    ensures { IsGround spec.now ob.now result }
+{
+    let named = constants(alloc, spec, ob)?;
+    let ops = operations_of(alloc, ob)?;
+    let mut atoms = numbered(alloc, spec, ob, ops.as_slice())?;
+    let mut formulas = Items::new(alloc);
+    match add_all(
+        &mut atoms,
+        alloc,
+        spec,
+        ob,
+        ops.as_slice(),
+        &named,
+        &mut formulas,
+    ) {
+        Ok(()) => {}
+        Err(refused) => return Err(refused),
+    }
+    Ok(Grounded {
+        consts: named.sorts,
+        calls: named.calls,
+        elements: named.elements,
+        atoms,
+        formulas,
+    })
+}

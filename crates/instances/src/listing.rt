@@ -1,0 +1,151 @@
+// The groups of an obligation's list, one after another.
+ghost use Rattle.std.specs.Prelude.{◌≡◌, ◌++◌, []};
+ghost use Rattle.obligation_list.specs.Breaking as breaking;
+ghost use Rattle.obligation_list.specs.Obligations.{IsObligation};
+ghost use Rattle.ground_problem.specs.Entry as entry;
+ghost use Rattle.ground_problem.specs.Problem.{stated, defined};
+ghost use Rattle.ground_problem.specs.Definitions.{with_definitions};
+ghost use Rattle.ground_problem.specs.Constants.{constants_of};
+ghost use Rattle.instances.specs.Limited.{Appends};
+ghost use Rattle.instances.specs.Calls.{constants_in, calls_of, numbered_arguments};
+
+use crate::concluding::add_conclusion;
+use crate::conflicting::add_free;
+use crate::constants::Named;
+use crate::defining::add_definitions;
+use crate::entry::add_invariants;
+use crate::ready::add_all_ready;
+use crate::refused::GroundRefused;
+use ground_atoms::{Atoms, GroundFormula};
+use items::Items;
+use obligation_list::Obligation;
+use spec_core::Spec;
+use std::alloc::Global;
+
+// Appends what is true at the entry, nothing in the initial state.
+fn add_entry(
+    atoms: &mut Atoms,
+    alloc: Global,
+    spec: &Spec,
+    ob: &Obligation,
+    named: &Named,
+    out: &mut Items<GroundFormula>,
+) -> Result<(), GroundRefused>
+    ensures { Appends result out.old atoms.old (entry.entry spec.now ob.now (constants_in named.now)) out.new atoms.new }
+{
+    match ob {
+        Obligation::Init { .. } => Ok(()),
+        Obligation::Safety { .. } => add_invariants(atoms, alloc, spec, named, out),
+        Obligation::Commute { .. } => add_invariants(atoms, alloc, spec, named, out),
+        Obligation::Stable { .. } => add_invariants(atoms, alloc, spec, named, out),
+    }
+}
+
+// Appends that the calls of these operations are ready and don't conflict.
+fn add_calls(
+    atoms: &mut Atoms,
+    alloc: Global,
+    spec: &Spec,
+    ops: &[u8],
+    named: &Named,
+    out: &mut Items<GroundFormula>,
+) -> Result<(), GroundRefused>
+    ensures { Appends result out.old atoms.old (entry.calls_ready spec.now (constants_in named.now) 0 ops.now (constants_in named.now).chosen ++ entry.calls_free spec.now (constants_in named.now) ops.now) out.new atoms.new }
+{
+    match add_all_ready(atoms, alloc, spec, named, ops, out) {
+        Ok(()) => {}
+        Err(refused) => return Err(refused),
+    }
+    add_free(atoms, alloc, spec, named, ops, out)
+}
+
+// Appends what is true before the conclusion.
+fn add_before(
+    atoms: &mut Atoms,
+    alloc: Global,
+    spec: &Spec,
+    ob: &Obligation,
+    ops: &[u8],
+    named: &Named,
+    out: &mut Items<GroundFormula>,
+) -> Result<(), GroundRefused>
+    requires { ops.now ≡ breaking.operations_of ob.now }
+    ensures { Appends result out.old atoms.old (entry.before_conclusion spec.now ob.now (constants_in named.now)) out.new atoms.new }
+{
+    match add_entry(atoms, alloc, spec, ob, named, out) {
+        Ok(()) => {}
+        Err(refused) => return Err(refused),
+    }
+    add_calls(atoms, alloc, spec, ops, named, out)
+}
+
+// Appends what is true at the entry, and that the conclusion fails.
+fn add_stated(
+    atoms: &mut Atoms,
+    alloc: Global,
+    spec: &Spec,
+    ob: &Obligation,
+    ops: &[u8],
+    named: &Named,
+    out: &mut Items<GroundFormula>,
+) -> Result<(), GroundRefused>
+    requires member { IsObligation spec.now ob.now }
+    requires ops { ops.now ≡ breaking.operations_of ob.now }
+    ensures { Appends result out.old atoms.old (stated spec.now ob.now (constants_in named.now)) out.new atoms.new }
+{
+    match add_before(atoms, alloc, spec, ob, ops, named, out) {
+        Ok(()) => {}
+        Err(refused) => return Err(refused),
+    }
+    add_conclusion(atoms, alloc, spec, ob, named, out)
+}
+
+// These with the definitions of the readings after two calls.
+fn add_second(
+    atoms: &mut Atoms,
+    alloc: Global,
+    spec: &Spec,
+    ob: &Obligation,
+    ops: &[u8],
+    named: &Named,
+    out: &mut Items<GroundFormula>,
+) -> Result<(), GroundRefused>
+    requires member { IsObligation spec.now ob.now }
+    requires ops { ops.now ≡ breaking.operations_of ob.now }
+    requires calls { named.now.calls ≡ calls_of spec.now ob.now }
+    requires constants { constants_in named.now ≡ constants_of spec.now ob.now }
+    requires out { out.now ≡ [] }
+    requires atoms { atoms.now ≡ numbered_arguments spec.now ob.now }
+    ensures { Appends result [] (numbered_arguments spec.now ob.now) (with_definitions spec.now ob.now (constants_of spec.now ob.now) 2 (stated spec.now ob.now (constants_of spec.now ob.now))) out.new atoms.new }
+{
+    match add_stated(atoms, alloc, spec, ob, ops, named, out) {
+        Ok(()) => {}
+        Err(refused) => return Err(refused),
+    }
+    add_definitions(spec, atoms, alloc, named.calls.as_slice(), 2, out)
+}
+
+// These with the definitions of all later readings.
+pub fn add_all_defined(
+    atoms: &mut Atoms,
+    alloc: Global,
+    spec: &Spec,
+    ob: &Obligation,
+    ops: &[u8],
+    named: &Named,
+    out: &mut Items<GroundFormula>,
+) -> Result<(), GroundRefused>
+    requires member { IsObligation spec.now ob.now }
+    requires ops { ops.now ≡ breaking.operations_of ob.now }
+    requires calls { named.now.calls ≡ calls_of spec.now ob.now }
+    requires constants { constants_in named.now ≡ constants_of spec.now ob.now }
+    requires out { out.now ≡ [] }
+    requires atoms { atoms.now ≡ numbered_arguments spec.now ob.now }
+    ensures { Appends result [] (numbered_arguments spec.now ob.now) (defined spec.now ob.now (constants_of spec.now ob.now)) out.new atoms.new }
+{
+    match add_second(atoms, alloc, spec, ob, ops, named, out) {
+        Ok(()) => {}
+        Err(refused) => return Err(refused),
+    }
+    add_definitions(spec, atoms, alloc, named.calls.as_slice(), 1, out)
+}
