@@ -91,6 +91,20 @@ impl<'a> ReportReader<'a> {
         self.budget
     }
 
+    /// The version of the format: 1, and once the first line was taken the one that it states.
+    pub fn version(&self) -> u8
+        ensures { result ≡ self.now.state.version }
+    {
+        self.state.version
+    }
+
+    /// How many lines were taken.
+    pub fn taken(&self) -> u32
+        ensures { result ≡ self.now.number }
+    {
+        self.number
+    }
+
     /// Takes the next line, without its line feed, and tells what it says. The first fault of the lines so far is answered, and
     /// again at each later line. Behind 2^32 - 1 lines a further one is answered as want of memory.
     pub fn feed(&mut self, text: &[u8]) -> Result<Fed, ReportRefused>

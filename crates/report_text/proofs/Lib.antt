@@ -1,0 +1,9 @@
+pub mod Cutting
+pub mod CleanLines
+pub mod BytesOfReports
+pub mod StateWords
+pub mod WrittenBytes
+pub mod ShownFits
+pub mod NoFault
+pub mod Keeping
+pub mod Following

@@ -1,0 +1,4 @@
+pub mod Bytes
+pub mod Showing
+pub mod Reading
+pub mod Collecting

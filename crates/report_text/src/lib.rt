@@ -1,0 +1,18 @@
+// The bytes of a report: what is written is read back, and what is read is what was written.
+//
+// It stands on `proof_report`, which has the text of a report as lines, and reads it line by line. Here the same is said of bytes, and
+// of a whole report at once.
+//
+// Definitions, in the order in which a reader needs them: specs/Bytes (the bytes of a report, and the lines of bytes), specs/Showing
+// (what a report shows of verdicts, and its text as it is written), specs/Reading (a report that is read from bytes, and their first
+// fault). specs/Collecting mirrors the code of the reader.
+#![tactic(auto)]
+
+mod laws;
+mod reading;
+
+pub use laws::{
+    law_bytes_are_text, law_one_report_of_bytes, law_report_has_no_fault, law_text_bytes_are_fed,
+    law_witness_is_shown, law_written_is_read, law_written_is_report,
+};
+pub use reading::read_report;
