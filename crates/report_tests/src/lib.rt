@@ -9,4 +9,6 @@ mod building;
 #[cfg(test)]
 mod reading;
 #[cfg(test)]
+mod whole;
+#[cfg(test)]
 mod writing;
