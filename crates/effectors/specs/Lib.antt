@@ -4,3 +4,4 @@ pub mod Places
 pub mod Reaching
 pub mod Outside
 pub mod Refusal
+pub mod Spare

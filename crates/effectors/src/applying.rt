@@ -14,9 +14,10 @@ ghost use Rattle.effectors.specs.Beyond.{Beyond, AllInRange, IsFirstBeyond, firs
 ghost use Rattle.effectors.specs.Outside.{outside_or};
 ghost use Rattle.effectors.specs.Refusal.{refused_by};
 
+use crate::in_place::apply_over;
 use crate::outside::Outside;
 use crate::readings::count_updated;
-use crate::writing::{in_range, write_updates};
+use crate::writing::in_range;
 use items::Items;
 use spec_core::{Call, Counter, Spec, State, World};
 use std::alloc::{AllocError, Global};
@@ -101,7 +102,7 @@ fn first_outside(
 }
 
 // Why no state comes after a call that leaves a value out of range.
-fn why_refused(
+pub fn why_refused(
     alloc: Global,
     spec: &Spec,
     world: &World,
@@ -138,20 +139,5 @@ pub fn apply(
     ensures in_range { OnOk result (AllInRange (after_call spec.now world.now call.now (reads state.now))) }
     ensures range { (b : Beyond) → result ≡ Err (ApplyRefused.Range b.counter b.key b.value) → IsFirstBeyond (after_call spec.now world.now call.now (reads state.now)) b }
 {
-    spec.well_formed();
-    state.stays_in_range();
-    let mut new = state.copy()?;
-    if write_updates(
-        alloc,
-        spec,
-        world,
-        state,
-        call,
-        &mut new,
-        spec.updates_of(call.op),
-    )? {
-        Ok(new)
-    } else {
-        Err(why_refused(alloc, spec, world, state, call))
-    }
+    apply_over(alloc, spec, world, state, None, call)
 }

@@ -70,7 +70,7 @@ fn tell(rt: &impl Abort, alloc: Global, replay: &mut Replay, outline: &StepOutli
     found
 }
 
-static STEPS: [(StepOutline, Answer); 17] = [
+static STEPS: [(StepOutline, Answer); 20] = [
     (StepOutline::Call(2, b"deliver", &[5]), Answer::Replica),
     (StepOutline::Call(0, b"steal", &[5]), Answer::Operation),
     (StepOutline::Call(0, b"deliver", &[]), Answer::Arguments),
@@ -94,6 +94,9 @@ static STEPS: [(StepOutline, Answer); 17] = [
         StepOutline::Call(1, b"deliver", &[999_999_999_999_998]),
         Answer::Range(0, 1_000_000_000_000_001),
     ),
+    (StepOutline::Call(0, b"sell", &[2]), Answer::Event(4)),
+    (StepOutline::Call(1, b"deliver", &[1]), Answer::Event(5)),
+    (StepOutline::Take(0, 5), Answer::Event(5)),
 ];
 
 #[test]
@@ -115,8 +118,8 @@ fn each_step_is_accepted_or_refused_for_its_first_cause(rt: HostRuntime) {
         replay.state_of(0).count(0, &[]),
         replay.state_of(1).count(0, &[]),
     );
-    let seen = replay.seen_by(1) == [0, 1].as_slice();
+    let seen = replay.seen_by(1) == [0, 1, 5].as_slice();
     drop(replay);
     drop(spec);
-    assert!(rt; stocks == (2, 3) && seen);
+    assert!(rt; stocks == (1, 4) && seen);
 }

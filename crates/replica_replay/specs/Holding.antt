@@ -1,10 +1,12 @@
 -- How a replay is kept: what an event has seen is a front of what its replica had taken. This serves the code and its proofs.
-use Rattle.std.specs.Prelude.{◌≡◌, ℕ, ◌<◌, ◌≤◌, ◌^◌, true, List, [], take, get_or, length, map, slice_get, Some}
+use Rattle.std.specs.Prelude.{◌≡◌, ℕ, ◌<◌, ◌≤◌, ◌^◌, true, List, [], take, get_or, length, map, slice_get, Option, None, Some}
 use Rattle.spec_core.specs.declared.world.World.{World}
 use Rattle.spec_core.specs.declared.world.Call.{Call}
 use Rattle.spec_core.specs.Specification.{Specification}
-use Rattle.spec_core.specs.State.{reads}
+use Rattle.spec_core.specs.State.{Listing, reads}
 use Rattle.spec_core.specs.Fits.{world_fits, is_state}
+use Rattle.effectors.specs.Effect.{after}
+use Rattle.effectors.specs.Spare.{IsSpare}
 use Rattle.executions.specs.Orders.{Event}
 use Rattle.replica_replay.specs.declared.keeping.Happened.{Happened}
 use Rattle.replica_replay.specs.declared.keeping.Replica.{Replica}
@@ -36,3 +38,17 @@ pub record IsKept (d : Specification) (w : World) (happened : List Happened) (re
   pub fronts : (k : ℕ) (h : Happened) → slice_get happened k ≡ Some h → h.before ≤ length (get_or (orders_of replicas) h.replica [])
   pub fit : (k : ℕ) (r : Replica) → slice_get replicas k ≡ Some r → is_state d w r.state ≡ true
   pub states : (k : ℕ) (r : Replica) → slice_get replicas k ≡ Some r → reads r.state ≡ state_of d w (held_by happened replicas) r.order
+
+-- A replica's second state, where there is one, reads as its state.
+abbrev pub AreSpares : Specification → World → List Replica → List (Option Listing) → Type 0
+AreSpares d w replicas spares = (k : ℕ) (r : Replica) → slice_get replicas k ≡ Some r → IsSpare d w r.state (get_or spares k None)
+
+-- A call leads from one state to another.
+pub record Leads (d : Specification) (w : World) (call : Call) (s next : Listing) : Type 0 where
+  pub fits : is_state d w s ≡ true
+  pub reads_so : reads next ≡ after d w call (reads s)
+
+-- What the fields of a replay keep.
+pub record IsReplay (d : Specification) (w : World) (happened : List Happened) (replicas : List Replica) (others : List (Option Listing)) : Type 0 where
+  pub kept : IsKept d w happened replicas
+  pub spares : AreSpares d w replicas others

@@ -3,3 +3,4 @@ pub mod Refusals
 pub mod Steps
 pub mod Holding
 pub mod Replayed
+pub mod Rivals

@@ -1,6 +1,9 @@
 // What is asked of a call before its effect, and the state after an effect.
+//
+// The search for the least conflicting event goes over all events. It passes over those whose operations no rule can match by
+// their tokens, and over those that were taken, before it compares elements.
 
-ghost use Rattle.std.specs.Prelude.{◌≡◌, ℕ, ◌<◌, ◌≤◌, ◌^◌, ◌⊎◌, true, length, map, Option, None, Some, IfOk, IfErr, OnOk};
+ghost use Rattle.std.specs.Prelude.{◌≡◌, ℕ, ◌<◌, ◌≤◌, ◌^◌, ◌⊎◌, ◌&&◌, not, true, length, map, Option, None, Some, IfOk, IfErr, OnOk};
 ghost use Rattle.std.specs.Option.{option_or};
 ghost use Rattle.std.specs.List.{position_from};
 ghost use Rattle.std.specs.Str.{bytes_eq};
@@ -8,14 +11,19 @@ ghost use Rattle.spec_core.specs.Limits.{most_operations};
 ghost use Rattle.spec_core.specs.State.{reads};
 ghost use Rattle.spec_core.specs.Fits.{world_fits, call_fits, is_state};
 ghost use Rattle.effectors.specs.Effect.{after};
+ghost use Rattle.effectors.specs.Spare.{IsSpare};
+ghost use Rattle.token_rules.specs.Conflict.{conflicts};
+ghost use Rattle.replica_replay.specs.Held.{is_taken};
 ghost use Rattle.replica_replay.specs.Refusals.{least_unseen, call_asked, taking_asked, effect_refused};
 ghost use Rattle.replica_replay.specs.Holding.{calls_of};
+ghost use Rattle.replica_replay.specs.Rivals.{rivals_of};
 ghost use Rattle.replica_replay.specs.Steps.{operation_named as operation_named_of};
 
 use crate::keeping::Happened;
 use crate::order::Order;
+use crate::rivals::is_rival;
 use crate::step::StepRefused;
-use effectors::{ApplyRefused, apply};
+use effectors::{ApplyRefused, apply_over};
 use spec_core::{Call, Operation, Spec, State, World, observes_broken_at, requires_broken_at};
 use std::alloc::Global;
 use token_rules::conflicts;
@@ -40,19 +48,40 @@ pub fn operation_named(spec: &Spec, name: &[u8]) -> Option<u8>
     named(spec.operations.as_slice(), name)
 }
 
+// The other event's call conflicts with the call, and the event isn't among those taken.
+fn is_unseen(
+    spec: &Spec,
+    world: &World,
+    taken: &Order,
+    call: &Call,
+    rivals: &[bool],
+    event: u32,
+    other: &Call,
+) -> bool
+    requires { rivals.now ≡ rivals_of spec.now call.now.op }
+    ensures { result ≡ (conflicts spec.now world.now other.now call.now && not (is_taken taken.now event)) }
+{
+    if !is_rival(rivals, other.op) {
+        return false;
+    }
+    !taken.has(event) && conflicts(spec, world, other, call)
+}
+
 /// The least event whose call conflicts with a call and that isn't among those taken.
 pub fn least_unseen(
     spec: &Spec,
     world: &World,
     taken: &Order,
     call: &Call,
+    rivals: &[bool],
     happened: &[Happened],
 ) -> Option<u32>
-    requires { length happened.now < 2 ^ 32 }
+    requires few { length happened.now < 2 ^ 32 }
+    requires rivals { rivals.now ≡ rivals_of spec.now call.now.op }
     ensures { result ≡ least_unseen spec.now world.now taken.now call.now 0 (calls_of happened.now) }
 {
     for (event, other) in happened.iter().enumerate() {
-        if conflicts(spec, world, &other.call, call) && !taken.has(event as u32) {
+        if is_unseen(spec, world, taken, call, rivals, event as u32, &other.call) {
             return Some(event as u32);
         }
     }
@@ -67,9 +96,11 @@ pub fn asked(
     taken: &Order,
     state: &State,
     call: &Call,
+    rivals: &[bool],
 ) -> Option<StepRefused>
     requires world { world_fits spec.now world.now ≡ true }
     requires few { length happened.now < 2 ^ 32 }
+    requires rivals { rivals.now ≡ rivals_of spec.now call.now.op }
     ensures refusal { (next : Option StepRefused) → call_asked spec.now world.now (calls_of happened.now) taken.now (reads state.now) call.now next ≡ option_or result next }
     ensures fits { result ≡ None → call_fits spec.now world.now call.now ≡ true }
 {
@@ -77,7 +108,7 @@ pub fn asked(
     if !call.fits(spec, world) {
         return Some(StepRefused::Arguments);
     }
-    if let Some(event) = least_unseen(spec, world, taken, call, happened) {
+    if let Some(event) = least_unseen(spec, world, taken, call, rivals, happened) {
         return Some(StepRefused::Conflict { event });
     }
     if let Some(place) = requires_broken_at(spec, world, state, call) {
@@ -106,23 +137,25 @@ pub fn taking_asked(taken: &Order, event: u32, seen: &[u32]) -> Option<StepRefus
     None
 }
 
-/// The state after a call's effect.
+/// The state after a call's effect, written over a spare one that reads as the old one, if there is one.
 pub fn state_after_call(
     alloc: Global,
     spec: &Spec,
     world: &World,
     state: &State,
+    spare: Option<State>,
     call: &Call,
 ) -> Result<State, StepRefused>
     requires world { world_fits spec.now world.now ≡ true }
     requires state { is_state spec.now world.now state.now ≡ true }
     requires call { call_fits spec.now world.now call.now ≡ true }
+    requires spare { IsSpare spec.now world.now state.now spare }
     ensures reads { IfOk result (λ s. reads s ≡ after spec.now world.now call.now (reads state.now)) }
     ensures fits { IfOk result (λ s. is_state spec.now world.now s ≡ true) }
     ensures ok { OnOk result (effect_refused spec.now world.now (reads state.now) call.now ≡ None) }
     ensures err { IfErr result (λ why. (why ≡ StepRefused.Memory) ⊎ (effect_refused spec.now world.now (reads state.now) call.now ≡ Some why)) }
 {
-    match apply(alloc, spec, world, state, call) {
+    match apply_over(alloc, spec, world, state, spare, call) {
         Ok(next) => Ok(next),
         Err(
             ApplyRefused::Range {

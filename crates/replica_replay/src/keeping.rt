@@ -1,17 +1,20 @@
 // What a replay keeps of each event and of each replica, and how both grow by a step.
 //
-// What an event has seen is a front of what its replica had taken, so it is kept as the replica and a length.
+// What an event has seen is a front of what its replica had taken, so it is kept as the replica and a length. Beside the state of
+// each replica a second one is kept that reads alike, so that a step writes what it changes and copies nothing else.
 
-ghost use Rattle.std.specs.Prelude.{◌≡◌, ◌+◌, ◌<◌, ◌^◌, true, [], ◌∷◌, ◌++◌, length, take, set, get_or, replicate, All, OnOk, OnErr, IfOk, IfErr};
+ghost use Rattle.std.specs.Prelude.{◌≡◌, ◌+◌, ◌<◌, ◌^◌, true, [], ◌∷◌, ◌++◌, length, take, set, get_or, slice_get, replicate, None, Some, All, OnOk, OnErr, IfOk, IfErr};
 ghost use Rattle.spec_core.specs.State.{reads};
 ghost use Rattle.spec_core.specs.Meaning.{initial as initial_of};
-ghost use Rattle.spec_core.specs.Fits.{world_fits, is_state};
-ghost use Rattle.replica_replay.specs.Holding.{orders_of, seen_by_event};
+ghost use Rattle.spec_core.specs.Fits.{world_fits, call_fits, is_state};
+ghost use Rattle.replica_replay.specs.Holding.{orders_of, seen_by_event, AreSpares, Leads};
 
 use crate::order::Order;
 use crate::step::{StepRefused, Taken};
+use effectors::caught_up;
 use spec_core::{Call, Spec, State, World};
 use std::alloc::{AllocError, Global};
+use std::mem;
 
 /// An event: a call, and what it has seen, as how many of the events that its replica had taken in the end.
 #[derive(Drop)]
@@ -29,14 +32,15 @@ pub struct Replica {
 }
 
 impl Replica {
-    fn take(&mut self, event: u32, state: State) -> Result<(), AllocError>
+    // Takes an event, and gives the state before it.
+    fn take(&mut self, event: u32, state: State) -> Result<State, AllocError>
         ensures order { OnOk result (self.new.order ≡ self.old.order ++ event ∷ []) }
         ensures state { OnOk result (self.new.state ≡ state) }
+        ensures before { IfOk result (λ s. s ≡ self.old.state) }
         ensures err { OnErr result (self.new ≡ self.old) }
     {
         self.order.push(event)?;
-        self.state = state;
-        Ok(())
+        Ok(mem::replace(&mut self.state, state))
     }
 }
 
@@ -60,6 +64,36 @@ pub fn first_replicas(
         })?;
     }
     Ok(replicas)
+}
+
+/// No second state for any of these replicas.
+pub fn no_spares(alloc: Global, count: u32) -> Result<Vec<Option<State>>, AllocError>
+    ensures { IfOk result (λ spares. spares.items ≡ replicate count None) }
+{
+    let mut spares = Vec::new(alloc);
+    for _i in 0..count {
+        spares.push(None)?;
+    }
+    Ok(spares)
+}
+
+/// Takes away the second state of a replica, to be written over.
+pub fn take_spare(spares: &mut Vec<Option<State>>, replica: usize) -> Option<State>
+    ensures spare { result ≡ get_or spares.old.items replica None }
+    ensures left { spares.new.items ≡ set spares.old.items replica None }
+{
+    match spares.get_mut(replica) {
+        Some(spare) => spare.take(),
+        None => None,
+    }
+}
+
+fn put_spare(spares: &mut Vec<Option<State>>, replica: usize, spare: Option<State>)
+    ensures { spares.new.items ≡ set spares.old.items replica spare }
+{
+    if let Some(place) = spares.get_mut(replica) {
+        *place = spare;
+    }
 }
 
 pub fn count(replicas: &[Replica]) -> usize
@@ -88,39 +122,58 @@ fn front(events: &[u32], before: usize) -> &[u32]
     }
 }
 
-/// A replica takes an event, which leads to this state.
+/// A replica takes an event of this call, which leads to this state. Its second state, if it has one, is brought to read alike.
 pub fn keep_taking(
+    alloc: Global,
+    spec: &Spec,
+    world: &World,
+    call: &Call,
     replicas: &mut Vec<Replica>,
+    spares: &mut Vec<Option<State>>,
     replica: usize,
     event: u32,
     state: State,
 ) -> Result<Taken, StepRefused>
-    requires { replica < length replicas.old.items }
+    requires replica { replica < length replicas.old.items }
+    requires world { world_fits spec.now world.now ≡ true }
+    requires call { call_fits spec.now world.now call.now ≡ true }
+    requires leads { (r : Replica) → slice_get replicas.old.items replica ≡ Some r → Leads spec.now world.now call.now r.state state }
     ensures taken { IfOk result (λ t. t.event ≡ event) }
     ensures ok { OnOk result (replicas.new.items ≡ set replicas.old.items replica (record { order = get_or (orders_of replicas.old.items) replica [] ++ event ∷ []; state = state })) }
     ensures err { OnErr result (replicas.new.items ≡ replicas.old.items) }
+    ensures spares { AreSpares spec.now world.now replicas.old.items spares.old.items → AreSpares spec.now world.now replicas.new.items spares.new.items }
     ensures memory { IfErr result (λ why. why ≡ StepRefused.Memory) }
 {
     let at = &mut replicas[replica];
-    at.take(event, state)?;
+    let before = at.take(event, state)?;
+    let spare = caught_up(alloc, spec, world, call, &at.state, before);
+    put_spare(spares, replica, spare);
     Ok(Taken { event })
 }
 
 /// A call becomes the next event, and its replica takes it, which leads to this state.
 pub fn keep_call(
+    alloc: Global,
+    spec: &Spec,
+    world: &World,
     happened: &mut Vec<Happened>,
     replicas: &mut Vec<Replica>,
+    spares: &mut Vec<Option<State>>,
     replica: u32,
     call: Call,
     state: State,
 ) -> Result<Taken, StepRefused>
     requires replica { replica < length replicas.old.items }
     requires few { length happened.old.items < 2 ^ 32 }
+    requires world { world_fits spec.now world.now ≡ true }
+    requires call { call_fits spec.now world.now call ≡ true }
+    requires leads { (r : Replica) → slice_get replicas.old.items replica ≡ Some r → Leads spec.now world.now call r.state state }
     ensures taken { IfOk result (λ t. t.event ≡ length happened.old.items) }
     ensures few { OnOk result (length happened.old.items + 1 < 2 ^ 32) }
     ensures happened { OnOk result (happened.new.items ≡ happened.old.items ++ record { call = call; replica = replica; before = length (get_or (orders_of replicas.old.items) replica []) } ∷ []) }
     ensures replicas { OnOk result (replicas.new.items ≡ set replicas.old.items replica (record { order = get_or (orders_of replicas.old.items) replica [] ++ length happened.old.items ∷ []; state = state })) }
     ensures err { OnErr result ((happened.new.items ≡ happened.old.items) × (replicas.new.items ≡ replicas.old.items)) }
+    ensures spares { AreSpares spec.now world.now replicas.old.items spares.old.items → AreSpares spec.now world.now replicas.new.items spares.new.items }
     ensures memory { IfErr result (λ why. why ≡ StepRefused.Memory) }
 {
     let event = happened.len() as u32;
@@ -135,11 +188,20 @@ pub fn keep_call(
     }) else {
         return Err(StepRefused::Memory);
     };
-    match keep_taking(replicas, replica as usize, event, state) {
-        Ok(taken) => Ok(taken),
-        Err(_) => {
-            happened.pop();
-            Err(StepRefused::Memory)
-        }
-    }
+    let at = event as usize;
+    let Ok(taken) = keep_taking(
+        alloc,
+        spec,
+        world,
+        &happened[at].call,
+        replicas,
+        spares,
+        replica as usize,
+        event,
+        state,
+    ) else {
+        happened.pop();
+        return Err(StepRefused::Memory);
+    };
+    Ok(taken)
 }

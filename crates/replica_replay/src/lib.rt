@@ -9,6 +9,7 @@ mod keeping;
 mod law;
 mod order;
 mod replay;
+mod rivals;
 mod step;
 
 pub use law::law_steps_keep_executions;

@@ -8,9 +8,10 @@ ghost use Rattle.replica_replay.specs.Steps.{state_of, called, took, outcome, he
 
 use crate::asking::{asked, operation_named, state_after_call, taking_asked};
 use crate::keeping::{
-    Happened, Replica, count, first_replicas, keep_call, keep_taking, seen_by_event,
+    Happened, Replica, count, first_replicas, keep_call, keep_taking, no_spares, seen_by_event,
+    take_spare,
 };
-use crate::order::Order;
+use crate::rivals::rivals_of;
 use crate::step::{Step, StepRefused, Taken};
 use items::Items;
 use spec_core::{Call, Spec, State, World};
@@ -26,6 +27,7 @@ pub struct Replay<'a> {
     world: World,
     happened: Vec<Happened>,
     replicas: Vec<Replica>,
+    spares: Vec<Option<State>>,
 }
 
 impl<'a> Model for Replay<'a> {
@@ -37,11 +39,11 @@ impl<'a> Model for Replay<'a> {
 
     ghost coded = { Prim.hlevel (codes, coded_form) };
 
-    ghost use Rattle.replica_replay.specs.Holding.{held_by, IsKept};
+    ghost use Rattle.replica_replay.specs.Holding.{held_by, IsReplay};
 
     ghost view = { λ a. record { spec = a.spec.now; world = a.world; held = held_by a.happened.items a.replicas.items } };
 
-    ghost invariant = { λ a. IsKept a.spec.now a.world a.happened.items a.replicas.items };
+    ghost invariant = { λ a. IsReplay a.spec.now a.world a.happened.items a.replicas.items a.spares.items };
 }
 
 impl<'a> Replay<'a> {
@@ -58,6 +60,7 @@ impl<'a> Replay<'a> {
         ensures held { IfOk result (λ replay. replay.held ≡ none_held replicas) }
     {
         let happened = Vec::new(alloc);
+        let spares = no_spares(alloc, replicas)?;
         let replicas = first_replicas(alloc, spec, &world, replicas)?;
         Ok(Replay {
             alloc,
@@ -65,6 +68,7 @@ impl<'a> Replay<'a> {
             world,
             happened,
             replicas,
+            spares,
         })
     }
 
@@ -119,6 +123,7 @@ impl<'a> Replay<'a> {
         let Some(op) = operation_named(self.spec, name) else {
             return Err(StepRefused::Operation);
         };
+        let rivals = rivals_of(self.alloc, self.spec, op)?;
         let args = Items::from_slice(self.alloc, args)?;
         let call = Call { op, args };
         match asked(
@@ -128,18 +133,33 @@ impl<'a> Replay<'a> {
             &at.order,
             &at.state,
             &call,
+            &rivals,
         ) {
             Some(why) => Err(why),
-            None => match state_after_call(self.alloc, self.spec, &self.world, &at.state, &call) {
-                Ok(state) => keep_call(
-                    &mut self.happened,
-                    &mut self.replicas,
-                    replica,
-                    call,
-                    state,
-                ),
-                Err(why) => Err(why),
-            },
+            None => {
+                let spare = take_spare(&mut self.spares, replica as usize);
+                match state_after_call(
+                    self.alloc,
+                    self.spec,
+                    &self.world,
+                    &at.state,
+                    spare,
+                    &call,
+                ) {
+                    Ok(state) => keep_call(
+                        self.alloc,
+                        self.spec,
+                        &self.world,
+                        &mut self.happened,
+                        &mut self.replicas,
+                        &mut self.spares,
+                        replica,
+                        call,
+                        state,
+                    ),
+                    Err(why) => Err(why),
+                }
+            }
         }
     }
 
@@ -157,16 +177,30 @@ impl<'a> Replay<'a> {
         let seen = seen_by_event(&self.replicas, found);
         match taking_asked(&at.order, event, seen) {
             Some(why) => Err(why),
-            None => match state_after_call(
-                self.alloc,
-                self.spec,
-                &self.world,
-                &at.state,
-                &found.call,
-            ) {
-                Ok(state) => keep_taking(&mut self.replicas, replica as usize, event, state),
-                Err(why) => Err(why),
-            },
+            None => {
+                let spare = take_spare(&mut self.spares, replica as usize);
+                match state_after_call(
+                    self.alloc,
+                    self.spec,
+                    &self.world,
+                    &at.state,
+                    spare,
+                    &found.call,
+                ) {
+                    Ok(state) => keep_taking(
+                        self.alloc,
+                        self.spec,
+                        &self.world,
+                        &found.call,
+                        &mut self.replicas,
+                        &mut self.spares,
+                        replica as usize,
+                        event,
+                        state,
+                    ),
+                    Err(why) => Err(why),
+                }
+            }
         }
     }
 

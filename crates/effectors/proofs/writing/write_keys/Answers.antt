@@ -3,14 +3,13 @@ use Rattle.std.specs.List.{list_all}
 use Rattle.spec_core.specs.Specification.{counter_keys}
 use Rattle.spec_core.specs.State.{reads, with_count}
 use Rattle.spec_core.specs.Fits.{fits_places, in_state_range}
-use Rattle.effectors.specs.Effect.{after}
 use Rattle.effectors.specs.Reaching.{with_keys}
 use Rattle.effectors.proofs.Steps.{next, none_left, rest_pass, keys_step, keys_done, passed}
 use Rattle.effectors.proofs.writing.write_keys.Goals as goal
 
 pub loop-key-preserved : goal.loop-key-preserved
-loop-key-preserved c =
-    let n = after c.args.spec.now c.args.world.now c.args.call.now (reads c.args.state.now) in
+loop-key-preserved g c =
+    let n = g.R.Readings.reads c.args.from.now in
     let ts = c.args.keys.now in let at = c.loop-key.key-index in let t = c.key-item.result in let k = c.args.counter in
     let e = next ts at t c.loop-key-test.true c.key-item.is in
     let p = λ (t : List ℕ). in_state_range (n.count k t) in
@@ -25,7 +24,7 @@ loop-key-preserved c =
     }
 
 pub returns-clause-reads : goal.returns-clause-reads
-returns-clause-reads c =
-    let n = after c.args.spec.now c.args.world.now c.args.call.now (reads c.args.state.now) in
+returns-clause-reads g c =
+    let n = g.R.Readings.reads c.args.from.now in
     let ts = c.args.keys.now in let at = c.loop-key.key-index in let k = c.args.counter in
     λ _. keys_done k (drop at ts) n (reads c.loop-key.new) (with_keys k ts n (reads c.args.new.now)) (none_left ts at c.loop-key-test.false) c.loop-key.invariant.so_far

@@ -2,14 +2,13 @@ use Rattle.std.proofs.Common.{◌+◌, drop, ◌∙◌}
 use Rattle.spec_core.specs.Specification.{relation_places}
 use Rattle.spec_core.specs.State.{reads, with_has}
 use Rattle.spec_core.specs.Fits.{fits_places}
-use Rattle.effectors.specs.Effect.{after}
 use Rattle.effectors.specs.Reaching.{with_tuples}
 use Rattle.effectors.proofs.Steps.{next, none_left, rest_pass, tuples_step, tuples_done}
 use Rattle.effectors.proofs.writing.write_tuples.Goals as goal
 
 pub loop-tuple-preserved : goal.loop-tuple-preserved
-loop-tuple-preserved c =
-    let n = after c.args.spec.now c.args.world.now c.args.call.now (reads c.args.state.now) in
+loop-tuple-preserved g c =
+    let n = g.R.Readings.reads c.args.from.now in
     let ts = c.args.tuples.now in let at = c.loop-tuple.tuple-index in let t = c.tuple-item.result in let k = c.args.relation in
     let e = next ts at t c.loop-tuple-test.true c.tuple-item.is in
     record {
@@ -21,7 +20,7 @@ loop-tuple-preserved c =
     }
 
 pub returns-clause-reads : goal.returns-clause-reads
-returns-clause-reads c =
-    let n = after c.args.spec.now c.args.world.now c.args.call.now (reads c.args.state.now) in
+returns-clause-reads g c =
+    let n = g.R.Readings.reads c.args.from.now in
     let ts = c.args.tuples.now in let at = c.loop-tuple.tuple-index in let k = c.args.relation in
     tuples_done k (drop at ts) n (reads c.loop-tuple.new) (with_tuples k ts n (reads c.args.new.now)) (none_left ts at c.loop-tuple-test.false) c.loop-tuple.invariant.so_far

@@ -5,6 +5,7 @@ use Rattle.replica_replay.specs.Held.{Held}
 use Rattle.replica_replay.specs.Replayed.{Replayed}
 use Rattle.replica_replay.specs.Steps.{called, held_after, answer}
 use Rattle.replica_replay.proofs.Answering.{failed, ok_then, found_at, call_asked_refuses, call_effect_refuses, call_passes, call_leaves, call_answers, call_holds}
+use Rattle.replica_replay.proofs.Spares.{spare_taken, leads_from}
 use Rattle.replica_replay.proofs.replay.Replay.call.Goals as goal
 
 pub returns-in-Some-asked-clause-answer : goal.returns-in-Some-asked-clause-answer
@@ -15,23 +16,23 @@ returns-in-Some-asked-clause-answer c =
     let name = c.args.name.now in let op = c.in-Some-operation_named.op in let named = c.in-Some-operation_named.ensures in
     let xs = c.in_ok-args.args in let args = c.args.args.now in let same = c.in_ok-args.ensures in
     inr (subst (λ (p : Replayed). failed c.in-Some-asked.why ≡ answer (called p.spec p.world p.held r name args (slice_get p.held.taken r))) c.self.view_is
-    (call_asked_refuses d w hs rs c.self.invariant r at here name op named xs args same c.deref-2.result.now c.deref-2.ensures.value c.in-Some-asked.why c.in-Some-asked.ensures.refusal))
+    (call_asked_refuses d w hs rs c.self.invariant.kept r at here name op named xs args same c.deref-2.result.now c.deref-2.ensures.value c.in-Some-asked.why c.in-Some-asked.ensures.refusal))
 
 pub state_after_call-requires-clause-state : goal.state_after_call-requires-clause-state
 state_after_call-requires-clause-state c =
     let rs = c.self.inside.replicas.items in
     let r = c.args.replica in let at = c.in-Some.at.now in let look = c.in-Some.ensures.lookup in
-    c.self.invariant.fit r at (found_at c.deref.result.now rs r at c.deref.ensures.value look.0 look.1)
+    c.self.invariant.kept.fit r at (found_at c.deref.result.now rs r at c.deref.ensures.value look.0 look.1)
 
-pub returns-in-Err-clause-answer : goal.returns-in-Err-clause-answer
-returns-in-Err-clause-answer c =
+pub returns-clause-answer : goal.returns-clause-answer
+returns-clause-answer c =
     let d = c.self.inside.spec.now in let w = c.self.inside.world in let hs = c.self.inside.happened.items in let rs = c.self.inside.replicas.items in
     let r = c.args.replica in let at = c.in-Some.at.now in let look = c.in-Some.ensures.lookup in
     let here = found_at c.deref.result.now rs r at c.deref.ensures.value look.0 look.1 in
     let name = c.args.name.now in let op = c.in-Some-operation_named.op in let named = c.in-Some-operation_named.ensures in
     let xs = c.in_ok-args.args in let args = c.args.args.now in let same = c.in_ok-args.ensures in
     subst (λ (p : Replayed). (failed c.in-Err.why ≡ failed Memory) ⊎ (failed c.in-Err.why ≡ answer (called p.spec p.world p.held r name args (slice_get p.held.taken r)))) c.self.view_is
-    (call_effect_refuses d w hs rs c.self.invariant r at here name op named xs args same c.deref-2.result.now c.deref-2.ensures.value c.in-Err.why c.in-None.ensures.refusal c.in-Err.ensures.err)
+    (call_effect_refuses d w hs rs c.self.invariant.kept r at here name op named xs args same c.deref-2.result.now c.deref-2.ensures.value c.in-Err.why c.in-None.ensures.refusal c.in-Err.ensures.err)
 
 pub invariant_of-self : goal.invariant_of-self
 invariant_of-self c =
@@ -40,9 +41,25 @@ invariant_of-self c =
     let here = found_at c.deref.result.now rs r at c.deref.ensures.value look.0 look.1 in
     let name = c.args.name.now in let op = c.in-Some-operation_named.op in let named = c.in-Some-operation_named.ensures in
     let xs = c.in_ok-args.args in let args = c.args.args.now in let same = c.in_ok-args.ensures in
-    let may = call_passes d w hs rs c.self.invariant r at here name op named xs args same c.deref-2.result.now c.deref-2.ensures.value c.in-None.ensures.refusal c.in-Ok.ensures.ok in
-    call_leaves d w hs rs c.self.invariant r at here name op named xs args same c.keep_call.result c.in-Ok.state c.keep_call.new.happened.items c.keep_call.new.replicas.items may
-    c.keep_call.ensures.few c.keep_call.ensures.happened c.keep_call.ensures.replicas c.keep_call.ensures.err c.in-Ok.ensures.fits c.in-Ok.ensures.reads
+    let may = call_passes d w hs rs c.self.invariant.kept r at here name op named xs args same c.deref-2.result.now c.deref-2.ensures.value c.in-None.ensures.refusal c.in-Ok.ensures.ok in
+    record {
+      kept = call_leaves d w hs rs c.self.invariant.kept r at here name op named xs args same c.keep_call.result c.in-Ok.state c.keep_call.new.happened.items c.keep_call.new.replicas.items may
+          c.keep_call.ensures.few c.keep_call.ensures.happened c.keep_call.ensures.replicas c.keep_call.ensures.err c.in-Ok.ensures.fits c.in-Ok.ensures.reads;
+      spares = c.keep_call.ensures.spares (spare_taken d w rs c.self.inside.spares.items c.take_spare-spare.new.spares.items r c.take_spare-spare.ensures.left c.self.invariant.spares);
+    }
+
+pub keep_call-requires-clause-leads : goal.keep_call-requires-clause-leads
+keep_call-requires-clause-leads c =
+    let d = c.self.inside.spec.now in let w = c.self.inside.world in let rs = c.self.inside.replicas.items in
+    let r = c.args.replica in let at = c.in-Some.at.now in let look = c.in-Some.ensures.lookup in
+    let here = found_at c.deref.result.now rs r at c.deref.ensures.value look.0 look.1 in
+    leads_from d w rs r at (record { op = c.in-Some-operation_named.op; args = c.in_ok-args.args }) c.in-Ok.state here (c.self.invariant.kept.fit r at here) c.in-Ok.ensures.reads
+
+pub invariant_of-self-in-Err : goal.invariant_of-self-in-Err
+invariant_of-self-in-Err c = record {
+  kept = c.self.invariant.kept;
+  spares = spare_taken c.self.inside.spec.now c.self.inside.world c.self.inside.replicas.items c.self.inside.spares.items c.take_spare-spare.new.spares.items c.args.replica c.take_spare-spare.ensures.left c.self.invariant.spares;
+}
 
 pub returns-in-Ok-clause-answer : goal.returns-in-Ok-clause-answer
 returns-in-Ok-clause-answer c =
@@ -51,9 +68,9 @@ returns-in-Ok-clause-answer c =
     let here = found_at c.deref.result.now rs r at c.deref.ensures.value look.0 look.1 in
     let name = c.args.name.now in let op = c.in-Some-operation_named.op in let named = c.in-Some-operation_named.ensures in
     let xs = c.in_ok-args.args in let args = c.args.args.now in let same = c.in_ok-args.ensures in
-    let may = call_passes d w hs rs c.self.invariant r at here name op named xs args same c.deref-2.result.now c.deref-2.ensures.value c.in-None.ensures.refusal c.in-Ok.ensures.ok in
+    let may = call_passes d w hs rs c.self.invariant.kept r at here name op named xs args same c.deref-2.result.now c.deref-2.ensures.value c.in-None.ensures.refusal c.in-Ok.ensures.ok in
     subst (λ (p : Replayed). (c.keep_call.result ≡ failed Memory) ⊎ (c.keep_call.result ≡ answer (called p.spec p.world p.held r name args (slice_get p.held.taken r)))) c.self.view_is
-    (call_answers d w hs rs c.self.invariant r at here name op named xs args same c.keep_call.result may c.keep_call.ensures.taken c.keep_call.ensures.memory)
+    (call_answers d w hs rs c.self.invariant.kept r at here name op named xs args same c.keep_call.result may c.keep_call.ensures.taken c.keep_call.ensures.memory)
 
 pub returns-in-Ok-clause-ok : goal.returns-in-Ok-clause-ok
 returns-in-Ok-clause-ok c =
@@ -62,8 +79,8 @@ returns-in-Ok-clause-ok c =
     let here = found_at c.deref.result.now rs r at c.deref.ensures.value look.0 look.1 in
     let name = c.args.name.now in let op = c.in-Some-operation_named.op in let named = c.in-Some-operation_named.ensures in
     let xs = c.in_ok-args.args in let args = c.args.args.now in let same = c.in_ok-args.ensures in
-    let may = call_passes d w hs rs c.self.invariant r at here name op named xs args same c.deref-2.result.now c.deref-2.ensures.value c.in-None.ensures.refusal c.in-Ok.ensures.ok in
+    let may = call_passes d w hs rs c.self.invariant.kept r at here name op named xs args same c.deref-2.result.now c.deref-2.ensures.value c.in-None.ensures.refusal c.in-Ok.ensures.ok in
     ok_then c.keep_call.result
     (λ h. ap (λ (x : Held). let p : Replayed = record { spec = d; world = w; held = x } in p) h
     ∙ ap (λ (p : Replayed). let q : Replayed = record { spec = p.spec; world = p.world; held = held_after p.held (called p.spec p.world p.held r name args (slice_get p.held.taken r)) } in q) c.self.view_is)
-    (call_holds d w hs rs c.self.invariant r at here name op named xs args same c.keep_call.result c.in-Ok.state c.keep_call.new.happened.items c.keep_call.new.replicas.items may c.keep_call.ensures.happened c.keep_call.ensures.replicas)
+    (call_holds d w hs rs c.self.invariant.kept r at here name op named xs args same c.keep_call.result c.in-Ok.state c.keep_call.new.happened.items c.keep_call.new.replicas.items may c.keep_call.ensures.happened c.keep_call.ensures.replicas)
