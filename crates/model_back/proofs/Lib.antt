@@ -1,0 +1,11 @@
+pub mod Numbered
+pub mod Naming
+pub mod Places
+pub mod Filled
+pub mod Entry
+pub mod Scanning
+pub mod Equality
+pub mod Fitting
+pub mod Small
+pub mod Called
+pub mod Breaking

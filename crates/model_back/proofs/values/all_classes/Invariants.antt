@@ -1,0 +1,7 @@
+use Rattle.std.proofs.Common.{◌≡◌, map}
+use Rattle.std.specs.List.{range_with_len}
+use Rattle.model_back.specs.Equals.{alike_by, classes_by}
+use Rattle.model_back.proofs.values.all_classes.Given as goal
+
+abbrev pub invariant-loop-sort : goal.invariant-loop-sort
+invariant-loop-sort l = l.all.items ≡ map (classes_by (alike_by l.equals) l.sorts) (range_with_len 0 l.sort)

@@ -1,0 +1,4 @@
+pub mod Equals
+pub mod Filling
+pub mod Calls
+pub mod Witnesses
