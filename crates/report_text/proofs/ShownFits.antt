@@ -20,7 +20,7 @@ use Rattle.spec_core.specs.World.{size_of, tuples}
 use Rattle.spec_core.specs.Fits.{fits_places, is_world, world_fits, is_argument, are_arguments, is_call, call_fits, in_state_range}
 use Rattle.spec_core.proofs.Members.{is_in-tuples}
 use Rattle.spec_core.proofs.Rising.{before, is_rising-filter, is_in-filter, is_rising-tuples}
-use Rattle.spec_core.proofs.States.{list_all-from_is_in, reading_in_range}
+use Rattle.spec_core.proofs.States.{list_all-from_is_in}
 use Rattle.spec_core.proofs.Places.{size_at_most}
 use Rattle.obligation_list.specs.declared.obligation.Obligation.{Obligation}
 use Rattle.obligation_list.specs.declared.witness.Witness.{Witness}
@@ -232,6 +232,6 @@ shown_fits d ob w c =
     let a = sizes_fit d 0 w.world.sizes (omega (arith, many)) p.1 in
     let b = consts_fit d w.world d.consts 0 w.world.consts h (λ n j k. ap (λ (m : ℕ). get_or d.consts m no_const) (same n j k)) (omega arith) q.1 in
     let f = facts_fit d w.world r d.relations 0 None h (λ n j k. ap (λ (m : ℕ). get_or d.relations m no_relation) (same n j k)) (omega arith) tt in
-    let v = readings_fit d w.world r d.counters 0 None h (reading_in_range w.state c.listing) (λ n j k. ap (λ (m : ℕ). get_or d.counters m no_counter) (same n j k)) (omega arith) tt in
+    let v = readings_fit d w.world r d.counters 0 None h c.values (λ n j k. ap (λ (m : ℕ). get_or d.counters m no_counter) (same n j k)) (omega arith) tt in
     let g = calls_fit d w.world ob 0 w.calls h (let n = c.calls in omega (arith, n)) c.fits.calls in
     and_from _ _ a (and_from _ _ b (and_from _ _ f (and_from _ _ v (and_from _ _ g c.elements))))

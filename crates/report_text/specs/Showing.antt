@@ -1,5 +1,5 @@
 -- What a report shows of verdicts, and the text of a report as it is written, block by block.
-use Rattle.std.specs.Prelude.{◌≡◌, ℕ, suc, ◌<◌, true, List, [], ◌∷◌, ◌++◌, map, length}
+use Rattle.std.specs.Prelude.{◌≡◌, ℕ, suc, ◌<◌, ◌≤◌, unsigned_abs, true, List, [], ◌∷◌, ◌++◌, map, length}
 use Rattle.std.specs.List.{filter}
 use Rattle.spec_core.specs.declared.spec.Relation.{Relation}
 use Rattle.spec_core.specs.declared.spec.Counter.{Counter}
@@ -7,7 +7,7 @@ use Rattle.spec_core.specs.declared.world.World.{World}
 use Rattle.spec_core.specs.Specification.{Specification}
 use Rattle.spec_core.specs.State.{Reads, reads}
 use Rattle.spec_core.specs.World.{tuples}
-use Rattle.spec_core.specs.Fits.{is_listing}
+use Rattle.spec_core.specs.Limits.{greatest_value}
 use Rattle.obligation_list.specs.declared.obligation.Obligation.{Obligation}
 use Rattle.obligation_list.specs.declared.witness.Witness.{Witness}
 use Rattle.report_lines.specs.declared.head.Tally.{Tally}
@@ -91,11 +91,11 @@ written_text d version budget vs = head_text d version budget ++ (blocks_text d 
 
 -- ---- what can be shown
 
--- A witness can be shown for an obligation: it fits, has as many calls and elements as the obligation speaks of, and a line can hold
--- its numbers.
+-- A witness can be shown for an obligation: it fits, its values are in the range of a state, it has as many calls and elements as the
+-- obligation speaks of, and a line can hold its elements.
 pub record CanBeShown (d : Specification) (ob : Obligation) (w : Witness) : Type 0 where
   pub fits : WitnessFits d w
-  pub listing : is_listing w.state ≡ true
+  pub values : (k : ℕ) (t : List ℕ) → unsigned_abs ((reads w.state).count k t) ≤ greatest_value
   pub calls : length w.calls ≡ call_count ob
   pub elements : are_elements d ob w.elements ≡ true
 

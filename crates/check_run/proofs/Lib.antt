@@ -1,0 +1,6 @@
+mod Rows
+mod Verdicts
+mod Shown
+mod Refutations
+mod Blocks
+mod Whole

@@ -1,0 +1,5 @@
+pub mod Shown
+pub mod Good
+pub mod Reports
+pub mod Fitting
+pub mod Checking

@@ -1,0 +1,191 @@
+// The report of a specification, written block by block.
+ghost use Rattle.std.specs.Prelude.{◌≡◌, ◌<◌, ◌≤◌, ◌+◌, ◌^◌, ℕ, List, true, length, IfOk, IfErr, OnOk, OnErr};
+ghost use Rattle.std.specs.Io.KnownBytes.{Appends};
+ghost use Rattle.byte_ports.specs.Faults.{IsFault};
+ghost use Rattle.obligation_list.specs.Obligations.{IsObligation, obligations_of};
+ghost use Rattle.obligation_list.specs.declared.obligation.Obligation.{Obligation};
+ghost use Rattle.std.specs.List.{Contains};
+ghost use Rattle.proof_report.specs.Verdicts.{obligation_count};
+ghost use Rattle.proof_report.specs.Texts.{head_text, end_text};
+ghost use Rattle.proof_report.specs.Events.{told};
+ghost use Rattle.check_run.specs.declared.checking.WriteOut.TheVariants.{Fault};
+ghost use Rattle.check_run.specs.Reports.{written_version};
+ghost use Rattle.check_run.specs.Checking.{IsText, IsBlock, AreBlocks, IsReport};
+
+use crate::counting::counted;
+use crate::deciding::decide;
+use byte_ports::{Sink, WriteRefused, write_all};
+use obligation_list::{Obligation, list};
+use proof_report::{write_end, write_head, write_verdict};
+use report_lines::head::Tally;
+use spec_core::Spec;
+use std::alloc::Global;
+use thiserror::Error;
+
+/// Why a report wasn't written whole.
+#[derive(Clone, Copy, Debug, Error)]
+pub enum WriteOut {
+    #[error("a write failed")]
+    Fault,
+    #[error("out of memory")]
+    Memory,
+}
+
+fn write_text<K: Sink>(out: &mut K, text: &[u8]) -> Result<(), WriteOut>
+    ensures text { IsText text.now (K.held out.old) (K.held out.new) result }
+    ensures fault { OnErr result (IsFault (K.faults out.old) (K.faults out.new)) }
+    ensures kind { IfErr result (λ why. why ≡ Fault) }
+    ensures never_falls { K.faults out.old ≤ K.faults out.new }
+{
+    match write_all(out, text) {
+        Ok(()) => Ok(()),
+        Err(WriteRefused::Fault) => Err(WriteOut::Fault),
+    }
+}
+
+// Decides an obligation, and writes its block.
+fn check_one<K: Sink>(
+    alloc: Global,
+    spec: &Spec,
+    budget: u32,
+    ob: &Obligation,
+    tally: &mut Tally,
+    out: &mut K,
+) -> Result<(), WriteOut>
+    requires member { IsObligation spec.now ob.now }
+    requires budget { 1 ≤ budget }
+    requires few { told tally.old < 2 ^ 31 }
+    ensures block { IsBlock spec.now budget ob.now tally.old tally.new (K.held out.old) (K.held out.new) result }
+    ensures fault { IfErr result (λ why. why ≡ Fault → IsFault (K.faults out.old) (K.faults out.new)) }
+    ensures never_falls { K.faults out.old ≤ K.faults out.new }
+{
+    let Ok(verdict) = decide(alloc, spec, ob, budget) else {
+        return Err(WriteOut::Memory);
+    };
+    let mut text = Vec::new(alloc);
+    let Ok(()) = write_verdict(alloc, spec, *ob, &verdict, &mut text) else {
+        return Err(WriteOut::Memory);
+    };
+    let counted = counted(*tally, &verdict);
+    drop(verdict);
+    match write_text(out, text.as_slice()) {
+        Ok(()) => {
+            *tally = counted;
+            Ok(())
+        }
+        Err(why) => Err(why),
+    }
+}
+
+// Decides obligations one by one, and writes each block as soon as its verdict is there.
+fn check_each<K: Sink>(
+    alloc: Global,
+    spec: &Spec,
+    budget: u32,
+    obligations: &[Obligation],
+    out: &mut K,
+) -> Result<Tally, WriteOut>
+    requires listed { obligations.now ≡ obligations_of spec.now }
+    requires members { (ob : Obligation) → Contains obligations.now ob → IsObligation spec.now ob }
+    requires budget { 1 ≤ budget }
+    requires few { length obligations.now ≤ 12208 }
+    ensures blocks { AreBlocks spec.now budget (K.held out.old) (K.held out.new) result }
+    ensures fault { IfErr result (λ why. why ≡ Fault → IsFault (K.faults out.old) (K.faults out.new)) }
+    ensures never_falls { K.faults out.old ≤ K.faults out.new }
+{
+    let mut tally = Tally {
+        proved: 0,
+        refuted: 0,
+        undecided: 0,
+    };
+    for ob in obligations {
+        match check_one(alloc, spec, budget, ob, &mut tally, out) {
+            Ok(()) => {}
+            Err(why) => return Err(why),
+        }
+    }
+    Ok(tally)
+}
+
+// The lines before the blocks.
+fn write_opening<K: Sink>(
+    alloc: Global,
+    spec: &Spec,
+    budget: u32,
+    obligations: u32,
+    out: &mut K,
+) -> Result<(), WriteOut>
+    requires { obligations ≡ obligation_count spec.now }
+    ensures text { IsText (head_text spec.now written_version budget) (K.held out.old) (K.held out.new) result }
+    ensures fault { IfErr result (λ why. why ≡ Fault → IsFault (K.faults out.old) (K.faults out.new)) }
+    ensures never_falls { K.faults out.old ≤ K.faults out.new }
+{
+    let mut text = Vec::new(alloc);
+    let Ok(()) = write_head(spec, 1, budget, obligations, &mut text) else {
+        return Err(WriteOut::Memory);
+    };
+    write_text(out, text.as_slice())
+}
+
+// The lines behind the blocks.
+fn write_closing<K: Sink>(alloc: Global, tally: Tally, out: &mut K) -> Result<(), WriteOut>
+    ensures text { IsText (end_text tally) (K.held out.old) (K.held out.new) result }
+    ensures fault { IfErr result (λ why. why ≡ Fault → IsFault (K.faults out.old) (K.faults out.new)) }
+    ensures never_falls { K.faults out.old ≤ K.faults out.new }
+{
+    let mut text = Vec::new(alloc);
+    let Ok(()) = write_end(tally, &mut text) else {
+        return Err(WriteOut::Memory);
+    };
+    write_text(out, text.as_slice())
+}
+
+// The report of these obligations.
+fn check_listed<K: Sink>(
+    alloc: Global,
+    spec: &Spec,
+    budget: u32,
+    obligations: &[Obligation],
+    out: &mut K,
+) -> Result<Tally, WriteOut>
+    requires listed { obligations.now ≡ obligations_of spec.now }
+    requires members { (ob : Obligation) → Contains obligations.now ob → IsObligation spec.now ob }
+    requires budget { 1 ≤ budget }
+    requires few { length obligations.now ≤ 12208 }
+    ensures report { IsReport spec.now budget (K.held out.old) (K.held out.new) result }
+    ensures fault { IfErr result (λ why. why ≡ Fault → IsFault (K.faults out.old) (K.faults out.new)) }
+    ensures never_falls { K.faults out.old ≤ K.faults out.new }
+{
+    match write_opening(alloc, spec, budget, obligations.len() as u32, out) {
+        Ok(()) => {}
+        Err(why) => return Err(why),
+    }
+    let tally = match check_each(alloc, spec, budget, obligations, out) {
+        Ok(tally) => tally,
+        Err(why) => return Err(why),
+    };
+    match write_closing(alloc, tally, out) {
+        Ok(()) => Ok(tally),
+        Err(why) => Err(why),
+    }
+}
+
+/// Checks a specification, with logs of at most `budget` lines: decides each of its obligations, and writes the report, block by
+/// block. Answers how many verdicts of each kind there are. One obligation's problem is kept at a time.
+pub fn check_all<K: Sink>(
+    alloc: Global,
+    spec: &Spec,
+    budget: u32,
+    out: &mut K,
+) -> Result<Tally, WriteOut>
+    requires least { 1 ≤ budget }
+    requires most { budget ≤ 1000000 }
+    ensures report { IsReport spec.now budget (K.held out.old) (K.held out.new) result }
+    ensures fault { IfErr result (λ why. why ≡ Fault → IsFault (K.faults out.old) (K.faults out.new)) }
+    ensures never_falls { K.faults out.old ≤ K.faults out.new }
+{
+    let Ok(obligations) = list(alloc, spec) else {
+        return Err(WriteOut::Memory);
+    };
+    check_listed(alloc, spec, budget, obligations.as_slice(), out)
+}

@@ -1,0 +1,126 @@
+// The verdict on an obligation.
+ghost use Rattle.std.specs.Prelude.{◌≡◌, ◌≤◌, ℕ, true, IfOk};
+ghost use Rattle.obligation_list.specs.Obligations.{IsObligation};
+ghost use Rattle.obligation_list.specs.Refuting.{IsRefutation};
+ghost use Rattle.ground_numbers.specs.Problem.{problem_of};
+ghost use Rattle.sat_core.specs.Answers.{IsAnswer, IsModelOf};
+ghost use Rattle.report_text.specs.Showing.{shown_verdict, IsFit};
+ghost use Rattle.check_run.specs.Good.{HasFew, IsGood};
+ghost use Rattle.check_run.specs.Fitting.{HasShown};
+ghost use Rattle.check_run.specs.Reports.{written_version};
+ghost use Rattle.instances.specs.Ground.{IsGrounded};
+
+use crate::fitting::numbered;
+use crate::shrinking::shrink;
+use clausify::problem_of;
+use ground_numbers::{law_clauses_make_formulas_true, law_obligation_fits};
+use instances::{GroundRefused, Grounded, ground};
+use linear_ints::Eliminator;
+use model_back::witness_of;
+use obligation_list::Obligation;
+use proof_lines::{Interpretation, Problem};
+use proof_report::{Cause, Verdict};
+use sat_core::{Answer, solve_plain};
+use spec_core::Spec;
+use std::alloc::{AllocError, Global};
+
+// The problem of an obligation.
+fn pose(
+    alloc: Global,
+    spec: &Spec,
+    ob: &Obligation,
+    ground: &Grounded,
+) -> Result<Problem, AllocError>
+    requires { IsGrounded spec.now ob.now ground.now }
+    ensures { IfOk result (λ p. p ≡ problem_of spec.now ob.now) }
+{
+    law_obligation_fits();
+    problem_of(alloc, &ground.atoms, ground.formulas.as_slice())
+}
+
+// Values that refute the obligation, from an interpretation of its problem.
+fn refute(
+    alloc: Global,
+    spec: &Spec,
+    ob: &Obligation,
+    ground: &Grounded,
+    found: &Interpretation,
+) -> Result<Verdict, AllocError>
+    requires member { IsObligation spec.now ob.now }
+    requires ground { IsGrounded spec.now ob.now ground.now }
+    requires found { IsModelOf (problem_of spec.now ob.now) found.now }
+    ensures good { (budget : ℕ) → IfOk result (λ v. IsGood spec.now budget ob.now (shown_verdict spec.now v)) }
+    ensures shown { IfOk result (λ v. HasShown spec.now ob.now v) }
+{
+    law_clauses_make_formulas_true();
+    let mut witness = witness_of(alloc, spec, ob, ground, found)?;
+    shrink(alloc, spec, ob, &mut witness)?;
+    witness.state.stays_in_range();
+    Ok(Verdict::Refuted(witness))
+}
+
+// The verdict that an answer of the search gives.
+fn verdict_of(
+    alloc: Global,
+    spec: &Spec,
+    ob: &Obligation,
+    budget: u32,
+    ground: &Grounded,
+    answer: Answer,
+) -> Result<Verdict, AllocError>
+    requires member { IsObligation spec.now ob.now }
+    requires few { HasFew spec.now ob.now }
+    requires ground { IsGrounded spec.now ob.now ground.now }
+    requires answer { IsAnswer true true (problem_of spec.now ob.now) budget answer }
+    ensures good { IfOk result (λ v. IsGood spec.now budget ob.now (shown_verdict spec.now v)) }
+    ensures shown { IfOk result (λ v. HasShown spec.now ob.now v) }
+{
+    match answer {
+        Answer::Unsat(log) => Ok(Verdict::Proved(log)),
+        Answer::Sat(found) => refute(alloc, spec, ob, ground, &found),
+        Answer::Lines(log) => Ok(Verdict::Undecided(Cause::Lines(log))),
+        Answer::Rows(evidence) => Ok(Verdict::Undecided(Cause::Rows(evidence))),
+        Answer::Range(evidence) => Ok(Verdict::Undecided(Cause::Range(evidence))),
+        Answer::Memory => Err(AllocError),
+    }
+}
+
+// Decides an obligation whose formulas are there.
+fn decide_grounded(
+    alloc: Global,
+    spec: &Spec,
+    ob: &Obligation,
+    budget: u32,
+    ground: &Grounded,
+) -> Result<Verdict, AllocError>
+    requires member { IsObligation spec.now ob.now }
+    requires few { HasFew spec.now ob.now }
+    requires ground { IsGrounded spec.now ob.now ground.now }
+    ensures good { IfOk result (λ v. IsGood spec.now budget ob.now (shown_verdict spec.now v)) }
+    ensures fit { IfOk result (λ v. IsFit spec.now written_version ob.now v) }
+{
+    let problem = pose(alloc, spec, ob, ground)?;
+    let answer = solve_plain(alloc, &problem, &mut Eliminator::new(), budget);
+    drop(problem);
+    numbered(verdict_of(alloc, spec, ob, budget, ground, answer)?)
+}
+
+/// Decides an obligation of the specification, with logs of at most `budget` lines: it is proved, with a log that the kernel accepts
+/// on its problem; or refuted, with values that break it; or undecided, with evidence of the cause. The verdict can stand in a report.
+pub fn decide(
+    alloc: Global,
+    spec: &Spec,
+    ob: &Obligation,
+    budget: u32,
+) -> Result<Verdict, AllocError>
+    requires member { IsObligation spec.now ob.now }
+    requires budget { 1 ≤ budget }
+    ensures good { IfOk result (λ v. IsGood spec.now budget ob.now (shown_verdict spec.now v)) }
+    ensures fit { IfOk result (λ v. IsFit spec.now written_version ob.now v) }
+{
+    match ground(alloc, spec, ob) {
+        Ok(ground) => decide_grounded(alloc, spec, ob, budget, &ground),
+        Err(GroundRefused::TooMany) => Ok(Verdict::Undecided(Cause::Instances)),
+        Err(GroundRefused::Memory) => Err(AllocError),
+    }
+}
