@@ -1,0 +1,4 @@
+mod Slots
+pub mod Names
+pub mod Runs
+mod Backwards
