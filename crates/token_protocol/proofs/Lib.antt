@@ -1,0 +1,9 @@
+pub mod Places
+pub mod Among
+pub mod Conflicting
+pub mod Naming
+pub mod Growing
+pub mod Changing
+pub mod Running
+pub mod Stepping
+pub mod Executing
