@@ -1,5 +1,9 @@
-// The program: `check SPEC` reads a specification and writes the report of its obligations, `spell SPEC` writes its words in the
-// layout of the language, `replay SPEC SCHEDULE` carries a recorded schedule out and writes what comes of it.
+// The program: `check SPEC` reads a specification and writes the report of its obligations, with `--budget N` behind it with logs of at
+// most N lines; `replay SPEC SCHEDULE` carries a recorded schedule out and writes what comes of it; `spell SPEC` writes a
+// specification's words in the layout of the language; `sample N` checks a generated specification.
+//
+// The second word names the first source, and the third the second one. Neither is opened before it is read, so a word that is no path is
+// never one.
 //
 // This is the edge alone: the words behind the program's name, files as sources, and standard output as the sink. All else is `run`
 // of `cise_run`, for any sources and any sink, whose clauses say what each status means.

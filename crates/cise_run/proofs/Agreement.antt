@@ -1,62 +1,62 @@
 -- Two answers to the same words and bytes agree.
-use Rattle.std.proofs.Common.{◌≡◌, ℕ, true, false, List, Option, Some, None, refl, sym, subst, ap, ◌∙◌, inl, inr, ◌⊎◌}
-use Rattle.std.specs.Prelude.{Ok, Err}
+use Rattle.std.proofs.Common.{◌≡◌, ℕ, List, Option, Some, None, sym, subst, ap, ◌∙◌, inl, inr}
 use Rattle.spec_core.specs.Specification.{Specification}
 use Rattle.spec_reader.specs.Form.{TreeForm}
-use Rattle.spec_from_bytes.specs.Refusal.{IsReadAs, IsSpecificationOf, Refusal, IsRefusal, refusal_text}
+use Rattle.spec_from_bytes.specs.Refusal.{Refusal, IsRefusal, refusal_text}
 use Rattle.spec_from_bytes.proofs.Reasons.{tree_unique, specification_unique, refusal_is_unique, refused_or_specified}
+use Rattle.cise_run.specs.declared.words.Task.{Task}
+use Rattle.cise_run.specs.declared.words.Task.TheVariants.{Check, Replay, Spell}
 use Rattle.cise_run.specs.declared.words.Job.{Job}
-use Rattle.cise_run.specs.declared.words.Job.TheVariants.{Check, Spell, Replay}
+use Rattle.cise_run.specs.declared.words.Job.TheVariants.{OfSpec, Sample}
 use Rattle.cise_run.specs.Words.{job_of}
 use Rattle.cise_run.specs.Ending.{IsOne}
-use Rattle.cise_run.specs.FirstForm.{is_first_form}
-use Rattle.cise_run.specs.commands.Check.{IsReport, IsUnbuilt, IsChecked}
-use Rattle.cise_run.specs.Answer.{IsOutcome, IsAnswerFor, IsAnswerTo, IsAnswer, Agree}
+use Rattle.cise_run.specs.Answer.{IsOutcome, IsAnswerOf, IsAnswerFor, IsAnswerTo, IsAnswer, AgreeOf, Agree}
 
 -- two statuses with texts that are one answer
 one_of_two : (s t : ℕ) (x y : List ℕ) (n : ℕ) (z : List ℕ) → s ≡ n → x ≡ z → t ≡ n → y ≡ z → IsOne s x t y
 one_of_two s t x y n z a b c d = (c ∙ sym a, d ∙ sym b)
 
 -- the same answer agrees with itself
-agree_one : (job : Job) (s t : ℕ) (x y : List ℕ) → IsOne s x t y → Agree (Some job) s x t y
+agree_one : (task : Task) (s t : ℕ) (x y : List ℕ) → IsOne s x t y → AgreeOf task s x t y
 agree_one (Check budget) s t x y one = inl one
-agree_one Spell s t x y one = one
 agree_one Replay s t x y one = one
+agree_one Spell s t x y one = one
 
 -- where a specification is refused, every answer refuses it so
-pub refused_for_all : (job : Job) (bytes more : List ℕ) (why : Refusal) (status : ℕ) (text : List ℕ)
-    → IsRefusal bytes why → IsAnswerFor job bytes more status text → IsOne 3 (refusal_text why) status text
-refused_for_all job bytes more why status text r (inl (other, is, one)) =
+pub refused_for_all : (task : Task) (bytes more : List ℕ) (why : Refusal) (status : ℕ) (text : List ℕ)
+    → IsRefusal bytes why → IsAnswerOf task bytes more status text → IsOne 3 (refusal_text why) status text
+refused_for_all task bytes more why status text r (inl (other, is, one)) =
     (one.0, one.1 ∙ ap refusal_text (refusal_is_unique bytes other why is r))
-refused_for_all job bytes more why status text r (inr (tree, d, read, done)) = absurd (refused_or_specified bytes d why (tree, read) r)
+refused_for_all task bytes more why status text r (inr (tree, d, read, done)) = absurd (refused_or_specified bytes d why (tree, read) r)
 
--- two outcomes of a check of one specification
-checks_agree : (budget : ℕ) (d : Specification) (s t : ℕ) (x y : List ℕ) → IsChecked budget d s x → IsChecked budget d t y → Agree (Some (Check budget)) s x t y
-checks_agree budget d s t x y (inl a) (inl b) = inr (d, a, b)
-checks_agree budget d s t x y (inl a) (inr b) = let e : is_first_form d ≡ true = a.first_form in let f : is_first_form d ≡ false = b.not_yet in absurd (cc (e, f))
-checks_agree budget d s t x y (inr a) (inl b) = let e : is_first_form d ≡ false = a.not_yet in let f : is_first_form d ≡ true = b.first_form in absurd (cc (e, f))
-checks_agree budget d s t x y (inr a) (inr b) = inl (one_of_two s t x y _ _ a.status_is a.text_is b.status_is b.text_is)
+-- ---- tasks and jobs
 
--- two outcomes of a job for one specification and its tree
-outcomes_agree : (job : Job) (tree : TreeForm) (d : Specification) (more : List ℕ) (s t : ℕ) (x y : List ℕ)
-    → IsOutcome job tree d more s x → IsOutcome job tree d more t y → Agree (Some job) s x t y
-outcomes_agree (Check budget) tree d more s t x y a b = checks_agree budget d s t x y a b
-outcomes_agree Spell tree d more s t x y a b = one_of_two s t x y _ _ a.status_is a.text_is b.status_is b.text_is
+-- two outcomes of a task for one specification and its tree
+outcomes_agree : (task : Task) (tree : TreeForm) (d : Specification) (more : List ℕ) (s t : ℕ) (x y : List ℕ)
+    → IsOutcome task tree d more s x → IsOutcome task tree d more t y → AgreeOf task s x t y
+outcomes_agree (Check budget) tree d more s t x y a b = inr (d, a, b)
 outcomes_agree Replay tree d more s t x y a b = one_of_two s t x y _ _ a.status_is a.text_is b.status_is b.text_is
+outcomes_agree Spell tree d more s t x y a b = one_of_two s t x y _ _ a.status_is a.text_is b.status_is b.text_is
 
--- two answers to a job for the same bytes
-answers_agree : (job : Job) (bytes more : List ℕ) (s t : ℕ) (x y : List ℕ)
-    → IsAnswerFor job bytes more s x → IsAnswerFor job bytes more t y → Agree (Some job) s x t y
-answers_agree job bytes more s t x y (inl (why, is, one)) b =
-    let other = refused_for_all job bytes more why t y is b in
-    agree_one job s t x y (one_of_two s t x y _ _ one.0 one.1 other.0 other.1)
-answers_agree job bytes more s t x y (inr (tree, d, read, done)) (inl (why, is, one)) =
+-- two answers to a task for the same bytes
+tasks_agree : (task : Task) (bytes more : List ℕ) (s t : ℕ) (x y : List ℕ)
+    → IsAnswerOf task bytes more s x → IsAnswerOf task bytes more t y → AgreeOf task s x t y
+tasks_agree task bytes more s t x y (inl (why, is, one)) b =
+    let other = refused_for_all task bytes more why t y is b in
+    agree_one task s t x y (one_of_two s t x y _ _ one.0 one.1 other.0 other.1)
+tasks_agree task bytes more s t x y (inr (tree, d, read, done)) (inl (why, is, one)) =
     absurd (refused_or_specified bytes d why (tree, read) is)
-answers_agree job bytes more s t x y (inr (tree, d, read, done)) (inr (other, e, also, then)) =
+tasks_agree task bytes more s t x y (inr (tree, d, read, done)) (inr (other, e, also, then)) =
     let same_tree = tree_unique bytes other tree also.is_tree read.is_tree in
     let same = specification_unique bytes e d (other, also) (tree, read) in
-    let at_tree : IsOutcome job tree e more t y = subst (λ (u : TreeForm). IsOutcome job u e more t y) same_tree then in
-    outcomes_agree job tree d more s t x y done (subst (λ (f : Specification). IsOutcome job tree f more t y) same at_tree)
+    let at_tree : IsOutcome task tree e more t y = subst (λ (u : TreeForm). IsOutcome task u e more t y) same_tree then in
+    outcomes_agree task tree d more s t x y done (subst (λ (f : Specification). IsOutcome task tree f more t y) same at_tree)
+
+-- two answers to a job
+answers_agree : (job : Job) (bytes more : List ℕ) (s t : ℕ) (x y : List ℕ)
+    → IsAnswerFor job bytes more s x → IsAnswerFor job bytes more t y → Agree (Some job) s x t y
+answers_agree (OfSpec task) bytes more s t x y a b = tasks_agree task bytes more s t x y a b
+answers_agree (Sample n) bytes more s t x y a b = (a, b)
 
 told_agree : (job : Option Job) (spec extra : List ℕ) (s t : ℕ) (x y : List ℕ)
     → IsAnswerTo job (Some spec) (Some extra) s x → IsAnswerTo job (Some spec) (Some extra) t y → Agree job s x t y

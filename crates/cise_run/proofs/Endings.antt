@@ -1,13 +1,14 @@
 -- Endings of commands put together.
-use Rattle.std.proofs.Common.{◌≡◌, ◌⊎◌, ℕ, ◌<◌, true, false, List, [], Option, None, Some, inl, inr, refl, sym, subst, arith}
+use Rattle.std.proofs.Common.{◌≡◌, ℕ, ◌<◌, List, [], Option, None, Some, inl, inr, refl, sym, subst, arith}
 use Rattle.std.proofs.KnownBytes.{Keeps-refl}
-use Rattle.byte_ports.specs.Faults.{IsFault}
 use Rattle.spec_core.specs.Specification.{Specification}
 use Rattle.spec_reader.specs.Form.{TreeForm}
 use Rattle.spec_from_bytes.specs.Reading.{Tells}
+use Rattle.cise_run.specs.declared.words.Task.{Task}
 use Rattle.cise_run.specs.declared.words.Job.{Job}
-use Rattle.cise_run.specs.declared.words.Job.TheVariants.{Check, Spell, Replay}
-use Rattle.cise_run.specs.Words.{reads_spec, reads_extra, IsInputFault}
+use Rattle.cise_run.specs.declared.words.Job.TheVariants.{Sample}
+use Rattle.cise_run.specs.commands.Sample.{IsSampled, IsSampleFront}
+use Rattle.cise_run.specs.Words.{IsInputFault}
 use Rattle.cise_run.specs.Ending.{IsOne, IsFrontOf, IsFrontOfOne, IsBroken, Ends}
 use Rattle.cise_run.specs.Answer.{IsOutcome, IsOutcomeFront, IsAnswerTo, IsFrontTo}
 
@@ -57,27 +58,23 @@ Ends-stopped Whole Front status held n high low not_sink = record {
   known = low;
 }
 
--- the ending of a job that is known
-pub Ends-job : (job other : Job) (tree : TreeForm) (d : Specification) (more : List ℕ) (status : ℕ) (before after : Option (List ℕ)) (m n : ℕ) → job ≡ other
+-- the ending of a task that is known
+pub Ends-task : (task other : Task) (tree : TreeForm) (d : Specification) (more : List ℕ) (status : ℕ) (before after : Option (List ℕ)) (m n : ℕ) → task ≡ other
     → Ends (IsOutcome other tree d more) (IsOutcomeFront other tree d more) status before after m n
-    → Ends (IsOutcome job tree d more) (IsOutcomeFront job tree d more) status before after m n
-Ends-job job other tree d more status before after m n e x =
-    subst (λ (j : Job). Ends (IsOutcome j tree d more) (IsOutcomeFront j tree d more) status before after m n) (sym e) x
+    → Ends (IsOutcome task tree d more) (IsOutcomeFront task tree d more) status before after m n
+Ends-task task other tree d more status before after m n e x =
+    subst (λ (j : Task). Ends (IsOutcome j tree d more) (IsOutcomeFront j tree d more) status before after m n) (sym e) x
 
--- a source that failed is an input of the job
-pub input_fault : (job : Job) (asked : Option Job) (a b c d : ℕ) → Some job ≡ asked → IsFault a b ⊎ ((reads_extra (Some job) ≡ true) × IsFault c d) → IsInputFault asked a b c d
-input_fault job asked a b c d e f = subst (λ (j : Option Job). IsInputFault j a b c d) e (by job f)
-  where
-    by : (j : Job) → IsFault a b ⊎ ((reads_extra (Some j) ≡ true) × IsFault c d) → IsInputFault (Some j) a b c d
-    by (Check budget) (inl f) = inl (refl, f)
-    by (Check budget) (inr f) = inr f
-    by Spell (inl f) = inl (refl, f)
-    by Spell (inr f) = inr f
-    by Replay (inl f) = inl (refl, f)
-    by Replay (inr f) = inr f
+-- the ending of a sample is that of the words that ask for it
+pub Ends-sample : (k : ℕ) (asked : Option Job) (spec extra : Option (List ℕ)) (status : ℕ) (before after : Option (List ℕ)) (m n : ℕ) → Some (Sample k) ≡ asked
+    → Ends (IsSampled k) (IsSampleFront k) status before after m n
+    → Ends (IsAnswerTo asked spec extra) (IsFrontTo asked spec extra) status before after m n
+Ends-sample k asked spec extra status before after m n e x =
+    let s = some_told spec in let t = some_told extra in
+    Ends-asked (Sample k) asked spec extra status before after m n e
+    (Ends-map (IsSampled k) (IsAnswerTo (Some (Sample k)) spec extra) (IsSampleFront k) (IsFrontTo (Some (Sample k)) spec extra) status before after m n
+    (λ u v a. (s.0, t.0, s.1, t.1, a)) (λ front a. (s.0, t.0, s.1, t.1, a)) x)
 
--- every job reads the specification
-pub spec_is_read : (job : Job) → reads_spec (Some job) ≡ false → ⊥
-spec_is_read (Check budget) e = cc e
-spec_is_read Spell e = cc e
-spec_is_read Replay e = cc e
+-- a fault of an input of a job is one of the words that ask for it
+pub IsInputFault-asked : (job : Job) (asked : Option Job) (a b c d : ℕ) → Some job ≡ asked → IsInputFault (Some job) a b c d → IsInputFault asked a b c d
+IsInputFault-asked job asked a b c d e f = subst (λ (j : Option Job). IsInputFault j a b c d) e f

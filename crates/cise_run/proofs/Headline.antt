@@ -1,6 +1,8 @@
--- A specification whose check ends with status 0 converges.
-use Rattle.std.proofs.Common.{◌≡◌, ℕ, ◌<◌, true, List, Option, Some, None, IfSome, refl, sym, subst, inl, inr, arith}
+-- What the answers of the program say of a specification.
+use Rattle.std.proofs.Common.{◌≡◌, ℕ, ◌<◌, true, List, Option, Some, None, IfSome, sym, subst, inl, inr, arith}
+use Rattle.std.specs.Io.KnownBytes.{Appends}
 use Rattle.spec_core.specs.Specification.{Specification}
+use Rattle.spec_core.specs.Typed.{is_specification}
 use Rattle.spec_reader.specs.Form.{TreeForm}
 use Rattle.executions.proofs.Safety.{converges}
 use Rattle.obligation_list.specs.Breaking.{Safe}
@@ -8,61 +10,106 @@ use Rattle.replay_text.specs.Recorded.{schedule_status}
 use Rattle.replay_text.proofs.Safety.{safe_status, schedule_safely}
 use Rattle.spec_from_bytes.specs.Refusal.{IsReadAs, IsSpecificationOf}
 use Rattle.spec_from_bytes.proofs.Reasons.{specification_unique}
+use Rattle.cise_run.specs.declared.words.Task.{Task}
+use Rattle.cise_run.specs.declared.words.Task.TheVariants.{Check, Replay, Spell}
 use Rattle.cise_run.specs.declared.words.Job.{Job}
-use Rattle.cise_run.specs.declared.words.Job.TheVariants.{Check, Spell, Replay}
-use Rattle.cise_run.specs.Words.{is_check, is_replay}
-use Rattle.cise_run.specs.commands.Check.{IsReport, IsChecked}
-use Rattle.cise_run.specs.Answer.{IsAnswerFor, IsAnswerTo}
-use Rattle.cise_run.specs.Headline.{IsProved, IsReplayedSafely}
-use Rattle.cise_run.proofs.Safety.{Safe-good}
+use Rattle.cise_run.specs.declared.words.Job.TheVariants.{OfSpec, Sample}
+use Rattle.report_lines.specs.Heads.{most_budget}
+use Rattle.cise_run.specs.Words.{is_within, is_task, is_job, job_of, judges, is_judging, is_replay}
+use Rattle.cise_run.specs.Answer.{IsOutcome, IsAnswerOf, IsAnswerTo, IsAnswer}
+use Rattle.cise_run.specs.Headline.{IsProved, is_outcome, IsRefutedRightly, RefutesOf, Refutes, IsReplayedSafely}
+use Rattle.cise_run.proofs.Laws.{TypesWell, OfChecks}
+use Rattle.cise_run.proofs.Jobs.{is_job-job_of}
+use Rattle.cise_run.proofs.Reports.{is_specification-read, safe_checked, right_checked}
 
--- a report with status 0
-reported : (budget : ℕ) (bytes : List ℕ) (tree : TreeForm) (d : Specification) (text : List ℕ) → IsReadAs bytes tree d → IsReport budget d 0 text → IsProved bytes
-reported budget bytes tree d text read r =
-    let safe = Safe-good d r.verdicts r.first_form r.good (sym r.status_is) in
-    record {
-      specification = d;
-      read = (tree, read);
-      only = λ e s. specification_unique bytes e d s (tree, read);
-      safe = safe;
-      converges = converges d safe;
-    }
+-- ---- status 0
 
-checked : (budget : ℕ) (bytes more text : List ℕ) → IsAnswerFor (Check budget) bytes more 0 text → IsProved bytes
-checked budget bytes more text (inl (why, is, one)) = absurd (omega (arith, one.0))
-checked budget bytes more text (inr (tree, d, read, inl r)) = reported budget bytes tree d text read r
-checked budget bytes more text (inr (tree, d, read, inr u)) = let status = u.status_is in absurd (omega (arith, status))
+IsProved-safe : (bytes : List ℕ) (tree : TreeForm) (d : Specification) → IsReadAs bytes tree d → Safe d → IsProved bytes
+IsProved-safe bytes tree d read safe = record {
+  specification = d;
+  read = (tree, read);
+  only = λ e s. specification_unique bytes e d s (tree, read);
+  safe = safe;
+  converges = converges d safe;
+}
 
-pub IsProved-zero : (job : Option Job) (told extra : Option (List ℕ)) (text : List ℕ) → is_check job ≡ true → IsAnswerTo job told extra 0 text → IfSome told IsProved
-IsProved-zero job None extra text c a = tt
-IsProved-zero None (Some bytes) extra text c a = absurd (omega (arith, a.0))
-IsProved-zero (Some Spell) (Some bytes) extra text c a = grind arith
-IsProved-zero (Some Replay) (Some bytes) extra text c a = grind arith
-IsProved-zero (Some (Check budget)) (Some bytes) extra text c (given, more, told, also, a) =
-    subst IsProved (sym told) (checked budget given more text a)
+-- a check with status 0 shows that the specification is safe
+safe_outcome : (task : Task) (tree : TreeForm) (d : Specification) (more text : List ℕ) → OfChecks → is_judging task ≡ true → is_specification d ≡ true
+    → IsOutcome task tree d more 0 text → Safe d
+safe_outcome (Check budget) tree d more text checks j is r = safe_checked d budget text checks is r
+safe_outcome Replay tree d more text checks j is v = absurd cc
+safe_outcome Spell tree d more text checks j is v = absurd cc
+
+proved_task : (task : Task) (bytes more text : List ℕ) → TypesWell → OfChecks → is_judging task ≡ true → IsAnswerOf task bytes more 0 text → IsProved bytes
+proved_task task bytes more text well checks j (inl (why, is, one)) = absurd (omega (arith, one.0))
+proved_task task bytes more text well checks j (inr (tree, d, read, done)) =
+    IsProved-safe bytes tree d read (safe_outcome task tree d more text checks j (is_specification-read bytes tree d well read) done)
+
+proved_told : (job : Option Job) (told extra : Option (List ℕ)) (text : List ℕ) → TypesWell → OfChecks → judges job ≡ true → IsAnswerTo job told extra 0 text → IfSome told IsProved
+proved_told job None extra text well checks j a = tt
+proved_told None (Some bytes) extra text well checks j a = absurd cc
+proved_told (Some (Sample n)) (Some bytes) extra text well checks j a = absurd cc
+proved_told (Some (OfSpec task)) (Some bytes) extra text well checks j (given, more, told, also, a) =
+    subst IsProved (sym told) (proved_task task given more text well checks j a)
+
+pub IsProved-zero : (words : List (List ℕ)) (told extra : Option (List ℕ)) (text : List ℕ) → TypesWell → OfChecks → judges (job_of words) ≡ true → IsAnswer words told extra 0 text
+    → IfSome told IsProved
+IsProved-zero words told extra text well checks j a = proved_told (job_of words) told extra text well checks j a
+
+-- ---- refutations
+
+not_three : (status : ℕ) → is_outcome status ≡ true → status ≡ 3 → ⊥
+not_three status o e = absurd (cc (subst (λ n. is_outcome n ≡ true) e o))
+
+refutes_checked : (bytes more : List ℕ) (budget status : ℕ) (text : List ℕ) → TypesWell → OfChecks → is_within most_budget budget ≡ true → is_outcome status ≡ true → IsAnswerOf (Check budget) bytes more status text → IsRefutedRightly bytes text
+refutes_checked bytes more budget status text well checks w o (inl (why, is, one)) = absurd (not_three status o one.0)
+refutes_checked bytes more budget status text well checks w o (inr (tree, d, read, r)) = right_checked bytes d budget status text checks (tree, read) (is_specification-read bytes tree d well read) w r
+
+refutes_told : (task : Task) (told extra : Option (List ℕ)) (status : ℕ) (text : List ℕ) (before after : Option (List ℕ)) → TypesWell → OfChecks → is_task task ≡ true → is_outcome status ≡ true
+    → IsAnswerTo (Some (OfSpec task)) told extra status text → Appends before after text → RefutesOf task told extra before after
+refutes_told (Check budget) None extra status text before after well checks t o a w = tt
+refutes_told (Check budget) (Some bytes) extra status text before after well checks t o (given, more, told, also, a) w =
+    (text, w, subst (λ bs. IsRefutedRightly bs text) (sym told) (refutes_checked given more budget status text well checks t o a))
+refutes_told Replay told extra status text before after well checks t o a w = tt
+refutes_told Spell told extra status text before after well checks t o a w = tt
+
+refutes_job : (job : Option Job) (told extra : Option (List ℕ)) (status : ℕ) (text : List ℕ) (before after : Option (List ℕ)) → TypesWell → OfChecks → IfSome job (λ j. is_job j ≡ true)
+    → is_outcome status ≡ true → IsAnswerTo job told extra status text → Appends before after text → Refutes job told extra before after
+refutes_job None told extra status text before after well checks j o a w = tt
+refutes_job (Some (OfSpec task)) told extra status text before after well checks j o a w = refutes_told task told extra status text before after well checks j o a w
+refutes_job (Some (Sample n)) told extra status text before after well checks j o a w = tt
+
+pub Refutes-answer : (words : List (List ℕ)) (told extra : Option (List ℕ)) (status : ℕ) (text : List ℕ) (before after : Option (List ℕ)) → TypesWell → OfChecks → is_outcome status ≡ true
+    → IsAnswer words told extra status text → Appends before after text → Refutes (job_of words) told extra before after
+Refutes-answer words told extra status text before after well checks o a w = refutes_job (job_of words) told extra status text before after well checks (is_job-job_of words) o a w
 
 -- ---- a replay
 
-broken_replay : (bytes more text : List ℕ) (d : Specification) → IsSpecificationOf bytes d → Safe d → IsAnswerFor Replay bytes more 1 text → ⊥
+broken_replay : (bytes more text : List ℕ) (d : Specification) → IsSpecificationOf bytes d → Safe d → IsAnswerOf Replay bytes more 1 text → ⊥
 broken_replay bytes more text d is safe (inl (why, r, one)) = omega (arith, one.0)
 broken_replay bytes more text d is safe (inr (tree, e, read, done)) =
     let same = specification_unique bytes e d (tree, read) is in
     let status = done.status_is in
     safe_status d safe more (sym (subst (λ (f : Specification). 1 ≡ schedule_status f more) same status))
 
-told_replay : (bytes : List ℕ) (extra : Option (List ℕ)) (text : List ℕ) (d : Specification) → IsSpecificationOf bytes d → Safe d → IsAnswerTo (Some Replay) (Some bytes) extra 1 text → ⊥
+told_replay : (bytes : List ℕ) (extra : Option (List ℕ)) (text : List ℕ) (d : Specification) → IsSpecificationOf bytes d → Safe d → IsAnswerTo (Some (OfSpec Replay)) (Some bytes) extra 1 text → ⊥
 told_replay bytes extra text d is safe (given, more, told, also, a) =
-    broken_replay bytes more text d is safe (subst (λ bs. IsAnswerFor Replay bs more 1 text) (sym told) a)
+    broken_replay bytes more text d is safe (subst (λ bs. IsAnswerOf Replay bs more 1 text) (sym told) a)
+
+replayed_told : (bytes : List ℕ) (extra : Option (List ℕ)) (status : ℕ)
+    → (status < 6 → (text : List ℕ) × IsAnswerTo (Some (OfSpec Replay)) (Some bytes) extra status text) → IsReplayedSafely bytes extra status
+replayed_told bytes extra status a = record {
+  unbroken = λ d is safe e. let at = a (omega (arith, e)) in
+      told_replay bytes extra at.0 d is safe (subst (λ n. IsAnswerTo (Some (OfSpec Replay)) (Some bytes) extra n at.0) e at.1);
+  alike = λ d more s is safe told e. (schedule_safely d safe more s e).alike;
+}
 
 -- a replay of a safe specification
 pub replayed_safely : (job : Option Job) (told extra : Option (List ℕ)) (status : ℕ) → is_replay job ≡ true
     → (status < 6 → (text : List ℕ) × IsAnswerTo job told extra status text) → IfSome told (λ bytes. IsReplayedSafely bytes extra status)
 replayed_safely job None extra status c a = tt
 replayed_safely None (Some bytes) extra status c a = absurd (cc c)
-replayed_safely (Some Spell) (Some bytes) extra status c a = absurd (cc c)
-replayed_safely (Some (Check budget)) (Some bytes) extra status c a = absurd (cc c)
-replayed_safely (Some Replay) (Some bytes) extra status c a = record {
-  unbroken = λ d is safe e. let at = a (omega (arith, e)) in
-      told_replay bytes extra at.0 d is safe (subst (λ n. IsAnswerTo (Some Replay) (Some bytes) extra n at.0) e at.1);
-  alike = λ d more s is safe told e. (schedule_safely d safe more s e).alike;
-}
+replayed_safely (Some (Sample n)) (Some bytes) extra status c a = absurd (cc c)
+replayed_safely (Some (OfSpec Spell)) (Some bytes) extra status c a = absurd (cc c)
+replayed_safely (Some (OfSpec (Check budget))) (Some bytes) extra status c a = absurd (cc c)
+replayed_safely (Some (OfSpec Replay)) (Some bytes) extra status c a = replayed_told bytes extra status a

@@ -1,9 +1,10 @@
 mod Endings
+mod Texts
 mod Replays
-mod Flags
-mod Remaining
-mod Verdicts
-mod ReportParts
-mod Safety
+mod Jobs
+mod Laws
+mod Outcomes
+mod Reports
 mod Agreement
 mod Headline
+mod Complete

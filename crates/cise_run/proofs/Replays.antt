@@ -1,8 +1,7 @@
 -- What a second input comes to, of the bytes that its source tells.
-use Rattle.std.proofs.Common.{◌≡◌, ℕ, zero, suc, ◌<◌, ◌≤◌, Bool, true, false, List, [], ◌∷◌, length, Option, None, Some, IfSome, refl, sym, ◌∙◌, subst, arith}
+use Rattle.std.proofs.Common.{◌≡◌, ℕ, zero, suc, ◌<◌, Bool, true, false, List, [], ◌∷◌, length, Option, None, Some, IfSome, refl, subst, arith}
 use Rattle.std.specs.Prelude.{nat_le, if◌then◌else◌, Ok}
 use Rattle.std.proofs.lemmas.Bool.Decides.{nat_tests}
-use Rattle.std.proofs.KnownBytes.{Keeps-refl}
 use Rattle.spec_core.specs.Specification.{Specification}
 use Rattle.spec_from_bytes.specs.Reading.{Tells}
 use Rattle.schedule_json.specs.Checks.{Checked}
@@ -13,7 +12,7 @@ use Rattle.replay_text.specs.declared.stop.Stop.{Stop}
 use Rattle.replay_text.specs.declared.stop.Stop.TheVariants as stop
 use Rattle.replay_text.specs.Text.{status_of}
 use Rattle.replay_text.specs.Course.{course}
-use Rattle.replay_text.specs.Recorded.{status_read, schedule_status, schedule_text}
+use Rattle.replay_text.specs.Recorded.{status_read, schedule_status}
 use Rattle.cise_run.specs.commands.Replay.{IsReplayed}
 
 -- some bytes that are more than so many

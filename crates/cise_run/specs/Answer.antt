@@ -1,33 +1,36 @@
 -- What the program answers: which status and which text belong to its words and to the bytes of its inputs.
-use Rattle.std.specs.Prelude.{◌≡◌, ◌⊎◌, ℕ, List, [], ◌∷◌, Option, None, Some, codes}
+use Rattle.std.specs.Prelude.{◌⊎◌, ℕ, List, [], ◌∷◌, Option, None, Some, codes}
 use Rattle.std.specs.Io.KnownBytes.{Appends}
 use Rattle.spec_core.specs.Specification.{Specification}
 use Rattle.spec_reader.specs.Form.{TreeForm}
 use Rattle.spec_from_bytes.specs.Lines.{line}
 use Rattle.spec_from_bytes.specs.Refusal.{IsReadAs, Refusal, IsRefusal, refusal_text}
 use Rattle.spec_from_bytes.specs.Reading.{Tells}
+use Rattle.cise_run.specs.declared.words.Task.{Task}
+use Rattle.cise_run.specs.declared.words.Task.TheVariants.{Check, Replay, Spell}
 use Rattle.cise_run.specs.declared.words.Job.{Job}
-use Rattle.cise_run.specs.declared.words.Job.TheVariants.{Check, Spell, Replay}
+use Rattle.cise_run.specs.declared.words.Job.TheVariants.{OfSpec, Sample}
 use Rattle.cise_run.specs.Words.{job_of}
 use Rattle.cise_run.specs.Ending.{IsOne, IsFrontOf, IsBroken, Ends}
-use Rattle.cise_run.specs.commands.Check.{IsReport, IsChecked, IsCheckFront}
-use Rattle.cise_run.specs.commands.Spell.{IsSpelled, IsSpellFront}
+use Rattle.cise_run.specs.commands.Check.{IsReport, IsReportFront}
 use Rattle.cise_run.specs.commands.Replay.{IsReplayed, IsReplayFront}
+use Rattle.cise_run.specs.commands.Spell.{IsSpelled, IsSpellFront}
+use Rattle.cise_run.specs.commands.Sample.{IsSampled, IsSampleFront}
 
--- ---- the commands
+-- ---- the tasks
 
--- the outcome of a job: the status and the text that its command answers for a specification and its tree, and for the bytes of the
--- second input
-abbrev pub IsOutcome : Job → TreeForm → Specification → List ℕ → ℕ → List ℕ → Type 0
-IsOutcome (Check budget) tree d more status text = IsChecked budget d status text
-IsOutcome Spell tree d more status text = IsSpelled tree status text
+-- The outcome of a task: the status and the text that its command answers for a specification and its tree, and for the bytes of the
+-- second input.
+abbrev pub IsOutcome : Task → TreeForm → Specification → List ℕ → ℕ → List ℕ → Type 0
+IsOutcome (Check budget) tree d more status text = IsReport budget d status text
 IsOutcome Replay tree d more status text = IsReplayed d more status text
+IsOutcome Spell tree d more status text = IsSpelled tree status text
 
 -- what is left of it where it is stopped
-abbrev pub IsOutcomeFront : Job → TreeForm → Specification → List ℕ → List ℕ → Type 0
-IsOutcomeFront (Check budget) tree d more front = IsCheckFront budget d front
-IsOutcomeFront Spell tree d more front = IsSpellFront tree front
+abbrev pub IsOutcomeFront : Task → TreeForm → Specification → List ℕ → List ℕ → Type 0
+IsOutcomeFront (Check budget) tree d more front = IsReportFront budget d front
 IsOutcomeFront Replay tree d more front = IsReplayFront d more front
+IsOutcomeFront Spell tree d more front = IsSpellFront tree front
 
 -- ---- the specification
 
@@ -38,16 +41,25 @@ ByReading Refused Read bytes =
     ((why : Refusal) × IsRefusal bytes why × Refused why)
     ⊎ ((tree : TreeForm) × (d : Specification) × IsReadAs bytes tree d × Read tree d)
 
--- The answer to a job is the refusal of its specification, with status 3; or, with the specification that the bytes are read as, the
--- outcome of the job.
-abbrev pub IsAnswerFor : Job → List ℕ → List ℕ → ℕ → List ℕ → Type 0
-IsAnswerFor job bytes more status text =
-    ByReading (λ why. IsOne 3 (refusal_text why) status text) (λ tree d. IsOutcome job tree d more status text) bytes
+-- The answer to a task is the refusal of its specification, with status 3; or, with the specification that the bytes are read as, the
+-- outcome of the task.
+abbrev pub IsAnswerOf : Task → List ℕ → List ℕ → ℕ → List ℕ → Type 0
+IsAnswerOf task bytes more status text =
+    ByReading (λ why. IsOne 3 (refusal_text why) status text) (λ tree d. IsOutcome task tree d more status text) bytes
 
 -- what is left of it where it is stopped
+abbrev pub IsFrontOfAnswer : Task → List ℕ → List ℕ → List ℕ → Type 0
+IsFrontOfAnswer task bytes more front =
+    ByReading (λ why. IsFrontOf (refusal_text why) front) (λ tree d. IsOutcomeFront task tree d more front) bytes
+
+-- The answer to a job, with the bytes of the two inputs. A sample reads neither.
+abbrev pub IsAnswerFor : Job → List ℕ → List ℕ → ℕ → List ℕ → Type 0
+IsAnswerFor (OfSpec task) bytes more status text = IsAnswerOf task bytes more status text
+IsAnswerFor (Sample n) bytes more status text = IsSampled n status text
+
 abbrev pub IsFrontFor : Job → List ℕ → List ℕ → List ℕ → Type 0
-IsFrontFor job bytes more front =
-    ByReading (λ why. IsFrontOf (refusal_text why) front) (λ tree d. IsOutcomeFront job tree d more front) bytes
+IsFrontFor (OfSpec task) bytes more front = IsFrontOfAnswer task bytes more front
+IsFrontFor (Sample n) bytes more front = IsSampleFront n front
 
 -- ---- the second input
 
@@ -89,12 +101,17 @@ IsStopped words spec extra held_before held_after = IsBroken (IsFrontTo (job_of 
 
 -- ---- two answers
 
--- Two answers to one job agree: they are the same, or they are reports of one specification, with one budget. The verdicts of a report,
--- with their witnesses and logs, are free.
-abbrev pub Agree : Option Job → ℕ → List ℕ → ℕ → List ℕ → Type 0
-Agree None status text other_status other_text = IsOne status text other_status other_text
-Agree (Some Spell) status text other_status other_text = IsOne status text other_status other_text
-Agree (Some Replay) status text other_status other_text = IsOne status text other_status other_text
-Agree (Some (Check budget)) status text other_status other_text =
+-- Two answers to one task agree: they are the same, or both are reports of one specification, with one budget. Verdicts, witnesses and
+-- logs are free.
+abbrev pub AgreeOf : Task → ℕ → List ℕ → ℕ → List ℕ → Type 0
+AgreeOf (Check budget) status text other_status other_text =
     IsOne status text other_status other_text
     ⊎ ((d : Specification) × IsReport budget d status text × IsReport budget d other_status other_text)
+AgreeOf Replay status text other_status other_text = IsOne status text other_status other_text
+AgreeOf Spell status text other_status other_text = IsOne status text other_status other_text
+
+-- So do two answers to the same words: they are the same, or both count verdicts on the same sample.
+abbrev pub Agree : Option Job → ℕ → List ℕ → ℕ → List ℕ → Type 0
+Agree None status text other_status other_text = IsOne status text other_status other_text
+Agree (Some (OfSpec task)) status text other_status other_text = AgreeOf task status text other_status other_text
+Agree (Some (Sample n)) status text other_status other_text = IsSampled n status text × IsSampled n other_status other_text

@@ -1,13 +1,28 @@
--- What status 0 of a check says, and what a replay of a safe specification keeps.
-use Rattle.std.specs.Prelude.{◌≡◌, ℕ, List, Option, Some, Ok}
+-- What status 0 of a check says, what a refutation says, what a replay of a safe specification keeps, and which
+-- statuses may come at all.
+use Rattle.std.specs.Prelude.{◌≡◌, ◌⊎◌, ℕ, Bool, true, ◌||◌, ◌==◌, List, Option, None, Some, IfSome, Ok, slice_get}
+use Rattle.std.specs.Io.KnownBytes.{Appends}
 use Rattle.spec_core.specs.Specification.{Specification}
-use Rattle.obligation_list.specs.Breaking.{Safe}
+use Rattle.spec_core.specs.State.{Listing, reads}
+use Rattle.obligation_list.specs.declared.obligation.Obligation.{Obligation}
+use Rattle.obligation_list.specs.Breaking.{Breaks, Safe}
 use Rattle.executions.specs.Convergence.{Converges}
+use Rattle.proof_report.specs.declared.place.PartialWitness.{PartialWitness}
+use Rattle.proof_report.specs.Verdicts.{refuted, obligation_at, ReportForm}
+use Rattle.proof_report.specs.Reader.{reads_of}
+use Rattle.report_text.specs.Bytes.{report_bytes}
 use Rattle.spec_from_bytes.specs.Refusal.{IsSpecificationOf}
 use Rattle.schedule_json.specs.declared.schedule.Schedule.{Schedule}
 use Rattle.schedule_json.specs.Schedules.{schedule_from}
 use Rattle.replay_text.specs.Course.{course}
 use Rattle.replay_text.specs.Safely.{PrintAlike}
+use Rattle.check_run.specs.Shown.{listing_of}
+use Rattle.cise_run.specs.declared.words.Task.{Task}
+use Rattle.cise_run.specs.declared.words.Task.TheVariants.{Check, Replay, Spell}
+use Rattle.cise_run.specs.declared.words.Job.{Job}
+use Rattle.cise_run.specs.declared.words.Job.TheVariants.{OfSpec, Sample}
+
+-- ---- status 0
 
 -- The bytes are a specification, which is safe: nothing breaks any of its obligations. And it converges: in every world and every
 -- execution, replicas that took the same events are in one state, in whichever orders they took them, and it satisfies every invariant.
@@ -18,9 +33,73 @@ pub record IsProved (bytes : List ℕ) : Type 0 where
   pub safe : Safe specification
   pub converges : Converges specification
 
+-- ---- refutations
+
+-- A state is the one that is shown: it lists what is shown and nothing else, or it reads so.
+abbrev pub IsShown : Specification → PartialWitness → Listing → Type 0
+IsShown d p s = (s ≡ listing_of d p) ⊎ (reads s ≡ reads_of p)
+
+-- A refutation of an obligation is right: the calls that it shows break the obligation in its world and its state, at its elements.
+pub record IsRight (d : Specification) (ob : Obligation) (p : PartialWitness) (es : List ℕ) : Type 0 where
+  pub state : Listing
+  pub shown : IsShown d p state
+  pub breaks : Breaks d ob p.world state p.calls es
+
+-- Some bytes are a specification, and others a report on it, in which each refutation is right.
+pub record IsRefutedRightly (bytes report : List ℕ) : Type 0 where
+  pub specification : Specification
+  pub read : IsSpecificationOf bytes specification
+  pub verdicts : ReportForm
+  pub written : report ≡ report_bytes specification verdicts
+  pub right : (i : ℕ) (p : PartialWitness) (es : List ℕ) → slice_get verdicts.verdicts i ≡ Some (refuted p es) → IsRight specification (obligation_at specification i) p es
+
+-- What was written is a report in which each refutation is right, on the specification that the first source told.
+abbrev pub WritesRightly : Option (List ℕ) → Option (List ℕ) → Option (List ℕ) → Type 0
+WritesRightly spec held_before held_after = IfSome spec (λ bytes. (text : List ℕ) × Appends held_before held_after text × IsRefutedRightly bytes text)
+
+abbrev pub RefutesOf : Task → Option (List ℕ) → Option (List ℕ) → Option (List ℕ) → Option (List ℕ) → Type 0
+RefutesOf (Check budget) spec extra held_before held_after = WritesRightly spec held_before held_after
+RefutesOf Replay spec extra held_before held_after = Unit {0}
+RefutesOf Spell spec extra held_before held_after = Unit {0}
+
+-- Where the words ask for a verdict on a specification, each refutation that is written is right.
+abbrev pub Refutes : Option Job → Option (List ℕ) → Option (List ℕ) → Option (List ℕ) → Option (List ℕ) → Type 0
+Refutes None spec extra held_before held_after = Unit {0}
+Refutes (Some (OfSpec task)) spec extra held_before held_after = RefutesOf task spec extra held_before held_after
+Refutes (Some (Sample n)) spec extra held_before held_after = Unit {0}
+
+-- ---- replays
+
 -- Where the bytes are a safe specification, no replay of it ends with status 1. And in the replay of the schedule that the second source
 -- tells, replicas that have taken the same events print the same lines of their states.
 pub record IsReplayedSafely (bytes : List ℕ) (told : Option (List ℕ)) (status : ℕ) : Type 0 where
   pub unbroken : (d : Specification) → IsSpecificationOf bytes d → Safe d → status ≡ 1 → ⊥
   pub alike : (d : Specification) (more : List ℕ) (s : Schedule) → IsSpecificationOf bytes d → Safe d → told ≡ Some more → schedule_from d more ≡ Ok s
       → PrintAlike d s.world (course d s.world s.replicas s.steps)
+
+-- ---- completeness
+
+-- the status of verdicts: all are proved, one is refuted, or none is and one is undecided
+abbrev pub is_outcome : ℕ → Bool
+is_outcome status = (status == 0) || (status == 1) || (status == 5)
+
+-- the status where memory ran out
+abbrev pub is_memory : ℕ → Bool
+is_memory status = status == 8
+
+-- How a task may end where its specification is read: with an outcome, with the refusal of the second input, or for want of memory. There
+-- is no other answer.
+abbrev pub may_end_of : Task → ℕ → Bool
+may_end_of (Check budget) status = is_outcome status || is_memory status
+may_end_of Replay status = (status == 0) || ((status == 1) || ((status == 4) || is_memory status))
+may_end_of Spell status = (status == 0) || is_memory status
+
+-- the first source tells a specification
+abbrev pub TellsSpecification : Option (List ℕ) → Type 0
+TellsSpecification told = (bytes : List ℕ) × (d : Specification) × (told ≡ Some bytes) × IsSpecificationOf bytes d
+
+-- A run ends as its job may, where the specification is told that it reads.
+abbrev pub IsComplete : Option Job → Option (List ℕ) → ℕ → Type 0
+IsComplete None told status = Unit {0}
+IsComplete (Some (OfSpec task)) told status = TellsSpecification told → may_end_of task status ≡ true
+IsComplete (Some (Sample n)) told status = (is_outcome status || is_memory status) ≡ true

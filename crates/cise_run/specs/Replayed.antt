@@ -1,5 +1,5 @@
 -- What the second input comes to in a replay. This serves the code and its proofs.
-use Rattle.std.specs.Prelude.{◌≡◌, ℕ, List, Option}
+use Rattle.std.specs.Prelude.{ℕ, List, Option}
 use Rattle.spec_core.specs.Specification.{Specification}
 use Rattle.spec_from_bytes.specs.Reading.{Tells}
 use Rattle.replay_text.specs.declared.writing.Report.{Report}

@@ -1,53 +1,123 @@
 -- Which words the program accepts, what they ask for, and which inputs are read for it.
-use Rattle.std.specs.Prelude.{◌≡◌, ◌⊎◌, ℕ, Bool, true, false, if◌then◌else◌, List, [], ◌∷◌, Option, None, Some, codes}
+use Rattle.std.specs.Prelude.{◌≡◌, ◌⊎◌, ℕ, Bool, true, false, ◌&&◌, nat_le, if◌then◌else◌, List, [], ◌∷◌, Option, None, Some, codes}
 use Rattle.std.specs.Str.{bytes_eq}
 use Rattle.byte_ports.specs.Faults.{IsFault}
+use Rattle.word_cut.specs.Whole.{size_read}
+use Rattle.report_lines.specs.Heads.{most_budget}
+use Rattle.cise_run.specs.declared.words.Task.{Task}
+use Rattle.cise_run.specs.declared.words.Task.TheVariants.{Check, Replay, Spell}
 use Rattle.cise_run.specs.declared.words.Job.{Job}
-use Rattle.cise_run.specs.declared.words.Job.TheVariants.{Check, Spell, Replay}
+use Rattle.cise_run.specs.declared.words.Job.TheVariants.{OfSpec, Sample}
+
+-- ---- numbers
 
 -- the budget where the words name none
 abbrev pub default_budget : ℕ
 default_budget = 10000
 
--- The job that the words ask for; none where they aren't accepted. The accepted words are `check SPEC`, `spell SPEC` and
--- `replay SPEC SCHEDULE`, SPEC and SCHEDULE any texts.
+-- the greatest sample
+abbrev pub most_sample : ℕ
+most_sample = 12
+
+-- a number is 1 to a greatest one
+abbrev pub is_within : ℕ → ℕ → Bool
+is_within most n = nat_le 1 n && nat_le n most
+
+abbrev pub within : ℕ → Option ℕ → Option ℕ
+within most None = None
+within most (Some n) = if is_within most n then Some n else None
+
+-- the number from 1 to a greatest one that a word spells, in decimal without a leading 0; none where it spells no such number
+abbrev pub number_in : ℕ → List ℕ → Option ℕ
+number_in most word = within most (size_read word)
+
+-- ---- jobs
+
+abbrev pub check_within : Option ℕ → Option Job
+check_within None = None
+check_within (Some budget) = Some (OfSpec (Check budget))
+
+abbrev pub sample_of : Option ℕ → Option Job
+sample_of None = None
+sample_of (Some n) = Some (Sample n)
+
+-- the jobs of two words, of three and of four
+abbrev pub job_of_two : List ℕ → List ℕ → Option Job
+job_of_two command word =
+    if bytes_eq command (codes "check") then Some (OfSpec (Check default_budget))
+    else (if bytes_eq command (codes "spell") then Some (OfSpec Spell)
+    else (if bytes_eq command (codes "sample") then sample_of (number_in most_sample word) else None))
+
+abbrev pub job_of_three : List ℕ → Option Job
+job_of_three command =
+    if bytes_eq command (codes "replay") then Some (OfSpec Replay) else None
+
+abbrev pub job_of_four : List ℕ → List ℕ → List ℕ → Option Job
+job_of_four command option word =
+    if bytes_eq command (codes "check") then (if bytes_eq option (codes "--budget") then check_within (number_in most_budget word) else None) else None
+
+-- The job that the words ask for; none where they aren't accepted. The accepted words are `check SPEC`, `check SPEC --budget N` with N
+-- from 1 to 1,000,000, `replay SPEC SCHEDULE`, `spell SPEC` and `sample N` with N from 1 to 12; SPEC and SCHEDULE are any texts.
 abbrev pub job_of : List (List ℕ) → Option Job
 job_of [] = None
 job_of (command ∷ []) = None
-job_of (command ∷ path ∷ []) =
-    if bytes_eq command (codes "check") then Some (Check default_budget)
-    else (if bytes_eq command (codes "spell") then Some Spell else None)
-job_of (command ∷ path ∷ other ∷ []) = if bytes_eq command (codes "replay") then Some Replay else None
-job_of (command ∷ path ∷ other ∷ more ∷ words) = None
+job_of (command ∷ word ∷ []) = job_of_two command word
+job_of (command ∷ path ∷ other ∷ []) = job_of_three command
+job_of (command ∷ path ∷ option ∷ word ∷ []) = job_of_four command option word
+job_of (command ∷ path ∷ option ∷ word ∷ more ∷ words) = None
 
--- the words ask for a check
-abbrev pub is_check : Option Job → Bool
-is_check None = false
-is_check (Some (Check budget)) = true
-is_check (Some Spell) = false
-is_check (Some Replay) = false
+-- The number in a job is within its limits.
+abbrev pub is_task : Task → Bool
+is_task (Check budget) = is_within most_budget budget
+is_task Replay = true
+is_task Spell = true
 
--- the words ask for a replay
-abbrev pub is_replay : Option Job → Bool
-is_replay None = false
-is_replay (Some (Check budget)) = false
-is_replay (Some Spell) = false
-is_replay (Some Replay) = true
+abbrev pub is_job : Job → Bool
+is_job (OfSpec task) = is_task task
+is_job (Sample n) = is_within most_sample n
+
+-- ---- inputs
+
+-- the second input is read for a task
+abbrev pub takes_extra : Task → Bool
+takes_extra (Check budget) = false
+takes_extra Replay = true
+takes_extra Spell = false
 
 -- Which inputs are read for a job: that of the specification, and the second one. Where the words aren't accepted, neither is.
 abbrev pub reads_spec : Option Job → Bool
 reads_spec None = false
-reads_spec (Some (Check budget)) = true
-reads_spec (Some Spell) = true
-reads_spec (Some Replay) = true
+reads_spec (Some (OfSpec task)) = true
+reads_spec (Some (Sample n)) = false
 
 abbrev pub reads_extra : Option Job → Bool
 reads_extra None = false
-reads_extra (Some (Check budget)) = false
-reads_extra (Some Spell) = false
-reads_extra (Some Replay) = true
+reads_extra (Some (OfSpec task)) = takes_extra task
+reads_extra (Some (Sample n)) = false
 
 -- An input that is read for the job has failed, by the faults of the specification's source and then of the second one.
 abbrev pub IsInputFault : Option Job → ℕ → ℕ → ℕ → ℕ → Type 0
 IsInputFault job spec_before spec_after extra_before extra_after =
     ((reads_spec job ≡ true) × IsFault spec_before spec_after) ⊎ ((reads_extra job ≡ true) × IsFault extra_before extra_after)
+
+-- the words ask for a verdict on a specification: for a check of it
+abbrev pub is_judging : Task → Bool
+is_judging (Check budget) = true
+is_judging Replay = false
+is_judging Spell = false
+
+abbrev pub judges : Option Job → Bool
+judges None = false
+judges (Some (OfSpec task)) = is_judging task
+judges (Some (Sample n)) = false
+
+-- they ask for a replay
+abbrev pub is_replaying : Task → Bool
+is_replaying (Check budget) = false
+is_replaying Replay = true
+is_replaying Spell = false
+
+abbrev pub is_replay : Option Job → Bool
+is_replay None = false
+is_replay (Some (OfSpec task)) = is_replaying task
+is_replay (Some (Sample n)) = false

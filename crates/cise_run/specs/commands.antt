@@ -1,4 +1,5 @@
--- What each command answers for a specification.
+-- What each command answers.
 pub mod Check
-pub mod Spell
 pub mod Replay
+pub mod Spell
+pub mod Sample

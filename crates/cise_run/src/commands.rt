@@ -1,4 +1,5 @@
 // The commands: each writes the text of its answer, and ends with a status.
 pub mod check;
 pub mod replay;
+pub mod sample;
 pub mod spell;

@@ -6,14 +6,23 @@ use byte_ports::{Sink, WriteRefused, write_all};
 
 /// The words aren't accepted.
 pub const WORDS: u8 = 2;
-/// The bytes are no specification, or one that can't be checked yet.
+/// The bytes are no specification.
 pub const SPECIFICATION: u8 = 3;
+/// The second input is no schedule, or a step of it breaks its rule.
+pub const SECOND_INPUT: u8 = 4;
 /// A source that is read for the job has failed.
 pub const READ_FAULT: u8 = 6;
 /// The sink has failed.
 pub const WRITE_FAULT: u8 = 7;
 /// Out of memory.
 pub const MEMORY: u8 = 8;
+
+/// A status with its text.
+#[derive(Drop)]
+pub struct Answer {
+    pub status: u8,
+    pub text: Vec<u8>,
+}
 
 /// Writes the text of an answer, and ends with its status where that was done.
 pub fn write_answer<K: Sink>(out: &mut K, status: u8, text: &[u8]) -> u8

@@ -1,10 +1,30 @@
-// That two answers to the same words and bytes agree.
-ghost use Rattle.std.specs.Prelude.{◌≡◌, ℕ, List, Some};
+// What the answers of the program say, and that two answers to the same words and bytes agree.
+ghost use Rattle.std.specs.Prelude.{◌≡◌, ℕ, true, List, Option, Some, IfSome};
+ghost use Rattle.std.specs.Io.KnownBytes.{Appends};
 ghost use Rattle.spec_from_bytes.specs.Refusal.{Refusal, IsRefusal, refusal_text};
-ghost use Rattle.cise_run.specs.declared.words.Job.{Job};
-ghost use Rattle.cise_run.specs.Words.{job_of};
+ghost use Rattle.cise_run.specs.declared.words.Task.{Task};
+ghost use Rattle.cise_run.specs.Words.{job_of, judges};
 ghost use Rattle.cise_run.specs.Ending.{IsOne};
-ghost use Rattle.cise_run.specs.Answer.{IsAnswer, IsAnswerFor, Agree};
+ghost use Rattle.cise_run.specs.Answer.{IsAnswer, IsAnswerOf, Agree};
+ghost use Rattle.cise_run.specs.Headline.{IsProved, is_outcome, Refutes};
+
+use check_run::{law_checked_is_read, law_good_verdicts, law_safe};
+use typing_rules::law_typed_is_well_formed;
+
+/// Where a check is answered with status 0, the bytes are a specification that is safe and
+/// converges. Where it is answered with the outcome of verdicts, each refutation breaks its obligation.
+pub fn law_headline()
+    ensures proved { (words : List (List ℕ)) (spec extra : Option (List ℕ)) (text : List ℕ)
+        → judges (job_of words) ≡ true → IsAnswer words spec extra 0 text → IfSome spec IsProved }
+    ensures refuted { (words : List (List ℕ)) (spec extra : Option (List ℕ)) (status : ℕ) (text : List ℕ) (held_before held_after : Option (List ℕ))
+        → is_outcome status ≡ true → IsAnswer words spec extra status text → Appends held_before held_after text
+        → Refutes (job_of words) spec extra held_before held_after }
+{
+    law_typed_is_well_formed();
+    law_safe();
+    law_good_verdicts();
+    law_checked_is_read();
+}
 
 /// Two answers to the same words and bytes agree: they are the same, but for the verdicts of a report.
 pub fn law_answers_agree()
@@ -13,8 +33,8 @@ pub fn law_answers_agree()
         → Agree (job_of words) status text other_status other_text }
 {}
 
-/// Where a specification is refused, every answer to every job refuses it so.
+/// Where a specification is refused, every answer to every task refuses it so.
 pub fn law_refused_for_all()
-    ensures { (job : Job) (bytes more : List ℕ) (why : Refusal) (status : ℕ) (text : List ℕ)
-        → IsRefusal bytes why → IsAnswerFor job bytes more status text → IsOne 3 (refusal_text why) status text }
+    ensures { (task : Task) (bytes more : List ℕ) (why : Refusal) (status : ℕ) (text : List ℕ)
+        → IsRefusal bytes why → IsAnswerOf task bytes more status text → IsOne 3 (refusal_text why) status text }
 {}

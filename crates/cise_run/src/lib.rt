@@ -1,24 +1,23 @@
 // The program but for its edge: from words, two sources and a sink to a status.
 //
 // `run::run` is the whole, and its clauses say what each status means. `words` has the accepted words, `commands` a file for each
-// command, which writes its text to the sink and answers the status; `ending` is what every writer of a text ends with.
-// `first_form` tells which specifications can be checked yet, and `report` makes the text of a report. `law` says that two answers
-// to the same words and bytes agree.
+// command, which writes its text to the sink and answers the status; `ending` is what every writer of a text ends with, `outcome` the
+// status that verdicts come to. `law` says what the answers say of a specification, and that two answers to the same words and bytes
+// agree.
 //
-// It stands on `spec_from_bytes`, which reads the specification, on `replay_text`, which replays a schedule, and on `executions`, whose
-// theorem makes a check that ends with status 0 a proof of convergence. The definitions stand in specs/, in this order: Words (which words are accepted, what they ask
-// for, and which inputs that reads), Ending (how the writing of a text ends), FirstForm (which specifications can be checked yet),
-// Report (verdicts and the text), commands (what each command answers, in a file for each), Answer (which status and text belong
-// to which words and bytes), Headline (what status 0 of a check says, and what a replay of a safe specification keeps). Blocks and Replayed
-// mirror the code.
+// It stands on `spec_from_bytes`, which reads the specification, on `check_run`, which decides its obligations and writes the report, on
+// `replay_text`, which replays a schedule, and on `executions`, whose theorem makes a check that
+// ends with status 0 a proof of convergence. The definitions stand in specs/, in this order: Words (which words are accepted, what they
+// ask for, and which inputs that reads), Ending (how the writing of a text ends), commands (what each command answers, in a file for
+// each), Answer (which status and text belong to which words and bytes), Headline (what status 0 says, what a refutation says, what a
+// replay of a safe specification keeps, and which statuses may come). Replayed mirrors the code.
 #![tactic(auto)]
 
 mod commands;
 mod ending;
-mod first_form;
 mod law;
-mod report;
+mod outcome;
 pub mod run;
 mod words;
 
-pub use law::{law_answers_agree, law_refused_for_all};
+pub use law::{law_answers_agree, law_headline, law_refused_for_all};

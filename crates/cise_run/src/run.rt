@@ -3,78 +3,84 @@ ghost use Rattle.std.specs.Prelude.{◌≡◌, ◌⊎◌, ◌<◌, true, false, 
 ghost use Rattle.byte_ports.specs.Faults.{IsFault};
 ghost use Rattle.spec_reader.specs.Form.{tree_of};
 ghost use Rattle.spec_from_bytes.specs.Reading.{Tells, IsReadingOf};
-ghost use Rattle.cise_run.specs.Words.{job_of, is_check, is_replay, reads_spec, reads_extra, IsInputFault};
+ghost use Rattle.cise_run.specs.declared.words.Job.TheVariants.{OfSpec};
+ghost use Rattle.cise_run.specs.Words.{job_of, is_task, judges, is_replay, takes_extra, reads_spec, reads_extra, IsInputFault};
 ghost use Rattle.cise_run.specs.Ending.{Ends};
-ghost use Rattle.cise_run.specs.Answer.{IsOutcome, IsOutcomeFront, IsAnswerFor, IsFrontFor, IsAnswerTo, IsFrontTo, EndsWith, IsAnswered, IsStopped};
-ghost use Rattle.cise_run.specs.Headline.{IsProved, IsReplayedSafely};
+ghost use Rattle.cise_run.specs.Answer.{IsOutcome, IsOutcomeFront, IsAnswerOf, IsFrontOfAnswer, IsAnswerTo, IsFrontTo, EndsWith, IsAnswered, IsStopped};
+ghost use Rattle.cise_run.specs.Headline.{IsProved, is_outcome, Refutes, IsReplayedSafely, IsComplete};
 
 use crate::commands::check::check;
 use crate::commands::replay::replay_schedule;
+use crate::commands::sample::sample;
 use crate::commands::spell::spell_tree;
 use crate::ending::{MEMORY, READ_FAULT, SPECIFICATION, WORDS, write_answer};
-use crate::words::{Job, job_asked};
+use crate::law::law_headline;
+use crate::words::{Job, Task, job_asked};
 use byte_ports::{Sink, Source};
 use spec_core::Spec;
 use spec_from_bytes::{Reading, Stopped, read_specification};
 use spec_reader::Tree;
 use std::alloc::Global;
 
-/// Does a job for a specification and its tree.
-fn do_job<E: Source, K: Sink>(
+/// Does a task for a specification and its tree.
+fn do_task<E: Source, K: Sink>(
     alloc: Global,
-    job: Job,
+    task: Task,
     tree: &Tree,
     spec: &Spec,
     extra: &mut E,
     out: &mut K,
 ) -> u8
-    ensures ends { EndsWith (E.left extra.old) (IsOutcome job (tree_of tree.now) spec.now) (IsOutcomeFront job (tree_of tree.now) spec.now) result (K.held out.old) (K.held out.new) (K.faults out.old) (K.faults out.new) }
-    ensures read_fault { result ≡ 6 → (reads_extra (Some job) ≡ true) × IsFault (E.faults extra.old) (E.faults extra.new) }
+    requires { is_task task ≡ true }
+    ensures ends { EndsWith (E.left extra.old) (IsOutcome task (tree_of tree.now) spec.now) (IsOutcomeFront task (tree_of tree.now) spec.now) result (K.held out.old) (K.held out.new) (K.faults out.old) (K.faults out.new) }
+    ensures read_fault { result ≡ 6 → (takes_extra task ≡ true) × IsFault (E.faults extra.old) (E.faults extra.new) }
     ensures unwritten { result ≡ 6 → out.new ≡ out.old }
-    ensures unread { reads_extra (Some job) ≡ false → extra.new ≡ extra.old }
+    ensures unread { takes_extra task ≡ false → extra.new ≡ extra.old }
 {
-    match job {
-        Job::Check(budget) => check(alloc, budget, spec, out),
-        Job::Spell => spell_tree(alloc, tree, out),
-        Job::Replay => replay_schedule(alloc, spec, extra, out),
+    match task {
+        Task::Check(budget) => check(alloc, budget, spec, out),
+        Task::Replay => replay_schedule(alloc, spec, extra, out),
+        Task::Spell => spell_tree(alloc, tree, out),
     }
 }
 
-/// Does a job for what the bytes of a specification are.
+/// Does a task for what the bytes of a specification are.
 fn answer_reading<E: Source, K: Sink>(
     alloc: Global,
-    job: Job,
+    task: Task,
     reading: &Reading,
     extra: &mut E,
     out: &mut K,
 ) -> u8
-    ensures ends { (bytes : List ℕ) → IsReadingOf bytes reading.now → EndsWith (E.left extra.old) (IsAnswerFor job bytes) (IsFrontFor job bytes) result (K.held out.old) (K.held out.new) (K.faults out.old) (K.faults out.new) }
-    ensures read_fault { result ≡ 6 → (reads_extra (Some job) ≡ true) × IsFault (E.faults extra.old) (E.faults extra.new) }
+    requires { is_task task ≡ true }
+    ensures ends { (bytes : List ℕ) → IsReadingOf bytes reading.now → EndsWith (E.left extra.old) (IsAnswerOf task bytes) (IsFrontOfAnswer task bytes) result (K.held out.old) (K.held out.new) (K.faults out.old) (K.faults out.new) }
+    ensures read_fault { result ≡ 6 → (takes_extra task ≡ true) × IsFault (E.faults extra.old) (E.faults extra.new) }
     ensures unwritten { result ≡ 6 → out.new ≡ out.old }
-    ensures unread { reads_extra (Some job) ≡ false → extra.new ≡ extra.old }
+    ensures unread { takes_extra task ≡ false → extra.new ≡ extra.old }
 {
     match reading {
-        Reading::Specified(tree, spec) => do_job(alloc, job, tree, spec, extra, out),
+        Reading::Specified(tree, spec) => do_task(alloc, task, tree, spec, extra, out),
         Reading::Refused(text) => write_answer(out, SPECIFICATION, text.as_slice()),
     }
 }
 
-/// Answers a job from the bytes of its inputs.
-fn answer_job<S: Source, E: Source, K: Sink>(
+/// Does a task for the bytes that a source gives.
+fn answer_task<S: Source, E: Source, K: Sink>(
     alloc: Global,
-    job: Job,
+    task: Task,
     spec: &mut S,
     extra: &mut E,
     out: &mut K,
 ) -> u8
-    ensures ends { Ends (IsAnswerTo (Some job) (S.left spec.old) (E.left extra.old)) (IsFrontTo (Some job) (S.left spec.old) (E.left extra.old)) result (K.held out.old) (K.held out.new) (K.faults out.old) (K.faults out.new) }
-    ensures read_fault { result ≡ 6 → IsFault (S.faults spec.old) (S.faults spec.new) ⊎ ((reads_extra (Some job) ≡ true) × IsFault (E.faults extra.old) (E.faults extra.new)) }
+    requires { is_task task ≡ true }
+    ensures ends { Ends (IsAnswerTo (Some (OfSpec task)) (S.left spec.old) (E.left extra.old)) (IsFrontTo (Some (OfSpec task)) (S.left spec.old) (E.left extra.old)) result (K.held out.old) (K.held out.new) (K.faults out.old) (K.faults out.new) }
+    ensures read_fault { result ≡ 6 → IsInputFault (Some (OfSpec task)) (S.faults spec.old) (S.faults spec.new) (E.faults extra.old) (E.faults extra.new) }
     ensures unwritten { result ≡ 6 → out.new ≡ out.old }
-    ensures unread { reads_extra (Some job) ≡ false → extra.new ≡ extra.old }
+    ensures unread { takes_extra task ≡ false → extra.new ≡ extra.old }
 {
     match read_specification(alloc, spec) {
         Ok(reading) => {
-            let status = answer_reading(alloc, job, &reading, extra, out);
+            let status = answer_reading(alloc, task, &reading, extra, out);
             reading.let_go();
             status
         }
@@ -85,10 +91,10 @@ fn answer_job<S: Source, E: Source, K: Sink>(
 
 /// Answers the words, those behind the program's name, from the bytes of the two inputs, and writes the answer's text.
 ///
-/// The statuses: 0, all obligations are proved, the specification was spelled, or all steps were accepted and no state broke; 1, an
-/// obligation is refuted, or a state breaks an invariant; 2, the words aren't accepted; 3, the bytes are no specification, or one that
-/// can't be checked yet; 4, the bytes of the second input are no schedule, or a step is refused; 6, a source that is read for the job
-/// has failed; 7, the sink has failed; 8, out of memory.
+/// The statuses: 0, all verdicts are proved, the specification was spelled, or all steps were accepted and no state broke; 1, a verdict
+/// is refuted, or a state breaks an invariant; 2, the words aren't accepted; 3, the bytes are no specification; 4, the bytes of the
+/// second input are no schedule, or a step breaks its rule; 5, no verdict is refuted and one is undecided; 6, a
+/// source that is read for the job has failed; 7, the sink has failed; 8, out of memory.
 pub fn run<S: Source, E: Source, K: Sink>(
     alloc: Global,
     words: &[String],
@@ -103,18 +109,26 @@ pub fn run<S: Source, E: Source, K: Sink>(
     ensures front { 6 < result → IsStopped (map string_bytes words.now) (S.left spec.old) (E.left extra.old) (K.held out.old) (K.held out.new) }
     ensures known { result < 9 }
 
-    // The headline: a specification whose check ends with status 0 converges.
-    ensures proved { result ≡ 0 → is_check (job_of (map string_bytes words.now)) ≡ true → IfSome (S.left spec.old) IsProved }
+    // The headline: a specification converges where its check ends with status 0.
+    ensures proved { result ≡ 0 → judges (job_of (map string_bytes words.now)) ≡ true → IfSome (S.left spec.old) IsProved }
+
+    // Each refutation that is written breaks its obligation.
+    ensures refuted { is_outcome result ≡ true → Refutes (job_of (map string_bytes words.now)) (S.left spec.old) (E.left extra.old) (K.held out.old) (K.held out.new) }
 
     // And a safe specification is never replayed to a state that breaks an invariant.
     ensures safe { is_replay (job_of (map string_bytes words.now)) ≡ true → IfSome (S.left spec.old) (λ bytes. IsReplayedSafely bytes (E.left extra.old) result) }
+
+    // Where the specification is read, and no input and no write fails, there is an answer, or memory ran out.
+    ensures complete { (IsInputFault (job_of (map string_bytes words.now)) (S.faults spec.old) (S.faults spec.new) (E.faults extra.old) (E.faults extra.new) → ⊥) → (IsFault (K.faults out.old) (K.faults out.new) → ⊥) → IsComplete (job_of (map string_bytes words.now)) (S.left spec.old) result }
 
     // What isn't read for the job stays as it was.
     ensures unread { reads_spec (job_of (map string_bytes words.now)) ≡ false → spec.new ≡ spec.old }
     ensures unread_extra { reads_extra (job_of (map string_bytes words.now)) ≡ false → extra.new ≡ extra.old }
 {
+    law_headline();
     match job_asked(words) {
-        Some(job) => answer_job(alloc, job, spec, extra, out),
+        Some(Job::OfSpec(task)) => answer_task(alloc, task, spec, extra, out),
+        Some(Job::Sample(number)) => sample(alloc, number, out),
         None => write_answer(out, WORDS, b"refused words\n"),
     }
 }

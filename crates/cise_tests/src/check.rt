@@ -1,49 +1,251 @@
 // The reports of `check`.
-use crate::printing::{Case, is_printed};
+use crate::examples::{
+    DEPOSITS, FLAG, MANY, NO_FLAG, ODD, PURSES, RAISED, SETS, SHOP, TOURNAMENTS, VAST, WITHDRAWALS,
+};
+use crate::running::{ends_with, has_lines, replaced, run_on};
+use std::alloc::{AllocError, Global};
 
-const CASES: [Case; 6] = [
-    Case {
-        command: "check",
-        bytes: b"cise 1 relation up initially up true invariant alive up",
+const CHECK: &[&str] = &["check", "s.cise"];
+
+const CHECK_LONG: &[&str] = &["check", "s.cise", "--budget", "1000000"];
+
+const CHECK_SHORT: &[&str] = &["check", "s.cise", "--budget", "1"];
+
+/// A specification whose report is known to the byte.
+#[derive(Clone, Copy)]
+struct Exact {
+    spec: &'static [u8],
+    status: u8,
+    text: &'static [u8],
+}
+
+const EXACT: [Exact; 4] = [
+    Exact {
+        spec: FLAG,
         status: 0,
         text: b"cise report 1\nbudget 10000\nobligations 1\ninit alive\nproved 0\nsummary proved 1 refuted 0 undecided 0\naccepted\n",
     },
-    Case {
-        command: "check",
-        bytes: b"cise 1 relation up initially up false invariant alive up",
+    Exact {
+        spec: NO_FLAG,
         status: 1,
         text: b"cise report 1\nbudget 10000\nobligations 1\ninit alive\nrefuted\nat\nsummary proved 0 refuted 1 undecided 0\nrejected\n",
     },
-    Case {
-        command: "check",
-        bytes: b"cise 1 relation up relation down # two flags\ninitially down true invariant alive up invariant calm down",
+    Exact {
+        spec: b"cise 1 relation up relation down # two flags\ninitially down true invariant alive up invariant calm down",
         status: 1,
         text: b"cise report 1\nbudget 10000\nobligations 2\ninit alive\nrefuted\ntrue down\nat\ninit calm\nproved 0\nsummary proved 1 refuted 1 undecided 0\nrejected\n",
     },
-    Case {
-        command: "check",
-        bytes: b"cise 1",
+    Exact {
+        spec: b"cise 1",
         status: 0,
         text: b"cise report 1\nbudget 10000\nobligations 0\nsummary proved 0 refuted 0 undecided 0\naccepted\n",
-    },
-    Case {
-        command: "check",
-        bytes: b"cise 1 sort A",
-        status: 3,
-        text: b"refused specification unbuilt\n",
-    },
-    Case {
-        command: "check",
-        bytes: b"cise 1 relation up invariant alive not up",
-        status: 3,
-        text: b"refused specification unbuilt\n",
     },
 ];
 
 #[test]
-fn checks_specifications_of_flags(rt: HostRuntime) {
-    for case in &CASES {
-        let same = is_printed(rt.alloc(), case).expect(&rt, "memory");
-        assert!(rt; same);
+fn writes_the_report(rt: HostRuntime) {
+    for it in &EXACT {
+        let same = ends_with(rt.alloc(), CHECK, it.spec, b"", it.status, it.text);
+        assert!(rt; same.expect(&rt, "memory"));
     }
+}
+
+/// A check whose report has lines that begin so, in this order, and none that begins as another text.
+#[derive(Clone, Copy)]
+struct Case {
+    words: &'static [&'static str],
+    spec: &'static [u8],
+    status: u8,
+    lines: &'static [&'static [u8]],
+    without: &'static [u8],
+}
+
+const CASES: [Case; 9] = [
+    Case {
+        words: CHECK,
+        spec: DEPOSITS,
+        status: 0,
+        lines: &[
+            b"obligations 4",
+            b"init solvent",
+            b"safety deposit solvent",
+            b"commute deposit deposit balance",
+            b"stable deposit 1 deposit",
+            b"summary proved 4 refuted 0 undecided 0",
+            b"accepted",
+        ],
+        without: b"refuted",
+    },
+    Case {
+        words: CHECK,
+        spec: WITHDRAWALS,
+        status: 1,
+        lines: &[
+            b"obligations 12",
+            b"stable withdraw 2 withdraw",
+            b"refuted",
+            b"at",
+            b"summary proved 11 refuted 1 undecided 0",
+            b"rejected",
+        ],
+        without: b"undecided",
+    },
+    Case {
+        words: CHECK,
+        spec: PURSES,
+        status: 0,
+        lines: &[
+            b"obligations 12",
+            b"summary proved 12 refuted 0 undecided 0",
+            b"accepted",
+        ],
+        without: b"refuted",
+    },
+    Case {
+        words: CHECK,
+        spec: SETS,
+        status: 1,
+        lines: &[
+            b"obligations 3",
+            b"commute put drop r",
+            b"refuted",
+            b"summary proved 2 refuted 1 undecided 0",
+            b"rejected",
+        ],
+        without: b"undecided",
+    },
+    Case {
+        words: CHECK_SHORT,
+        spec: PURSES,
+        status: 5,
+        lines: &[
+            b"budget 1",
+            b"safety deposit solvent",
+            b"undecided lines 1",
+            b"undecided",
+        ],
+        without: b"refuted",
+    },
+    Case {
+        words: CHECK,
+        spec: ODD,
+        status: 0,
+        lines: &[b"summary proved 4 refuted 0 undecided 0", b"accepted"],
+        without: b"s ",
+    },
+    Case {
+        words: CHECK,
+        spec: RAISED,
+        status: 0,
+        lines: &[b"summary proved 3 refuted 0 undecided 0", b"accepted"],
+        without: b"refuted",
+    },
+    Case {
+        words: CHECK,
+        spec: VAST,
+        status: 5,
+        lines: &[b"safety big alive", b"undecided range", b"undecided"],
+        without: b"refuted",
+    },
+    Case {
+        words: CHECK,
+        spec: SHOP,
+        status: 0,
+        lines: &[
+            b"obligations 12",
+            b"summary proved 12 refuted 0 undecided 0",
+            b"accepted",
+        ],
+        without: b"refuted",
+    },
+];
+
+/// Whether a check ends with this status and writes these lines.
+fn is_checked(
+    alloc: Global,
+    words: &[&str],
+    spec: &[u8],
+    status: u8,
+    lines: &[&[u8]],
+    without: &[u8],
+) -> Result<bool, AllocError> {
+    let ended = run_on(alloc, words, spec, b"")?;
+    let as_wanted = ended.status == status
+        && has_lines(&ended.text, lines)
+        && !has_lines(&ended.text, &[without]);
+    drop(ended);
+    Ok(as_wanted)
+}
+
+#[test]
+fn decides(rt: HostRuntime) {
+    for it in &CASES {
+        let checked = is_checked(
+            rt.alloc(),
+            it.words,
+            it.spec,
+            it.status,
+            it.lines,
+            it.without,
+        );
+        assert!(rt; checked.expect(&rt, "memory"));
+    }
+}
+
+#[test]
+fn decides_players_and_tournaments(rt: HostRuntime) {
+    let alloc = rt.alloc();
+    let all = &[
+        b"summary proved 100 refuted 0 undecided 0".as_slice(),
+        b"accepted",
+    ];
+    let whole = is_checked(alloc, CHECK_LONG, TOURNAMENTS, 0, all, b"refuted");
+    assert!(rt; whole.expect(&rt, "memory"));
+    let free = replaced(
+        alloc,
+        TOURNAMENTS,
+        b"conflict entry ( p , t ) event ( t )\n",
+        b"",
+    );
+    let free = free.expect(&rt, "memory");
+    let refuted = &[
+        b"stable rem_tourn 1 enroll".as_slice(),
+        b"refuted",
+        b"stable enroll 2 rem_tourn",
+        b"refuted",
+        b"summary proved 98 refuted 2 undecided 0",
+        b"rejected",
+    ];
+    let rejected = is_checked(alloc, CHECK_LONG, &free, 1, refuted, b"undecided");
+    drop(free);
+    assert!(rt; rejected.expect(&rt, "memory"));
+}
+
+#[test]
+fn decides_shared_tokens(rt: HostRuntime) {
+    let alloc = rt.alloc();
+    let shared = replaced(alloc, SHOP, b"exclusive", b"shared").expect(&rt, "memory");
+    let refuted = &[
+        b"commute reprice reprice price".as_slice(),
+        b"refuted",
+        b"stable order 1 reprice",
+        b"refuted",
+        b"summary proved 10 refuted 2 undecided 0",
+    ];
+    let rejected = is_checked(alloc, CHECK, &shared, 1, refuted, b"undecided");
+    drop(shared);
+    assert!(rt; rejected.expect(&rt, "memory"));
+}
+
+#[test]
+fn gives_up_on_too_many_instances(rt: HostRuntime) {
+    let last = &[
+        b"obligations 11".as_slice(),
+        b"commute f f r",
+        b"undecided instances",
+        b"summary proved 10 refuted 0 undecided 1",
+        b"undecided",
+    ];
+    let given_up = is_checked(rt.alloc(), CHECK, MANY, 5, last, b"refuted");
+    assert!(rt; given_up.expect(&rt, "memory"));
 }

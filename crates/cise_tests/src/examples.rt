@@ -164,3 +164,52 @@ operation note ( n : int )
   insert noted
 end
 ";
+
+/// A flag that isn't there at first.
+pub const NO_FLAG: &[u8] = b"cise 1
+relation up
+initially up false
+invariant alive up
+";
+
+/// A flag that may be raised.
+pub const RAISED: &[u8] = b"cise 1
+relation up
+initially up true
+invariant alive up
+operation raise
+  insert up
+end
+";
+
+/// A call whose breaking states have values that no state has.
+pub const VAST: &[u8] = b"cise 1
+counter c
+counter d
+relation up
+initially up true
+invariant alive up
+operation big
+  requires ( c >= 1000000000 )
+  requires ( d >= 1000000000 * c )
+  remove up
+end
+";
+
+/// Invariants with more instances in one obligation than are listed.
+pub const MANY: &[u8] = b"cise 1
+sort A
+const a : A
+const b : A
+const c : A
+const d : A
+relation r ( A )
+invariant i0 forall x : A , y : A , z : A . ( r ( x ) implies r ( x ) )
+invariant i1 forall x : A , y : A , z : A . ( r ( x ) implies r ( x ) )
+invariant i2 forall x : A , y : A , z : A . ( r ( x ) implies r ( x ) )
+invariant i3 forall x : A , y : A , z : A . ( r ( x ) implies r ( x ) )
+invariant i4 forall x : A , y : A , z : A . ( r ( x ) implies r ( x ) )
+operation f ( p : A , q : A , s : A , t : A , u : A , v : A )
+  insert r ( p )
+end
+";

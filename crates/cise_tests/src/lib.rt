@@ -3,9 +3,9 @@
 // What no clause says is shown here: that memory which is there is used, and that the printed texts are those of the documents.
 // Each test is a table. It stands in a crate of its own so that no library is proved again with tests.
 //
-// `ports` has the sources and sinks. `printing` runs the program on words and bytes and says whether it prints what is wanted;
-// `check` and `spell` have the commands, with the texts of `examples`; `refusals` what is no specification, `limits` the limits of
-// the language, and `statuses` what stops a run.
+// `ports` has the sources and sinks. `printing` and `running` run the program on words and bytes and say what it prints; `check`,
+// `sample`, `replay` and `spell` have the commands, with the texts of `examples`; `words` has the words, `refusals` what is no
+// specification, `limits` the limits of the language, and `statuses` what stops a run.
 #![tactic(auto)]
 
 #[cfg(test)]
@@ -23,6 +23,12 @@ mod refusals;
 #[cfg(test)]
 mod replay;
 #[cfg(test)]
+mod running;
+#[cfg(test)]
+mod sample;
+#[cfg(test)]
 mod spell;
 #[cfg(test)]
 mod statuses;
+#[cfg(test)]
+mod words;

@@ -1,5 +1,6 @@
 // What stops a run: words that aren't accepted, a source or a sink that fails, and a source without end.
 use crate::printing::{prints_despite, prints_from};
+use crate::running::{Port, stopped_runs};
 use byte_ports::EndlessSource;
 
 const FLAG: &[u8] = b"cise 1 relation up initially up true invariant alive up";
@@ -76,5 +77,14 @@ fn reads_no_more_than_the_limit(rt: HostRuntime) {
         let text = b"refused specification long\n";
         let same = prints_from(rt.alloc(), command, &mut spec, &[], 3, text).expect(&rt, "memory");
         assert!(rt; same);
+    }
+}
+
+#[test]
+fn names_the_call_that_failed(rt: HostRuntime) {
+    let alloc = rt.alloc();
+    for (port, runs) in [(Port::Spec, 2), (Port::Extra, 0), (Port::Out, 3)] {
+        let stopped = stopped_runs(alloc, &["check", "s.cise"], FLAG, b"", port);
+        assert!(rt; stopped.expect(&rt, "memory") == Some(runs));
     }
 }

@@ -1,26 +1,27 @@
 // The command `check`: the report of a specification's obligations.
-ghost use Rattle.std.specs.Prelude.{◌≢◌};
+ghost use Rattle.std.specs.Prelude.{◌≡◌, ◌≢◌, true};
+ghost use Rattle.report_lines.specs.Heads.{most_budget};
+ghost use Rattle.cise_run.specs.Words.{is_within};
 ghost use Rattle.cise_run.specs.Ending.{Ends};
-ghost use Rattle.cise_run.specs.commands.Check.{IsChecked, IsCheckFront};
+ghost use Rattle.cise_run.specs.commands.Check.{IsReport, IsReportFront};
 
-use crate::ending::{MEMORY, SPECIFICATION, write_answer};
-use crate::first_form::is_first_form;
-use crate::report::report_of;
+use crate::ending::{MEMORY, WRITE_FAULT};
+use crate::outcome::status_of;
 use byte_ports::Sink;
+use check_run::{WriteOut, check_all};
 use spec_core::Spec;
 use std::alloc::Global;
 
-/// Checks a specification with a budget of log lines: 0 where every obligation is proved, 1 where one is refuted, 3 where it can't
-/// be checked yet.
-pub fn check<K: Sink>(alloc: Global, budget: usize, spec: &Spec, out: &mut K) -> u8
-    ensures ends { Ends (IsChecked budget spec.now) (IsCheckFront budget spec.now) result (K.held out.old) (K.held out.new) (K.faults out.old) (K.faults out.new) }
+/// Checks a specification with a budget of log lines, and writes the report as it is made: 0 where every obligation is proved, 1 where
+/// one is refuted, 5 where none is refuted and one is undecided.
+pub fn check<K: Sink>(alloc: Global, budget: u32, spec: &Spec, out: &mut K) -> u8
+    requires { is_within most_budget budget ≡ true }
+    ensures ends { Ends (IsReport budget spec.now) (IsReportFront budget spec.now) result (K.held out.old) (K.held out.new) (K.faults out.old) (K.faults out.new) }
     ensures no_source { result ≢ 6 }
 {
-    if !is_first_form(spec) {
-        return write_answer(out, SPECIFICATION, b"refused specification unbuilt\n");
-    }
-    match report_of(alloc, spec, budget) {
-        Ok(report) => write_answer(out, report.status(), report.text.as_slice()),
-        Err(_) => MEMORY,
+    match check_all(alloc, spec, budget, out) {
+        Ok(tally) => status_of(tally),
+        Err(WriteOut::Fault) => WRITE_FAULT,
+        Err(WriteOut::Memory) => MEMORY,
     }
 }

@@ -6,16 +6,13 @@ ghost use Rattle.cise_run.specs.Answer.{EndsWith};
 ghost use Rattle.cise_run.specs.Replayed.{IsReportOf, IsReportFrom};
 ghost use Rattle.cise_run.specs.commands.Replay.{IsReplayed, IsReplayFront};
 
-use crate::ending::{MEMORY, READ_FAULT, write_answer};
+use crate::ending::{MEMORY, READ_FAULT, SECOND_INPUT, write_answer};
 use byte_ports::{ReadRefused, Sink, Source, read_up_to};
 use replay_text::{Report, replay_bytes};
 use schedule_json::{LONG, MOST_SCHEDULE_BYTES};
 use spec_core::Spec;
 use spec_from_bytes::Stopped;
 use std::alloc::{AllocError, Global};
-
-/// The status where the second input is no schedule.
-const REFUSED: u8 = 4;
 
 /// The answer to more bytes than a schedule has.
 fn too_long(alloc: Global, spec: &Spec) -> Result<Report, AllocError>
@@ -24,7 +21,7 @@ fn too_long(alloc: Global, spec: &Spec) -> Result<Report, AllocError>
     let _version = spec.version;
     let text = Vec::from_slice(alloc, LONG)?;
     Ok(Report {
-        status: REFUSED,
+        status: SECOND_INPUT,
         text,
     })
 }

@@ -1,4 +1,4 @@
-use Rattle.std.proofs.Common.{ap, subst, List, ℕ, ◌≡◌}
+use Rattle.std.proofs.Common.{ap, subst}
 use Rattle.std.specs.Prelude.{Err}
 use Rattle.schedule_json.specs.Texts.{most_schedule_bytes}
 use Rattle.cise_run.specs.Replayed.{IsReportOf}

@@ -1,5 +1,4 @@
-use Rattle.std.proofs.Common.{List, ℕ, ◌≡◌, ◌<◌, ◌∙◌, rules, arith}
-use Rattle.cise_run.specs.Ending.{Ends}
+use Rattle.std.proofs.Common.{◌∙◌, arith}
 use Rattle.cise_run.specs.commands.Replay.{IsReplayed, IsReplayFront}
 use Rattle.cise_run.proofs.Endings.{Ends-one, Ends-stopped, some_told}
 use Rattle.cise_run.proofs.Replays.{low_replayed}

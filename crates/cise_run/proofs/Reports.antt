@@ -1,0 +1,56 @@
+-- What a report says of its specification, where it was written by a check.
+use Rattle.std.proofs.Common.{◌≡◌, ℕ, ◌≤◌, true, List, refl, sym, ap, ◌∙◌, inl, arith}
+use Rattle.std.specs.Prelude.{nat_le}
+use Rattle.std.proofs.lemmas.Bool.{and_parts}
+use Rattle.std.proofs.lemmas.Bool.Decides.{nat_tests}
+use Rattle.spec_core.specs.Specification.{Specification}
+use Rattle.spec_core.specs.Typed.{is_specification}
+use Rattle.spec_reader.specs.Form.{TreeForm}
+use Rattle.obligation_list.specs.Obligations.{obligations_of}
+use Rattle.obligation_list.specs.Breaking.{Safe}
+use Rattle.proof_report.specs.Verdicts.{refuted, obligation_at}
+use Rattle.report_lines.specs.Heads.{most_budget}
+use Rattle.report_text.specs.Showing.{report_on}
+use Rattle.proof_report.specs.Events.{outcome_of}
+use Rattle.check_run.specs.Shown.{listing_of}
+use Rattle.check_run.specs.Reports.{forms_of, written_version}
+use Rattle.spec_from_bytes.specs.Refusal.{IsReadAs, IsSpecificationOf}
+use Rattle.cise_run.specs.Words.{is_within}
+use Rattle.cise_run.specs.commands.Check.{IsReport}
+use Rattle.cise_run.specs.Headline.{IsRefutedRightly}
+use Rattle.cise_run.proofs.Laws.{TypesWell, OfChecks}
+use Rattle.cise_run.proofs.Outcomes.{accepted_zero, good_at}
+
+-- what bytes are read as is a specification
+pub is_specification-read : (bytes : List ℕ) (tree : TreeForm) (d : Specification) → TypesWell → IsReadAs bytes tree d → is_specification d ≡ true
+is_specification-read bytes tree d well read = well tree d read.is_tree.read.0 read.typed
+
+least : (n : ℕ) → nat_le 1 n ≡ true → 1 ≤ n
+least n h = grind (arith, nat_tests)
+
+most : (n : ℕ) → nat_le n most_budget ≡ true → n ≤ 1000000
+most n h = grind (arith, nat_tests)
+
+-- ---- checks
+
+pub safe_checked : (d : Specification) (budget : ℕ) (text : List ℕ) → OfChecks → is_specification d ≡ true → IsReport budget d 0 text → Safe d
+safe_checked d budget text laws is r =
+    let accepted = accepted_zero (outcome_of r.tally) r.status_is in
+    laws.safe d budget (forms_of d r.checked.verdicts) is r.checked.good (ap outcome_of (sym r.checked.tally_is) ∙ accepted)
+
+pub right_checked : (bytes : List ℕ) (d : Specification) (budget status : ℕ) (text : List ℕ) → OfChecks → IsSpecificationOf bytes d → is_specification d ≡ true → is_within most_budget budget ≡ true
+    → IsReport budget d status text → IsRefutedRightly bytes text
+right_checked bytes d budget status text laws read is within r =
+    let vs = r.checked.verdicts in
+    let limits = and_parts (nat_le 1 budget) (nat_le budget most_budget) within in
+    record {
+      specification = d;
+      read = read;
+      verdicts = report_on d written_version budget vs;
+      written = (laws.is_read d budget r.tally text is (least budget limits.0) (most budget limits.1) r.checked).1;
+      right = λ i p es e. record {
+        state = listing_of d p;
+        shown = inl refl;
+        breaks = laws.breaks d budget (obligation_at d i) p es (good_at d budget (obligations_of d) (forms_of d vs) i (refuted p es) r.checked.good e);
+      };
+    }

@@ -1,0 +1,16 @@
+use Rattle.cise_run.proofs.Headline.{IsProved-zero, Refutes-answer}
+use Rattle.cise_run.proofs.law.law_headline.Goals as goal
+
+pub returns-clause-proved : goal.returns-clause-proved
+returns-clause-proved c = λ words spec extra text judged answer.
+    IsProved-zero words spec extra text
+    c.law_typed_is_well_formed.ensures
+    (record { safe = c.law_safe.ensures.safe; breaks = c.law_good_verdicts.ensures.refuted; is_read = c.law_checked_is_read.ensures })
+    judged answer
+
+pub returns-clause-refuted : goal.returns-clause-refuted
+returns-clause-refuted c = λ words spec extra status text before after outcome answer written.
+    Refutes-answer words spec extra status text before after
+    c.law_typed_is_well_formed.ensures
+    (record { safe = c.law_safe.ensures.safe; breaks = c.law_good_verdicts.ensures.refuted; is_read = c.law_checked_is_read.ensures })
+    outcome answer written

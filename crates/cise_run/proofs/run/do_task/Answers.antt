@@ -1,0 +1,14 @@
+use Rattle.spec_reader.specs.Form.{tree_of}
+use Rattle.cise_run.specs.declared.words.Task.TheVariants.{Check, Spell}
+use Rattle.cise_run.proofs.Endings.{Ends-task, some_told}
+use Rattle.cise_run.proofs.run.do_task.Goals as goal
+
+pub returns-in-Check-clause-ends : goal.returns-in-Check-clause-ends
+returns-in-Check-clause-ends g c =
+    let given = some_told (g.E.Source.left c.args.extra.now) in
+    (given.0, given.1, Ends-task c.args.task (Check c.in-Check.budget) (tree_of c.args.tree.now) c.args.spec.now given.0 c.check.result _ _ _ _ c.in-Check.is c.check.ensures.ends)
+
+pub returns-in-Spell-clause-ends : goal.returns-in-Spell-clause-ends
+returns-in-Spell-clause-ends g c =
+    let given = some_told (g.E.Source.left c.args.extra.now) in
+    (given.0, given.1, Ends-task c.args.task Spell (tree_of c.args.tree.now) c.args.spec.now given.0 c.spell_tree.result _ _ _ _ c.in-Spell.is c.spell_tree.ensures.ends)
