@@ -1,0 +1,11 @@
+pub mod Rows
+mod Listed
+mod Same
+mod Valid
+mod Safe
+mod Answers
+mod Taken
+mod Blocks
+mod Lines
+mod Within
+mod FedLines

@@ -1,0 +1,5 @@
+pub mod Rules
+pub mod Valid
+pub mod Verified
+pub mod Verifier
+pub mod Taking

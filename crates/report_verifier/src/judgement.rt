@@ -1,0 +1,260 @@
+// What is kept of the verdicts of a report, line by line.
+ghost use Rattle.std.specs.Prelude.{◌≡◌, suc, Some, IfOk, OnOk, slice_get};
+ghost use Rattle.std.specs.List.{Contains};
+ghost use Rattle.obligation_list.specs.Obligations.{IsObligation, obligations_of};
+ghost use Rattle.proof_kernel.specs.Rules.{next};
+ghost use Rattle.proof_report.specs.Events.{told};
+ghost use Rattle.report_verifier.specs.Rules.{or_else};
+ghost use Rattle.report_verifier.specs.Verifier.{no_judgement, has_log, begun, begun_in, logged, after_line};
+ghost use Rattle.report_verifier.specs.Taking.{end_fault_of, ended_as, with_ended_as, taken_as};
+
+use crate::ending::end_fault;
+use crate::logs::kind_of;
+use crate::posing::pose;
+use obligation_list::Obligation;
+use proof_kernel::Kernel;
+use proof_lines::{Line, LineRefused};
+use proof_report::{Ended, Fault, Fed};
+use report_lines::head::Tally;
+use report_lines::verdict::VerdictWord;
+use spec_core::Spec;
+use std::alloc::{AllocError, Global};
+use std::mem;
+
+/// How many verdicts of each kind there are; of the last one its line, whether its obligation has too many formulas, the kernel after
+/// the lines of its log so far, and how many these are; and the first fault of a verdict. There is no kernel outside a log, where there
+/// are too many formulas, and behind a fault.
+#[derive(Drop)]
+pub struct Judgement {
+    pub tally: Tally,
+    pub line: u32,
+    pub many: bool,
+    pub kernel: Option<Kernel>,
+    pub log: u32,
+    pub fault: Option<Fault>,
+}
+
+/// Before the first verdict.
+pub fn no_judgement() -> Judgement
+    ensures { result ≡ no_judgement }
+{
+    Judgement {
+        tally: Tally {
+            proved: 0,
+            refuted: 0,
+            undecided: 0,
+        },
+        line: 0,
+        many: false,
+        kernel: None,
+        log: 0,
+        fault: None,
+    }
+}
+
+// How many verdicts there are. More than 32 bits hold are answered as want of memory.
+fn told(tally: &Tally) -> Result<usize, AllocError>
+    ensures { IfOk result (λ n. n ≡ told tally.now) }
+{
+    let sum = u64::from(tally.proved) + (u64::from(tally.refuted) + u64::from(tally.undecided));
+    match usize::try_from(sum) {
+        Ok(sum) => Ok(sum),
+        Err(_) => Err(AllocError),
+    }
+}
+
+fn has_log(word: &VerdictWord) -> bool
+    ensures { result ≡ has_log word.now }
+{
+    match word {
+        VerdictWord::Refuted => false,
+        VerdictWord::Instances => false,
+        _ => true,
+    }
+}
+
+fn or_else(first: Option<Fault>, later: Option<Fault>) -> Option<Fault>
+    ensures { result ≡ or_else first later }
+{
+    match first {
+        Some(fault) => Some(fault),
+        None => later,
+    }
+}
+
+// The obligation of the next verdict. A report tells of no verdict beyond the last one.
+fn obligation_due<'o>(
+    obligations: &'o [Obligation],
+    tally: &Tally,
+) -> Result<&'o Obligation, AllocError>
+    ensures { IfOk result (λ ob. slice_get obligations.now (told tally.now) ≡ Some ob.now) }
+{
+    match obligations.get(told(tally)?) {
+        Some(ob) => Ok(ob),
+        None => Err(AllocError),
+    }
+}
+
+// A verdict begins, whose obligation this is.
+fn begin_on(
+    alloc: Global,
+    spec: &Spec,
+    ob: &Obligation,
+    number: u32,
+    logs: bool,
+    judgement: &mut Judgement,
+) -> Result<(), AllocError>
+    requires { IsObligation spec.now ob.now }
+    ensures { OnOk result (judgement.new ≡ begun_in spec.now ob.now number logs judgement.old) }
+{
+    let posed = pose(alloc, spec, ob)?;
+    judgement.line = number;
+    judgement.log = 0;
+    match posed {
+        Some(kernel) => {
+            judgement.many = false;
+            judgement.kernel = if logs { Some(kernel) } else { None };
+        }
+        None => {
+            judgement.many = true;
+            judgement.kernel = None;
+        }
+    }
+    Ok(())
+}
+
+fn begin(
+    alloc: Global,
+    spec: &Spec,
+    obligations: &[Obligation],
+    number: u32,
+    word: &VerdictWord,
+    judgement: &mut Judgement,
+) -> Result<(), AllocError>
+    requires list { obligations.now ≡ obligations_of spec.now }
+    requires members { (ob : Obligation) → Contains obligations.now ob → IsObligation spec.now ob }
+    ensures { OnOk result (judgement.new ≡ begun spec.now number (Some word.now) judgement.old) }
+{
+    if judgement.fault.is_some() {
+        judgement.line = number;
+        judgement.many = false;
+        judgement.kernel = None;
+        judgement.log = 0;
+        return Ok(());
+    }
+    let ob = obligation_due(obligations, &judgement.tally)?;
+    begin_on(alloc, spec, ob, number, has_log(word), judgement)
+}
+
+// A line is taken by the kernel.
+fn take_line(
+    number: u32,
+    line: &Line,
+    kernel: Kernel,
+    judgement: &mut Judgement,
+) -> Result<(), AllocError>
+    ensures { OnOk result (judgement.new ≡ after_line number judgement.old (next kernel line.now)) }
+{
+    let Some(log) = judgement.log.checked_add(1) else {
+        return Err(AllocError);
+    };
+    let mut kernel = kernel;
+    match kernel.add(line) {
+        Ok(()) => judgement.kernel = Some(kernel),
+        Err(LineRefused::Bad(why)) => {
+            judgement.kernel = None;
+            let fault = Fault {
+                number,
+                kind: kind_of(why),
+            };
+            judgement.fault = or_else(judgement.fault, Some(fault));
+        }
+        Err(LineRefused::Memory) => return Err(AllocError),
+    }
+    judgement.log = log;
+    Ok(())
+}
+
+// A line of a log.
+fn log_line(number: u32, line: &Line, judgement: &mut Judgement) -> Result<(), AllocError>
+    ensures { OnOk result (judgement.new ≡ logged number (Some line.now) judgement.old) }
+{
+    match mem::replace(&mut judgement.kernel, None) {
+        Some(kernel) => take_line(number, line, kernel, judgement),
+        None => {
+            let Some(log) = judgement.log.checked_add(1) else {
+                return Err(AllocError);
+            };
+            judgement.log = log;
+            Ok(())
+        }
+    }
+}
+
+fn one_more(count: u32) -> Result<u32, AllocError>
+    ensures { IfOk result (λ n. n ≡ suc count) }
+{
+    match count.checked_add(1) {
+        Some(more) => Ok(more),
+        None => Err(AllocError),
+    }
+}
+
+fn with_ended(ended: &Ended, tally: Tally) -> Result<Tally, AllocError>
+    ensures { IfOk result (λ t. t ≡ with_ended_as ended.now tally) }
+{
+    let mut counted = tally;
+    match ended {
+        Ended::Proved => counted.proved = one_more(tally.proved)?,
+        Ended::Refuted(_) => counted.refuted = one_more(tally.refuted)?,
+        _ => counted.undecided = one_more(tally.undecided)?,
+    }
+    Ok(counted)
+}
+
+// A verdict ends.
+fn end(
+    spec: &Spec,
+    obligations: &[Obligation],
+    budget: u32,
+    ended: &Ended,
+    judgement: &mut Judgement,
+) -> Result<(), AllocError>
+    requires list { obligations.now ≡ obligations_of spec.now }
+    requires members { (ob : Obligation) → Contains obligations.now ob → IsObligation spec.now ob }
+    ensures { OnOk result (judgement.new ≡ ended_as spec.now budget (Some ended.now) judgement.old) }
+{
+    let ob = obligation_due(obligations, &judgement.tally)?;
+    let tally = with_ended(ended, judgement.tally)?;
+    let fault = end_fault(spec, ob, budget, judgement, ended)?;
+    judgement.tally = tally;
+    judgement.kernel = None;
+    judgement.fault = or_else(judgement.fault, fault);
+    Ok(())
+}
+
+/// Takes what a reader tells of the line of this number.
+pub fn take(
+    alloc: Global,
+    spec: &Spec,
+    obligations: &[Obligation],
+    budget: u32,
+    number: u32,
+    fed: &Fed,
+    judgement: &mut Judgement,
+) -> Result<(), AllocError>
+    requires list { obligations.now ≡ obligations_of spec.now }
+    requires members { (ob : Obligation) → Contains obligations.now ob → IsObligation spec.now ob }
+    ensures { OnOk result (judgement.new ≡ taken_as spec.now budget number fed.now judgement.old) }
+{
+    if let Some(word) = &fed.begin {
+        begin(alloc, spec, obligations, number, word, judgement)?;
+    }
+    if let Some(line) = &fed.log {
+        log_line(number, line, judgement)?;
+    }
+    if let Some(ended) = &fed.ended {
+        end(spec, obligations, budget, ended, judgement)?;
+    }
+    Ok(())
+}

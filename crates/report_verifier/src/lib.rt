@@ -1,0 +1,27 @@
+// The verifier of reports: whether bytes are a report on a specification whose verdicts all rest on what they say.
+//
+// It believes nothing of the program that wrote the report. The text is read by `report_text`; for each verdict the ground problem of
+// its obligation is made anew (`instances`, `clausify`), the lines of a log are taken by the kernel (`proof_kernel`), and a witness is
+// tried by evaluation (`obligation_list`). So an accepted report whose verdicts are all proved shows that the specification is safe.
+//
+// Definitions, in the order in which a reader needs them: specs/Valid (when a verdict is valid), specs/Rules (the same as a function:
+// the fault of a verdict and its line, and the first one of a report), specs/Verified (what is answered to bytes), specs/Verifier
+// (what is kept of a report line by line). specs/Taking mirrors the code.
+#![tactic(auto)]
+
+mod ending;
+mod judgement;
+mod laws;
+mod logs;
+mod posing;
+mod refused;
+mod verifier;
+mod verifying;
+
+pub use laws::{
+    law_accepted_is_safe, law_lines_are_verified, law_one_answer, law_proved_holds,
+    law_refuted_breaks, law_valid_verdicts,
+};
+pub use refused::VerifyRefused;
+pub use verifier::Verifier;
+pub use verifying::verify_all;

@@ -1,0 +1,196 @@
+// A verifier of a report, line by line.
+ghost use Rattle.std.specs.Prelude.{◌≡◌, ◌≤◌, IfOk, IsErr, true, false};
+ghost use Rattle.report_text.specs.Collecting.{budget_in};
+ghost use Rattle.report_verifier.specs.Taking.{IsTold};
+ghost use Rattle.report_verifier.specs.Verifier.{first_verifier, IsTaken, IsFinished, IsCutOff, IsJudgement, IsMissing, clauses_in, most_kept};
+
+use crate::judgement::{Judgement, no_judgement, take};
+use crate::refused::VerifyRefused;
+use items::Items;
+use obligation_list::{Obligation, list};
+use proof_report::{Fed, ReportKind, ReportReader, ReportRefused};
+use report_lines::head::Tally;
+use spec_core::Spec;
+use std::alloc::{AllocError, Global};
+use std::marker::Model;
+
+/// Verifies a report line by line. It keeps one block, and of its log the clauses that weren't dropped. Contracts see it as a
+/// `VerifierForm`.
+#[derive(Drop)]
+pub struct Verifier<'a> {
+    alloc: Global,
+    spec: &'a Spec,
+    obligations: Items<Obligation>,
+    reader: ReportReader<'a>,
+    judgement: Judgement,
+    failed: bool,
+}
+
+impl<'a> Model for Verifier<'a> {
+    ghost use Rattle.std.specs.Prelude.{◌≡◌};
+    ghost use Rattle.std.specs.Coded.{codes};
+    ghost use Rattle.std.specs.List.{Contains};
+    ghost use Rattle.spec_core.specs.Code.{coded_form};
+    ghost use Rattle.obligation_list.specs.declared.obligation.Obligation.{Obligation};
+    ghost use Rattle.obligation_list.specs.Obligations.{obligations_of, IsObligation};
+    ghost use Rattle.report_verifier.specs.Verifier.{VerifierForm, IsWithin};
+
+    ghost Value = { VerifierForm };
+
+    ghost coded = { Prim.hlevel (codes, coded_form) };
+
+    ghost view = { λ a. record { reader = a.reader; judgement = a.judgement; failed = a.failed } };
+
+    ghost invariant = { λ a. (a.obligations ≡ obligations_of a.spec.now) × (a.reader.spec ≡ a.spec.now) × ((ob : Obligation) → Contains a.obligations ob → IsObligation a.spec.now ob) × IsWithin a.spec.now a.judgement };
+}
+
+// The budget of log lines, where it was stated.
+fn budget_in(reader: &ReportReader<'_>) -> u32
+    ensures { result ≡ budget_in reader.now.budget }
+{
+    match reader.budget() {
+        Some(budget) => budget,
+        None => 0,
+    }
+}
+
+impl<'a> Verifier<'a> {
+    /// The verifier before the first line.
+    pub fn new(alloc: Global, spec: &'a Spec) -> Result<Verifier<'a>, AllocError>
+        ensures { IfOk result (λ v. v ≡ first_verifier spec.now) }
+    {
+        let obligations = list(alloc, spec)?;
+        let Ok(reader) = ReportReader::new(alloc, spec) else {
+            drop(obligations);
+            return Err(AllocError);
+        };
+        Ok(Verifier {
+            alloc,
+            spec,
+            obligations,
+            reader,
+            judgement: no_judgement(),
+            failed: false,
+        })
+    }
+
+    // Has failed, for want of memory.
+    fn fail(&mut self) -> Result<(), AllocError>
+        ensures failed { self.new.failed ≡ true }
+        ensures error { IsErr result }
+    {
+        self.judgement = no_judgement();
+        self.failed = true;
+        Err(AllocError)
+    }
+
+    // Takes what the reader tells of its last line.
+    fn take(&mut self, fed: &Fed) -> Result<(), AllocError>
+        requires { self.old.failed ≡ false }
+        ensures { IsTold self.old fed.now self.new result }
+    {
+        match take(
+            self.alloc,
+            self.spec,
+            self.obligations.as_slice(),
+            budget_in(&self.reader),
+            self.reader.taken(),
+            fed,
+            &mut self.judgement,
+        ) {
+            Ok(()) => Ok(()),
+            Err(error) => {
+                self.judgement = no_judgement();
+                self.failed = true;
+                Err(error)
+            }
+        }
+    }
+
+    /// Takes the next line, without its line feed. What is wrong with it is answered at the end. After a refusal, which is for want of
+    /// memory, each later line is refused too.
+    pub fn feed(&mut self, text: &[u8]) -> Result<(), AllocError>
+        ensures { IsTaken self.old text.now self.new result }
+    {
+        if self.failed {
+            return Err(AllocError);
+        }
+        match self.reader.feed(text) {
+            Ok(fed) => {
+                let taken = self.take(&fed);
+                drop(fed);
+                taken
+            }
+            Err(ReportRefused::Line { .. }) => Ok(()),
+            Err(ReportRefused::Memory) => self.fail(),
+        }
+    }
+
+    /// How many clauses the kernel has had, dropped or not: none outside a log; in a log at most those of the problem of its obligation,
+    /// and one for each line of the log so far.
+    pub fn kept(&self) -> u32
+        ensures clauses { result ≡ clauses_in self.now.judgement.kernel }
+        ensures bound { result ≤ most_kept self.now.reader.spec self.now.judgement }
+    {
+        match &self.judgement.kernel {
+            Some(kernel) => kernel.clause_count(),
+            None => 0,
+        }
+    }
+
+    // What is answered to the first fault of a verdict, or where there is none.
+    fn judged(&self) -> Result<Tally, VerifyRefused>
+        ensures { IsJudgement self.now.judgement result }
+    {
+        match self.judgement.fault {
+            Some(fault) => Err(VerifyRefused::Line {
+                number: fault.number,
+                kind: fault.kind,
+            }),
+            None => Ok(self.judgement.tally),
+        }
+    }
+
+    // The line behind the last one has no form.
+    fn missing(&self) -> Result<Tally, VerifyRefused>
+        ensures { IsMissing self.now.reader.number result }
+    {
+        let number = self.reader.taken();
+        if number == u32::MAX {
+            return Err(VerifyRefused::Memory);
+        }
+        Err(VerifyRefused::Line {
+            number: number + 1,
+            kind: ReportKind::Form,
+        })
+    }
+
+    /// Whether the lines were a report whose verdicts rest on what they say: how many there are of each kind; or the first line that
+    /// breaks a rule, where what is wrong with the text comes before what is wrong with a verdict.
+    pub fn finish(self) -> Result<Tally, VerifyRefused>
+        ensures { IsFinished self.entry result }
+    {
+        if self.failed {
+            return Err(VerifyRefused::Memory);
+        }
+        match self.reader.finish() {
+            Ok(()) => self.judged(),
+            Err(ReportRefused::Line { number, kind }) => Err(VerifyRefused::Line { number, kind }),
+            Err(ReportRefused::Memory) => Err(VerifyRefused::Memory),
+        }
+    }
+
+    /// The same where bytes without a line feed stand behind the last line, which are of no form.
+    pub(crate) fn cut_off(self) -> Result<Tally, VerifyRefused>
+        ensures { IsCutOff self.entry result }
+    {
+        if self.failed {
+            return Err(VerifyRefused::Memory);
+        }
+        match self.reader.finish() {
+            Err(ReportRefused::Line { number, kind }) => Err(VerifyRefused::Line { number, kind }),
+            Err(ReportRefused::Memory) => Err(VerifyRefused::Memory),
+            Ok(()) => self.missing(),
+        }
+    }
+}
