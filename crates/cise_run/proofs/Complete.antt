@@ -17,10 +17,12 @@ use Rattle.replay_text.specs.Recorded.{status_read, schedule_status}
 use Rattle.report_lines.specs.declared.head.Outcome.{Outcome}
 use Rattle.check_run.specs.Reports.{status_of}
 use Rattle.proof_report.specs.Events.{outcome_of}
+use Rattle.report_verifier.specs.declared.refused.VerifyRefused.{VerifyRefused}
 use Rattle.cise_run.specs.declared.words.Task.{Task}
-use Rattle.cise_run.specs.declared.words.Task.TheVariants.{Check, Replay, Spell}
+use Rattle.cise_run.specs.declared.words.Task.TheVariants.{Check, Verify, Replay, Spell}
 use Rattle.cise_run.specs.declared.words.Job.{Job}
 use Rattle.cise_run.specs.declared.words.Job.TheVariants.{OfSpec, Sample}
+use Rattle.cise_run.specs.commands.Verify.{status_said}
 use Rattle.cise_run.specs.Answer.{IsOutcome, IsAnswerOf, IsAnswerTo}
 use Rattle.cise_run.specs.Headline.{is_outcome, is_memory, may_end_of, TellsSpecification, IsComplete}
 use Rattle.cise_run.proofs.Outcomes.{is_outcome-status_of}
@@ -59,12 +61,17 @@ may_replay false false false m e = absurd cc
 outcome_or : (o : Outcome) (rest : Bool) → is_outcome (status_of o) || rest ≡ true
 outcome_or o rest = or_left (is_outcome (status_of o)) rest (is_outcome-status_of o)
 
+said_ends : (said : Result Tally VerifyRefused) → may_end_of Verify (status_said said) ≡ true
+said_ends (Ok tally) = outcome_or (outcome_of tally) _
+said_ends (Err why) = refl
+
 -- what is true of the status that it is, is true of it
 at_status : (task : Task) (status s : ℕ) → status ≡ s → may_end_of task s ≡ true → may_end_of task status ≡ true
 at_status task status s e = subst (λ n. may_end_of task n ≡ true) (sym e)
 
 outcome_ends : (task : Task) (tree : TreeForm) (d : Specification) (more : List ℕ) (status : ℕ) (text : List ℕ) → IsOutcome task tree d more status text → may_end_of task status ≡ true
 outcome_ends (Check budget) tree d more status text r = at_status (Check budget) status _ r.status_is (outcome_or (outcome_of r.tally) _)
+outcome_ends Verify tree d more status text v = at_status Verify status _ v.status_is (said_ends v.said)
 outcome_ends Replay tree d more status text r =
     let s = schedule_status d more in
     at_status Replay status s r.status_is (may_replay (s == 0) (s == 1) (s == 4) (is_memory s) (replay_ends d more))
@@ -83,6 +90,7 @@ told_answer_ends task (Some some) extra status text (bytes, d, e, is) (given, mo
 -- want of memory may always be answered
 memory_ends : (task : Task) → may_end_of task 8 ≡ true
 memory_ends (Check budget) = refl
+memory_ends Verify = refl
 memory_ends Replay = refl
 memory_ends Spell = refl
 

@@ -11,16 +11,16 @@ use Rattle.replay_text.proofs.Safety.{safe_status, schedule_safely}
 use Rattle.spec_from_bytes.specs.Refusal.{IsReadAs, IsSpecificationOf}
 use Rattle.spec_from_bytes.proofs.Reasons.{specification_unique}
 use Rattle.cise_run.specs.declared.words.Task.{Task}
-use Rattle.cise_run.specs.declared.words.Task.TheVariants.{Check, Replay, Spell}
+use Rattle.cise_run.specs.declared.words.Task.TheVariants.{Check, Verify, Replay, Spell}
 use Rattle.cise_run.specs.declared.words.Job.{Job}
 use Rattle.cise_run.specs.declared.words.Job.TheVariants.{OfSpec, Sample}
 use Rattle.report_lines.specs.Heads.{most_budget}
 use Rattle.cise_run.specs.Words.{is_within, is_task, is_job, job_of, judges, is_judging, is_replay}
 use Rattle.cise_run.specs.Answer.{IsOutcome, IsAnswerOf, IsAnswerTo, IsAnswer}
 use Rattle.cise_run.specs.Headline.{IsProved, is_outcome, IsRefutedRightly, RefutesOf, Refutes, IsReplayedSafely}
-use Rattle.cise_run.proofs.Laws.{TypesWell, OfChecks}
+use Rattle.cise_run.proofs.Laws.{TypesWell, OfChecks, OfReports}
 use Rattle.cise_run.proofs.Jobs.{is_job-job_of}
-use Rattle.cise_run.proofs.Reports.{is_specification-read, safe_checked, right_checked}
+use Rattle.cise_run.proofs.Reports.{is_specification-read, safe_checked, right_checked, safe_verified, right_verified}
 
 -- ---- status 0
 
@@ -33,28 +33,29 @@ IsProved-safe bytes tree d read safe = record {
   converges = converges d safe;
 }
 
--- a check with status 0 shows that the specification is safe
-safe_outcome : (task : Task) (tree : TreeForm) (d : Specification) (more text : List ℕ) → OfChecks → is_judging task ≡ true → is_specification d ≡ true
+-- a check or a verified report with status 0 shows that the specification is safe
+safe_outcome : (task : Task) (tree : TreeForm) (d : Specification) (more text : List ℕ) → OfChecks → OfReports → is_judging task ≡ true → is_specification d ≡ true
     → IsOutcome task tree d more 0 text → Safe d
-safe_outcome (Check budget) tree d more text checks j is r = safe_checked d budget text checks is r
-safe_outcome Replay tree d more text checks j is v = absurd cc
-safe_outcome Spell tree d more text checks j is v = absurd cc
+safe_outcome (Check budget) tree d more text checks reports j is r = safe_checked d budget text checks is r
+safe_outcome Verify tree d more text checks reports j is v = safe_verified d more text reports is v
+safe_outcome Replay tree d more text checks reports j is v = absurd cc
+safe_outcome Spell tree d more text checks reports j is v = absurd cc
 
-proved_task : (task : Task) (bytes more text : List ℕ) → TypesWell → OfChecks → is_judging task ≡ true → IsAnswerOf task bytes more 0 text → IsProved bytes
-proved_task task bytes more text well checks j (inl (why, is, one)) = absurd (omega (arith, one.0))
-proved_task task bytes more text well checks j (inr (tree, d, read, done)) =
-    IsProved-safe bytes tree d read (safe_outcome task tree d more text checks j (is_specification-read bytes tree d well read) done)
+proved_task : (task : Task) (bytes more text : List ℕ) → TypesWell → OfChecks → OfReports → is_judging task ≡ true → IsAnswerOf task bytes more 0 text → IsProved bytes
+proved_task task bytes more text well checks reports j (inl (why, is, one)) = absurd (omega (arith, one.0))
+proved_task task bytes more text well checks reports j (inr (tree, d, read, done)) =
+    IsProved-safe bytes tree d read (safe_outcome task tree d more text checks reports j (is_specification-read bytes tree d well read) done)
 
-proved_told : (job : Option Job) (told extra : Option (List ℕ)) (text : List ℕ) → TypesWell → OfChecks → judges job ≡ true → IsAnswerTo job told extra 0 text → IfSome told IsProved
-proved_told job None extra text well checks j a = tt
-proved_told None (Some bytes) extra text well checks j a = absurd cc
-proved_told (Some (Sample n)) (Some bytes) extra text well checks j a = absurd cc
-proved_told (Some (OfSpec task)) (Some bytes) extra text well checks j (given, more, told, also, a) =
-    subst IsProved (sym told) (proved_task task given more text well checks j a)
+proved_told : (job : Option Job) (told extra : Option (List ℕ)) (text : List ℕ) → TypesWell → OfChecks → OfReports → judges job ≡ true → IsAnswerTo job told extra 0 text → IfSome told IsProved
+proved_told job None extra text well checks reports j a = tt
+proved_told None (Some bytes) extra text well checks reports j a = absurd cc
+proved_told (Some (Sample n)) (Some bytes) extra text well checks reports j a = absurd cc
+proved_told (Some (OfSpec task)) (Some bytes) extra text well checks reports j (given, more, told, also, a) =
+    subst IsProved (sym told) (proved_task task given more text well checks reports j a)
 
-pub IsProved-zero : (words : List (List ℕ)) (told extra : Option (List ℕ)) (text : List ℕ) → TypesWell → OfChecks → judges (job_of words) ≡ true → IsAnswer words told extra 0 text
+pub IsProved-zero : (words : List (List ℕ)) (told extra : Option (List ℕ)) (text : List ℕ) → TypesWell → OfChecks → OfReports → judges (job_of words) ≡ true → IsAnswer words told extra 0 text
     → IfSome told IsProved
-IsProved-zero words told extra text well checks j a = proved_told (job_of words) told extra text well checks j a
+IsProved-zero words told extra text well checks reports j a = proved_told (job_of words) told extra text well checks reports j a
 
 -- ---- refutations
 
@@ -65,23 +66,31 @@ refutes_checked : (bytes more : List ℕ) (budget status : ℕ) (text : List ℕ
 refutes_checked bytes more budget status text well checks w o (inl (why, is, one)) = absurd (not_three status o one.0)
 refutes_checked bytes more budget status text well checks w o (inr (tree, d, read, r)) = right_checked bytes d budget status text checks (tree, read) (is_specification-read bytes tree d well read) w r
 
-refutes_told : (task : Task) (told extra : Option (List ℕ)) (status : ℕ) (text : List ℕ) (before after : Option (List ℕ)) → TypesWell → OfChecks → is_task task ≡ true → is_outcome status ≡ true
+refutes_verified : (bytes more : List ℕ) (status : ℕ) (text : List ℕ) → OfReports → is_outcome status ≡ true → IsAnswerOf Verify bytes more status text → IsRefutedRightly bytes more
+refutes_verified bytes more status text reports o (inl (why, is, one)) = absurd (not_three status o one.0)
+refutes_verified bytes more status text reports o (inr (tree, d, read, v)) = right_verified bytes d more status text reports (tree, read) o v
+
+refutes_told : (task : Task) (told extra : Option (List ℕ)) (status : ℕ) (text : List ℕ) (before after : Option (List ℕ)) → TypesWell → OfChecks → OfReports → is_task task ≡ true → is_outcome status ≡ true
     → IsAnswerTo (Some (OfSpec task)) told extra status text → Appends before after text → RefutesOf task told extra before after
-refutes_told (Check budget) None extra status text before after well checks t o a w = tt
-refutes_told (Check budget) (Some bytes) extra status text before after well checks t o (given, more, told, also, a) w =
+refutes_told (Check budget) None extra status text before after well checks reports t o a w = tt
+refutes_told (Check budget) (Some bytes) extra status text before after well checks reports t o (given, more, told, also, a) w =
     (text, w, subst (λ bs. IsRefutedRightly bs text) (sym told) (refutes_checked given more budget status text well checks t o a))
-refutes_told Replay told extra status text before after well checks t o a w = tt
-refutes_told Spell told extra status text before after well checks t o a w = tt
+refutes_told Verify None extra status text before after well checks reports t o a w = tt
+refutes_told Verify (Some bytes) None status text before after well checks reports t o a w = tt
+refutes_told Verify (Some bytes) (Some report) status text before after well checks reports t o (given, more, told, also, a) w =
+    subst (λ bs. IsRefutedRightly bs report) (sym told) (subst (IsRefutedRightly given) (sym also) (refutes_verified given more status text reports o a))
+refutes_told Replay told extra status text before after well checks reports t o a w = tt
+refutes_told Spell told extra status text before after well checks reports t o a w = tt
 
-refutes_job : (job : Option Job) (told extra : Option (List ℕ)) (status : ℕ) (text : List ℕ) (before after : Option (List ℕ)) → TypesWell → OfChecks → IfSome job (λ j. is_job j ≡ true)
+refutes_job : (job : Option Job) (told extra : Option (List ℕ)) (status : ℕ) (text : List ℕ) (before after : Option (List ℕ)) → TypesWell → OfChecks → OfReports → IfSome job (λ j. is_job j ≡ true)
     → is_outcome status ≡ true → IsAnswerTo job told extra status text → Appends before after text → Refutes job told extra before after
-refutes_job None told extra status text before after well checks j o a w = tt
-refutes_job (Some (OfSpec task)) told extra status text before after well checks j o a w = refutes_told task told extra status text before after well checks j o a w
-refutes_job (Some (Sample n)) told extra status text before after well checks j o a w = tt
+refutes_job None told extra status text before after well checks reports j o a w = tt
+refutes_job (Some (OfSpec task)) told extra status text before after well checks reports j o a w = refutes_told task told extra status text before after well checks reports j o a w
+refutes_job (Some (Sample n)) told extra status text before after well checks reports j o a w = tt
 
-pub Refutes-answer : (words : List (List ℕ)) (told extra : Option (List ℕ)) (status : ℕ) (text : List ℕ) (before after : Option (List ℕ)) → TypesWell → OfChecks → is_outcome status ≡ true
+pub Refutes-answer : (words : List (List ℕ)) (told extra : Option (List ℕ)) (status : ℕ) (text : List ℕ) (before after : Option (List ℕ)) → TypesWell → OfChecks → OfReports → is_outcome status ≡ true
     → IsAnswer words told extra status text → Appends before after text → Refutes (job_of words) told extra before after
-Refutes-answer words told extra status text before after well checks o a w = refutes_job (job_of words) told extra status text before after well checks (is_job-job_of words) o a w
+Refutes-answer words told extra status text before after well checks reports o a w = refutes_job (job_of words) told extra status text before after well checks reports (is_job-job_of words) o a w
 
 -- ---- a replay
 
@@ -112,4 +121,5 @@ replayed_safely None (Some bytes) extra status c a = absurd (cc c)
 replayed_safely (Some (Sample n)) (Some bytes) extra status c a = absurd (cc c)
 replayed_safely (Some (OfSpec Spell)) (Some bytes) extra status c a = absurd (cc c)
 replayed_safely (Some (OfSpec (Check budget))) (Some bytes) extra status c a = absurd (cc c)
+replayed_safely (Some (OfSpec Verify)) (Some bytes) extra status c a = absurd (cc c)
 replayed_safely (Some (OfSpec Replay)) (Some bytes) extra status c a = replayed_told bytes extra status a

@@ -7,12 +7,13 @@ use Rattle.spec_from_bytes.specs.Lines.{line}
 use Rattle.spec_from_bytes.specs.Refusal.{IsReadAs, Refusal, IsRefusal, refusal_text}
 use Rattle.spec_from_bytes.specs.Reading.{Tells}
 use Rattle.cise_run.specs.declared.words.Task.{Task}
-use Rattle.cise_run.specs.declared.words.Task.TheVariants.{Check, Replay, Spell}
+use Rattle.cise_run.specs.declared.words.Task.TheVariants.{Check, Verify, Replay, Spell}
 use Rattle.cise_run.specs.declared.words.Job.{Job}
 use Rattle.cise_run.specs.declared.words.Job.TheVariants.{OfSpec, Sample}
 use Rattle.cise_run.specs.Words.{job_of}
 use Rattle.cise_run.specs.Ending.{IsOne, IsFrontOf, IsBroken, Ends}
 use Rattle.cise_run.specs.commands.Check.{IsReport, IsReportFront}
+use Rattle.cise_run.specs.commands.Verify.{IsVerdict, IsVerdictFront}
 use Rattle.cise_run.specs.commands.Replay.{IsReplayed, IsReplayFront}
 use Rattle.cise_run.specs.commands.Spell.{IsSpelled, IsSpellFront}
 use Rattle.cise_run.specs.commands.Sample.{IsSampled, IsSampleFront}
@@ -23,12 +24,14 @@ use Rattle.cise_run.specs.commands.Sample.{IsSampled, IsSampleFront}
 -- second input.
 abbrev pub IsOutcome : Task → TreeForm → Specification → List ℕ → ℕ → List ℕ → Type 0
 IsOutcome (Check budget) tree d more status text = IsReport budget d status text
+IsOutcome Verify tree d more status text = IsVerdict d more status text
 IsOutcome Replay tree d more status text = IsReplayed d more status text
 IsOutcome Spell tree d more status text = IsSpelled tree status text
 
 -- what is left of it where it is stopped
 abbrev pub IsOutcomeFront : Task → TreeForm → Specification → List ℕ → List ℕ → Type 0
 IsOutcomeFront (Check budget) tree d more front = IsReportFront budget d front
+IsOutcomeFront Verify tree d more front = IsVerdictFront d more front
 IsOutcomeFront Replay tree d more front = IsReplayFront d more front
 IsOutcomeFront Spell tree d more front = IsSpellFront tree front
 
@@ -107,6 +110,7 @@ abbrev pub AgreeOf : Task → ℕ → List ℕ → ℕ → List ℕ → Type 0
 AgreeOf (Check budget) status text other_status other_text =
     IsOne status text other_status other_text
     ⊎ ((d : Specification) × IsReport budget d status text × IsReport budget d other_status other_text)
+AgreeOf Verify status text other_status other_text = IsOne status text other_status other_text
 AgreeOf Replay status text other_status other_text = IsOne status text other_status other_text
 AgreeOf Spell status text other_status other_text = IsOne status text other_status other_text
 

@@ -1,4 +1,4 @@
--- What status 0 of a check says, what a refutation says, what a replay of a safe specification keeps, and which
+-- What status 0 of a check or of a verified report says, what a refutation says, what a replay of a safe specification keeps, and which
 -- statuses may come at all.
 use Rattle.std.specs.Prelude.{◌≡◌, ◌⊎◌, ℕ, Bool, true, ◌||◌, ◌==◌, List, Option, None, Some, IfSome, Ok, slice_get}
 use Rattle.std.specs.Io.KnownBytes.{Appends}
@@ -18,7 +18,7 @@ use Rattle.replay_text.specs.Course.{course}
 use Rattle.replay_text.specs.Safely.{PrintAlike}
 use Rattle.check_run.specs.Shown.{listing_of}
 use Rattle.cise_run.specs.declared.words.Task.{Task}
-use Rattle.cise_run.specs.declared.words.Task.TheVariants.{Check, Replay, Spell}
+use Rattle.cise_run.specs.declared.words.Task.TheVariants.{Check, Verify, Replay, Spell}
 use Rattle.cise_run.specs.declared.words.Job.{Job}
 use Rattle.cise_run.specs.declared.words.Job.TheVariants.{OfSpec, Sample}
 
@@ -57,12 +57,17 @@ pub record IsRefutedRightly (bytes report : List ℕ) : Type 0 where
 abbrev pub WritesRightly : Option (List ℕ) → Option (List ℕ) → Option (List ℕ) → Type 0
 WritesRightly spec held_before held_after = IfSome spec (λ bytes. (text : List ℕ) × Appends held_before held_after text × IsRefutedRightly bytes text)
 
+-- What the second source told is such a report.
+abbrev pub VerifiesRightly : Option (List ℕ) → Option (List ℕ) → Type 0
+VerifiesRightly spec extra = IfSome spec (λ bytes. IfSome extra (λ report. IsRefutedRightly bytes report))
+
 abbrev pub RefutesOf : Task → Option (List ℕ) → Option (List ℕ) → Option (List ℕ) → Option (List ℕ) → Type 0
 RefutesOf (Check budget) spec extra held_before held_after = WritesRightly spec held_before held_after
+RefutesOf Verify spec extra held_before held_after = VerifiesRightly spec extra
 RefutesOf Replay spec extra held_before held_after = Unit {0}
 RefutesOf Spell spec extra held_before held_after = Unit {0}
 
--- Where the words ask for a verdict on a specification, each refutation that is written is right.
+-- Where the words ask for a verdict on a specification, each refutation that is written or verified is right.
 abbrev pub Refutes : Option Job → Option (List ℕ) → Option (List ℕ) → Option (List ℕ) → Option (List ℕ) → Type 0
 Refutes None spec extra held_before held_after = Unit {0}
 Refutes (Some (OfSpec task)) spec extra held_before held_after = RefutesOf task spec extra held_before held_after
@@ -91,6 +96,7 @@ is_memory status = status == 8
 -- is no other answer.
 abbrev pub may_end_of : Task → ℕ → Bool
 may_end_of (Check budget) status = is_outcome status || is_memory status
+may_end_of Verify status = is_outcome status || ((status == 4) || is_memory status)
 may_end_of Replay status = (status == 0) || ((status == 1) || ((status == 4) || is_memory status))
 may_end_of Spell status = (status == 0) || is_memory status
 

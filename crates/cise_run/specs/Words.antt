@@ -5,7 +5,7 @@ use Rattle.byte_ports.specs.Faults.{IsFault}
 use Rattle.word_cut.specs.Whole.{size_read}
 use Rattle.report_lines.specs.Heads.{most_budget}
 use Rattle.cise_run.specs.declared.words.Task.{Task}
-use Rattle.cise_run.specs.declared.words.Task.TheVariants.{Check, Replay, Spell}
+use Rattle.cise_run.specs.declared.words.Task.TheVariants.{Check, Verify, Replay, Spell}
 use Rattle.cise_run.specs.declared.words.Job.{Job}
 use Rattle.cise_run.specs.declared.words.Job.TheVariants.{OfSpec, Sample}
 
@@ -50,14 +50,16 @@ job_of_two command word =
 
 abbrev pub job_of_three : List ℕ → Option Job
 job_of_three command =
-    if bytes_eq command (codes "replay") then Some (OfSpec Replay) else None
+    if bytes_eq command (codes "verify") then Some (OfSpec Verify)
+    else (if bytes_eq command (codes "replay") then Some (OfSpec Replay) else None)
 
 abbrev pub job_of_four : List ℕ → List ℕ → List ℕ → Option Job
 job_of_four command option word =
     if bytes_eq command (codes "check") then (if bytes_eq option (codes "--budget") then check_within (number_in most_budget word) else None) else None
 
 -- The job that the words ask for; none where they aren't accepted. The accepted words are `check SPEC`, `check SPEC --budget N` with N
--- from 1 to 1,000,000, `replay SPEC SCHEDULE`, `spell SPEC` and `sample N` with N from 1 to 12; SPEC and SCHEDULE are any texts.
+-- from 1 to 1,000,000, `verify SPEC REPORT`, `replay SPEC SCHEDULE`, `spell SPEC` and `sample N` with N from 1 to 12; SPEC, REPORT and
+-- SCHEDULE are any texts.
 abbrev pub job_of : List (List ℕ) → Option Job
 job_of [] = None
 job_of (command ∷ []) = None
@@ -69,6 +71,7 @@ job_of (command ∷ path ∷ option ∷ word ∷ more ∷ words) = None
 -- The number in a job is within its limits.
 abbrev pub is_task : Task → Bool
 is_task (Check budget) = is_within most_budget budget
+is_task Verify = true
 is_task Replay = true
 is_task Spell = true
 
@@ -81,6 +84,7 @@ is_job (Sample n) = is_within most_sample n
 -- the second input is read for a task
 abbrev pub takes_extra : Task → Bool
 takes_extra (Check budget) = false
+takes_extra Verify = true
 takes_extra Replay = true
 takes_extra Spell = false
 
@@ -100,9 +104,10 @@ abbrev pub IsInputFault : Option Job → ℕ → ℕ → ℕ → ℕ → Type 0
 IsInputFault job spec_before spec_after extra_before extra_after =
     ((reads_spec job ≡ true) × IsFault spec_before spec_after) ⊎ ((reads_extra job ≡ true) × IsFault extra_before extra_after)
 
--- the words ask for a verdict on a specification: for a check of it
+-- the words ask for a verdict on a specification: for a check of it, or for the verification of a report on it
 abbrev pub is_judging : Task → Bool
 is_judging (Check budget) = true
+is_judging Verify = true
 is_judging Replay = false
 is_judging Spell = false
 
@@ -114,6 +119,7 @@ judges (Some (Sample n)) = false
 -- they ask for a replay
 abbrev pub is_replaying : Task → Bool
 is_replaying (Check budget) = false
+is_replaying Verify = false
 is_replaying Replay = true
 is_replaying Spell = false
 

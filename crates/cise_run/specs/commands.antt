@@ -1,5 +1,6 @@
 -- What each command answers.
 pub mod Check
+pub mod Verify
 pub mod Replay
 pub mod Spell
 pub mod Sample

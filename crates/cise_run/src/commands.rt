@@ -3,3 +3,4 @@ pub mod check;
 pub mod replay;
 pub mod sample;
 pub mod spell;
+pub mod verify;

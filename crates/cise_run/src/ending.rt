@@ -8,7 +8,7 @@ use byte_ports::{Sink, WriteRefused, write_all};
 pub const WORDS: u8 = 2;
 /// The bytes are no specification.
 pub const SPECIFICATION: u8 = 3;
-/// The second input is no schedule, or a step of it breaks its rule.
+/// The second input is no report or no schedule, or a line or a step of it breaks its rule.
 pub const SECOND_INPUT: u8 = 4;
 /// A source that is read for the job has failed.
 pub const READ_FAULT: u8 = 6;

@@ -9,9 +9,10 @@ ghost use Rattle.cise_run.specs.Answer.{IsAnswer, IsAnswerOf, Agree};
 ghost use Rattle.cise_run.specs.Headline.{IsProved, is_outcome, Refutes};
 
 use check_run::{law_checked_is_read, law_good_verdicts, law_safe};
+use report_verifier::{law_accepted_is_safe, law_one_answer, law_refuted_breaks};
 use typing_rules::law_typed_is_well_formed;
 
-/// Where a check is answered with status 0, the bytes are a specification that is safe and
+/// Where a check, or the verification of a report, is answered with status 0, the bytes are a specification that is safe and
 /// converges. Where it is answered with the outcome of verdicts, each refutation breaks its obligation.
 pub fn law_headline()
     ensures proved { (words : List (List ℕ)) (spec extra : Option (List ℕ)) (text : List ℕ)
@@ -24,6 +25,8 @@ pub fn law_headline()
     law_safe();
     law_good_verdicts();
     law_checked_is_read();
+    law_accepted_is_safe();
+    law_refuted_breaks();
 }
 
 /// Two answers to the same words and bytes agree: they are the same, but for the verdicts of a report.
@@ -31,7 +34,10 @@ pub fn law_answers_agree()
     ensures { (words : List (List ℕ)) (spec extra : List ℕ) (status other_status : ℕ) (text other_text : List ℕ)
         → IsAnswer words (Some spec) (Some extra) status text → IsAnswer words (Some spec) (Some extra) other_status other_text
         → Agree (job_of words) status text other_status other_text }
-{}
+{
+    law_typed_is_well_formed();
+    law_one_answer();
+}
 
 /// Where a specification is refused, every answer to every task refuses it so.
 pub fn law_refused_for_all()

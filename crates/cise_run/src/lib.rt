@@ -6,7 +6,7 @@
 // agree.
 //
 // It stands on `spec_from_bytes`, which reads the specification, on `check_run`, which decides its obligations and writes the report, on
-// `replay_text`, which replays a schedule, and on `executions`, whose theorem makes a check that
+// `report_verifier`, which verifies one, on `replay_text`, which replays a schedule, and on `executions`, whose theorem makes a check that
 // ends with status 0 a proof of convergence. The definitions stand in specs/, in this order: Words (which words are accepted, what they
 // ask for, and which inputs that reads), Ending (how the writing of a text ends), commands (what each command answers, in a file for
 // each), Answer (which status and text belong to which words and bytes), Headline (what status 0 says, what a refutation says, what a

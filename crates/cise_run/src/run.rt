@@ -13,6 +13,7 @@ use crate::commands::check::check;
 use crate::commands::replay::replay_schedule;
 use crate::commands::sample::sample;
 use crate::commands::spell::spell_tree;
+use crate::commands::verify::verify;
 use crate::ending::{MEMORY, READ_FAULT, SPECIFICATION, WORDS, write_answer};
 use crate::law::law_headline;
 use crate::words::{Job, Task, job_asked};
@@ -39,6 +40,7 @@ fn do_task<E: Source, K: Sink>(
 {
     match task {
         Task::Check(budget) => check(alloc, budget, spec, out),
+        Task::Verify => verify(alloc, spec, extra, out),
         Task::Replay => replay_schedule(alloc, spec, extra, out),
         Task::Spell => spell_tree(alloc, tree, out),
     }
@@ -93,7 +95,7 @@ fn answer_task<S: Source, E: Source, K: Sink>(
 ///
 /// The statuses: 0, all verdicts are proved, the specification was spelled, or all steps were accepted and no state broke; 1, a verdict
 /// is refuted, or a state breaks an invariant; 2, the words aren't accepted; 3, the bytes are no specification; 4, the bytes of the
-/// second input are no schedule, or a step breaks its rule; 5, no verdict is refuted and one is undecided; 6, a
+/// second input are no report or no schedule, or a line or a step breaks its rule; 5, no verdict is refuted and one is undecided; 6, a
 /// source that is read for the job has failed; 7, the sink has failed; 8, out of memory.
 pub fn run<S: Source, E: Source, K: Sink>(
     alloc: Global,
@@ -109,10 +111,10 @@ pub fn run<S: Source, E: Source, K: Sink>(
     ensures front { 6 < result → IsStopped (map string_bytes words.now) (S.left spec.old) (E.left extra.old) (K.held out.old) (K.held out.new) }
     ensures known { result < 9 }
 
-    // The headline: a specification converges where its check ends with status 0.
+    // The headline: a specification converges where its check, or the verification of a report on it, ends with status 0.
     ensures proved { result ≡ 0 → judges (job_of (map string_bytes words.now)) ≡ true → IfSome (S.left spec.old) IsProved }
 
-    // Each refutation that is written breaks its obligation.
+    // Each refutation that is written or verified breaks its obligation.
     ensures refuted { is_outcome result ≡ true → Refutes (job_of (map string_bytes words.now)) (S.left spec.old) (E.left extra.old) (K.held out.old) (K.held out.new) }
 
     // And a safe specification is never replayed to a state that breaks an invariant.

@@ -10,6 +10,8 @@ use word_cut::read_number;
 pub enum Task {
     /// To check it, with a budget of log lines.
     Check(u32),
+    /// To verify a report on it.
+    Verify,
     /// To replay a schedule.
     Replay,
     /// To write its words in the layout of the language.
@@ -82,7 +84,9 @@ fn job_of_two(command: &str, word: &str) -> Option<Job>
 fn job_of_three(command: &str) -> Option<Job>
     ensures { result ≡ job_of_three command.now }
 {
-    if command == "replay" {
+    if command == "verify" {
+        Some(Job::OfSpec(Task::Verify))
+    } else if command == "replay" {
         Some(Job::OfSpec(Task::Replay))
     } else {
         None

@@ -1,4 +1,4 @@
-// The reports of `check`.
+// The reports of `check`, and their verification.
 use crate::examples::{
     DEPOSITS, FLAG, MANY, NO_FLAG, ODD, PURSES, RAISED, SETS, SHOP, TOURNAMENTS, VAST, WITHDRAWALS,
 };
@@ -6,10 +6,9 @@ use crate::running::{ends_with, has_lines, replaced, run_on};
 use std::alloc::{AllocError, Global};
 
 const CHECK: &[&str] = &["check", "s.cise"];
-
 const CHECK_LONG: &[&str] = &["check", "s.cise", "--budget", "1000000"];
-
 const CHECK_SHORT: &[&str] = &["check", "s.cise", "--budget", "1"];
+const VERIFY: &[&str] = &["verify", "s.cise", "s.report"];
 
 /// A specification whose report is known to the byte.
 #[derive(Clone, Copy)]
@@ -160,7 +159,18 @@ const CASES: [Case; 9] = [
     },
 ];
 
-/// Whether a check ends with this status and writes these lines.
+/// Whether the verification of a report ends as its check did, and counts the same.
+fn is_verified(alloc: Global, spec: &[u8], report: &[u8], status: u8) -> Result<bool, AllocError> {
+    let verified = run_on(alloc, VERIFY, spec, report)?;
+    let title = b"cise verify 1\n".as_slice();
+    let same = verified.status == status
+        && verified.text.starts_with(title)
+        && report.ends_with(&verified.text[title.len()..]);
+    drop(verified);
+    Ok(same)
+}
+
+/// Whether a check ends with this status and writes these lines, and its report is verified.
 fn is_checked(
     alloc: Global,
     words: &[&str],
@@ -173,21 +183,15 @@ fn is_checked(
     let as_wanted = ended.status == status
         && has_lines(&ended.text, lines)
         && !has_lines(&ended.text, &[without]);
+    let verified = is_verified(alloc, spec, &ended.text, status);
     drop(ended);
-    Ok(as_wanted)
+    Ok(as_wanted && verified?)
 }
 
 #[test]
-fn decides(rt: HostRuntime) {
+fn decides_and_verifies(rt: HostRuntime) {
     for it in &CASES {
-        let checked = is_checked(
-            rt.alloc(),
-            it.words,
-            it.spec,
-            it.status,
-            it.lines,
-            it.without,
-        );
+        let checked = is_checked(rt.alloc(), it.words, it.spec, it.status, it.lines, it.without);
         assert!(rt; checked.expect(&rt, "memory"));
     }
 }
@@ -195,18 +199,10 @@ fn decides(rt: HostRuntime) {
 #[test]
 fn decides_players_and_tournaments(rt: HostRuntime) {
     let alloc = rt.alloc();
-    let all = &[
-        b"summary proved 100 refuted 0 undecided 0".as_slice(),
-        b"accepted",
-    ];
+    let all = &[b"summary proved 100 refuted 0 undecided 0".as_slice(), b"accepted"];
     let whole = is_checked(alloc, CHECK_LONG, TOURNAMENTS, 0, all, b"refuted");
     assert!(rt; whole.expect(&rt, "memory"));
-    let free = replaced(
-        alloc,
-        TOURNAMENTS,
-        b"conflict entry ( p , t ) event ( t )\n",
-        b"",
-    );
+    let free = replaced(alloc, TOURNAMENTS, b"conflict entry ( p , t ) event ( t )\n", b"");
     let free = free.expect(&rt, "memory");
     let refuted = &[
         b"stable rem_tourn 1 enroll".as_slice(),

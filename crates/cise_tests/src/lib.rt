@@ -4,7 +4,7 @@
 // Each test is a table. It stands in a crate of its own so that no library is proved again with tests.
 //
 // `ports` has the sources and sinks. `printing` and `running` run the program on words and bytes and say what it prints; `check`,
-// `sample`, `replay` and `spell` have the commands, with the texts of `examples`; `words` has the words, `refusals` what is no
+// `verify`, `sample`, `replay` and `spell` have the commands, with the texts of `examples`; `words` has the words, `refusals` what is no
 // specification, `limits` the limits of the language, and `statuses` what stops a run.
 #![tactic(auto)]
 
@@ -30,5 +30,7 @@ mod sample;
 mod spell;
 #[cfg(test)]
 mod statuses;
+#[cfg(test)]
+mod verify;
 #[cfg(test)]
 mod words;

@@ -96,18 +96,28 @@ pub fn ends_with(
     Ok(same)
 }
 
+/// What stands in a text before and behind the first place of a part.
+fn around<'a>(text: &'a [u8], part: &[u8]) -> Option<(&'a [u8], &'a [u8])> {
+    for place in 0..text.len() {
+        let from = &text[place..];
+        if from.starts_with(part) {
+            let end = part.len().min(from.len());
+            return Some((&text[..place], &from[end..]));
+        }
+    }
+    None
+}
+
 /// A text in which the first place of one text is another.
 pub fn replaced(alloc: Global, text: &[u8], old: &[u8], new: &[u8]) -> Result<Vec<u8>, AllocError> {
     let mut changed = Vec::new(alloc);
-    let mut place = 0;
-    while place < text.len() && !text[place..].starts_with(old) {
-        changed.push(text[place])?;
-        place += 1;
-    }
-    if place < text.len() {
-        changed.extend_from_slice(new)?;
-        let behind = text[place..].len().min(old.len());
-        changed.extend_from_slice(&text[place..][behind..])?;
+    match around(text, old) {
+        Some((before, behind)) => {
+            changed.extend_from_slice(before)?;
+            changed.extend_from_slice(new)?;
+            changed.extend_from_slice(behind)?;
+        }
+        None => changed.extend_from_slice(text)?,
     }
     Ok(changed)
 }

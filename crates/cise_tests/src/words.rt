@@ -24,7 +24,7 @@ const REFUSED: [&[&str]; 22] = [
     &["check", "s.cise", "--budget", "-1"],
     &["check", "s.cise", "--budget", "1", "2"],
     &["check", "s.cise", "--limit", "1"],
-    &["verify", "s.cise", "s.report"],
+    &["verify", "s.cise", "--budget", "1"],
     &["sample", "01"],
     &["sample", "-1"],
 ];

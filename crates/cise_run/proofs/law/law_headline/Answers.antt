@@ -1,3 +1,4 @@
+use Rattle.cise_run.proofs.Laws.{TypesWell, OfChecks, OfReports}
 use Rattle.cise_run.proofs.Headline.{IsProved-zero, Refutes-answer}
 use Rattle.cise_run.proofs.law.law_headline.Goals as goal
 
@@ -6,6 +7,7 @@ returns-clause-proved c = λ words spec extra text judged answer.
     IsProved-zero words spec extra text
     c.law_typed_is_well_formed.ensures
     (record { safe = c.law_safe.ensures.safe; breaks = c.law_good_verdicts.ensures.refuted; is_read = c.law_checked_is_read.ensures })
+    (record { safe = c.law_accepted_is_safe.ensures.safe; breaks = c.law_refuted_breaks.ensures })
     judged answer
 
 pub returns-clause-refuted : goal.returns-clause-refuted
@@ -13,4 +15,5 @@ returns-clause-refuted c = λ words spec extra status text before after outcome 
     Refutes-answer words spec extra status text before after
     c.law_typed_is_well_formed.ensures
     (record { safe = c.law_safe.ensures.safe; breaks = c.law_good_verdicts.ensures.refuted; is_read = c.law_checked_is_read.ensures })
+    (record { safe = c.law_accepted_is_safe.ensures.safe; breaks = c.law_refuted_breaks.ensures })
     outcome answer written
