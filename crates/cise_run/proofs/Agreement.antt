@@ -1,5 +1,6 @@
 -- Two answers to the same words and bytes agree.
-use Rattle.std.proofs.Common.{◌≡◌, ℕ, List, Option, Some, None, sym, subst, ap, ◌∙◌, inl, inr}
+use Rattle.std.proofs.Common.{◌≡◌, ℕ, ◌≤◌, ◌<◌, true, List, Option, Some, None, refl, sym, subst, ap, ◌∙◌, inl, inr, arith}
+use Rattle.std.specs.Prelude.{Result, Ok, Err}
 use Rattle.spec_core.specs.Specification.{Specification}
 use Rattle.spec_core.specs.Typed.{is_specification}
 use Rattle.spec_reader.specs.Form.{TreeForm}

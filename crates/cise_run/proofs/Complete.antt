@@ -1,6 +1,6 @@
 -- That there is an answer where the specification is read and nothing fails.
-use Rattle.std.proofs.Common.{◌≡◌, ◌⊎◌, ℕ, ◌<◌, Bool, true, false, ◌||◌, ◌==◌, List, length, Option, Some, None, refl, sym, subst, ◌∙◌, inl, inr, arith}
-use Rattle.std.specs.Prelude.{nat_le, if◌then◌else◌, Ok}
+use Rattle.std.proofs.Common.{◌≡◌, ◌⊎◌, ℕ, ◌<◌, Bool, true, false, ◌||◌, ◌==◌, List, length, Option, Some, None, Result, refl, sym, subst, ◌∙◌, inl, inr, arith}
+use Rattle.std.specs.Prelude.{nat_le, if◌then◌else◌, Ok, Err}
 use Rattle.spec_core.specs.Specification.{Specification}
 use Rattle.spec_reader.specs.Form.{TreeForm}
 use Rattle.spec_from_bytes.specs.Refusal.{IsSpecificationOf}
@@ -14,6 +14,7 @@ use Rattle.replay_text.specs.declared.stop.Stop.TheVariants as stop
 use Rattle.replay_text.specs.Text as replay
 use Rattle.replay_text.specs.Course.{course}
 use Rattle.replay_text.specs.Recorded.{status_read, schedule_status}
+use Rattle.report_lines.specs.declared.head.Tally.{Tally}
 use Rattle.report_lines.specs.declared.head.Outcome.{Outcome}
 use Rattle.check_run.specs.Reports.{status_of}
 use Rattle.proof_report.specs.Events.{outcome_of}
