@@ -6,8 +6,11 @@ use crate::running::{ends_with, has_lines, replaced, run_on};
 use std::alloc::{AllocError, Global};
 
 const CHECK: &[&str] = &["check", "s.cise"];
+
 const CHECK_LONG: &[&str] = &["check", "s.cise", "--budget", "1000000"];
+
 const CHECK_SHORT: &[&str] = &["check", "s.cise", "--budget", "1"];
+
 const VERIFY: &[&str] = &["verify", "s.cise", "s.report"];
 
 /// A specification whose report is known to the byte.
@@ -191,7 +194,14 @@ fn is_checked(
 #[test]
 fn decides_and_verifies(rt: HostRuntime) {
     for it in &CASES {
-        let checked = is_checked(rt.alloc(), it.words, it.spec, it.status, it.lines, it.without);
+        let checked = is_checked(
+            rt.alloc(),
+            it.words,
+            it.spec,
+            it.status,
+            it.lines,
+            it.without,
+        );
         assert!(rt; checked.expect(&rt, "memory"));
     }
 }
@@ -199,10 +209,18 @@ fn decides_and_verifies(rt: HostRuntime) {
 #[test]
 fn decides_players_and_tournaments(rt: HostRuntime) {
     let alloc = rt.alloc();
-    let all = &[b"summary proved 100 refuted 0 undecided 0".as_slice(), b"accepted"];
+    let all = &[
+        b"summary proved 100 refuted 0 undecided 0".as_slice(),
+        b"accepted",
+    ];
     let whole = is_checked(alloc, CHECK_LONG, TOURNAMENTS, 0, all, b"refuted");
     assert!(rt; whole.expect(&rt, "memory"));
-    let free = replaced(alloc, TOURNAMENTS, b"conflict entry ( p , t ) event ( t )\n", b"");
+    let free = replaced(
+        alloc,
+        TOURNAMENTS,
+        b"conflict entry ( p , t ) event ( t )\n",
+        b"",
+    );
     let free = free.expect(&rt, "memory");
     let refuted = &[
         b"stable rem_tourn 1 enroll".as_slice(),

@@ -15,10 +15,12 @@ struct Row {
 }
 
 /// The report of a flag that is there.
-const FLAG_REPORT: &[u8] = b"cise report 1\nbudget 10000\nobligations 1\ninit alive\nproved 0\nsummary proved 1 refuted 0 undecided 0\naccepted\n";
+const FLAG_REPORT: &[u8] =
+    b"cise report 1\nbudget 10000\nobligations 1\ninit alive\nproved 0\nsummary proved 1 refuted 0 undecided 0\naccepted\n";
 
 /// The report of one that isn't.
-const NO_FLAG_REPORT: &[u8] = b"cise report 1\nbudget 10000\nobligations 1\ninit alive\nrefuted\nat\nsummary proved 0 refuted 1 undecided 0\nrejected\n";
+const NO_FLAG_REPORT: &[u8] =
+    b"cise report 1\nbudget 10000\nobligations 1\ninit alive\nrefuted\nat\nsummary proved 0 refuted 1 undecided 0\nrejected\n";
 
 /// A report on a flag that may be raised, with logs that were written by hand.
 const RAISED_REPORT: &[u8] = b"cise report 1
