@@ -22,8 +22,9 @@ pub mod Product
 pub mod SideLemmas
 pub mod Eliminating
 pub mod BoundLemmas
+pub mod Starting
+pub mod Namings
 pub mod Descents
 pub mod Taking
-pub mod Starting
 pub mod ListedLemmas
 pub mod Fingerprinting

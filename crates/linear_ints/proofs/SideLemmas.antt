@@ -1,9 +1,8 @@
-use Rattle.std.proofs.Common.{◌≡◌, ℕ, zero, suc, cond, ◌||◌, ◌<◌, ◌≤◌, ◌+◌, length, ℤ, pos, negsuc, Bool, true, false, not, ◌&&◌, List, [], ◌∷◌, ◌++◌, get_or, refl, sym, ◌∙◌, ap, subst, arith, inl, inr}
+use Rattle.std.proofs.Common.{◌≡◌, ℕ, zero, suc, cond, ◌||◌, ◌<◌, length, ℤ, pos, negsuc, Bool, true, false, not, ◌&&◌, List, [], ◌∷◌, ◌++◌, get_or, refl, sym, ◌∙◌, ap, arith}
 use Rattle.std.proofs.lemmas.Int.{ints}
 use Rattle.std.specs.Prelude.{◌==◌}
 use Rattle.std.specs.List.{list_all}
-use Rattle.std.proofs.lemmas.Bool.{cases_lt, and_parts, and_from, eqb-true, eq-eqb}
-use Rattle.std.proofs.lemmas.List.{length-append, get_or_append_left}
+use Rattle.std.proofs.lemmas.Bool.{and_parts, and_from, eqb-true, eq-eqb}
 use Rattle.lin_rows.specs.Numbers.{is_zero}
 use Rattle.lin_rows.specs.declared.term.RowTerm.{RowTerm}
 use Rattle.lin_rows.specs.Rows.{Row, is_row, coefficient_at}
@@ -11,7 +10,6 @@ use Rattle.lin_rows.proofs.Kept.{rises_of}
 use Rattle.proof_lines.specs.Numbers.{stands_in}
 use Rattle.proof_lines.specs.Steps.{row_at, is_negative, is_positive}
 use Rattle.theory_api.specs.Ends.{names_none}
-use Rattle.linear_ints.specs.Sides.{is_on, IsSide}
 use Rattle.linear_ints.proofs.Filling.{all-named}
 use Rattle.linear_ints.proofs.Splitting.{lt_so}
 
@@ -28,36 +26,6 @@ pub get_or-last : (xs : List ℕ) (x : ℕ) → get_or (xs ++ x ∷ []) (length 
 get_or-last [] x = refl
 get_or-last (y ∷ xs) x = get_or-last xs x
 
-pub side-none : (upper : Bool) (before : List ℕ) (place : ℕ) (held : List Row) → IsSide upper before place held 0 []
-side-none upper before place held = record { sound = λ a h. absurd (omega arith); complete = λ i h o. absurd (omega arith) }
-
--- a row that isn't on the side
-pub side-skip : (upper : Bool) (before : List ℕ) (place : ℕ) (held : List Row) (n : ℕ) (numbers : List ℕ) → IsSide upper before place held n numbers → is_on upper before place (row_at held n) ≡ false → IsSide upper before place held (n + 1) numbers
-side-skip upper before place held n numbers s o = record {
-  sound = λ a h. (let g = s.sound a h in ((let l = g.0 in omega arith), g.1));
-  complete = λ i h p. elim (cases_lt i n) [
-    | inl l ↦ s.complete i l p
-    | inr l ↦ absurd (let e : i ≡ n = omega arith in let q = ap (λ k. is_on upper before place (row_at held k)) e in cc)
-  ];
-}
-
--- a row that is
-pub side-push : (upper : Bool) (before : List ℕ) (place : ℕ) (held : List Row) (n : ℕ) (numbers : List ℕ) → IsSide upper before place held n numbers → is_on upper before place (row_at held n) ≡ true
-    → IsSide upper before place held (n + 1) (numbers ++ n ∷ [])
-side-push upper before place held n numbers s o = record {
-  sound = λ a h. elim (cases_lt a (length numbers)) [
-    | inl l ↦ (let g = s.sound a l in subst (λ (k : ℕ). (k < n + 1) × (is_on upper before place (row_at held k) ≡ true)) (sym (get_or_append_left numbers (n ∷ []) 0 a l)) ((let m = g.0 in omega arith), g.1))
-    | inr l ↦ subst (λ (k : ℕ). (k < n + 1) × (is_on upper before place (row_at held k) ≡ true)) (sym (ap (λ k. get_or (numbers ++ n ∷ []) k 0) (last a h l) ∙ get_or-last numbers n)) (omega arith, o)
-  ];
-  complete = λ i h p. elim (cases_lt i n) [
-    | inl l ↦ (let g = s.complete i l p in (g.0, (let m = g.1 in let k = length-append numbers (n ∷ []) in omega arith), get_or_append_left numbers (n ∷ []) 0 g.0 g.1 ∙ g.2))
-    | inr l ↦ (length numbers, (let k = length-append numbers (n ∷ []) in omega arith), get_or-last numbers n ∙ (omega arith))
-  ];
-}
-  where
-    last : (a : ℕ) → a < length (numbers ++ n ∷ []) → length numbers ≤ a → a ≡ length numbers
-    last a h l = let k = length-append numbers (n ∷ []) in omega arith
-
 -- the element at an index, whatever stands for a missing one
 pub indexed : (held found : List Row) (i : ℕ) (r : Row) → found ≡ held → i < length held → r ≡ get_or found i r → r ≡ row_at held i
 indexed held found i r e h k = k ∙ ap (λ (l : List Row). get_or l i r) e ∙ any_default held i h
@@ -66,10 +34,6 @@ indexed held found i r e h k = k ∙ ap (λ (l : List Row). get_or l i r) e ∙ 
     any_default [] i h = absurd (omega arith)
     any_default (q ∷ held) zero h = refl
     any_default (q ∷ held) (suc i) h = any_default held i (omega arith)
-
--- all rows are looked at
-pub side-to : (upper : Bool) (before : List ℕ) (place : ℕ) (held : List Row) (n : ℕ) (numbers : List ℕ) → IsSide upper before place held n numbers → n ≤ length held → length held ≤ n → IsSide upper before place held (length held) numbers
-side-to upper before place held n numbers s l m = record { sound = λ a h. (let g = s.sound a h in ((let k = g.0 in omega arith), g.1)); complete = λ i h o. s.complete i (omega arith) o }
 
 -- no term names one of some places exactly where the coefficients of all of them are 0
 free-zero : (places : List ℕ) (p : ℕ) (ts : List RowTerm) → stands_in places p ≡ true → list_all (λ t. not (stands_in places t.place)) ts ≡ true → is_zero (coefficient_at ts p) ≡ true

@@ -43,7 +43,7 @@ pub same-count : (m n : ℕ) (values : List ℤ) → AreZeros m values → m ≡
 same-count m n values z e = subst (λ (k : ℕ). AreZeros k values) e z
 
 -- a coefficient that isn't 0 stands in a term
-names-there : (q : ℕ) (ts : List RowTerm) → is_zero (coefficient_at ts q) ≡ false → list_any (λ t. t.place == q) ts ≡ true
+pub names-there : (q : ℕ) (ts : List RowTerm) → is_zero (coefficient_at ts q) ≡ false → list_any (λ t. t.place == q) ts ≡ true
 names-there q [] z = absurd cc
 names-there q (t ∷ ts) z = by_place (t.place == q) z (names-there q ts)
   where

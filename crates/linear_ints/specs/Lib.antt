@@ -14,4 +14,5 @@ pub mod Needed
 pub mod Descending
 pub mod Listed
 pub mod Places
+pub mod Naming
 pub mod Fingerprints

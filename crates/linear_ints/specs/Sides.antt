@@ -1,6 +1,7 @@
 -- The upper and the lower rows of a place, and the bounds that they give. It mirrors src/sides and src/bounds.
 use Rattle.std.specs.Prelude.{◌≡◌, ℕ, ◌<◌, ℤ, pos, neg_ℤ, ◌-ℤ◌, ◌≤ℤ◌, ◌^◌, Bool, true, cond, ◌&&◌, List, length, slice_index_or, Some, ◌⊎◌}
 use Rattle.lin_rows.specs.Rows.{Row, coefficient_at, point_of}
+use Rattle.proof_lines.specs.Numbers.{stands_in}
 use Rattle.proof_lines.specs.Steps.{row_at, is_positive, is_negative}
 use Rattle.proof_lines.specs.Splits.{rest_at}
 use Rattle.linear_ints.specs.Fractions.{size}
@@ -29,6 +30,11 @@ pub record Attains (upper : Bool) (before : List ℕ) (place : ℕ) (held : List
   pub below : row < length held
   pub on : is_on upper before place (row_at held row) ≡ true
   pub bound_at : IsBoundAt values place (row_at held row) bound
+
+-- the greatest bound of the rows of a side whose numbers are listed: that of a row, or the least of a state
+pub record IsGreatestOf (upper : Bool) (before : List ℕ) (place : ℕ) (held : List Row) (values : List ℤ) (named : List ℕ) (row : ℕ) (bound : ℤ) : Type 0 where
+  pub attained : (bound ≡ neg_ℤ (pos (10 ^ 15))) ⊎ Attains upper before place held values row bound
+  pub greatest : (i : ℕ) → i < length held → stands_in named i ≡ true → is_on upper before place (row_at held i) ≡ true → (b : ℤ) × IsBoundAt values place (row_at held i) b × (b ≤ℤ bound)
 
 -- the greatest bound of the rows of a side from some held rows: that of a row, or the least of a state
 pub record IsGreatest (upper : Bool) (before : List ℕ) (place : ℕ) (held : List Row) (values : List ℤ) (n : ℕ) (row : ℕ) (bound : ℤ) : Type 0 where

@@ -7,13 +7,12 @@ ghost use Rattle.linear_ints.specs.Ceilings.{IsBound, is_beyond};
 ghost use Rattle.linear_ints.specs.Descending.{IsFault, IsFaultAt};
 ghost use Rattle.linear_ints.specs.Fractions.{size};
 ghost use Rattle.linear_ints.specs.Listed.{listed};
-ghost use Rattle.linear_ints.specs.Sides.{IsBoundAt, IsGreatest};
+ghost use Rattle.linear_ints.specs.Sides.{IsBoundAt, IsGreatest, IsGreatestOf};
 ghost use Rattle.linear_ints.specs.Standing.{place_at};
-ghost use Rattle.proof_lines.specs.Evidence.{row_limit};
 
 use crate::ceiling::bound;
 use crate::order::Order;
-use crate::sides::is_on;
+use crate::sides::is_on_at;
 use crate::tableau::Tableau;
 use lin_rows::{Row, RowTerm, add_product};
 use proof_lines::splitting::is_above;
@@ -105,31 +104,28 @@ fn greater(old: Bound, value: i128, row: u32) -> Bound
     }
 }
 
-// The greatest bound that the rows on one side of a place give, at least that of a state; or the first row that gives none.
+// The greatest bound that those of some rows give that are on one side of a place, at least that of a state; or the first row that
+// gives none.
 fn greatest(
     upper: bool,
     before: &Order,
     place: u32,
     held: &[Row],
+    named: &[u32],
     values: &[i128],
 ) -> Result<Bound, FaultAt>
-    requires { length held.now < row_limit }
-    ensures { MatchResult result (λ b. IsGreatest upper before.now place held.now values.now (length held.now) b.row b.value) (λ f. IsFaultAt before.now place held.now values.now f) }
+    ensures { MatchResult result (λ b. IsGreatestOf upper before.now place held.now values.now named.now b.row b.value) (λ f. IsFaultAt before.now place held.now values.now f) }
 {
     let mut greatest = Bound {
         value: -1_000_000_000_000_000,
         row: 0,
     };
-    for number in 0..held.len() {
-        if is_on(upper, before, place, &held[number]) {
-            match bound_of(&held[number], place, values) {
-                Ok(value) => greatest = greater(greatest, value, number as u32),
-                Err(fault) => {
-                    return Err(FaultAt {
-                        row: number as u32,
-                        fault,
-                    });
-                }
+    for number in named {
+        let row = *number;
+        if is_on_at(upper, before, place, held, row) {
+            match bound_of(&held[row as usize], place, values) {
+                Ok(value) => greatest = greater(greatest, value, row),
+                Err(fault) => return Err(FaultAt { row, fault }),
             }
         }
     }
@@ -144,12 +140,13 @@ pub fn side_bound(
     stage: usize,
     values: &[i128],
 ) -> Result<Bound, FaultAt>
-    requires few { length tableau.now.held < row_limit }
     requires stage { stage < length tableau.now.order }
     requires before { before.now ≡ take stage tableau.now.order }
     ensures { MatchResult result (λ b. IsGreatest upper (take stage tableau.now.order) (place_at tableau.now.order stage) tableau.now.held values.now (length tableau.now.held) b.row b.value) (λ f. IsFaultAt (take stage tableau.now.order) (place_at tableau.now.order stage) tableau.now.held values.now f) }
 {
     let order = tableau.order.as_slice();
     let held = tableau.held.as_slice();
-    greatest(upper, before, order[stage], held, values)
+    let place = order[stage];
+    let named = tableau.held.naming(place);
+    greatest(upper, before, place, held, named, values)
 }

@@ -5,7 +5,7 @@ ghost use Rattle.proof_lines.specs.Numbers.{stands_in};
 ghost use Rattle.linear_ints.specs.Stops.{IsEarlyStop};
 ghost use Rattle.linear_ints.specs.Tableaux.{IsElimination};
 
-use crate::choosing::least;
+use crate::choosing::fewest;
 use crate::sides::side_of;
 use crate::steps::combine_all;
 use crate::stop::Stop;
@@ -26,13 +26,21 @@ fn without(alloc: Global, places: &[u32], place: u32) -> Result<Items<u32>, Allo
     Ok(Items::from_vec(left))
 }
 
-// A place goes from those that are left to the end of the order.
-fn pass_on(tableau: &mut Tableau, alloc: Global, place: u32) -> Result<(), AllocError>
+// A place goes from those that are left to the end of the order, and its rows count no longer.
+fn pass_on(
+    tableau: &mut Tableau,
+    alloc: Global,
+    place: u32,
+    uppers: &[u32],
+    lowers: &[u32],
+) -> Result<(), AllocError>
     ensures { OnOk result (tableau.new ≡ record tableau.old { order = tableau.old.order ++ place ∷ []; left = filter (λ q. not (q == place)) tableau.old.left }) }
 {
     let left = without(alloc, tableau.left.as_slice(), place)?;
     tableau.order.push(place)?;
     tableau.left = left;
+    tableau.held.set_aside(uppers);
+    tableau.held.set_aside(lowers);
     Ok(())
 }
 
@@ -53,11 +61,11 @@ fn eliminate_place(
     let Ok(lowers) = side_of(tableau, alloc, false, place) else {
         return Err(Stop::Memory);
     };
-    let Ok(()) = pass_on(tableau, alloc, place) else {
-        return Err(Stop::Memory);
-    };
     let highs = uppers.as_slice();
     let lows = lowers.as_slice();
+    let Ok(()) = pass_on(tableau, alloc, place, highs, lows) else {
+        return Err(Stop::Memory);
+    };
     match combine_all(tableau, alloc, rows, place, highs, lows) {
         Ok(()) => Ok(()),
         Err(stop) => Err(stop),
@@ -71,10 +79,7 @@ pub fn eliminate_all(tableau: &mut Tableau, alloc: Global, rows: &[Row]) -> Resu
 {
     'places: while !tableau.left.is_empty() {
         let left = tableau.left.as_slice();
-        let held = tableau.held.as_slice();
-        let Ok(place) = least(alloc, &tableau.order, left, tableau.ints, held) else {
-            return Err(Stop::Memory);
-        };
+        let place = fewest(&tableau.held, left);
         match eliminate_place(tableau, alloc, rows, place) {
             Ok(()) => (),
             Err(stop) => return Err(stop),

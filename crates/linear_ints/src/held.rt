@@ -1,13 +1,19 @@
-// The rows that are held, with an index by which a row is found among them.
+// The rows that are held, with an index by which a row is found among them, and one by which the rows of a place are found.
 //
 // A row has a fingerprint, and the index has the number of a row for each fingerprint of a held row. A row whose fingerprint isn't there
 // isn't held; one whose fingerprint is there is mostly the row of that number. Where two rows have one fingerprint, which is rare,
-// all rows are compared.
-ghost use Rattle.std.specs.Prelude.{◌≡◌, ℕ, ◌<◌, ◌||◌, ◌==◌, cond, true, length, OnErr, OnOk, Some, [], ◌∷◌, ◌++◌};
+// all rows are compared. The other index has for each place the numbers of the rows that name it.
+ghost use Rattle.std.specs.Prelude.{◌≡◌, ℕ, ◌<◌, ◌||◌, ◌==◌, cond, true, length, OnErr, OnOk, Some, is_some, [], ◌∷◌, ◌++◌};
 ghost use Rattle.std.specs.List.{list_any};
 ghost use Rattle.proof_lines.specs.Evidence.{same_row};
+ghost use Rattle.proof_lines.specs.Numbers.{stands_in};
+ghost use Rattle.proof_lines.specs.Steps.{row_at};
 ghost use Rattle.linear_ints.specs.Fingerprints.{fingerprint, fingerprint_limit, found, mixed, number_part};
+ghost use Rattle.linear_ints.specs.Naming.{KeepsLists, lists};
+ghost use Rattle.linear_ints.specs.Places.{names};
 
+use crate::counts::Counts;
+use crate::naming::{list_all, numbers_at};
 use items::Items;
 use lin_rows::{Row, RowTerm};
 use proof_lines::evidence::same_row;
@@ -21,6 +27,8 @@ use std::marker::Model;
 pub struct Held {
     rows: Items<Row>,
     numbers: HashMap<u64, u32>,
+    by_place: Vec<Items<u32>>,
+    counts: Counts,
 }
 
 impl Model for Held {
@@ -28,12 +36,13 @@ impl Model for Held {
     ghost use Rattle.lin_rows.specs.Rows.{Row};
     ghost use Rattle.proof_lines.specs.Steps.{row_at};
     ghost use Rattle.linear_ints.specs.Fingerprints.{fingerprint, found};
+    ghost use Rattle.linear_ints.specs.Naming.{IsNaming};
 
     ghost Value = { List Row };
 
     ghost view = { λ a. a.rows };
 
-    ghost invariant = { λ a. (i : ℕ) → i < length a.rows → is_some (found a.numbers (fingerprint (row_at a.rows i))) ≡ true };
+    ghost invariant = { λ a. ((i : ℕ) → i < length a.rows → is_some (found a.numbers (fingerprint (row_at a.rows i))) ≡ true) × IsNaming a.rows a.by_place.items };
 }
 
 impl Held {
@@ -43,6 +52,8 @@ impl Held {
         Held {
             rows: Items::new(alloc),
             numbers: HashMap::new(alloc),
+            by_place: Vec::new(alloc),
+            counts: Counts::new(alloc),
         }
     }
 
@@ -59,15 +70,41 @@ impl Held {
     }
 
     /// Adds a row at the end.
-    pub fn push(&mut self, row: Row) -> Result<(), AllocError>
+    pub fn push(&mut self, alloc: Global, row: Row) -> Result<(), AllocError>
         ensures { OnOk result (self.new ≡ self.old ++ row ∷ []) }
     {
         let number = self.rows.len();
         if number > u32::MAX as usize {
             return Err(AllocError);
         }
-        note(&mut self.numbers, fingerprint(&row), number as u32)?;
+        enter(
+            alloc,
+            &mut self.numbers,
+            &mut self.by_place,
+            &mut self.counts,
+            number as u32,
+            &row,
+        )?;
         self.rows.push(row)
+    }
+
+    /// Numbers of rows, among them that of each row that names a place.
+    pub fn naming(&self, place: u32) -> &[u32]
+        ensures { (i : ℕ) → i < length self.now → names place (row_at self.now i) ≡ true → stands_in result.now i ≡ true }
+    {
+        numbers_at(self.by_place.as_slice(), place)
+    }
+
+    /// How many pairs of an upper and a lower row a place has, of those that aren't set aside.
+    pub fn pairs(&self, place: u32) -> u64 {
+        self.counts.pairs(place)
+    }
+
+    /// Rows of a place that is eliminated no longer count for the pairs of another one.
+    pub fn set_aside(&mut self, numbers: &[u32])
+        ensures { self.new ≡ self.old }
+    {
+        self.counts.set_aside(self.rows.as_slice(), numbers);
     }
 
     /// Whether a row is among them.
@@ -110,6 +147,25 @@ fn note(numbers: &mut HashMap<u64, u32>, key: u64, number: u32) -> Result<(), Al
 {
     numbers.insert(key, number)?;
     Ok(())
+}
+
+// Enters a row into the indexes.
+fn enter(
+    alloc: Global,
+    numbers: &mut HashMap<u64, u32>,
+    by_place: &mut Vec<Items<u32>>,
+    counts: &mut Counts,
+    number: u32,
+    row: &Row,
+) -> Result<(), AllocError>
+    ensures numbers_kept { (q : ℕ) → is_some (found numbers.old q) ≡ true → is_some (found numbers.new q) ≡ true }
+    ensures lists_kept { KeepsLists by_place.old.items by_place.new.items }
+    ensures numbered { OnOk result (is_some (found numbers.new (fingerprint row.now)) ≡ true) }
+    ensures listed { OnOk result ((q : ℕ) → names q row.now ≡ true → lists by_place.new.items q number ≡ true) }
+{
+    note(numbers, fingerprint(row), number)?;
+    list_all(alloc, by_place, row.terms(), number)?;
+    counts.add(row.terms())
 }
 
 fn number_part(a: &i128) -> u64

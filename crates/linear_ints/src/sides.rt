@@ -1,12 +1,12 @@
 // The upper and the lower rows of a place.
-ghost use Rattle.std.specs.Prelude.{◌≡◌, ◌<◌, ◌^◌, cond, not, length, IfOk};
-ghost use Rattle.std.specs.List.{list_all};
+ghost use Rattle.std.specs.Prelude.{◌≡◌, cond, not, length, IfOk};
+ghost use Rattle.std.specs.List.{list_all, filter};
 ghost use Rattle.lin_rows.specs.Rows.{coefficient_at};
 ghost use Rattle.proof_lines.specs.Numbers.{stands_in};
 ghost use Rattle.proof_lines.specs.Steps.{is_negative, is_positive};
 ghost use Rattle.theory_api.specs.Ends.{names_none};
+ghost use Rattle.linear_ints.specs.Naming.{is_on_at};
 ghost use Rattle.linear_ints.specs.Sides.{is_on, IsSide};
-ghost use Rattle.proof_lines.specs.Evidence.{row_limit};
 
 use crate::order::Order;
 use crate::tableau::Tableau;
@@ -45,24 +45,33 @@ pub fn is_on(upper: bool, before: &Order, place: u32, row: &Row) -> bool
     has_sign(upper, &row.coefficient(place)) && names_none(before, row)
 }
 
-// The numbers of the rows on one side of a place.
-fn side(
+/// Whether a number is one of a row on a side of a place.
+pub fn is_on_at(upper: bool, before: &Order, place: u32, held: &[Row], number: u32) -> bool
+    ensures { result ≡ is_on_at upper before.now place held.now number }
+{
+    match held.get(number as usize) {
+        Some(row) => is_on(upper, before, place, row),
+        None => false,
+    }
+}
+
+// Those of some numbers that are of rows on a side of a place.
+fn of_side(
     alloc: Global,
     upper: bool,
     before: &Order,
     place: u32,
     held: &[Row],
+    named: &[u32],
 ) -> Result<Items<u32>, AllocError>
-    requires { length held.now < row_limit }
-    ensures { IfOk result (λ numbers. IsSide upper before.now place held.now (length held.now) numbers) }
+    ensures { IfOk result (λ numbers. numbers ≡ filter (is_on_at upper before.now place held.now) named.now) }
 {
-    let mut numbers = Items::new(alloc);
-    for number in 0..held.len() {
-        if is_on(upper, before, place, &held[number]) {
-            numbers.push(number as u32)?;
-        }
-    }
-    Ok(numbers)
+    let numbers = named
+        .iter()
+        .copied()
+        .filter(|number| is_on_at(upper, before, place, held, *number))
+        .collect(alloc)?;
+    Ok(Items::from_vec(numbers))
 }
 
 /// The numbers of the held rows on one side of a place that isn't eliminated yet.
@@ -72,9 +81,9 @@ pub fn side_of(
     upper: bool,
     place: u32,
 ) -> Result<Items<u32>, AllocError>
-    requires { length tableau.now.held < row_limit }
     ensures { IfOk result (λ numbers. IsSide upper tableau.now.order place tableau.now.held (length tableau.now.held) numbers) }
 {
     let held = tableau.held.as_slice();
-    side(alloc, upper, &tableau.order, place, held)
+    let named = tableau.held.naming(place);
+    of_side(alloc, upper, &tableau.order, place, held, named)
 }

@@ -36,6 +36,7 @@ fn step_of(left: u32, right: u32, sum: &Combined) -> RowStep
 // Holds a combination of two rows, where it is needed.
 fn hold_sum(
     tableau: &mut Tableau,
+    alloc: Global,
     rows: &[Row],
     place: u32,
     upper: u32,
@@ -52,7 +53,7 @@ fn hold_sum(
         return Ok(());
     }
     let refuted = sum.row.is_contradiction();
-    let Ok(()) = tableau.push_step(step, sum.row) else {
+    let Ok(()) = tableau.push_step(alloc, step, sum.row) else {
         return Err(Stop::Memory);
     };
     if refuted {
@@ -79,7 +80,7 @@ fn combine_two(
 {
     let held = tableau.held.as_slice();
     match combine(alloc, &held[upper as usize], &held[lower as usize], place) {
-        Ok(sum) => hold_sum(tableau, rows, place, upper, lower, sum),
+        Ok(sum) => hold_sum(tableau, alloc, rows, place, upper, lower, sum),
         Err(RowRefused::Range) => Err(Stop::Beyond(RangeWhat::Product {
             left: upper,
             right: lower,

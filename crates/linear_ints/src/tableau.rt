@@ -29,18 +29,18 @@ pub struct Tableau {
 
 impl Tableau {
     /// With a given row more.
-    pub fn push_given(&mut self, number: u32, row: Row) -> Result<(), AllocError>
+    pub fn push_given(&mut self, alloc: Global, number: u32, row: Row) -> Result<(), AllocError>
         ensures { OnOk result (self.new ≡ record self.old { used = self.old.used ++ number ∷ []; held = self.old.held ++ row ∷ [] }) }
     {
         self.used.push(number)?;
-        self.held.push(row)
+        self.held.push(alloc, row)
     }
 
     /// With a step and its row more.
-    pub fn push_step(&mut self, step: RowStep, row: Row) -> Result<(), AllocError>
+    pub fn push_step(&mut self, alloc: Global, step: RowStep, row: Row) -> Result<(), AllocError>
         ensures { OnOk result (self.new ≡ record self.old { steps = self.old.steps ++ step ∷ []; held = self.old.held ++ row ∷ [] }) }
     {
         self.steps.push(step)?;
-        self.held.push(row)
+        self.held.push(alloc, row)
     }
 }

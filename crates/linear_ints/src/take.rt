@@ -22,7 +22,7 @@ fn take_row(tableau: &mut Tableau, alloc: Global, rows: &[Row], number: u32) -> 
         return Ok(());
     }
     let refuted = row.is_contradiction();
-    let Ok(()) = tableau.push_given(number, row) else {
+    let Ok(()) = tableau.push_given(alloc, number, row) else {
         return Err(Stop::Memory);
     };
     if refuted {

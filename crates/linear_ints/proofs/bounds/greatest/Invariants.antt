@@ -1,5 +1,6 @@
-use Rattle.linear_ints.specs.Sides.{IsGreatest}
+use Rattle.std.proofs.Common.{take}
+use Rattle.linear_ints.specs.Sides.{IsGreatestOf}
 use Rattle.linear_ints.proofs.bounds.greatest.Given as goal
 
 abbrev pub invariant-loop-number : goal.invariant-loop-number
-invariant-loop-number l = IsGreatest l.upper l.before l.place l.held l.values l.number l.greatest.row l.greatest.value
+invariant-loop-number l = IsGreatestOf l.upper l.before l.place l.held l.values (take l.number-index l.named) l.greatest.row l.greatest.value

@@ -4,12 +4,6 @@ use Rattle.linear_ints.specs.Tableaux.{IsTableau}
 use Rattle.linear_ints.proofs.Eliminating.{tableau-passed, passed-meets, place-done}
 use Rattle.linear_ints.proofs.eliminate.eliminate_place.Goals as goal
 
-pub side_of-requires : goal.side_of-requires
-side_of-requires c = c.requires.elimination.tableau.few
-
-pub side_of-requires-2 : goal.side_of-requires-2
-side_of-requires-2 c = c.requires.elimination.tableau.few
-
 pub combine_all-requires-clause-tableau : goal.combine_all-requires-clause-tableau
 combine_all-requires-clause-tableau c =
     subst (λ (v : Tableau). IsTableau c.args.rows.now v) (sym c.in-Ok-pass_on.ensures) (tableau-passed c.args.rows.now c.args.tableau.now c.args.place c.requires.elimination.tableau c.requires.left)

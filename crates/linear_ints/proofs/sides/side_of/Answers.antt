@@ -1,13 +1,15 @@
-use Rattle.std.proofs.Common.{sym, subst, List, length, ◌<◌}
-use Rattle.std.specs.Prelude.{IfOk}
+use Rattle.std.proofs.Common.{◌≡◌, ℕ, List, length, ◌∙◌, ap}
+use Rattle.std.specs.List.{filter}
+use Rattle.std.proofs.lemmas.Result.{IfOk-weaker}
 use Rattle.lin_rows.specs.Rows.{Row}
+use Rattle.linear_ints.specs.Naming.{is_on_at}
 use Rattle.linear_ints.specs.Sides.{IsSide}
-use Rattle.proof_lines.specs.Evidence.{row_limit}
+use Rattle.linear_ints.proofs.Namings.{side-filtered}
 use Rattle.linear_ints.proofs.sides.side_of.Goals as goal
-
-pub side-requires : goal.side-requires
-side-requires c = subst (λ (l : List Row). length l < row_limit) (sym c.as_slice-held.ensures) c.requires
 
 pub returns : goal.returns
 returns c =
-    subst (λ (l : List Row). IfOk c.side.result (λ numbers. IsSide c.args.upper c.args.tableau.now.order c.args.place l (length l) numbers)) c.as_slice-held.ensures c.side.ensures
+    IfOk-weaker c.of_side.result (λ (numbers : List ℕ). numbers ≡ filter (is_on_at c.args.upper c.args.tableau.now.order c.args.place c.as_slice-held.result.now) c.naming-named.result.now)
+    (λ (numbers : List ℕ). IsSide c.args.upper c.args.tableau.now.order c.args.place c.args.tableau.now.held (length c.args.tableau.now.held) numbers)
+    (λ numbers h. side-filtered c.args.upper c.args.tableau.now.order c.args.place c.args.tableau.now.held c.naming-named.result.now numbers c.naming-named.ensures
+    (h ∙ ap (λ (l : List Row). filter (is_on_at c.args.upper c.args.tableau.now.order c.args.place l) c.naming-named.result.now) c.as_slice-held.ensures)) c.of_side.ensures

@@ -8,5 +8,5 @@ use Rattle.linear_ints.proofs.held.Held.has.Goals as goal
 
 pub returns-in-None : goal.returns-in-None
 returns-in-None c =
-    sym (not-held (λ k. found c.self.inside.numbers k) c.self.inside.rows c.args.row.now c.self.invariant (ap (λ k. found c.self.inside.numbers k) (sym c.fingerprint.ensures) ∙ sym c.find.ensures ∙ c.in-None.is))
+    sym (not-held (λ k. found c.self.inside.numbers k) c.self.inside.rows c.args.row.now c.self.invariant.0 (ap (λ k. found c.self.inside.numbers k) (sym c.fingerprint.ensures) ∙ sym c.find.ensures ∙ c.in-None.is))
     ∙ ap (λ (l : List Row). list_any (λ r. same_row r c.args.row.now) l) c.self.view_is
