@@ -51,7 +51,8 @@ fn log_left(state: &mut State, log_of: LogOf, lines: u32)
     }
 }
 
-fn one_less(state: &mut State)
+/// Moves the state behind a line of a log.
+pub fn one_less(state: &mut State)
     requires { told_of state.old.tally < 4294967295 }
     ensures { state.new ≡ one_less state.old.place state.old.version state.old.tally }
 {
@@ -191,8 +192,8 @@ fn begun_end(word: VerdictWord) -> Option<Ended>
     }
 }
 
-// What ends with a line of a log.
-fn log_end(place: &Place) -> Option<Ended>
+/// What ends with a line of a log.
+pub fn log_end(place: &Place) -> Option<Ended>
     ensures { (d : Specification) → IsEnd d (log_end_at place.now) result }
 {
     match place {

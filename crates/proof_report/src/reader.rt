@@ -1,16 +1,20 @@
 // A reader of a report, line by line.
 
-ghost use Rattle.std.specs.Prelude.{◌≡◌, IfOk};
+ghost use Rattle.std.specs.Prelude.{◌≡◌, ◌<◌, IfOk, None};
+ghost use Rattle.proof_report.specs.declared.place.Place.TheVariants.{Log};
 ghost use Rattle.proof_report.specs.Feeding.{start};
 ghost use Rattle.proof_report.specs.Reader.{IsAnswered, IsFinished, first_reader, stated};
 
 use crate::feeding::{Refusal, step};
 use crate::kind::{Fault, ReportKind, ReportRefused};
-use crate::place::{Place, State};
+use crate::moving::{log_end, one_less};
+use crate::place::{LogOf, Place, State};
+use crate::reading::{drops, log_line};
 use crate::verdict::Fed;
 use items::Items;
 use obligation_list::{Obligation, list};
 use report_lines::head::Tally;
+use report_lines::words::ReadError;
 use spec_core::Spec;
 use std::alloc::{AllocError, Global};
 use std::marker::Model;
@@ -105,6 +109,36 @@ impl<'a> ReportReader<'a> {
         self.number
     }
 
+    // Takes a line of a log, in which so many are left. Most lines are of this kind, so what they say is told without more ado.
+    fn feed_log(&mut self, log_of: LogOf, lines: u32, text: &[u8]) -> Result<Fed, ReportRefused>
+        requires fault { self.old.fault ≡ None }
+        requires number { self.old.number < 4294967295 }
+        requires place { self.old.state.place ≡ Log log_of lines }
+        requires some { 0 < lines }
+        ensures { IsAnswered self.old text.now self.new result }
+    {
+        let number = self.number + 1;
+        self.spec.well_formed();
+        match log_line(self.alloc, drops(self.state.version, log_of), text) {
+            Ok(line) => {
+                let ended = log_end(&self.state.place);
+                one_less(&mut self.state);
+                self.number = number;
+                Ok(Fed {
+                    begin: None,
+                    log: Some(line),
+                    ended,
+                })
+            }
+            Err(ReadError::Memory) => Err(ReportRefused::Memory),
+            Err(ReadError::Form) => {
+                let kind = ReportKind::Form;
+                self.fault = Some(Fault { number, kind });
+                Err(ReportRefused::Line { number, kind })
+            }
+        }
+    }
+
     /// Takes the next line, without its line feed, and tells what it says. The first fault of the lines so far is answered, and
     /// again at each later line. Behind 2^32 - 1 lines a further one is answered as want of memory.
     pub fn feed(&mut self, text: &[u8]) -> Result<Fed, ReportRefused>
@@ -118,6 +152,11 @@ impl<'a> ReportReader<'a> {
         }
         if self.number == u32::MAX {
             return Err(ReportRefused::Memory);
+        }
+        if let Place::Log(log_of, lines) = self.state.place {
+            if lines > 0 {
+                return self.feed_log(log_of, lines, text);
+            }
         }
         let number = self.number + 1;
         match step(

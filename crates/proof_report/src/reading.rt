@@ -13,6 +13,7 @@ use crate::event::Event;
 use crate::place::{LogOf, PartialWitness, Place, Stage, State};
 use crate::saying::{all_told, obligation_due, told};
 use obligation_list::Obligation;
+use proof_lines::Line;
 use report_lines::evidence::{read_range, read_rows};
 use report_lines::head::{
     Tally, read_budget, read_obligations, read_outcome, read_summary, read_title,
@@ -229,7 +230,8 @@ fn due_calls(spec: &Spec, obligation: Obligation) -> Due
     }
 }
 
-fn drops(version: u8, log: LogOf) -> bool
+/// Whether clauses may be dropped in such a log.
+pub fn drops(version: u8, log: LogOf) -> bool
     ensures { result ≡ drops_in version log }
 {
     match log {
@@ -281,6 +283,18 @@ fn front<'a>(
         Place::Last => last(words),
         Place::Over => Err(ReadError::Form),
     }
+}
+
+/// The line of a log that a text is, in which clauses may be dropped or may not.
+#[tactic(auto, unfolding(report_lines::specs::Formats::read))]
+pub fn log_line(alloc: Global, drops: bool, text: &[u8]) -> Result<Line, ReadError>
+    ensures { Gives (λ l. Event.Log l) result (read_as (log_line drops) (parts text.now)) }
+{
+    let (line, rest) = read_log_line(alloc, drops, Words::of(text))?;
+    if !rest.is_over() {
+        return Err(ReadError::Form);
+    }
+    Ok(line)
 }
 
 /// What the line that may come says, if this is such a line.

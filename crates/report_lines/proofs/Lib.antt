@@ -14,3 +14,4 @@ pub mod Finding
 pub mod Splitting
 pub mod WholeLines
 pub mod StateLines
+mod ShortNumbers

@@ -6,15 +6,16 @@ ghost use Rattle.report_lines.specs.Formats.{number, both, behind};
 ghost use Rattle.report_lines.specs.Fields.{count_format, integer_format, value_format, element_format};
 ghost use Rattle.report_lines.specs.Words.{left, Gives};
 
+use crate::digits::word_number;
 use crate::words::{ReadError, Words, keyword, next};
-use word_cut::{read_number, read_whole};
+use word_cut::read_whole;
 
 /// A number up to a bound.
 pub fn number(words: Words<'_>, most: u32) -> Result<(u32, Words<'_>), ReadError>
     ensures { Gives (λ x. (x.0, left x.1)) result ((number most).get (left words.entry)) }
 {
     let (word, rest) = next(words)?;
-    let Some(number) = read_number(word) else {
+    let Some(number) = word_number(word) else {
         return Err(ReadError::Form);
     };
     if number > most as u128 {

@@ -10,6 +10,7 @@
 // lines of a witness).
 #![tactic(auto)]
 
+mod digits;
 pub mod evidence;
 pub mod fields;
 pub mod head;

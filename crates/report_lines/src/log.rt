@@ -10,6 +10,7 @@ ghost use Rattle.report_lines.specs.Logs.{with_sign, literal_of, literal_format,
 ghost use Rattle.report_lines.specs.Fields.{count_format, integer_format};
 ghost use Rattle.report_lines.specs.Words.{left, spaced, Gives, line_text};
 
+use crate::digits::word_number;
 use crate::evidence::RowsLine;
 use crate::fields::{count, integer, pair};
 use crate::list::{Entry, list};
@@ -19,12 +20,11 @@ use items::Items;
 use itoa::Buffer;
 use proof_lines::{Line, Lit, RowStep};
 use std::alloc::{AllocError, Global};
-use word_cut::read_number;
 
 fn signed(positive: bool, digits: &[u8]) -> Result<Lit, ReadError>
     ensures { Gives (λ l. l) result (small_literal (with_sign positive (size_read digits.now))) }
 {
-    let Some(atom) = read_number(digits) else {
+    let Some(atom) = word_number(digits) else {
         return Err(ReadError::Form);
     };
     if atom > u32::MAX as u128 {
