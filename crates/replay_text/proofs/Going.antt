@@ -12,7 +12,7 @@ use Rattle.replica_replay.specs.declared.step.Step.TheVariants as step
 use Rattle.replica_replay.specs.declared.step.Taken.{Taken}
 use Rattle.replica_replay.specs.declared.step.StepRefused.{StepRefused}
 use Rattle.replica_replay.specs.declared.step.StepRefused.TheVariants as refusal
-use Rattle.replica_replay.specs.Held.{Held, none_held}
+use Rattle.replica_replay.specs.Held.{Held, IsHeld, none_held}
 use Rattle.replica_replay.specs.Replayed.{Replayed}
 use Rattle.replica_replay.specs.Steps.{Outcome, accepted, refused, state_of, operation_named, decided, named_outcome, found_outcome, called, took, outcome, held_after, answer}
 use Rattle.replay_text.specs.declared.stop.Stop.{Stop}
@@ -21,6 +21,8 @@ use Rattle.replay_text.specs.Course.{Course, stopped, with_event, unless_broken,
 use Rattle.replay_text.specs.Text.{step_line, step_lines, stop_line, replica_texts, course_text}
 use Rattle.replay_text.specs.declared.writing.Stepped.TheVariants as stepped
 use Rattle.replay_text.specs.Reached.{IsStepped, IsReached}
+use Rattle.replay_text.specs.Asked.{AllHeld}
+use Rattle.replay_text.proofs.Asked.{all_hold}
 
 -- the outcome of a step that was answered with an event
 pub accepted_step : (o : Outcome) (held : Held) (t : Taken) → ◌≡◌ {A = Result Taken StepRefused} (Ok t) (Err refusal.Memory) ⊎ (Ok t ≡ answer o) → o ≡ accepted t.event (held_after held o)
@@ -146,6 +148,7 @@ pub record Between (d : Specification) (w : World) (first : Held) (all : List St
   pub spec_is : now.spec ≡ d
   pub world_is : now.world ≡ w
   pub remaining : Remaining d w first all before text k now.held (drop k all)
+  pub holds : AllHeld d w now.held
 
 module _ (d : Specification) (w : World) (first : Held) (all : List Step) (before text : List ℕ) (k : ℕ) (now : Replayed) (is : Between d w first all before text k now)
     (s : Step) (below : k < length all) (here : s ≡ get_or all k s)
@@ -165,12 +168,16 @@ module _ (d : Specification) (w : World) (first : Held) (all : List Step) (befor
       rw line (at_broken d w first all before text k now.held s (drop (k + 1) all) remaining_here e after.held stepped_here.0 place (sym q ∙ stepped_here.1))
 
   -- and one that breaks none leads on
-  pub leads_on : o ≡ None → after.world ≡ now.world → after.spec ≡ now.spec → Between d w first all before longer (k + 1) after
-  leads_on q same_world same_spec = record {
+  pub leads_on : o ≡ None → after.world ≡ now.world → after.spec ≡ now.spec → IsHeld now.spec now.world now.held → Between d w first all before longer (k + 1) after
+  leads_on q same_world same_spec held = record {
+    holds = all_hold d w now.held after.held s e held_here is.holds stepped_here.0 (sym (sym q ∙ stepped_here.1));
     spec_is = same_spec ∙ is.spec_is;
     world_is = same_world ∙ is.world_is;
     remaining = rw line (at_next d w first all before text k now.held s (drop (k + 1) all) remaining_here e after.held stepped_here.0 (sym q ∙ stepped_here.1));
   }
+    where
+      held_here : IsHeld d w now.held
+      held_here = subst (λ (v : World). IsHeld d v now.held) is.world_is (subst (λ (x : Specification). IsHeld x now.world now.held) is.spec_is held)
 
 none_first : (n : ℕ) → let none : List ℕ = [] in get_or (replicate n none) 0 [] ≡ []
 none_first zero = refl

@@ -1,3 +1,4 @@
 pub mod Going
+mod Asked
 mod States
 pub mod Safety

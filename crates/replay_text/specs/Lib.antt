@@ -3,3 +3,4 @@ pub mod Text
 pub mod Recorded
 pub mod Safely
 pub mod Reached
+pub mod Asked

@@ -2,7 +2,7 @@
 //
 // It stands on `replica_replay`, whose steps it carries out one by one, and on `schedule_json`, which reads schedules. The definitions stand in
 // specs/, in this order: Course (which steps are accepted, where it stops, what is held then), Text (the lines, and the status), Recorded
-// (from the bytes of a schedule), Safely (what a replay of a safe specification keeps). Reached serves the code and its proofs.
+// (from the bytes of a schedule), Safely (what a replay of a safe specification keeps). Reached and Asked serve the code and its proofs.
 #![tactic(auto)]
 
 mod law;

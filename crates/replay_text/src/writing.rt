@@ -1,6 +1,6 @@
 // Going through the steps of a schedule, and writing the text.
 
-ghost use Rattle.std.specs.Prelude.{◌≡◌, ◌++◌, [], ◌∷◌, ◌+◌, ◌<◌, ◌≤◌, ◌^◌, true, length, get_or, IfOk, OnOk, codes};
+ghost use Rattle.std.specs.Prelude.{◌≡◌, ◌++◌, [], ◌∷◌, ◌+◌, ◌<◌, ◌≤◌, ◌^◌, true, length, take, get_or, IfOk, OnOk, codes};
 ghost use Rattle.spec_core.specs.Meaning.{broken_at};
 ghost use Rattle.spec_core.specs.Fits.{world_fits};
 ghost use Rattle.spec_core.specs.StateText.{state_text};
@@ -8,6 +8,7 @@ ghost use Rattle.replay_text.specs.Course.{state_at, replica_of, course_from, co
 ghost use Rattle.replica_replay.specs.Held.{none_held};
 ghost use Rattle.replay_text.specs.Text.{step_lines, stop_line, replica_text, replica_texts, replay_text, replay_status, status_of};
 ghost use Rattle.replay_text.specs.Reached.{IsStepped, IsReached};
+ghost use Rattle.replay_text.specs.Asked.{AllHeld, OthersHeld, IsFrontElsewhere};
 
 use crate::lines::{push, push_number, push_step, push_stop};
 use crate::stop::Stop;
@@ -34,6 +35,44 @@ fn broken_invariant(spec: &Spec, replay: &Replay, replica: u32) -> Option<usize>
     invariant_broken_at(spec, replay.world(), replay.state_of(replica))
 }
 
+// Whether the one list is a front of the other.
+fn is_front(mine: &[u32], theirs: &[u32]) -> bool
+    ensures { result ≡ true → mine.now ≡ take (length mine.now) theirs.now }
+{
+    mine.len() <= theirs.len() && mine == &theirs[..mine.len()]
+}
+
+// Whether a replica has taken what another one has taken first.
+fn is_front_elsewhere(replay: &Replay, replica: u32) -> bool
+    requires { replica < length replay.now.held.taken }
+    ensures { result ≡ true → IsFrontElsewhere replay.now.held replica }
+{
+    let count = replay.replica_count();
+    if count > u32::MAX as usize {
+        return false;
+    }
+    let mine = replay.seen_by(replica);
+    for other in 0..count as u32 {
+        if other != replica && is_front(mine, replay.seen_by(other)) {
+            return true;
+        }
+    }
+    false
+}
+
+/// The first invariant that the state of a replica breaks. The invariants aren't asked where another replica has had that state.
+fn broken_after(spec: &Spec, replay: &Replay, replica: u32) -> Option<usize>
+    requires spec { replay.now.spec ≡ spec.now }
+    requires replica { replica < length replay.now.held.taken }
+    requires others { OthersHeld spec.now replay.now.world replay.now.held replica }
+    ensures { result ≡ broken_at spec.now replay.now.world (state_at spec.now replay.now.world replay.now.held replica) }
+{
+    if is_front_elsewhere(replay, replica) {
+        return None;
+    }
+    broken_invariant(spec, replay, replica)
+}
+
 /// What a step led to.
 #[derive(Drop)]
 enum Stepped {
@@ -44,15 +83,17 @@ enum Stepped {
 
 /// Carries a step out, and asks the invariants of its replica's state.
 fn carry_out(spec: &Spec, replay: &mut Replay, step: &Step) -> Result<Stepped, AllocError>
-    requires { replay.old.spec ≡ spec.now }
+    requires spec { replay.old.spec ≡ spec.now }
+    requires holds { AllHeld spec.now replay.old.world replay.old.held }
     ensures stepped { IfOk result (λ s. IsStepped spec.now replay.old.world replay.old.held step.now s replay.new.held) }
     ensures world { OnOk result (replay.new.world ≡ replay.old.world) }
     ensures spec { OnOk result (replay.new.spec ≡ replay.old.spec) }
 {
+    replay.is_held();
     match replay.step(step) {
         Ok(taken) => Ok(Stepped::Accepted(
             taken.event,
-            broken_invariant(spec, replay, replica_of(step)),
+            broken_after(spec, replay, replica_of(step)),
         )),
         Err(StepRefused::Memory) => Err(AllocError),
         Err(why) => Ok(Stepped::Refused(why)),
@@ -74,12 +115,14 @@ fn write_steps(
     steps: &[Step],
     text: &mut Vec<u8>,
 ) -> Result<Stopped, AllocError>
-    requires { replay.old.spec ≡ spec.now }
+    requires spec { replay.old.spec ≡ spec.now }
+    requires holds { AllHeld spec.now replay.old.world replay.old.held }
     ensures reached { IfOk result (λ s. IsReached (course_from spec.now replay.old.world replay.old.held steps.now) steps.now text.old.items text.new.items s.accepted s.stop replay.new.held) }
     ensures world { OnOk result (replay.new.world ≡ replay.old.world) }
     ensures spec { OnOk result (replay.new.spec ≡ replay.old.spec) }
 {
     for (number, step) in steps.iter().enumerate() {
+        replay.is_held();
         match carry_out(spec, replay, step)? {
             Stepped::Accepted(event, broken) => {
                 push_step(alloc, text, number, step, event)?;

@@ -1,7 +1,8 @@
 // What is asked of a call before its effect, and the state after an effect.
 //
 // The search for the least conflicting event goes over all events. It passes over those whose operations no rule can match by
-// their tokens, and over those that were taken, before it compares elements.
+// their tokens, over those whose argument isn't the one that all such rules want, and over those that were taken, before it asks
+// the rules.
 
 ghost use Rattle.std.specs.Prelude.{◌≡◌, ℕ, ◌<◌, ◌≤◌, ◌^◌, ◌⊎◌, ◌&&◌, not, true, length, map, Option, None, Some, IfOk, IfErr, OnOk};
 ghost use Rattle.std.specs.Option.{option_or};
@@ -21,7 +22,7 @@ ghost use Rattle.replica_replay.specs.Steps.{operation_named as operation_named_
 
 use crate::keeping::Happened;
 use crate::order::Order;
-use crate::rivals::is_rival;
+use crate::rivals::{Rivalry, may_conflict};
 use crate::step::StepRefused;
 use effectors::{ApplyRefused, apply_over};
 use spec_core::{Call, Operation, Spec, State, World, observes_broken_at, requires_broken_at};
@@ -54,14 +55,14 @@ fn is_unseen(
     world: &World,
     taken: &Order,
     call: &Call,
-    rivals: &[bool],
+    rivals: &[Rivalry],
     event: u32,
     other: &Call,
 ) -> bool
     requires { rivals.now ≡ rivals_of spec.now call.now.op }
     ensures { result ≡ (conflicts spec.now world.now other.now call.now && not (is_taken taken.now event)) }
 {
-    if !is_rival(rivals, other.op) {
+    if !may_conflict(rivals, other, call) {
         return false;
     }
     !taken.has(event) && conflicts(spec, world, other, call)
@@ -73,7 +74,7 @@ pub fn least_unseen(
     world: &World,
     taken: &Order,
     call: &Call,
-    rivals: &[bool],
+    rivals: &[Rivalry],
     happened: &[Happened],
 ) -> Option<u32>
     requires few { length happened.now < 2 ^ 32 }
@@ -96,7 +97,7 @@ pub fn asked(
     taken: &Order,
     state: &State,
     call: &Call,
-    rivals: &[bool],
+    rivals: &[Rivalry],
 ) -> Option<StepRefused>
     requires world { world_fits spec.now world.now ≡ true }
     requires few { length happened.now < 2 ^ 32 }

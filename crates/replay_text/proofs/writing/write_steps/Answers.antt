@@ -1,4 +1,6 @@
-use Rattle.std.proofs.Common.{subst}
+use Rattle.std.proofs.Common.{subst, sym}
+use Rattle.spec_core.specs.declared.world.World.{World}
+use Rattle.replay_text.specs.Asked.{AllHeld}
 use Rattle.replay_text.specs.declared.writing.Stepped.{Stepped}
 use Rattle.replay_text.specs.Reached.{IsStepped}
 use Rattle.replay_text.proofs.Going.{ends_broken, leads_on}
@@ -17,4 +19,8 @@ loop-number-preserved c =
     leads_on c.args.spec.now c.args.replay.now.world c.args.replay.now.held c.args.steps.now c.args.text.now.items c.loop-number.text.items c.loop-number.number
     c.loop-number.replay c.loop-number.invariant c.index-steps-number.result c.loop-number-test.true c.index-steps-number.is
     c.in-Accepted.event c.in-Accepted.broken c.carry_out.new.replay step c.push_step.new.text.items c.in_ok-push_step-in-Accepted.ensures c.in-None.is
-    c.in_ok-event.ensures.world c.in_ok-event.ensures.spec
+    c.in_ok-event.ensures.world c.in_ok-event.ensures.spec c.is_held.ensures
+
+pub carry_out-requires-clause-holds : goal.carry_out-requires-clause-holds
+carry_out-requires-clause-holds c =
+    subst (λ (w : World). AllHeld c.args.spec.now w c.loop-number.replay.held) (sym c.loop-number.invariant.world_is) c.loop-number.invariant.holds
