@@ -8,4 +8,5 @@ mod Taken
 mod Blocks
 mod Lines
 mod Within
+mod CutPieces
 mod FedLines

@@ -3,3 +3,4 @@ pub mod Valid
 pub mod Verified
 pub mod Verifier
 pub mod Taking
+pub mod Pieces

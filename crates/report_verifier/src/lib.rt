@@ -13,6 +13,7 @@ mod ending;
 mod judgement;
 mod laws;
 mod logs;
+mod pieces;
 mod posing;
 mod refused;
 mod verifier;
