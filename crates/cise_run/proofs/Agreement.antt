@@ -7,19 +7,26 @@ use Rattle.spec_reader.specs.Form.{TreeForm}
 use Rattle.spec_from_bytes.specs.Refusal.{Refusal, IsRefusal, refusal_text}
 use Rattle.spec_from_bytes.proofs.Reasons.{tree_unique, specification_unique, refusal_is_unique, refused_or_specified}
 use Rattle.report_lines.specs.declared.head.Tally.{Tally}
+use Rattle.report_lines.specs.declared.head.Outcome.{Outcome}
+use Rattle.report_lines.specs.declared.head.Outcome.TheVariants.{Accepted, Rejected, Undecided}
+use Rattle.proof_report.specs.Events.{outcome_of}
+use Rattle.check_run.specs.Reports.{status_of}
 use Rattle.report_verifier.specs.declared.refused.VerifyRefused.{VerifyRefused}
 use Rattle.report_verifier.specs.declared.refused.VerifyRefused.TheVariants as refused
 use Rattle.report_verifier.specs.Verified.{IsVerified, IsOnAll}
 use Rattle.cise_run.specs.declared.words.Task.{Task}
-use Rattle.cise_run.specs.declared.words.Task.TheVariants.{Check, Verify, Replay, Spell}
+use Rattle.cise_run.specs.declared.words.Task.TheVariants.{Check, Verify, Upgrade, Replay, Spell}
 use Rattle.cise_run.specs.declared.words.Job.{Job}
 use Rattle.cise_run.specs.declared.words.Job.TheVariants.{OfSpec, Sample}
 use Rattle.cise_run.specs.Words.{job_of}
 use Rattle.cise_run.specs.Ending.{IsOne}
 use Rattle.cise_run.specs.commands.Verify.{status_said, text_said, IsVerdict}
+use Rattle.cise_run.specs.commands.Upgrade.{IsUpgraded}
 use Rattle.cise_run.specs.Answer.{IsOutcome, IsAnswerOf, IsAnswerFor, IsAnswerTo, IsAnswer, AgreeOf, Agree}
 use Rattle.cise_run.proofs.Laws.{TypesWell}
+use Rattle.report_upgrader.proofs.Accepted.{one_upgraded}
 use Rattle.cise_run.proofs.Reports.{is_specification-read}
+use Rattle.cise_run.proofs.Upgrades.{as_verdict}
 
 -- two statuses with texts that are one answer
 one_of_two : (s t : ℕ) (x y : List ℕ) (n : ℕ) (z : List ℕ) → s ≡ n → x ≡ z → t ≡ n → y ≡ z → IsOne s x t y
@@ -29,6 +36,7 @@ one_of_two s t x y n z a b c d = (c ∙ sym a, d ∙ sym b)
 agree_one : (task : Task) (s t : ℕ) (x y : List ℕ) → IsOne s x t y → AgreeOf task s x t y
 agree_one (Check budget) s t x y one = inl one
 agree_one Verify s t x y one = one
+agree_one Upgrade s t x y one = one
 agree_one Replay s t x y one = one
 agree_one Spell s t x y one = one
 
@@ -70,7 +78,7 @@ same_said d bytes (Err refused.Fault) y a b one is v w e f = absurd cc
 same_said d bytes (Err refused.Memory) y a b one is v w e f = absurd cc
 
 -- two verdicts on the same bytes
-verdicts_agree : (d : Specification) (bytes : List ℕ) (s t : ℕ) (a b : List ℕ) → SaysOne → is_specification d ≡ true → IsVerdict d bytes s a → IsVerdict d bytes t b → IsOne s a t b
+pub verdicts_agree : (d : Specification) (bytes : List ℕ) (s t : ℕ) (a b : List ℕ) → SaysOne → is_specification d ≡ true → IsVerdict d bytes s a → IsVerdict d bytes t b → IsOne s a t b
 verdicts_agree d bytes s t a b one is x y = (y.status_is ∙ sym (ap status_said same) ∙ sym x.status_is, one_text b a (sym y.text_is ∙ sym (ap text_said same) ∙ x.text_is))
   where
     same : x.said ≡ y.said
@@ -79,6 +87,27 @@ verdicts_agree d bytes s t a b one is x y = (y.status_is ∙ sym (ap status_said
     one_text : (b a : List ℕ) → Some b ≡ Some a → b ≡ a
     one_text b a e = cc e
 
+-- ---- upgraded reports
+
+no_four : (o : Outcome) → status_of o ≡ 4 → ⊥
+no_four Accepted e = omega (arith, e)
+no_four Rejected e = omega (arith, e)
+no_four Undecided e = omega (arith, e)
+
+-- two answers to an upgrade of the same bytes
+upgrades_agree : (d : Specification) (bytes : List ℕ) (s t : ℕ) (a b : List ℕ) → SaysOne → is_specification d ≡ true → IsUpgraded d bytes s a → IsUpgraded d bytes t b → IsOne s a t b
+upgrades_agree d bytes s t a b one is (inl u) (inl v) =
+    let x = as_verdict d bytes s a (inl u) in
+    let y = as_verdict d bytes t b (inl v) in
+    ((verdicts_agree d bytes s t x.0 y.0 one is x.1 y.1).0, sym (one_upgraded d bytes u.tally a v.tally b is u.upgraded v.upgraded))
+upgrades_agree d bytes s t a b one is (inl u) (inr (four, v)) =
+    let x = as_verdict d bytes s a (inl u) in
+    absurd (no_four (outcome_of u.tally) (sym u.status_is ∙ sym (verdicts_agree d bytes s t x.0 b one is x.1 v).0 ∙ four))
+upgrades_agree d bytes s t a b one is (inr (four, v)) (inl u) =
+    let x = as_verdict d bytes t b (inl u) in
+    absurd (no_four (outcome_of u.tally) (sym u.status_is ∙ (verdicts_agree d bytes s t a x.0 one is v x.1).0 ∙ four))
+upgrades_agree d bytes s t a b one is (inr (four, v)) (inr (other, w)) = verdicts_agree d bytes s t a b one is v w
+
 -- ---- tasks and jobs
 
 -- two outcomes of a task for one specification and its tree
@@ -86,6 +115,7 @@ outcomes_agree : (task : Task) (tree : TreeForm) (d : Specification) (more : Lis
     → IsOutcome task tree d more s x → IsOutcome task tree d more t y → AgreeOf task s x t y
 outcomes_agree (Check budget) tree d more s t x y one is a b = inr (d, a, b)
 outcomes_agree Verify tree d more s t x y one is a b = verdicts_agree d more s t x y one is a b
+outcomes_agree Upgrade tree d more s t x y one is a b = upgrades_agree d more s t x y one is a b
 outcomes_agree Replay tree d more s t x y one is a b = one_of_two s t x y _ _ a.status_is a.text_is b.status_is b.text_is
 outcomes_agree Spell tree d more s t x y one is a b = one_of_two s t x y _ _ a.status_is a.text_is b.status_is b.text_is
 

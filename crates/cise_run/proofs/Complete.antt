@@ -20,13 +20,14 @@ use Rattle.check_run.specs.Reports.{status_of}
 use Rattle.proof_report.specs.Events.{outcome_of}
 use Rattle.report_verifier.specs.declared.refused.VerifyRefused.{VerifyRefused}
 use Rattle.cise_run.specs.declared.words.Task.{Task}
-use Rattle.cise_run.specs.declared.words.Task.TheVariants.{Check, Verify, Replay, Spell}
+use Rattle.cise_run.specs.declared.words.Task.TheVariants.{Check, Verify, Upgrade, Replay, Spell}
 use Rattle.cise_run.specs.declared.words.Job.{Job}
 use Rattle.cise_run.specs.declared.words.Job.TheVariants.{OfSpec, Sample}
 use Rattle.cise_run.specs.commands.Verify.{status_said}
 use Rattle.cise_run.specs.Answer.{IsOutcome, IsAnswerOf, IsAnswerTo}
 use Rattle.cise_run.specs.Headline.{is_outcome, is_memory, may_end_of, TellsSpecification, IsComplete}
 use Rattle.cise_run.proofs.Outcomes.{is_outcome-status_of}
+use Rattle.cise_run.proofs.Upgrades.{as_verdict}
 
 -- ---- how a task ends
 
@@ -73,6 +74,7 @@ at_status task status s e = subst (λ n. may_end_of task n ≡ true) (sym e)
 outcome_ends : (task : Task) (tree : TreeForm) (d : Specification) (more : List ℕ) (status : ℕ) (text : List ℕ) → IsOutcome task tree d more status text → may_end_of task status ≡ true
 outcome_ends (Check budget) tree d more status text r = at_status (Check budget) status _ r.status_is (outcome_or (outcome_of r.tally) _)
 outcome_ends Verify tree d more status text v = at_status Verify status _ v.status_is (said_ends v.said)
+outcome_ends Upgrade tree d more status text r = let v = (as_verdict d more status text r).1 in at_status Upgrade status _ v.status_is (said_ends v.said)
 outcome_ends Replay tree d more status text r =
     let s = schedule_status d more in
     at_status Replay status s r.status_is (may_replay (s == 0) (s == 1) (s == 4) (is_memory s) (replay_ends d more))
@@ -92,6 +94,7 @@ told_answer_ends task (Some some) extra status text (bytes, d, e, is) (given, mo
 memory_ends : (task : Task) → may_end_of task 8 ≡ true
 memory_ends (Check budget) = refl
 memory_ends Verify = refl
+memory_ends Upgrade = refl
 memory_ends Replay = refl
 memory_ends Spell = refl
 

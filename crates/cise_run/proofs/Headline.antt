@@ -11,7 +11,7 @@ use Rattle.replay_text.proofs.Safety.{safe_status, schedule_safely}
 use Rattle.spec_from_bytes.specs.Refusal.{IsReadAs, IsSpecificationOf}
 use Rattle.spec_from_bytes.proofs.Reasons.{specification_unique}
 use Rattle.cise_run.specs.declared.words.Task.{Task}
-use Rattle.cise_run.specs.declared.words.Task.TheVariants.{Check, Verify, Replay, Spell}
+use Rattle.cise_run.specs.declared.words.Task.TheVariants.{Check, Verify, Upgrade, Replay, Spell}
 use Rattle.cise_run.specs.declared.words.Job.{Job}
 use Rattle.cise_run.specs.declared.words.Job.TheVariants.{OfSpec, Sample}
 use Rattle.report_lines.specs.Heads.{most_budget}
@@ -21,6 +21,7 @@ use Rattle.cise_run.specs.Headline.{IsProved, is_outcome, IsRefutedRightly, Refu
 use Rattle.cise_run.proofs.Laws.{TypesWell, OfChecks, OfReports}
 use Rattle.cise_run.proofs.Jobs.{is_job-job_of}
 use Rattle.cise_run.proofs.Reports.{is_specification-read, safe_checked, right_checked, safe_verified, right_verified}
+use Rattle.cise_run.proofs.Upgrades.{as_verdict}
 
 -- ---- status 0
 
@@ -38,6 +39,7 @@ safe_outcome : (task : Task) (tree : TreeForm) (d : Specification) (more text : 
     → IsOutcome task tree d more 0 text → Safe d
 safe_outcome (Check budget) tree d more text checks reports j is r = safe_checked d budget text checks is r
 safe_outcome Verify tree d more text checks reports j is v = safe_verified d more text reports is v
+safe_outcome Upgrade tree d more text checks reports j is v = let said = as_verdict d more 0 text v in safe_verified d more said.0 reports is said.1
 safe_outcome Replay tree d more text checks reports j is v = absurd cc
 safe_outcome Spell tree d more text checks reports j is v = absurd cc
 
@@ -70,6 +72,11 @@ refutes_verified : (bytes more : List ℕ) (status : ℕ) (text : List ℕ) → 
 refutes_verified bytes more status text reports o (inl (why, is, one)) = absurd (not_three status o one.0)
 refutes_verified bytes more status text reports o (inr (tree, d, read, v)) = right_verified bytes d more status text reports (tree, read) o v
 
+refutes_upgraded : (bytes more : List ℕ) (status : ℕ) (text : List ℕ) → OfReports → is_outcome status ≡ true → IsAnswerOf Upgrade bytes more status text → IsRefutedRightly bytes more
+refutes_upgraded bytes more status text reports o (inl (why, is, one)) = absurd (not_three status o one.0)
+refutes_upgraded bytes more status text reports o (inr (tree, d, read, v)) =
+    let said = as_verdict d more status text v in right_verified bytes d more status said.0 reports (tree, read) o said.1
+
 refutes_told : (task : Task) (told extra : Option (List ℕ)) (status : ℕ) (text : List ℕ) (before after : Option (List ℕ)) → TypesWell → OfChecks → OfReports → is_task task ≡ true → is_outcome status ≡ true
     → IsAnswerTo (Some (OfSpec task)) told extra status text → Appends before after text → RefutesOf task told extra before after
 refutes_told (Check budget) None extra status text before after well checks reports t o a w = tt
@@ -79,6 +86,10 @@ refutes_told Verify None extra status text before after well checks reports t o 
 refutes_told Verify (Some bytes) None status text before after well checks reports t o a w = tt
 refutes_told Verify (Some bytes) (Some report) status text before after well checks reports t o (given, more, told, also, a) w =
     subst (λ bs. IsRefutedRightly bs report) (sym told) (subst (IsRefutedRightly given) (sym also) (refutes_verified given more status text reports o a))
+refutes_told Upgrade None extra status text before after well checks reports t o a w = tt
+refutes_told Upgrade (Some bytes) None status text before after well checks reports t o a w = tt
+refutes_told Upgrade (Some bytes) (Some report) status text before after well checks reports t o (given, more, told, also, a) w =
+    subst (λ bs. IsRefutedRightly bs report) (sym told) (subst (IsRefutedRightly given) (sym also) (refutes_upgraded given more status text reports o a))
 refutes_told Replay told extra status text before after well checks reports t o a w = tt
 refutes_told Spell told extra status text before after well checks reports t o a w = tt
 
@@ -122,4 +133,5 @@ replayed_safely (Some (Sample n)) (Some bytes) extra status c a = absurd (cc c)
 replayed_safely (Some (OfSpec Spell)) (Some bytes) extra status c a = absurd (cc c)
 replayed_safely (Some (OfSpec (Check budget))) (Some bytes) extra status c a = absurd (cc c)
 replayed_safely (Some (OfSpec Verify)) (Some bytes) extra status c a = absurd (cc c)
+replayed_safely (Some (OfSpec Upgrade)) (Some bytes) extra status c a = absurd (cc c)
 replayed_safely (Some (OfSpec Replay)) (Some bytes) extra status c a = replayed_told bytes extra status a

@@ -5,7 +5,7 @@ use Rattle.std.specs.Str.{bytes_eq}
 use Rattle.word_cut.specs.Whole.{size_read}
 use Rattle.report_lines.specs.Heads.{most_budget}
 use Rattle.cise_run.specs.declared.words.Task.{Task}
-use Rattle.cise_run.specs.declared.words.Task.TheVariants.{Check, Verify, Replay, Spell}
+use Rattle.cise_run.specs.declared.words.Task.TheVariants.{Check, Verify, Upgrade, Replay, Spell}
 use Rattle.cise_run.specs.declared.words.Job.{Job}
 use Rattle.cise_run.specs.declared.words.Job.TheVariants.{OfSpec, Sample}
 use Rattle.cise_run.specs.Words.{default_budget, most_sample, is_within, within, number_in, check_within, sample_of, job_of_two, job_of_three, job_of_four, job_of, is_job}
@@ -43,7 +43,8 @@ two_allowed command word =
 three_allowed : (command : List ℕ) → IsAllowed (job_of_three command)
 three_allowed command =
     choose (bytes_eq command (codes "verify")) (Some (OfSpec Verify)) _ refl
-    (choose (bytes_eq command (codes "replay")) (Some (OfSpec Replay)) None refl tt)
+    (choose (bytes_eq command (codes "upgrade")) (Some (OfSpec Upgrade)) _ refl
+    (choose (bytes_eq command (codes "replay")) (Some (OfSpec Replay)) None refl tt))
 
 four_allowed : (command option word : List ℕ) → IsAllowed (job_of_four command option word)
 four_allowed command option word =

@@ -1,5 +1,5 @@
 -- What the layers below promise of reports, as the proofs of the headline use it.
-use Rattle.std.proofs.Common.{◌≡◌, ◌≤◌, ℕ, true, List, Option, Some, None}
+use Rattle.std.proofs.Common.{◌≡◌, ◌≤◌, ℕ, true, List, length, Option, Some, None}
 use Rattle.std.specs.Prelude.{Ok, slice_get}
 use Rattle.spec_core.specs.Specification.{Specification}
 use Rattle.spec_core.specs.State.{Listing, reads}
@@ -23,7 +23,8 @@ use Rattle.check_run.specs.Shown.{listing_of}
 use Rattle.check_run.specs.Good.{IsGood, AreGood}
 use Rattle.check_run.specs.Reports.{tally_of, written_version, IsChecked}
 use Rattle.report_verifier.specs.Rules.{verdict_fault}
-use Rattle.report_verifier.specs.Verified.{IsAccepted}
+use Rattle.report_verifier.specs.Verified.{most_report_bytes, IsAccepted}
+use Rattle.report_upgrader.specs.Upgrading.{IsUpgradedText}
 
 -- a typed tree is a specification
 abbrev pub TypesWell : Type 0
@@ -41,3 +42,7 @@ pub record OfReports : Type 0 where
   pub safe : (d : Specification) (bytes : List ℕ) (tally : Tally) → is_specification d ≡ true → IsAccepted d bytes tally → outcome_of tally ≡ Accepted → Safe d
   pub breaks : (d : Specification) (r : ReportForm) (i : ℕ) (p : PartialWitness) (es : List ℕ) → is_report d r ≡ true → verdict_fault d r ≡ None
       → slice_get r.verdicts i ≡ Some (refuted p es) → (s : Listing) × (reads s ≡ reads_of p) × Breaks d (obligation_at d i) p.world s p.calls es
+
+-- of upgraded reports
+abbrev pub KeepsVerdicts : Type 0
+KeepsVerdicts = (d : Specification) (bytes : List ℕ) (tally : Tally) (text : List ℕ) → length bytes ≤ most_report_bytes → IsUpgradedText d bytes tally text → IsAccepted d text tally

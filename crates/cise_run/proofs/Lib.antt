@@ -5,6 +5,8 @@ mod Jobs
 mod Laws
 mod Outcomes
 mod Reports
+mod Upgrades
 mod Agreement
+mod Upgraded
 mod Headline
 mod Complete

@@ -7,13 +7,14 @@ use Rattle.spec_from_bytes.specs.Lines.{line}
 use Rattle.spec_from_bytes.specs.Refusal.{IsReadAs, Refusal, IsRefusal, refusal_text}
 use Rattle.spec_from_bytes.specs.Reading.{Tells}
 use Rattle.cise_run.specs.declared.words.Task.{Task}
-use Rattle.cise_run.specs.declared.words.Task.TheVariants.{Check, Verify, Replay, Spell}
+use Rattle.cise_run.specs.declared.words.Task.TheVariants.{Check, Verify, Upgrade, Replay, Spell}
 use Rattle.cise_run.specs.declared.words.Job.{Job}
 use Rattle.cise_run.specs.declared.words.Job.TheVariants.{OfSpec, Sample}
 use Rattle.cise_run.specs.Words.{job_of}
 use Rattle.cise_run.specs.Ending.{IsOne, IsFrontOf, IsBroken, Ends}
 use Rattle.cise_run.specs.commands.Check.{IsReport, IsReportFront}
 use Rattle.cise_run.specs.commands.Verify.{IsVerdict, IsVerdictFront}
+use Rattle.cise_run.specs.commands.Upgrade.{IsUpgraded, IsUpgradeFront}
 use Rattle.cise_run.specs.commands.Replay.{IsReplayed, IsReplayFront}
 use Rattle.cise_run.specs.commands.Spell.{IsSpelled, IsSpellFront}
 use Rattle.cise_run.specs.commands.Sample.{IsSampled, IsSampleFront}
@@ -25,6 +26,7 @@ use Rattle.cise_run.specs.commands.Sample.{IsSampled, IsSampleFront}
 abbrev pub IsOutcome : Task → TreeForm → Specification → List ℕ → ℕ → List ℕ → Type 0
 IsOutcome (Check budget) tree d more status text = IsReport budget d status text
 IsOutcome Verify tree d more status text = IsVerdict d more status text
+IsOutcome Upgrade tree d more status text = IsUpgraded d more status text
 IsOutcome Replay tree d more status text = IsReplayed d more status text
 IsOutcome Spell tree d more status text = IsSpelled tree status text
 
@@ -32,6 +34,7 @@ IsOutcome Spell tree d more status text = IsSpelled tree status text
 abbrev pub IsOutcomeFront : Task → TreeForm → Specification → List ℕ → List ℕ → Type 0
 IsOutcomeFront (Check budget) tree d more front = IsReportFront budget d front
 IsOutcomeFront Verify tree d more front = IsVerdictFront d more front
+IsOutcomeFront Upgrade tree d more front = IsUpgradeFront d more front
 IsOutcomeFront Replay tree d more front = IsReplayFront d more front
 IsOutcomeFront Spell tree d more front = IsSpellFront tree front
 
@@ -104,13 +107,14 @@ IsStopped words spec extra held_before held_after = IsBroken (IsFrontTo (job_of 
 
 -- ---- two answers
 
--- Two answers to one task agree: they are the same, or both are reports of one specification, with one budget. Verdicts, witnesses and
--- logs are free.
+-- Two answers to one task agree: they are the same, or both are reports of one specification, with one budget.
+-- Verdicts, witnesses and logs are free.
 abbrev pub AgreeOf : Task → ℕ → List ℕ → ℕ → List ℕ → Type 0
 AgreeOf (Check budget) status text other_status other_text =
     IsOne status text other_status other_text
     ⊎ ((d : Specification) × IsReport budget d status text × IsReport budget d other_status other_text)
 AgreeOf Verify status text other_status other_text = IsOne status text other_status other_text
+AgreeOf Upgrade status text other_status other_text = IsOne status text other_status other_text
 AgreeOf Replay status text other_status other_text = IsOne status text other_status other_text
 AgreeOf Spell status text other_status other_text = IsOne status text other_status other_text
 

@@ -1,6 +1,6 @@
 -- What status 0 of a check or of a verified report says, what a refutation says, what a replay of a safe specification keeps, and which
 -- statuses may come at all.
-use Rattle.std.specs.Prelude.{◌≡◌, ◌⊎◌, ℕ, Bool, true, ◌||◌, ◌==◌, List, Option, None, Some, IfSome, Ok, slice_get}
+use Rattle.std.specs.Prelude.{◌≡◌, ◌⊎◌, ℕ, ◌≤◌, length, Bool, true, ◌||◌, ◌==◌, List, Option, None, Some, IfSome, Ok, slice_get}
 use Rattle.std.specs.Io.KnownBytes.{Appends}
 use Rattle.spec_core.specs.Specification.{Specification}
 use Rattle.spec_core.specs.State.{Listing, reads}
@@ -17,10 +17,12 @@ use Rattle.schedule_json.specs.Schedules.{schedule_from}
 use Rattle.replay_text.specs.Course.{course}
 use Rattle.replay_text.specs.Safely.{PrintAlike}
 use Rattle.check_run.specs.Shown.{listing_of}
+use Rattle.report_verifier.specs.Verified.{most_report_bytes}
 use Rattle.cise_run.specs.declared.words.Task.{Task}
-use Rattle.cise_run.specs.declared.words.Task.TheVariants.{Check, Verify, Replay, Spell}
+use Rattle.cise_run.specs.declared.words.Task.TheVariants.{Check, Verify, Upgrade, Replay, Spell}
 use Rattle.cise_run.specs.declared.words.Job.{Job}
 use Rattle.cise_run.specs.declared.words.Job.TheVariants.{OfSpec, Sample}
+use Rattle.cise_run.specs.Answer.{IsAnswerOf}
 
 -- ---- status 0
 
@@ -64,6 +66,7 @@ VerifiesRightly spec extra = IfSome spec (λ bytes. IfSome extra (λ report. IsR
 abbrev pub RefutesOf : Task → Option (List ℕ) → Option (List ℕ) → Option (List ℕ) → Option (List ℕ) → Type 0
 RefutesOf (Check budget) spec extra held_before held_after = WritesRightly spec held_before held_after
 RefutesOf Verify spec extra held_before held_after = VerifiesRightly spec extra
+RefutesOf Upgrade spec extra held_before held_after = VerifiesRightly spec extra
 RefutesOf Replay spec extra held_before held_after = Unit {0}
 RefutesOf Spell spec extra held_before held_after = Unit {0}
 
@@ -82,6 +85,16 @@ pub record IsReplayedSafely (bytes : List ℕ) (told : Option (List ℕ)) (statu
   pub alike : (d : Specification) (more : List ℕ) (s : Schedule) → IsSpecificationOf bytes d → Safe d → told ≡ Some more → schedule_from d more ≡ Ok s
       → PrintAlike d s.world (course d s.world s.replicas s.steps)
 
+-- ---- upgrades
+
+-- Each verification of a text as a report on the specification that some bytes are ends with this status, where it has at most 64 MiB.
+abbrev pub IsVerifiedAs : List ℕ → List ℕ → ℕ → Type 0
+IsVerifiedAs bytes text status = length text ≤ most_report_bytes → (other : ℕ) (said : List ℕ) → IsAnswerOf Verify bytes text other said → other ≡ status
+
+-- So does each verification of what was written, on the specification that the first source told.
+abbrev pub UpgradesAlike : Option (List ℕ) → Option (List ℕ) → Option (List ℕ) → ℕ → Type 0
+UpgradesAlike spec held_before held_after status = IfSome spec (λ bytes. (text : List ℕ) × Appends held_before held_after text × IsVerifiedAs bytes text status)
+
 -- ---- completeness
 
 -- the status of verdicts: all are proved, one is refuted, or none is and one is undecided
@@ -97,6 +110,7 @@ is_memory status = status == 8
 abbrev pub may_end_of : Task → ℕ → Bool
 may_end_of (Check budget) status = is_outcome status || is_memory status
 may_end_of Verify status = is_outcome status || ((status == 4) || is_memory status)
+may_end_of Upgrade status = is_outcome status || ((status == 4) || is_memory status)
 may_end_of Replay status = (status == 0) || ((status == 1) || ((status == 4) || is_memory status))
 may_end_of Spell status = (status == 0) || is_memory status
 

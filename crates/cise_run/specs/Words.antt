@@ -5,7 +5,7 @@ use Rattle.byte_ports.specs.Faults.{IsFault}
 use Rattle.word_cut.specs.Whole.{size_read}
 use Rattle.report_lines.specs.Heads.{most_budget}
 use Rattle.cise_run.specs.declared.words.Task.{Task}
-use Rattle.cise_run.specs.declared.words.Task.TheVariants.{Check, Verify, Replay, Spell}
+use Rattle.cise_run.specs.declared.words.Task.TheVariants.{Check, Verify, Upgrade, Replay, Spell}
 use Rattle.cise_run.specs.declared.words.Job.{Job}
 use Rattle.cise_run.specs.declared.words.Job.TheVariants.{OfSpec, Sample}
 
@@ -51,15 +51,16 @@ job_of_two command word =
 abbrev pub job_of_three : List ℕ → Option Job
 job_of_three command =
     if bytes_eq command (codes "verify") then Some (OfSpec Verify)
-    else (if bytes_eq command (codes "replay") then Some (OfSpec Replay) else None)
+    else (if bytes_eq command (codes "upgrade") then Some (OfSpec Upgrade)
+    else (if bytes_eq command (codes "replay") then Some (OfSpec Replay) else None))
 
 abbrev pub job_of_four : List ℕ → List ℕ → List ℕ → Option Job
 job_of_four command option word =
     if bytes_eq command (codes "check") then (if bytes_eq option (codes "--budget") then check_within (number_in most_budget word) else None) else None
 
 -- The job that the words ask for; none where they aren't accepted. The accepted words are `check SPEC`, `check SPEC --budget N` with N
--- from 1 to 1,000,000, `verify SPEC REPORT`, `replay SPEC SCHEDULE`, `spell SPEC` and `sample N` with N from 1 to 12; SPEC, REPORT and
--- SCHEDULE are any texts.
+-- from 1 to 1,000,000, `verify SPEC REPORT`, `upgrade SPEC REPORT`, `replay SPEC SCHEDULE`,
+-- `spell SPEC` and `sample N` with N from 1 to 12; SPEC, REPORT and SCHEDULE are any texts.
 abbrev pub job_of : List (List ℕ) → Option Job
 job_of [] = None
 job_of (command ∷ []) = None
@@ -72,6 +73,7 @@ job_of (command ∷ path ∷ option ∷ word ∷ more ∷ words) = None
 abbrev pub is_task : Task → Bool
 is_task (Check budget) = is_within most_budget budget
 is_task Verify = true
+is_task Upgrade = true
 is_task Replay = true
 is_task Spell = true
 
@@ -85,6 +87,7 @@ is_job (Sample n) = is_within most_sample n
 abbrev pub takes_extra : Task → Bool
 takes_extra (Check budget) = false
 takes_extra Verify = true
+takes_extra Upgrade = true
 takes_extra Replay = true
 takes_extra Spell = false
 
@@ -104,10 +107,11 @@ abbrev pub IsInputFault : Option Job → ℕ → ℕ → ℕ → ℕ → Type 0
 IsInputFault job spec_before spec_after extra_before extra_after =
     ((reads_spec job ≡ true) × IsFault spec_before spec_after) ⊎ ((reads_extra job ≡ true) × IsFault extra_before extra_after)
 
--- the words ask for a verdict on a specification: for a check of it, or for the verification of a report on it
+-- the words ask for a verdict on a specification: for a check of it, or for the verification or the upgrade of a report on it
 abbrev pub is_judging : Task → Bool
 is_judging (Check budget) = true
 is_judging Verify = true
+is_judging Upgrade = true
 is_judging Replay = false
 is_judging Spell = false
 
@@ -120,6 +124,7 @@ judges (Some (Sample n)) = false
 abbrev pub is_replaying : Task → Bool
 is_replaying (Check budget) = false
 is_replaying Verify = false
+is_replaying Upgrade = false
 is_replaying Replay = true
 is_replaying Spell = false
 
@@ -127,3 +132,16 @@ abbrev pub is_replay : Option Job → Bool
 is_replay None = false
 is_replay (Some (OfSpec task)) = is_replaying task
 is_replay (Some (Sample n)) = false
+
+-- they ask for an upgrade
+abbrev pub is_upgrading : Task → Bool
+is_upgrading (Check budget) = false
+is_upgrading Verify = false
+is_upgrading Upgrade = true
+is_upgrading Replay = false
+is_upgrading Spell = false
+
+abbrev pub is_upgrade : Option Job → Bool
+is_upgrade None = false
+is_upgrade (Some (OfSpec task)) = is_upgrading task
+is_upgrade (Some (Sample n)) = false

@@ -3,4 +3,5 @@ pub mod check;
 pub mod replay;
 pub mod sample;
 pub mod spell;
+pub mod upgrade;
 pub mod verify;

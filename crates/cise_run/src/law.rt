@@ -3,12 +3,13 @@ ghost use Rattle.std.specs.Prelude.{◌≡◌, ℕ, true, List, Option, Some, If
 ghost use Rattle.std.specs.Io.KnownBytes.{Appends};
 ghost use Rattle.spec_from_bytes.specs.Refusal.{Refusal, IsRefusal, refusal_text};
 ghost use Rattle.cise_run.specs.declared.words.Task.{Task};
-ghost use Rattle.cise_run.specs.Words.{job_of, judges};
+ghost use Rattle.cise_run.specs.Words.{job_of, judges, is_upgrade};
 ghost use Rattle.cise_run.specs.Ending.{IsOne};
 ghost use Rattle.cise_run.specs.Answer.{IsAnswer, IsAnswerOf, Agree};
-ghost use Rattle.cise_run.specs.Headline.{IsProved, is_outcome, Refutes};
+ghost use Rattle.cise_run.specs.Headline.{IsProved, is_outcome, Refutes, UpgradesAlike};
 
 use check_run::{law_checked_is_read, law_good_verdicts, law_safe};
+use report_upgrader::law_upgraded_report_is_accepted;
 use report_verifier::{law_accepted_is_safe, law_one_answer, law_refuted_breaks};
 use typing_rules::law_typed_is_well_formed;
 
@@ -44,3 +45,14 @@ pub fn law_refused_for_all()
     ensures { (task : Task) (bytes more : List ℕ) (why : Refusal) (status : ℕ) (text : List ℕ)
         → IsRefusal bytes why → IsAnswerOf task bytes more status text → IsOne 3 (refusal_text why) status text }
 {}
+
+/// Where a report was upgraded, what was written is verified with the same status, where it has at most 64 MiB.
+pub fn law_upgrades_are_verified()
+    ensures { (words : List (List ℕ)) (spec extra : Option (List ℕ)) (status : ℕ) (text : List ℕ) (held_before held_after : Option (List ℕ))
+        → is_outcome status ≡ true → is_upgrade (job_of words) ≡ true → IsAnswer words spec extra status text → Appends held_before held_after text
+        → UpgradesAlike spec held_before held_after status }
+{
+    law_typed_is_well_formed();
+    law_one_answer();
+    law_upgraded_report_is_accepted();
+}

@@ -4,18 +4,19 @@ ghost use Rattle.byte_ports.specs.Faults.{IsFault};
 ghost use Rattle.spec_reader.specs.Form.{tree_of};
 ghost use Rattle.spec_from_bytes.specs.Reading.{Tells, IsReadingOf};
 ghost use Rattle.cise_run.specs.declared.words.Job.TheVariants.{OfSpec};
-ghost use Rattle.cise_run.specs.Words.{job_of, is_task, judges, is_replay, takes_extra, reads_spec, reads_extra, IsInputFault};
+ghost use Rattle.cise_run.specs.Words.{job_of, is_task, judges, is_replay, is_upgrade, takes_extra, reads_spec, reads_extra, IsInputFault};
 ghost use Rattle.cise_run.specs.Ending.{Ends};
 ghost use Rattle.cise_run.specs.Answer.{IsOutcome, IsOutcomeFront, IsAnswerOf, IsFrontOfAnswer, IsAnswerTo, IsFrontTo, EndsWith, IsAnswered, IsStopped};
-ghost use Rattle.cise_run.specs.Headline.{IsProved, is_outcome, Refutes, IsReplayedSafely, IsComplete};
+ghost use Rattle.cise_run.specs.Headline.{IsProved, is_outcome, Refutes, IsReplayedSafely, UpgradesAlike, IsComplete};
 
 use crate::commands::check::check;
 use crate::commands::replay::replay_schedule;
 use crate::commands::sample::sample;
 use crate::commands::spell::spell_tree;
+use crate::commands::upgrade::upgrade;
 use crate::commands::verify::verify;
 use crate::ending::{MEMORY, READ_FAULT, SPECIFICATION, WORDS, write_answer};
-use crate::law::law_headline;
+use crate::law::{law_headline, law_upgrades_are_verified};
 use crate::words::{Job, Task, job_asked};
 use byte_ports::{Sink, Source};
 use spec_core::Spec;
@@ -41,6 +42,7 @@ fn do_task<E: Source, K: Sink>(
     match task {
         Task::Check(budget) => check(alloc, budget, spec, out),
         Task::Verify => verify(alloc, spec, extra, out),
+        Task::Upgrade => upgrade(alloc, spec, extra, out),
         Task::Replay => replay_schedule(alloc, spec, extra, out),
         Task::Spell => spell_tree(alloc, tree, out),
     }
@@ -93,10 +95,10 @@ fn answer_task<S: Source, E: Source, K: Sink>(
 
 /// Answers the words, those behind the program's name, from the bytes of the two inputs, and writes the answer's text.
 ///
-/// The statuses: 0, all verdicts are proved, the specification was spelled, or all steps were accepted and no state broke; 1, a verdict
-/// is refuted, or a state breaks an invariant; 2, the words aren't accepted; 3, the bytes are no specification; 4, the bytes of the
-/// second input are no report or no schedule, or a line or a step breaks its rule; 5, no verdict is refuted and one is undecided; 6, a
-/// source that is read for the job has failed; 7, the sink has failed; 8, out of memory.
+/// The statuses: 0, all verdicts are proved, of a check or of a report that is verified or upgraded, the specification was spelled, or all
+/// steps were accepted and no state broke; 1, a verdict is refuted, or a state breaks an invariant; 2, the words aren't accepted; 3, the
+/// bytes are no specification; 4, the bytes of the second input are no report or no schedule, or a line or a step breaks its rule; 5, no
+/// verdict is refuted and one is undecided; 6, a source that is read for the job has failed; 7, the sink has failed; 8, out of memory.
 pub fn run<S: Source, E: Source, K: Sink>(
     alloc: Global,
     words: &[String],
@@ -111,7 +113,7 @@ pub fn run<S: Source, E: Source, K: Sink>(
     ensures front { 6 < result → IsStopped (map string_bytes words.now) (S.left spec.old) (E.left extra.old) (K.held out.old) (K.held out.new) }
     ensures known { result < 9 }
 
-    // The headline: a specification converges where its check, or the verification of a report on it, ends with status 0.
+    // The headline: a specification converges where its check, or the verification or the upgrade of a report on it, ends with status 0.
     ensures proved { result ≡ 0 → judges (job_of (map string_bytes words.now)) ≡ true → IfSome (S.left spec.old) IsProved }
 
     // Each refutation that is written or verified breaks its obligation.
@@ -119,6 +121,9 @@ pub fn run<S: Source, E: Source, K: Sink>(
 
     // And a safe specification is never replayed to a state that breaks an invariant.
     ensures safe { is_replay (job_of (map string_bytes words.now)) ≡ true → IfSome (S.left spec.old) (λ bytes. IsReplayedSafely bytes (E.left extra.old) result) }
+
+    // What an upgrade wrote is verified with the status that the upgrade ended with.
+    ensures upgraded { is_outcome result ≡ true → is_upgrade (job_of (map string_bytes words.now)) ≡ true → UpgradesAlike (S.left spec.old) (K.held out.old) (K.held out.new) result }
 
     // Where the specification is read, and no input and no write fails, there is an answer, or memory ran out.
     ensures complete { (IsInputFault (job_of (map string_bytes words.now)) (S.faults spec.old) (S.faults spec.new) (E.faults extra.old) (E.faults extra.new) → ⊥) → (IsFault (K.faults out.old) (K.faults out.new) → ⊥) → IsComplete (job_of (map string_bytes words.now)) (S.left spec.old) result }
@@ -128,6 +133,7 @@ pub fn run<S: Source, E: Source, K: Sink>(
     ensures unread_extra { reads_extra (job_of (map string_bytes words.now)) ≡ false → extra.new ≡ extra.old }
 {
     law_headline();
+    law_upgrades_are_verified();
     match job_asked(words) {
         Some(Job::OfSpec(task)) => answer_task(alloc, task, spec, extra, out),
         Some(Job::Sample(number)) => sample(alloc, number, out),

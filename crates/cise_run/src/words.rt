@@ -12,6 +12,8 @@ pub enum Task {
     Check(u32),
     /// To verify a report on it.
     Verify,
+    /// To upgrade a report on it.
+    Upgrade,
     /// To replay a schedule.
     Replay,
     /// To write its words in the layout of the language.
@@ -86,6 +88,8 @@ fn job_of_three(command: &str) -> Option<Job>
 {
     if command == "verify" {
         Some(Job::OfSpec(Task::Verify))
+    } else if command == "upgrade" {
+        Some(Job::OfSpec(Task::Upgrade))
     } else if command == "replay" {
         Some(Job::OfSpec(Task::Replay))
     } else {

@@ -1,7 +1,19 @@
-// Tests of ground problems by public calls: numbers and clauses worked by hand.
+// Tests of ground problems by public calls: numbers, clauses, sizes and witnesses worked by hand.
 #![tactic(auto)]
 
 #[cfg(test)]
 mod clauses;
 #[cfg(test)]
+mod examples;
+#[cfg(test)]
 mod numbering;
+#[cfg(test)]
+mod problems;
+#[cfg(test)]
+mod satisfying;
+#[cfg(test)]
+mod setting;
+#[cfg(test)]
+mod sizes;
+#[cfg(test)]
+mod witnesses;

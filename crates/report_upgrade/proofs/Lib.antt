@@ -1,1 +1,4 @@
 mod Reports
+mod Passes
+mod Texts
+mod Steps

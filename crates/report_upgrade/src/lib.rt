@@ -1,27 +1,22 @@
 // Upgraded reports: version 2 of the format, the same budget and verdicts, and each log that proves upgraded.
 //
-// It stands on `proof_report`, whose reports these are, and on `log_upgrade`. specs/Reports.antt has the definition. A verdict on an
-// obligation stays what it is, so an upgraded report comes to the same; what its logs show, `log_upgrade` says.
+// It stands on `proof_report` and `report_text`, whose reports these are, and on `log_upgrade`. A verdict on an obligation stays what it is,
+// so an upgraded report comes to the same; what its logs show, `log_upgrade` says. Nothing is decided here: that a report stands is asked
+// elsewhere.
+//
+// The upgraded report of bytes that are those of a report is written line by line. Each line is passed on as it is but for the first one and
+// those of proved verdicts. Their logs are held one at a time until they are whole, since what a later line names isn't known before.
+//
+// Definitions, in the order in which a reader needs them: specs/Reports (the upgraded report). specs/Passing mirrors the code.
 #![tactic(auto)]
 
-ghost use Rattle.std.specs.Prelude.{◌≡◌, true};
-ghost use Rattle.std.specs.List.{fold, list_all};
-ghost use Rattle.spec_core.specs.Specification.{Specification};
-ghost use Rattle.proof_report.specs.Verdicts.{ReportForm, is_report};
-ghost use Rattle.proof_report.specs.Events.{no_verdicts, with_verdict};
-ghost use Rattle.report_upgrade.specs.Reports.{upgraded_report, has_room};
+mod laws;
+mod lines;
+mod passing;
+mod rewriting;
 
-/// A report that can be written and read can be so upgraded, where a report can show the numbers of its lines.
-pub fn law_upgraded_report_is_a_report()
-    ensures { (d : Specification) (r : ReportForm) → is_report d r ≡ true → list_all has_room r.verdicts ≡ true → is_report d (upgraded_report r) ≡ true }
-{}
-
-/// An upgraded report has as many verdicts of each kind.
-pub fn law_upgraded_report_has_the_same_summary()
-    ensures { (r : ReportForm) → fold (λ t v. with_verdict v t) no_verdicts (upgraded_report r).verdicts ≡ fold (λ t v. with_verdict v t) no_verdicts r.verdicts }
-{}
-
-/// An upgraded report is upgraded already.
-pub fn law_report_upgraded_twice()
-    ensures { (r : ReportForm) → upgraded_report (upgraded_report r) ≡ upgraded_report r }
-{}
+pub use laws::{
+    law_report_upgraded_twice, law_upgraded_report_has_the_same_summary,
+    law_upgraded_report_is_a_report,
+};
+pub use rewriting::{Unwritten, write_upgraded};

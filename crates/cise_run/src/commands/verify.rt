@@ -58,7 +58,7 @@ fn line_text(alloc: Global, number: u32, kind: ReportKind) -> Result<Vec<u8>, Al
 }
 
 /// The text of what the verifier says, where nothing stopped it.
-fn text_said(alloc: Global, said: Result<Tally, VerifyRefused>) -> Result<Vec<u8>, Stopped>
+pub fn text_said(alloc: Global, said: Result<Tally, VerifyRefused>) -> Result<Vec<u8>, Stopped>
     ensures text { IfOk result (λ text. text_said said ≡ Some text.items) }
     ensures fault { IsErrOf result Stopped.Fault → said ≡ Err refused.Fault }
 {

@@ -1,5 +1,5 @@
 use Rattle.spec_reader.specs.Form.{tree_of}
-use Rattle.cise_run.specs.declared.words.Task.TheVariants.{Check, Spell}
+use Rattle.cise_run.specs.declared.words.Task.TheVariants.{Check, Upgrade, Spell}
 use Rattle.cise_run.proofs.Endings.{Ends-task, some_told}
 use Rattle.cise_run.proofs.run.do_task.Goals as goal
 
@@ -12,3 +12,8 @@ pub returns-in-Spell-clause-ends : goal.returns-in-Spell-clause-ends
 returns-in-Spell-clause-ends g c =
     let given = some_told (g.E.Source.left c.args.extra.now) in
     (given.0, given.1, Ends-task c.args.task Spell (tree_of c.args.tree.now) c.args.spec.now given.0 c.spell_tree.result _ _ _ _ c.in-Spell.is c.spell_tree.ensures.ends)
+
+pub returns-in-Upgrade-clause-ends : goal.returns-in-Upgrade-clause-ends
+returns-in-Upgrade-clause-ends g c =
+    let e = c.upgrade.ensures.ends in
+    (e.0, e.1, Ends-task c.args.task Upgrade (tree_of c.args.tree.now) c.args.spec.now e.0 c.upgrade.result _ _ _ _ c.in-Upgrade.is e.2)

@@ -44,6 +44,12 @@ returns-in-Some-OfSpec-clause-safe g c = λ replay.
     replayed_safely (job_of (map string_bytes c.args.words.now)) (g.S.Source.left c.args.spec.now) (g.E.Source.left c.args.extra.now) c.answer_task.result replay
     (λ below. let a = returns-in-Some-OfSpec-clause-answered g c below in (a.0, a.1))
 
+pub returns-in-Some-OfSpec-clause-upgraded : goal.returns-in-Some-OfSpec-clause-upgraded
+returns-in-Some-OfSpec-clause-upgraded g c = λ outcome upgrade.
+    let answer = returns-in-Some-OfSpec-clause-answered g c (is_outcome-low c.answer_task.result outcome) in
+    c.law_upgrades_are_verified.ensures (map string_bytes c.args.words.now) (g.S.Source.left c.args.spec.now) (g.E.Source.left c.args.extra.now) c.answer_task.result answer.0
+    (g.K.Sink.held c.args.out.now) (g.K.Sink.held c.answer_task.new.out) outcome upgrade answer.1 answer.2
+
 pub returns-in-Some-OfSpec-clause-complete : goal.returns-in-Some-OfSpec-clause-complete
 returns-in-Some-OfSpec-clause-complete g c = λ no_input no_output.
     IsComplete-run (job_of (map string_bytes c.args.words.now)) (g.S.Source.left c.args.spec.now) (g.E.Source.left c.args.extra.now) c.answer_task.result

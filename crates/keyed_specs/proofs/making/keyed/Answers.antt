@@ -1,0 +1,9 @@
+use Rattle.std.proofs.Common.{◌∙◌}
+use Rattle.keyed_specs.proofs.Keying.{keyed_made}
+use Rattle.keyed_specs.proofs.making.keyed.Goals as goal
+
+pub returns : goal.returns
+returns c =
+    c.in_ok-keyed.ensures
+    ∙ keyed_made c.args.spec.now c.args.first c.args.p c.args.second c.args.q c.key_sort-sort.result c.in_ok-tokens.tokens c.in-Ok.value c.in-Ok-keyed_operations.value
+    c.key_sort-sort.ensures c.in_ok-tokens.ensures c.in-Ok.ensures c.in-Ok-keyed_operations.ensures

@@ -1,0 +1,26 @@
+// Specifications with the fewest tokens: the bare one, and those keyed on a parameter of two operations.
+//
+// It stands on `spec_core`, on the copies of `spec_copy`, and on `spec_draft`, which makes a specification of its parts. specs/Bare.antt
+// and specs/Keyed.antt have the definitions. `in_use` and `naming` look for the names of the two tokens, `making` makes the
+// specifications.
+#![tactic(auto)]
+
+/// What a call returns, or its error, before which the values named are dropped: a `?` while they are alive would be
+/// dear to prove.
+macro_rules! or_drop {
+    ($call:expr; $($value:ident),*) => {
+        match $call {
+            Ok(value) => value,
+            Err(error) => {
+                $(drop($value);)*
+                return Err(error);
+            }
+        }
+    };
+}
+
+mod in_use;
+mod making;
+mod naming;
+
+pub use making::{bare, keyed};

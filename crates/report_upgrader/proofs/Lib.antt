@@ -1,0 +1,3 @@
+mod Room
+pub mod Accepted
+mod Held

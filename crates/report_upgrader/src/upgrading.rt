@@ -1,0 +1,90 @@
+// The report that a source gives, upgraded.
+ghost use Rattle.std.specs.Prelude.{◌≡◌, ℕ, ◌≤◌, List, length, IsErrOf};
+ghost use Rattle.std.specs.Io.KnownBytes.{IsAtEnd, Consumes};
+ghost use Rattle.byte_ports.specs.Faults.{IsFault};
+ghost use Rattle.report_verifier.specs.Verified.{most_report_bytes, IsVerified};
+ghost use Rattle.report_upgrader.specs.Upgrading.{refused_as, IsUpgraded, IsUpgradedFrom, IsOnAll, IsUnwritten};
+
+use crate::refused::UpgradeRefused;
+use crate::source::HeldBytes;
+use byte_ports::{ReadRefused, Sink, Source, read_up_to};
+use report_lines::head::Tally;
+use report_upgrade::{Unwritten, write_upgraded};
+use report_verifier::{VerifyRefused, verify_all};
+use spec_core::Spec;
+use std::alloc::Global;
+
+/// The most bytes of a report: 64 MiB.
+const MOST_REPORT_BYTES: usize = 67_108_864;
+
+// Verifies a report, from bytes that are held.
+fn verify_held(alloc: Global, spec: &Spec, bytes: &[u8]) -> Result<Tally, VerifyRefused>
+    requires { length bytes.now ≤ most_report_bytes }
+    ensures verified { IsVerified spec.now bytes.now result }
+    ensures no_read { IsErrOf result VerifyRefused.Fault → ⊥ }
+{
+    verify_all(alloc, spec, &mut HeldBytes { left: bytes })
+}
+
+// A report that doesn't stand is refused as it is verified.
+fn refused(why: VerifyRefused) -> UpgradeRefused
+    ensures { result ≡ refused_as why }
+{
+    match why {
+        VerifyRefused::Long => UpgradeRefused::Long,
+        VerifyRefused::Line { number, kind } => UpgradeRefused::Line { number, kind },
+        VerifyRefused::Fault => UpgradeRefused::Fault,
+        VerifyRefused::Memory => UpgradeRefused::Memory,
+    }
+}
+
+// Upgrades a report, from bytes that are held.
+fn upgrade_held<K: Sink>(
+    alloc: Global,
+    spec: &Spec,
+    bytes: &[u8],
+    out: &mut K,
+) -> Result<Tally, UpgradeRefused>
+    requires { length bytes.now ≤ most_report_bytes }
+    ensures upgraded { IsUpgraded spec.now bytes.now (K.held out.old) (K.held out.new) result }
+    ensures unwritten { IsUnwritten result → out.new ≡ out.old }
+    ensures no_read { IsErrOf result UpgradeRefused.Fault → ⊥ }
+    ensures write_fault { IsErrOf result UpgradeRefused.WriteFault → IsFault (K.faults out.old) (K.faults out.new) }
+    ensures never_falls { K.faults out.old ≤ K.faults out.new }
+{
+    let tally = match verify_held(alloc, spec, bytes) {
+        Ok(tally) => tally,
+        Err(why) => return Err(refused(why)),
+    };
+    match write_upgraded(alloc, spec, bytes, out) {
+        Ok(()) => Ok(tally),
+        Err(Unwritten::Fault) => Err(UpgradeRefused::WriteFault),
+        Err(Unwritten::Memory) => Err(UpgradeRefused::Memory),
+    }
+}
+
+/// Upgrades the report that a source gives, where it stands: the text of the upgraded report is written, and answered is how many verdicts
+/// of each kind there are. A report that doesn't stand is refused as where it is verified, and nothing is written. The source is read to
+/// its end before either; of more than 64 MiB it reads no further.
+pub fn upgrade_all<E: Source, K: Sink>(
+    alloc: Global,
+    spec: &Spec,
+    report: &mut E,
+    out: &mut K,
+) -> Result<Tally, UpgradeRefused>
+    ensures upgraded { IsUpgradedFrom spec.now (E.left report.old) (K.held out.old) (K.held out.new) result }
+    ensures unwritten { IsUnwritten result → out.new ≡ out.old }
+    ensures fault { IsErrOf result UpgradeRefused.Fault → IsFault (E.faults report.old) (E.faults report.new) }
+    ensures write_fault { IsErrOf result UpgradeRefused.WriteFault → IsFault (K.faults out.old) (K.faults out.new) }
+    ensures end { IsOnAll result → IsAtEnd (E.left report.new) }
+    ensures given_up { (given : List ℕ) × Consumes (E.left report.old) (E.left report.new) given }
+    ensures never_falls { E.faults report.old ≤ E.faults report.new }
+    ensures never_falls_written { K.faults out.old ≤ K.faults out.new }
+{
+    match read_up_to(alloc, report, MOST_REPORT_BYTES) {
+        Ok(bytes) => upgrade_held(alloc, spec, bytes.as_slice(), out),
+        Err(ReadRefused::TooLong) => Err(UpgradeRefused::Long),
+        Err(ReadRefused::Fault) => Err(UpgradeRefused::Fault),
+        Err(ReadRefused::Memory) => Err(UpgradeRefused::Memory),
+    }
+}

@@ -1,0 +1,4 @@
+pub mod Cons
+pub mod Listed
+pub mod Least
+pub mod Counting

@@ -1,0 +1,9 @@
+use Rattle.suggest.proofs.Least.{right}
+use Rattle.suggest.proofs.Counting.{none_unknown}
+use Rattle.suggest.proofs.law.law_least_pairs.Goals as goal
+
+pub returns-clause-right : goal.returns-clause-right
+returns-clause-right c = λ d budget answers good. right c.law_good_verdicts.ensures.proved c.law_good_verdicts.ensures.refuted d budget answers good
+
+pub returns-clause-complete : goal.returns-clause-complete
+returns-clause-complete c = λ answers h a b. none_unknown answers h a b

@@ -1,0 +1,13 @@
+pub mod Found
+pub mod Places
+pub mod Causes
+pub mod Noting
+pub mod Granting
+pub mod Inversion
+pub mod Leaving
+pub mod Running
+pub mod Numbering
+pub mod Taking
+pub mod First
+pub mod Stepping
+pub mod Fitting

@@ -1,0 +1,9 @@
+pub mod Members
+pub mod Tried
+pub mod Granting
+pub mod Held
+pub mod Ended
+pub mod Log
+pub mod HeldNet
+pub mod Fields
+pub mod Stepped

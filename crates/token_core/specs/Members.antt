@@ -1,0 +1,14 @@
+-- A private index of ids; it mirrors src/ids.rt, and a reader of the protocol passes it by.
+use Rattle.std.specs.Prelude.{ℕ, ◌==◌, ◌&&◌, Bool}
+use Rattle.std.specs.HashSet.{contains, HashSet, spare}
+use Rattle.token_protocol.specs.declared.message.EventId.{EventId}
+
+abbrev pub same_pair : ℕ × ℕ → ℕ × ℕ → Bool
+same_pair x y = (x.0 == y.0) && (x.1 == y.1)
+
+-- a set has the pair of an id
+abbrev pub has_id : {S : Type 0} → HashSet (ℕ × ℕ) S → EventId → Bool
+has_id pairs id = contains same_pair pairs (id.replica, id.turn)
+
+abbrev pub room : {S : Type 0} → HashSet (ℕ × ℕ) S → ℕ
+room pairs = spare pairs

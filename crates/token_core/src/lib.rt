@@ -1,0 +1,32 @@
+// The token protocol in code: the manager, which grants calls, nodes, which run them, and a network of both.
+//
+// It stands on `token_protocol`, whose definitions say what the manager grants, what a node answers to a call and to a message, what a
+// network holds after each step, and why what its nodes run is an execution. A `Runner` is a specification in a world with code for its
+// preconditions and effects; `Plain` evaluates them as they are written. `Net` keeps that its events form an execution, that what each
+// replica has taken is a delivery order of it, and that the state of each replica is the state after that.
+//
+// `specs/Held.antt` and `specs/HeldNet.antt` have a node and a network as a program holds them, `specs/Stepped.antt` what a step of such
+// a network is, `specs/Tried.antt` what trying a call in a state gives; the other files of `specs/` mirror the code.
+//
+// A step first makes room for all that it may send and keep, and changes a node only then, so a step that finds no memory changes
+// nothing.
+#![tactic(auto)]
+
+mod ids;
+mod lines;
+mod log;
+mod manager;
+mod net;
+mod node;
+mod replica;
+mod runner;
+mod trying;
+
+pub use ids::Ids;
+pub use log::Happened;
+pub use manager::Manager;
+pub use net::Net;
+pub use node::Node;
+pub use runner::{Plain, Runner};
+pub use token_protocol::{EventId, Granted, Message, Request, WhyVoid};
+pub use trying::{Tried, try_call};

@@ -1,0 +1,246 @@
+// A replica of a network, and its steps.
+
+ghost use Rattle.std.specs.Prelude.{◌≡◌, ℕ, ◌<◌, ◌⊎◌, true, [], ◌∷◌, ◌++◌, ◌^◌, Option, Some, Err, List, length, set, slice_get, vec_len, vec_capacity, IfOk, OnOk, OnErr};
+ghost use Rattle.std.specs.Option.{option_map};
+ghost use Rattle.spec_core.specs.Fits.{is_state};
+ghost use Rattle.token_protocol.specs.declared.message.Request.{Request as Waiting};
+ghost use Rattle.token_protocol.specs.declared.message.Message.{Message as Sent};
+ghost use Rattle.token_protocol.specs.declared.granted.Granted.{Granted};
+ghost use Rattle.token_protocol.specs.Node.{begin};
+ghost use Rattle.token_protocol.specs.Network.{Replica as ReplicaOf, number_of as number_of_call, node_refused, begin_at, hears_message, asks, network_after, answer};
+ghost use Rattle.token_core.specs.Held.{node_of, waiting_fits, message_fits};
+ghost use Rattle.token_core.specs.Log.{lists_of, HasRoom, network_with, id_of, event_of, after_begun, IsAfterHeard, IsPrepared, Left, after_ran, after_void};
+ghost use Rattle.token_core.specs.Fields.{held_replica, replica_at};
+
+use crate::log::{Happened, Log, make_room, number_of, put};
+use crate::manager::{Manager, copy_call};
+use crate::node::Node;
+use crate::runner::Runner;
+use executions::Event;
+use items::Items;
+use spec_core::Call;
+use std::alloc::{AllocError, Global};
+use token_protocol::{Begun, EventId, Heard, Message, NetDid, NetRefused, NodeRefused, WhyVoid};
+
+/// The turns of a replica are fewer.
+const MOST_TURNS: u32 = 4000000000;
+
+/// A replica: its node, and the numbers of the events that it has taken, in that order.
+#[derive(Drop)]
+pub struct Replica {
+    pub node: Node,
+    pub taken: Vec<u32>,
+}
+
+/// The id of the call of which a message tells.
+pub fn id_of(message: &Message) -> EventId
+    ensures { result ≡ id_of message.now }
+{
+    match message {
+        Message::Grant { id, .. } => *id,
+        Message::Done { id, .. } => *id,
+        Message::Void { id } => *id,
+    }
+}
+
+/// The event of a call at a replica that has taken these.
+fn event_of(alloc: Global, call: &Call, taken: &[u32]) -> Result<Event, AllocError>
+    ensures { IfOk result (λ event. event ≡ event_of call.now taken.now) }
+{
+    let seen = Items::from_slice(alloc, taken)?;
+    let call = copy_call(alloc, call)?;
+    Ok(Event { call, seen })
+}
+
+// The event of a replica's waiting call, if one waits.
+fn waiting_event(alloc: Global, at: &Replica) -> Result<Option<Event>, AllocError>
+    ensures { IfOk result (λ event. event ≡ option_map (λ (q : Waiting). event_of q.call at.now.taken.items) at.now.node.waiting) }
+{
+    match at.node.waiting() {
+        Some(waiting) => {
+            let event = event_of(alloc, &waiting.call, at.taken.as_slice())?;
+            Ok(Some(event))
+        }
+        None => Ok(None),
+    }
+}
+
+// A call was run: its Done is sent, and its event is the next one.
+fn keep_ran(log: &mut Log, taken: &mut Vec<u32>, event: Event, done: Message) -> NetDid
+    requires room { HasRoom log.old }
+    requires place { vec_len taken.old < vec_capacity taken.old }
+    ensures { (let left : Left = record { did = result; lists = lists_of log.new; taken = taken.new.items } in left) ≡ after_ran (lists_of log.old) taken.old.items event done }
+{
+    let id = id_of(&done);
+    let number = log.happened.len() as u32;
+    put(&mut log.messages, done);
+    put(&mut log.happened, Happened { id, event });
+    put(taken, number);
+    NetDid::Ran { event: number }
+}
+
+// A call is void, which is sent.
+fn keep_void(log: &mut Log, why: WhyVoid, told: Message) -> NetDid
+    requires room { HasRoom log.old }
+    ensures { (taken : List ℕ) → (let left : Left = record { did = result; lists = lists_of log.new; taken = taken } in left) ≡ after_void (lists_of log.old) taken why told }
+{
+    let number = log.messages.len() as u32;
+    put(&mut log.messages, told);
+    NetDid::Void {
+        why,
+        message: number,
+    }
+}
+
+// Keeps what a node answered to a call.
+fn keep_begun(log: &mut Log, taken: &mut Vec<u32>, event: Event, begun: Begun) -> NetDid
+    requires room { HasRoom log.old }
+    requires place { vec_len taken.old < vec_capacity taken.old }
+    ensures { (let left : Left = record { did = result; lists = lists_of log.new; taken = taken.new.items } in left) ≡ after_begun (lists_of log.old) taken.old.items event begun }
+{
+    match begun {
+        Begun::Asked(request) => {
+            let number = log.requests.len() as u32;
+            put(&mut log.requests, request);
+            NetDid::Asked { request: number }
+        }
+        Begun::Ran(done) => keep_ran(log, taken, event, done),
+        Begun::Void(why, told) => keep_void(log, why, told),
+    }
+}
+
+// A replica takes the event of a call.
+fn keep_took(happened: &[Happened], taken: &mut Vec<u32>, id: EventId) -> NetDid
+    requires few { length happened.now < 2 ^ 32 }
+    requires place { vec_len taken.old < vec_capacity taken.old }
+    ensures did { result ≡ NetDid.Took (number_of_call happened.now id) }
+    ensures taken { taken.new.items ≡ taken.old.items ++ number_of_call happened.now id ∷ [] }
+{
+    let number = number_of(happened, id) as u32;
+    put(taken, number);
+    NetDid::Took { event: number }
+}
+
+// Keeps what a node answered to a message that tells of this call.
+fn keep_heard(
+    log: &mut Log,
+    taken: &mut Vec<u32>,
+    id: EventId,
+    event: Option<Event>,
+    heard: Heard,
+) -> NetDid
+    requires room { HasRoom log.old }
+    requires place { vec_len taken.old < vec_capacity taken.old }
+    requires prepared { IsPrepared event heard }
+    ensures { IsAfterHeard (lists_of log.old) taken.old.items id event heard (record { did = result; lists = lists_of log.new; taken = taken.new.items }) }
+{
+    match heard {
+        Heard::Ran(done) => {
+            let Some(event) = event else { unreachable!() };
+            keep_ran(log, taken, event, done)
+        }
+        Heard::Void(why, told) => keep_void(log, why, told),
+        Heard::Awaits(id) => NetDid::Awaits { id },
+        Heard::Took => keep_took(&log.happened, taken, id),
+        Heard::Noted => NetDid::Noted,
+        Heard::Old => NetDid::Old,
+    }
+}
+
+// A node's refusal is the network's.
+fn refused(why: NodeRefused) -> NetRefused
+    ensures { result ≡ node_refused why }
+{
+    match why {
+        NodeRefused::Arguments => NetRefused::Arguments,
+        NodeRefused::Waiting { id } => NetRefused::Waiting { id },
+        NodeRefused::Range {
+            counter,
+            key,
+            value,
+        } => NetRefused::Range {
+            counter,
+            key,
+            value,
+        },
+        NodeRefused::Memory => NetRefused::Memory,
+    }
+}
+
+/// A replica makes a call.
+pub fn begin_at<R: Runner>(
+    alloc: Global,
+    runner: &R,
+    log: &mut Log,
+    at: &mut Replica,
+    call: &Call,
+) -> Result<NetDid, NetRefused>
+    requires state { is_state (R.specification runner.now) (R.setting runner.now) at.old.node.state ≡ true }
+    ensures answer { (replicas : List ReplicaOf) (granted : List Granted) (r : ℕ) → (result ≡ Err NetRefused.Memory) ⊎ (result ≡ answer (begin_at (network_with replicas granted (lists_of log.old)) r (replica_at at.old) (begin (R.specification runner.now) (R.setting runner.now) (node_of at.old.node) call.now))) }
+    ensures ok { (replicas : List ReplicaOf) (granted : List Granted) (r : ℕ) → slice_get replicas r ≡ Some (replica_at at.old) → OnOk result (network_with (set replicas r (replica_at at.new)) granted (lists_of log.new) ≡ network_after (network_with replicas granted (lists_of log.old)) (begin_at (network_with replicas granted (lists_of log.old)) r (replica_at at.old) (begin (R.specification runner.now) (R.setting runner.now) (node_of at.old.node) call.now))) }
+    ensures fits { is_state (R.specification runner.now) (R.setting runner.now) at.new.node.state ≡ true }
+    ensures err { OnErr result ((held_replica at.new ≡ held_replica at.old) × (lists_of log.new ≡ lists_of log.old)) }
+{
+    if at.node.turn() >= MOST_TURNS {
+        return Err(NetRefused::Memory);
+    }
+    log.make_room()?;
+    make_room(&mut at.taken)?;
+    let event = event_of(alloc, call, at.taken.as_slice())?;
+    match at.node.begin(runner, call) {
+        Ok(begun) => Ok(keep_begun(log, &mut at.taken, event, begun)),
+        Err(why) => Err(refused(why)),
+    }
+}
+
+/// A replica gets the message of this number.
+pub fn hear_at<R: Runner>(
+    alloc: Global,
+    runner: &R,
+    log: &mut Log,
+    at: &mut Replica,
+    message: u32,
+) -> Result<NetDid, NetRefused>
+    requires state { is_state (R.specification runner.now) (R.setting runner.now) at.old.node.state ≡ true }
+    requires waiting { waiting_fits (R.specification runner.now) (R.setting runner.now) at.old.node.waiting ≡ true }
+    requires message { (m : Sent) → slice_get log.old.messages.items message ≡ Some m → message_fits (R.specification runner.now) (R.setting runner.now) m ≡ true }
+    ensures answer { (replicas : List ReplicaOf) (granted : List Granted) (r : ℕ) → slice_get replicas r ≡ Some (replica_at at.old) → (result ≡ Err NetRefused.Memory) ⊎ (result ≡ answer (hears_message (R.specification runner.now) (R.setting runner.now) (network_with replicas granted (lists_of log.old)) r (replica_at at.old) (slice_get log.old.messages.items message))) }
+    ensures ok { (replicas : List ReplicaOf) (granted : List Granted) (r : ℕ) → slice_get replicas r ≡ Some (replica_at at.old) → OnOk result (network_with (set replicas r (replica_at at.new)) granted (lists_of log.new) ≡ network_after (network_with replicas granted (lists_of log.old)) (hears_message (R.specification runner.now) (R.setting runner.now) (network_with replicas granted (lists_of log.old)) r (replica_at at.old) (slice_get log.old.messages.items message))) }
+    ensures fits { is_state (R.specification runner.now) (R.setting runner.now) at.new.node.state ≡ true }
+    ensures err { OnErr result ((held_replica at.new ≡ held_replica at.old) × (lists_of log.new ≡ lists_of log.old)) }
+{
+    if message as usize >= log.messages.len() {
+        return Err(NetRefused::NoMessage);
+    }
+    log.make_room()?;
+    make_room(&mut at.taken)?;
+    let event = waiting_event(alloc, at)?;
+    let sent = &log.messages[message as usize];
+    let id = id_of(sent);
+    match at.node.hear(runner, sent) {
+        Ok(heard) => Ok(keep_heard(log, &mut at.taken, id, event, heard)),
+        Err(why) => Err(refused(why)),
+    }
+}
+
+/// The manager gets the request of this number, and what it answers is sent.
+pub fn ask_at<R: Runner>(
+    runner: &R,
+    manager: &mut Manager,
+    log: &mut Log,
+    request: u32,
+) -> Result<NetDid, NetRefused>
+    ensures answer { (replicas : List ReplicaOf) → (result ≡ Err NetRefused.Memory) ⊎ (result ≡ answer (asks (R.specification runner.now) (R.setting runner.now) (network_with replicas manager.old (lists_of log.old)) (slice_get log.old.requests.items request))) }
+    ensures ok { (replicas : List ReplicaOf) → OnOk result (network_with replicas manager.new (lists_of log.new) ≡ network_after (network_with replicas manager.old (lists_of log.old)) (asks (R.specification runner.now) (R.setting runner.now) (network_with replicas manager.old (lists_of log.old)) (slice_get log.old.requests.items request))) }
+    ensures err { OnErr result ((manager.new ≡ manager.old) × (lists_of log.new ≡ lists_of log.old)) }
+{
+    if request as usize >= log.requests.len() {
+        return Err(NetRefused::NoMessage);
+    }
+    log.make_room()?;
+    let asked = &log.requests[request as usize];
+    let message = manager.ask(runner.spec(), runner.world(), asked)?;
+    let number = log.messages.len() as u32;
+    put(&mut log.messages, message);
+    Ok(NetDid::Granted { message: number })
+}
