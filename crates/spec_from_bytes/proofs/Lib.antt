@@ -1,2 +1,3 @@
 pub mod Reasons
+mod Least
 mod Long

@@ -1,5 +1,5 @@
 -- Readings of sources that give too many bytes, and of words that are no tree.
-use Rattle.std.proofs.Common.{◌≡◌, ℕ, suc, zero, ◌+◌, ◌<◌, List, [], ◌∷◌, length, Option, Some, None, IfSome, refl, subst, ◌≤◌, arith}
+use Rattle.std.proofs.Common.{◌≡◌, ℕ, suc, zero, ◌<◌, List, [], ◌∷◌, length, Option, Some, None, IfSome, refl, subst, ◌≤◌, arith}
 use Rattle.std.specs.Prelude.{Err}
 use Rattle.word_cut.specs.declared.word.Word.{Word}
 use Rattle.word_cut.specs.Words.{IsCut}

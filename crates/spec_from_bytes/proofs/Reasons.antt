@@ -2,8 +2,8 @@
 --
 -- A refusal is of one of four kinds, in the order in which bytes are read: there are too many, they aren't cut into words, their
 -- words are no tree, their tree has a fault. Bytes of one kind are of no other, and each kind names its reason by one value.
-use Rattle.std.proofs.Common.{◌≡◌, ◌≢◌, ℕ, ◌<◌, ◌≤◌, List, length, map, refl, sym, subst, ap, ◌∙◌, ◌⊎◌, inl, inr, arith}
-use Rattle.std.specs.Prelude.{Ok, Err, Result}
+use Rattle.std.proofs.Common.{◌≡◌, ◌≢◌, ℕ, ◌<◌, ◌≤◌, List, length, refl, sym, subst, ap, ◌∙◌, ◌⊎◌, inl, inr, arith}
+use Rattle.std.specs.Prelude.{Ok, Err}
 use Rattle.word_cut.specs.declared.word.Word.{Word}
 use Rattle.word_cut.specs.declared.cutting.CutRefused.{CutRefused}
 use Rattle.word_cut.specs.declared.cutting.CutRefused.TheVariants as cutting
@@ -15,7 +15,7 @@ use Rattle.spec_reader.specs.Place.{IsRead, IsPlace, texts_of}
 use Rattle.typing_rules.specs.Fault.{Fault}
 use Rattle.typing_rules.specs.Items.{typing}
 use Rattle.one_reading.proofs.Reading.{one_tree}
-use Rattle.spec_from_bytes.specs.Refusal.{IsTreeOf, IsReadAs, IsSpecificationOf, Refusal, too_long, strange_letter, long_name, long_number, no_reading, faulty, IsUnreadAt, IsRefusal}
+use Rattle.spec_from_bytes.specs.Refusal.{IsTreeOf, IsSpecificationOf, Refusal, too_long, strange_letter, long_name, long_number, no_reading, faulty, IsRefusal}
 
 -- ---- trees and specifications
 

@@ -1,7 +1,13 @@
 // That some bytes are one specification, or are refused for one reason, and never both.
-ghost use Rattle.std.specs.Prelude.{◌≡◌, ℕ, List};
+ghost use Rattle.std.specs.Prelude.{◌≡◌, ◌↔◌, ℕ, List};
 ghost use Rattle.spec_core.specs.Specification.{Specification};
-ghost use Rattle.spec_from_bytes.specs.Refusal.{IsSpecificationOf, Refusal, IsRefusal};
+ghost use Rattle.spec_reader.specs.Form.{TreeForm};
+ghost use Rattle.typing_rules.specs.Fault.{Fault};
+ghost use Rattle.typing_faults.specs.Sites.{specification_of};
+ghost use Rattle.typing_faults.specs.Faults.{IsLeastFault, HasNoFault};
+ghost use Rattle.spec_from_bytes.specs.Refusal.{IsTreeOf, IsReadAs, IsSpecificationOf, Refusal, faulty, IsRefusal};
+
+use typing_faults::{law_least_fault, law_read_is_written};
 
 /// Some bytes are one specification at most.
 pub fn law_one_specification()
@@ -17,3 +23,13 @@ pub fn law_one_refusal()
 pub fn law_refused_or_specified()
     ensures { (bytes : List ℕ) (d : Specification) (why : Refusal) → IsSpecificationOf bytes d → IsRefusal bytes why → ⊥ }
 {}
+
+/// Bytes are refused for a fault exactly where it is the least fault of their tree, and they are read as a specification exactly where
+/// their tree has no fault and declares it.
+pub fn law_least_refusal()
+    ensures refused { (bytes : List ℕ) (f : Fault) → IsRefusal bytes (faulty f) ↔ ((t : TreeForm) × IsTreeOf bytes t × IsLeastFault t f) }
+    ensures specified { (bytes : List ℕ) (t : TreeForm) (d : Specification) → IsReadAs bytes t d ↔ (IsTreeOf bytes t × HasNoFault t × (d ≡ specification_of t)) }
+{
+    law_least_fault();
+    law_read_is_written();
+}

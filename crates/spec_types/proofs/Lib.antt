@@ -1,2 +1,3 @@
+pub mod Least
 mod Lists
 mod Setting

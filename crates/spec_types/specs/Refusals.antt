@@ -5,6 +5,8 @@ use Rattle.spec_types.specs.declared.refusal.TypeRefused.{TypeRefused}
 use Rattle.spec_types.specs.declared.refusal.TypeRefused.TheVariants as refused
 use Rattle.spec_types.specs.declared.refusal.Stop.{Stop}
 use Rattle.spec_types.specs.declared.refusal.Stop.TheVariants as stop
+use Rattle.spec_reader.specs.Form.{TreeForm}
+use Rattle.typing_faults.specs.Faults.{IsLeastFault}
 use Rattle.type_faults.specs.Views.{fault_of}
 
 -- a refusal says which fault it was, unless memory is wanting
@@ -15,6 +17,15 @@ IsTypeRefusal r (refused.Kind n w) = r ≡ Err (kind_fault n w)
 IsTypeRefusal r (refused.Count n w) = r ≡ Err (count_fault n w)
 IsTypeRefusal r (refused.Limit which number w) = r ≡ Err (limit_fault which number w)
 IsTypeRefusal r refused.Memory = Unit {0}
+
+-- a refusal says which fault of a tree is the least, unless memory is wanting
+abbrev pub IsLeastRefusal : TreeForm → TypeRefused → Type 0
+IsLeastRefusal t (refused.Unknown n w) = IsLeastFault t (unknown_fault n w)
+IsLeastRefusal t (refused.Twice n w) = IsLeastFault t (twice_fault n w)
+IsLeastRefusal t (refused.Kind n w) = IsLeastFault t (kind_fault n w)
+IsLeastRefusal t (refused.Count n w) = IsLeastFault t (count_fault n w)
+IsLeastRefusal t (refused.Limit which number w) = IsLeastFault t (limit_fault which number w)
+IsLeastRefusal t refused.Memory = Unit {0}
 
 -- why the reading of a tree stopped
 abbrev pub IsStop : {A : Type 0} → Result A Fault → Stop → Type 0

@@ -11,8 +11,8 @@ use std::alloc::{AllocError, Global};
 use type_faults::Fault;
 use typing_rules::Which;
 
-/// What is wrong with a tree. Of a tree whose places are those of its words, as each tree that is read, it is the fault with the
-/// least word, and at one word the first in the order of the variants; of another tree it is the first that is met.
+/// What is wrong with a tree. Of a tree that stands in a text, as each tree that is read, it is the fault with the least word, and at
+/// one word the first in the order of the variants; of another tree it is the first that is met.
 #[derive(Drop)]
 pub enum TypeRefused {
     /// A name is used that isn't in scope.

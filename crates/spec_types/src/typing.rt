@@ -5,7 +5,8 @@ ghost use Rattle.spec_core.specs.Typed.{is_specification};
 ghost use Rattle.spec_reader.specs.Form.{item_of, tree_of};
 ghost use Rattle.spec_reader.specs.Trees.{IsTree};
 ghost use Rattle.typing_rules.specs.Items.{typed_item, typed_items, typing};
-ghost use Rattle.spec_types.specs.Refusals.{IsTypeRefusal, Makes};
+ghost use Rattle.typing_faults.specs.Faults.{IsWritten, IsTypingOf};
+ghost use Rattle.spec_types.specs.Refusals.{IsTypeRefusal, IsLeastRefusal, Makes};
 ghost use Rattle.spec_types.specs.Views.{known_of};
 
 use crate::declaring::{type_const, type_counter, type_relation, type_sort, type_token};
@@ -17,6 +18,7 @@ use crate::rules::type_conflict;
 use spec_core::Spec;
 use spec_reader::{Item, Tree};
 use std::alloc::Global;
+use typing_faults::law_least_fault;
 use typing_rules::law_typed_is_well_formed;
 
 fn type_item<'t>(alloc: Global, known: &mut Known, item: &'t Item) -> Result<(), Stop<'t>>
@@ -60,8 +62,8 @@ fn finished(known: Known) -> Option<Spec>
     known.draft.into_spec()
 }
 
-/// The specification that a tree of the grammar is, or the first thing that is wrong with it; `TypeRefused` says which that is.
-pub fn type_tree(alloc: Global, tree: &Tree) -> Result<Spec, TypeRefused>
+/// The specification that a tree of the grammar is, or the first thing that is wrong with it.
+fn typed(alloc: Global, tree: &Tree) -> Result<Spec, TypeRefused>
     requires { IsTree (tree_of tree.now) }
     ensures ok { IfOk result (λ spec. typing (tree_of tree.now) ≡ Ok spec) }
     ensures err { IfErr result (IsTypeRefusal (typing (tree_of tree.now))) }
@@ -83,4 +85,16 @@ pub fn type_tree(alloc: Global, tree: &Tree) -> Result<Spec, TypeRefused>
         Some(spec) => Ok(spec),
         None => unreachable!(),
     }
+}
+
+/// The specification that a tree of the grammar is, or what is wrong with it; `TypeRefused` says which that is.
+pub fn type_tree(alloc: Global, tree: &Tree) -> Result<Spec, TypeRefused>
+    requires { IsTree (tree_of tree.now) }
+    ensures ok { IfOk result (λ spec. typing (tree_of tree.now) ≡ Ok spec) }
+    ensures err { IfErr result (IsTypeRefusal (typing (tree_of tree.now))) }
+    ensures faultless { IsWritten (tree_of tree.now) → IfOk result (λ spec. IsTypingOf (tree_of tree.now) (Ok spec)) }
+    ensures least { IsWritten (tree_of tree.now) → IfErr result (IsLeastRefusal (tree_of tree.now)) }
+{
+    law_least_fault();
+    typed(alloc, tree)
 }

@@ -1,5 +1,4 @@
-use Rattle.std.proofs.Common.{◌≡◌, List, ℕ, Option, None, length, ◌∙◌, ap, subst, rules}
-use Rattle.typing_rules.specs.declared.meaning.Meaning.{Meaning}
+use Rattle.std.proofs.Common.{◌≡◌, Option, None, length, ◌∙◌, ap, subst, rules}
 use Rattle.typing_rules.specs.declared.meaning.Meaning.TheVariants as meaning
 use Rattle.typing_rules.specs.declared.which.Which.TheVariants as which
 use Rattle.typing_rules.specs.Fault.{Fault}
