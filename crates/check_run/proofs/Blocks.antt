@@ -18,7 +18,7 @@ use Rattle.check_run.specs.declared.checking.WriteOut.{WriteOut}
 use Rattle.check_run.specs.declared.checking.WriteOut.TheVariants.{Fault, Memory}
 use Rattle.check_run.specs.Good.{IsGood, AreGood, AreGoodSoFar}
 use Rattle.check_run.specs.Reports.{tally_of, forms_of, AreDecided, written_version}
-use Rattle.check_run.specs.Checking.{IsCounted, IsWritable, IsBlock, AreFit, AreWritten, AreBlocks}
+use Rattle.check_run.specs.Checking.{IsCounted, IsBlock, AreFit, AreWritten, AreBlocks}
 
 -- ---- tallies
 

@@ -4,3 +4,4 @@ mod Shown
 mod Refutations
 mod Blocks
 mod Whole
+mod Solvers

@@ -23,7 +23,7 @@ use Rattle.report_lines.specs.Fields.{most_count}
 use Rattle.proof_report.specs.declared.verdict.Cause.TheVariants as causes
 use Rattle.proof_report.specs.declared.verdict.Verdict.{Verdict}
 use Rattle.proof_report.specs.declared.verdict.Verdict.TheVariants as verdicts
-use Rattle.proof_report.specs.Verdicts.{call_count, element_count, are_elements}
+use Rattle.proof_report.specs.Verdicts.{call_count, element_count}
 use Rattle.proof_report.specs.Texts.{WitnessFits, CanStand}
 use Rattle.report_text.specs.Showing.{CanBeShown, IsFit}
 use Rattle.check_run.specs.Fitting.{holds_verdict, HasShown}

@@ -2,4 +2,5 @@ pub mod Shown
 pub mod Good
 pub mod Reports
 pub mod Fitting
+pub mod Decided
 pub mod Checking

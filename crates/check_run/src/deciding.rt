@@ -1,5 +1,5 @@
 // The verdict on an obligation.
-ghost use Rattle.std.specs.Prelude.{◌≡◌, ◌≤◌, ℕ, true, IfOk};
+ghost use Rattle.std.specs.Prelude.{◌≡◌, ◌≤◌, ℕ, true, false, length, IfOk};
 ghost use Rattle.obligation_list.specs.Obligations.{IsObligation};
 ghost use Rattle.obligation_list.specs.Refuting.{IsRefutation};
 ghost use Rattle.ground_numbers.specs.Problem.{problem_of};
@@ -7,20 +7,22 @@ ghost use Rattle.sat_core.specs.Answers.{IsAnswer, IsModelOf};
 ghost use Rattle.report_text.specs.Showing.{shown_verdict, IsFit};
 ghost use Rattle.check_run.specs.Good.{HasFew, IsGood};
 ghost use Rattle.check_run.specs.Fitting.{HasShown};
+ghost use Rattle.check_run.specs.Decided.{IsDecided};
+ghost use Rattle.diff_bounds.specs.Differences.{problem_fits};
 ghost use Rattle.check_run.specs.Reports.{written_version};
 ghost use Rattle.instances.specs.Ground.{IsGrounded};
 
 use crate::fitting::numbered;
+use crate::searching::search;
 use crate::shrinking::shrink;
 use clausify::problem_of;
 use ground_numbers::{law_clauses_make_formulas_true, law_obligation_fits};
 use instances::{GroundRefused, Grounded, ground};
-use linear_ints::Eliminator;
 use model_back::witness_of;
 use obligation_list::Obligation;
 use proof_lines::{Interpretation, Problem};
 use proof_report::{Cause, Verdict};
-use sat_core::{Answer, solve_plain};
+use sat_core::Answer;
 use spec_core::Spec;
 use std::alloc::{AllocError, Global};
 
@@ -51,6 +53,7 @@ fn refute(
     requires found { IsModelOf (problem_of spec.now ob.now) found.now }
     ensures good { (budget : ℕ) → IfOk result (λ v. IsGood spec.now budget ob.now (shown_verdict spec.now v)) }
     ensures shown { IfOk result (λ v. HasShown spec.now ob.now v) }
+    ensures decided { (atoms budget : ℕ) → IfOk result (λ v. IsDecided atoms budget v) }
 {
     law_clauses_make_formulas_true();
     let mut witness = witness_of(alloc, spec, ob, ground, found)?;
@@ -72,8 +75,10 @@ fn verdict_of(
     requires few { HasFew spec.now ob.now }
     requires ground { IsGrounded spec.now ob.now ground.now }
     requires answer { IsAnswer true true (problem_of spec.now ob.now) budget answer }
+    requires fitting { problem_fits (problem_of spec.now ob.now) ≡ true → IsAnswer false false (problem_of spec.now ob.now) budget answer }
     ensures good { IfOk result (λ v. IsGood spec.now budget ob.now (shown_verdict spec.now v)) }
     ensures shown { IfOk result (λ v. HasShown spec.now ob.now v) }
+    ensures decided { problem_fits (problem_of spec.now ob.now) ≡ true → IfOk result (λ v. IsDecided (length (problem_of spec.now ob.now).atoms) budget v) }
 {
     match answer {
         Answer::Unsat(log) => Ok(Verdict::Proved(log)),
@@ -98,15 +103,17 @@ fn decide_grounded(
     requires ground { IsGrounded spec.now ob.now ground.now }
     ensures good { IfOk result (λ v. IsGood spec.now budget ob.now (shown_verdict spec.now v)) }
     ensures fit { IfOk result (λ v. IsFit spec.now written_version ob.now v) }
+    ensures decided { problem_fits (problem_of spec.now ob.now) ≡ true → IfOk result (λ v. IsDecided (length (problem_of spec.now ob.now).atoms) budget v) }
 {
     let problem = pose(alloc, spec, ob, ground)?;
-    let answer = solve_plain(alloc, &problem, &mut Eliminator::new(), budget);
+    let answer = search(alloc, &problem, budget);
     drop(problem);
     numbered(verdict_of(alloc, spec, ob, budget, ground, answer)?)
 }
 
 /// Decides an obligation of the specification, with logs of at most `budget` lines: it is proved, with a log that the kernel accepts
 /// on its problem; or refuted, with values that break it; or undecided, with evidence of the cause. The verdict can stand in a report.
+/// Where all rows of its problem are differences, it is proved or refuted, unless the budget is too small.
 pub fn decide(
     alloc: Global,
     spec: &Spec,
@@ -117,6 +124,7 @@ pub fn decide(
     requires budget { 1 ≤ budget }
     ensures good { IfOk result (λ v. IsGood spec.now budget ob.now (shown_verdict spec.now v)) }
     ensures fit { IfOk result (λ v. IsFit spec.now written_version ob.now v) }
+    ensures decided { HasFew spec.now ob.now → problem_fits (problem_of spec.now ob.now) ≡ true → IfOk result (λ v. IsDecided (length (problem_of spec.now ob.now).atoms) budget v) }
 {
     match ground(alloc, spec, ob) {
         Ok(ground) => decide_grounded(alloc, spec, ob, budget, &ground),

@@ -48,7 +48,7 @@ pub enum Outcome {
 
 impl Explained {
     /// What a step comes to that explains a conflict.
-    pub(crate) fn outcome(self) -> Outcome
+    pub fn outcome(self) -> Outcome
         ensures { result ≡ outcome_of self }
     {
         match self {
@@ -126,7 +126,7 @@ struct Cause {
 }
 
 /// Asks the solver about the rows of a settled trail that names all atoms.
-pub(crate) fn ask<T: Theory>(
+pub fn ask<T: Theory>(
     alloc: Global,
     theory: &mut T,
     problem: &Problem,

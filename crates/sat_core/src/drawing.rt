@@ -15,14 +15,14 @@ use std::alloc::{AllocError, Global};
 
 /// Literals whose atoms stand for rows, and the row of each.
 #[derive(Drop)]
-pub(crate) struct Drawn {
+pub struct Drawn {
     pub lits: Items<Lit>,
     pub rows: Items<Row>,
 }
 
 impl Drawn {
     /// The fact that the rows keep what their type keeps.
-    pub(crate) fn law_rows(&self)
+    pub fn law_rows(&self)
         ensures { list_all is_row self.now.rows ≡ true }
     {
         theory_api::law_rows(self.rows.as_slice());
@@ -71,7 +71,7 @@ fn draw_atom(
 }
 
 /// The literals of a trail whose atoms stand for rows, and their rows.
-pub(crate) fn draw(alloc: Global, problem: &Problem, trail: &Trail) -> Result<Drawn, AllocError>
+pub fn draw(alloc: Global, problem: &Problem, trail: &Trail) -> Result<Drawn, AllocError>
     requires few { length problem.now.atoms < 2 ^ 32 }
     requires named { (a : ℕ) → a < length problem.now.atoms → named trail.now a ≡ true }
     ensures { IfOk result (λ d. IsDrawn problem.now.atoms trail.now (length problem.now.atoms) d.lits d.rows) }
@@ -87,7 +87,7 @@ pub(crate) fn draw(alloc: Global, problem: &Problem, trail: &Trail) -> Result<Dr
 }
 
 /// The literals with some numbers.
-pub(crate) fn pick(alloc: Global, lits: &[Lit], used: &[u32]) -> Result<Items<Lit>, AllocError>
+pub fn pick(alloc: Global, lits: &[Lit], used: &[u32]) -> Result<Items<Lit>, AllocError>
     requires { list_all (λ u. nat_lt u (length lits.now)) used.now ≡ true }
     ensures { IfOk result (λ out. out ≡ map (lit_at lits.now) used.now) }
 {
@@ -99,7 +99,7 @@ pub(crate) fn pick(alloc: Global, lits: &[Lit], used: &[u32]) -> Result<Items<Li
 }
 
 /// The truth values that a trail gives the first atoms.
-pub(crate) fn truths(alloc: Global, trail: &Trail, atoms: usize) -> Result<Items<bool>, AllocError>
+pub fn truths(alloc: Global, trail: &Trail, atoms: usize) -> Result<Items<bool>, AllocError>
     requires { atoms < 2 ^ 32 }
     ensures many { IfOk result (λ out. length out ≡ atoms) }
     ensures each { IfOk result (λ out. (a : ℕ) → a < atoms → slice_index_or out a false ≡ in_trail trail.now (lit_of a true)) }

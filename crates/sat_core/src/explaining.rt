@@ -161,7 +161,7 @@ fn cut_back(problem: &Problem, trail: &mut Trail, reached: u32)
 }
 
 /// Explains a conflict: a chain from a false clause to one that keeps it from coming again, and then a shorter trail.
-pub(crate) fn explain(
+pub fn explain(
     alloc: Global,
     problem: &mut Problem,
     trail: &mut Trail,
@@ -196,7 +196,7 @@ fn cut_levels(trail: &mut Trail, lits: &[Lit])
 
 /// Writes that rows in conflict don't hold together: the clause of the opposites of their literals. The trail is cut back as
 /// long as that clause stays false.
-pub(crate) fn learn(
+pub fn learn(
     alloc: Global,
     problem: &mut Problem,
     trail: &mut Trail,

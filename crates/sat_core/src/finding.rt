@@ -36,7 +36,7 @@ fn unit_in(trail: &Trail, lits: &[Lit]) -> Option<Lit>
 }
 
 /// A false clause, or else a unit one, or else nothing.
-pub(crate) fn find(problem: &Problem, trail: &Trail) -> Found
+pub fn find(problem: &Problem, trail: &Trail) -> Found
     requires { length problem.now.clauses < 2 ^ 32 }
     ensures { IsFound result problem.now.clauses trail.now }
 {
@@ -54,7 +54,7 @@ pub(crate) fn find(problem: &Problem, trail: &Trail) -> Found
 }
 
 /// An atom below a number that the trail doesn't name.
-pub(crate) fn unnamed(trail: &Trail, atoms: u32) -> Option<u32>
+pub fn unnamed(trail: &Trail, atoms: u32) -> Option<u32>
     ensures { MatchOption result ((a : ℕ) → a < atoms → named trail.now a ≡ true) (λ a. (a < atoms) × (named trail.now a ≡ false)) }
 {
     for atom in 0..atoms {

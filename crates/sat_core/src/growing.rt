@@ -13,7 +13,7 @@ use proof_lines::{AtomKind, Clause, Lit, Problem};
 use std::alloc::AllocError;
 
 /// The clause with a number.
-pub(crate) fn clause_at(problem: &Problem, number: u32) -> &Clause
+pub fn clause_at(problem: &Problem, number: u32) -> &Clause
     requires { number < length problem.now.clauses }
     ensures { result.now ≡ slice_index_or problem.now.clauses number [] }
 {
@@ -21,7 +21,7 @@ pub(crate) fn clause_at(problem: &Problem, number: u32) -> &Clause
 }
 
 /// The literals of the clause with a number.
-pub(crate) fn lits_of(problem: &Problem, number: u32) -> &[Lit]
+pub fn lits_of(problem: &Problem, number: u32) -> &[Lit]
     requires { number < length problem.now.clauses }
     ensures lits { result.now ≡ slice_index_or problem.now.clauses number [] }
     ensures set { distinct result.now ≡ true }
@@ -32,7 +32,7 @@ pub(crate) fn lits_of(problem: &Problem, number: u32) -> &[Lit]
 }
 
 /// How many clauses there are.
-pub(crate) fn clause_count(problem: &Problem) -> u32
+pub fn clause_count(problem: &Problem) -> u32
     requires { length problem.now.clauses < 2 ^ 32 }
     ensures { result ≡ length problem.now.clauses }
 {
@@ -40,7 +40,7 @@ pub(crate) fn clause_count(problem: &Problem) -> u32
 }
 
 /// How many atoms there are.
-pub(crate) fn atom_count(problem: &Problem) -> u32
+pub fn atom_count(problem: &Problem) -> u32
     requires { length problem.now.atoms < 2 ^ 32 }
     ensures { result ≡ length problem.now.atoms }
 {
@@ -58,7 +58,7 @@ fn is_true_at_zero(atom: &AtomKind) -> bool
 }
 
 /// The sign with which an atom is decided.
-pub(crate) fn sign_of(problem: &Problem, atom: u32) -> bool
+pub fn sign_of(problem: &Problem, atom: u32) -> bool
     requires { atom < length problem.now.atoms }
     ensures { result ≡ is_true_at_zero (slice_index_or problem.now.atoms atom Plain) }
 {
@@ -66,7 +66,7 @@ pub(crate) fn sign_of(problem: &Problem, atom: u32) -> bool
 }
 
 /// Adds a clause, and answers its number. With 2^32 - 1 clauses a further one is answered as want of memory.
-pub(crate) fn add_clause(problem: &mut Problem, clause: Clause) -> Result<u32, AllocError>
+pub fn add_clause(problem: &mut Problem, clause: Clause) -> Result<u32, AllocError>
     requires { atoms_below (length problem.old.atoms) clause ≡ true }
     ensures { IfOk result (λ n. (n ≡ length problem.old.clauses) × (problem.new ≡ with_clause problem.old clause) × (length problem.new.clauses < 2 ^ 32)) }
 {
@@ -79,7 +79,7 @@ pub(crate) fn add_clause(problem: &mut Problem, clause: Clause) -> Result<u32, A
 }
 
 /// Adds an atom for a row. With 2^32 - 1 atoms a further one is answered as want of memory.
-pub(crate) fn add_row(problem: &mut Problem, row: Row) -> Result<(), AllocError>
+pub fn add_row(problem: &mut Problem, row: Row) -> Result<(), AllocError>
     requires { places_below problem.old.ints row ≡ true }
     ensures { OnOk result ((problem.new ≡ with_row problem.old row) × (length problem.new.atoms < 2 ^ 32)) }
 {

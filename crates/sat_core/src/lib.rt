@@ -33,11 +33,11 @@
 #![tactic(auto)]
 
 pub mod answer;
-mod asking;
-mod drawing;
-mod explaining;
-mod finding;
-mod growing;
+pub mod asking;
+pub mod drawing;
+pub mod explaining;
+pub mod finding;
+pub mod growing;
 pub mod plain;
 
 pub use answer::Answer;

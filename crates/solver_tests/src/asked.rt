@@ -39,7 +39,8 @@ fn all_fit(terms: &[RowTerm]) -> bool
     terms.iter().all(|term| fits(&term.coef))
 }
 
-fn all_within(rows: &[Row], ints: u32) -> bool
+/// Whether the rows name only the first integer names.
+pub fn all_within(rows: &[Row], ints: u32) -> bool
     ensures { result ≡ all_below ints rows.now }
 {
     rows.iter().all(|row| row.is_within(ints))
@@ -55,7 +56,8 @@ fn terms_of(alloc: Global, coefs: &[i128]) -> Result<Vec<RowTerm>, AllocError> {
     Ok(terms)
 }
 
-fn row_with(alloc: Global, terms: &[RowTerm], bound: i128) -> Result<Row, AllocError> {
+/// The row of terms and a bound.
+pub fn row_with(alloc: Global, terms: &[RowTerm], bound: i128) -> Result<Row, AllocError> {
     if !all_fit(terms) || !fits(&bound) {
         return Err(AllocError);
     }
@@ -71,7 +73,8 @@ pub fn row(alloc: Global, line: &Line) -> Result<Row, AllocError> {
     row_with(alloc, terms.as_slice(), line.1)
 }
 
-fn rows_of(alloc: Global, lines: &[Line]) -> Result<Vec<Row>, AllocError> {
+/// The rows of lines.
+pub fn rows_of(alloc: Global, lines: &[Line]) -> Result<Vec<Row>, AllocError> {
     let mut rows = Vec::new(alloc);
     for line in lines {
         rows.push(row(alloc, line)?)?;
@@ -79,7 +82,8 @@ fn rows_of(alloc: Global, lines: &[Line]) -> Result<Vec<Row>, AllocError> {
     Ok(rows)
 }
 
-fn first_of(values: &[i128]) -> i128 {
+/// The first value, 0 where there is none.
+pub fn first_of(values: &[i128]) -> i128 {
     values.first().copied().unwrap_or(0)
 }
 

@@ -1,6 +1,5 @@
-use Rattle.std.proofs.Common.{◌≡◌, ◌<◌, ◌≤◌, ◌+◌, Ok, Err, length, get_or, subst, refl, ◌∙◌, ap, arith}
+use Rattle.std.proofs.Common.{◌<◌, ◌≤◌, ◌+◌, Ok, Err, length, get_or, subst, refl, ◌∙◌, ap, arith}
 use Rattle.obligation_list.specs.declared.obligation.Obligation.TheVariants.{Init}
-use Rattle.obligation_list.specs.Obligations.{obligations_of}
 use Rattle.proof_report.specs.Events.{told}
 use Rattle.report_text.specs.Showing.{shown_verdict}
 use Rattle.check_run.specs.Checking.{IsBlock}

@@ -1,4 +1,4 @@
-use Rattle.std.proofs.Common.{◌≡◌, ◌≤◌, length, arith}
+use Rattle.std.proofs.Common.{arith}
 use Rattle.check_run.proofs.Refutations.{relations_many, counters_many}
 use Rattle.check_run.proofs.narrowing.state_without.Goals as goal
 

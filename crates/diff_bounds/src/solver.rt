@@ -1,0 +1,110 @@
+// The solver that a clause search asks.
+ghost use Rattle.std.specs.Prelude.{◌≡◌, true, false, IfOk};
+ghost use Rattle.std.specs.List.{list_all};
+ghost use Rattle.lin_rows.specs.Rows.{is_row};
+ghost use Rattle.theory_api.specs.Laws.{IsAnswer, all_below};
+ghost use Rattle.diff_bounds.specs.Differences.{are_taken};
+ghost use Rattle.diff_bounds.specs.Cycles.{AddsUp};
+ghost use Rattle.diff_bounds.specs.Edges.{AreEdges};
+ghost use Rattle.diff_bounds.specs.States.{AreKept, IsLongNow};
+
+use crate::cycle::{cycle_of, steps_of};
+use crate::edges::{Edge, edges_of};
+use crate::relaxing::settle;
+use crate::values::values_of;
+use crate::walks::Walks;
+use lin_rows::Row;
+use std::alloc::{AllocError, Global};
+use theory_api::{Theory, TheoryAnswer, law_rows};
+
+/// The most rows of which the sums have numbers.
+const ROW_LIMIT: usize = 2147483648;
+
+/// A solver of difference rows over whole numbers, by shortest walks.
+#[derive(Drop)]
+pub struct DiffBounds;
+
+impl DiffBounds {
+    pub fn new() -> DiffBounds {
+        DiffBounds
+    }
+}
+
+// The conflict of a long walk.
+fn conflict_of(
+    alloc: Global,
+    walks: &Walks,
+    edges: &[Edge],
+    rows: &[Row],
+) -> Result<TheoryAnswer, AllocError>
+    requires edges { AreEdges walks.now.ints rows.now edges.now }
+    requires kept { AreKept edges.now walks.now }
+    requires long { IsLongNow walks.now }
+    ensures promised { IfOk result (λ a. IsAnswer false false walks.now.ints rows.now a) }
+    ensures added { IfOk result AddsUp }
+{
+    let used = cycle_of(alloc, walks, edges)?;
+    if used.len() > ROW_LIMIT {
+        return Err(AllocError);
+    }
+    let steps = match steps_of(alloc, used.len() as u32) {
+        Ok(steps) => steps,
+        Err(error) => {
+            drop(used);
+            return Err(error);
+        }
+    };
+    Ok(TheoryAnswer::Conflict { used, steps })
+}
+
+// What the search is told. More rows than can be numbered are answered as want of memory.
+fn solve(alloc: Global, rows: &[Row], ints: u32) -> Result<TheoryAnswer, AllocError>
+    requires rows { list_all is_row rows.now ≡ true }
+    requires places { all_below ints rows.now ≡ true }
+    requires taken { are_taken ints rows.now ≡ true }
+    ensures promised { IfOk result (λ a. IsAnswer false false ints rows.now a) }
+    ensures added { IfOk result AddsUp }
+{
+    if rows.len() > u32::MAX as usize {
+        return Err(AllocError);
+    }
+    let edges = edges_of(alloc, rows, ints)?;
+    let mut walks = Walks::start(alloc, ints)?;
+    if settle(&mut walks, edges.as_slice(), rows.len() as u32)? {
+        return conflict_of(alloc, &walks, edges.as_slice(), rows);
+    }
+    let values = values_of(alloc, &walks, edges.as_slice())?;
+    Ok(TheoryAnswer::Model(values))
+}
+
+impl Theory for DiffBounds {
+    ghost use Rattle.std.specs.Prelude.{◌≡◌, true, false};
+    ghost use Rattle.diff_bounds.specs.Differences.{are_taken};
+
+    ghost MAY_SPLIT = { false };
+
+    ghost MAY_STOP = { false };
+
+    ghost takes = { λ rows ints. are_taken ints rows ≡ true };
+
+    const MAY_SPLIT: bool = false;
+
+    const MAY_STOP: bool = false;
+
+    /// A conflict names each row of one cycle once, the last one first, and its steps add them up one by one; so a row that is a
+    /// contradiction by itself is a conflict without steps.
+    fn check(&mut self, alloc: Global, rows: &[Row], ints: u32) -> TheoryAnswer
+        requires places { all_below ints rows.now ≡ true }
+        requires taken { are_taken ints rows.now ≡ true }
+        ensures promised { IsAnswer false false ints rows.now result }
+        ensures added { AddsUp result }
+    {
+        law_rows(rows);
+        match solve(alloc, rows, ints) {
+            Ok(answer) => answer,
+            Err(_) => TheoryAnswer::Memory,
+        }
+    }
+
+    ghost takes_all = { λ h rows ints p. absurd Prim.cc };
+}

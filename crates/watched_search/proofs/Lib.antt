@@ -1,0 +1,5 @@
+mod Among
+mod Resting
+mod Following
+mod Changing
+mod Going

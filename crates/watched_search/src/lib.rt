@@ -1,0 +1,31 @@
+// The clause search on watched literals, joined with any solver of rows, under the contract of the plain search of `sat_core`.
+//
+// The search goes about its work as the plain one does: the same trail, the same chains of resolvents, the same questions to the
+// solver. What differs is how a false or a unit clause is found. Each clause watches two of its literals, and for each literal there
+// is the list of the clauses that watch it. A clause is at rest where one of the two is true, or where they are two and neither is
+// false; then it is neither false nor unit. A clause with one literal that isn't false watches that one twice, and waits among the
+// clauses that may be unit.
+//
+// Why no unit clause is missed. When a literal is taken to be true, its opposite becomes false, and the clauses that watch that
+// opposite are looked at, each once, before anything else is done. One that doesn't watch it is as much at rest, or as open, as it was:
+// a true literal stays true, and neither of its two literals became false. One that watches it finds two literals to watch, or it is
+// unit and is noted, or it is false and is a conflict, which is met at once. So between steps each clause is at rest, or isn't false
+// and waits among those that may be unit; where none waits, none is unit, and the trail is settled.
+//
+// Why the log stays fresh. A chain begins only at a false clause, and what a chain asks of the search is what the plain search gives:
+// no clause was false before the newest literal, and none is unit or false before a decision. Both follow from the above. Resolvents
+// are clauses like others: after each chain all clauses, those of the chain among them, watch anew under the shortened trail. This
+// takes as long as going through the clauses once for each conflict, and between conflicts only lists are gone through.
+//
+// Definitions, in the order in which a reader needs them: specs/Watches (clauses at rest, what is watched), specs/Ready (where the
+// watched literals stand between the steps of a search).
+#![tactic(auto)]
+
+mod hints;
+mod lists;
+mod looking;
+mod propagation;
+mod solving;
+mod watches;
+
+pub use solving::solve;

@@ -1,0 +1,137 @@
+// Propagation: what stands in the way of a decision, by the watched literals.
+ghost use Rattle.std.specs.Prelude.{◌≡◌, ◌<◌, ◌^◌, ◌∷◌, length, IfOk, OnOk, None};
+ghost use Rattle.search_logs.specs.Trails.{IsTrail};
+ghost use Rattle.sat_core.specs.Searching.{IsFound};
+ghost use Rattle.watched_search.specs.Watches.{code, AreWatched, AllWatched};
+ghost use Rattle.watched_search.specs.Ready.{IsReady, StayWatched};
+
+use crate::lists::{code, empty, exchange};
+use crate::looking::Look;
+use crate::watches::Watches;
+use items::Items;
+use proof_lines::{Lit, Problem};
+use sat_core::finding::Found;
+use sat_core::growing::{clause_count, lits_of};
+use search_logs::{Entry, Trail};
+use std::alloc::{AllocError, Global};
+
+/// The watched literals, with the number of a false clause if one was met, and the clauses that are still to be looked at.
+#[derive(Drop)]
+pub struct Propagation {
+    pub watches: Watches,
+    pub conflict: Option<u32>,
+    pub left: Items<u32>,
+}
+
+impl Propagation {
+    /// No clause is watched yet.
+    pub(crate) fn new(alloc: Global) -> Propagation {
+        Propagation {
+            watches: Watches::new(alloc),
+            conflict: None,
+            left: Items::new(alloc),
+        }
+    }
+
+    /// Lets all clauses watch anew, whatever they watched before.
+    pub(crate) fn begin(
+        &mut self,
+        alloc: Global,
+        problem: &Problem,
+        trail: &Trail,
+    ) -> Result<(), AllocError>
+        requires few { length problem.now.clauses < 2 ^ 32 }
+        ensures { OnOk result (IsReady problem.now.clauses trail.now self.new) }
+    {
+        self.conflict = None;
+        self.watches.pairs.clear();
+        self.watches.units.clear();
+        empty(&mut self.watches.lists);
+        for clause in 0..clause_count(problem) {
+            let lits = lits_of(problem, clause);
+            if !self.watches.attach(alloc, trail, lits, clause)? {
+                self.conflict = Some(clause);
+                return Ok(());
+            }
+        }
+        Ok(())
+    }
+
+    // Looks at the clauses that are left of those that watched a literal.
+    fn follow(
+        &mut self,
+        alloc: Global,
+        problem: &Problem,
+        trail: &Trail,
+        gone: Lit,
+    ) -> Result<(), AllocError>
+        requires few { length problem.now.clauses < 2 ^ 32 }
+        requires watched { AreWatched (length problem.now.clauses) problem.now.clauses trail.now (code gone) self.old.left self.old.watches }
+        ensures { OnOk result (IsReady problem.now.clauses trail.now self.new) }
+    {
+        self.conflict = None;
+        while let Some(clause) = self.left.pop() {
+            if clause < clause_count(problem) {
+                let lits = lits_of(problem, clause);
+                if !self.watches.visit(alloc, trail, lits, clause, gone)? {
+                    self.conflict = Some(clause);
+                    return Ok(());
+                }
+            }
+        }
+        Ok(())
+    }
+
+    /// Adds an entry to the trail, and looks at all clauses that watch the opposite of its literal.
+    pub(crate) fn push(
+        &mut self,
+        alloc: Global,
+        problem: &Problem,
+        trail: &mut Trail,
+        entry: Entry,
+    ) -> Result<(), AllocError>
+        requires few { length problem.now.clauses < 2 ^ 32 }
+        requires watched { AllWatched problem.now.clauses trail.old self.old.watches }
+        ensures pushed { OnOk result (trail.new ≡ entry ∷ trail.old) }
+        ensures ready { OnOk result (IsReady problem.now.clauses trail.new self.new) }
+    {
+        trail.push(entry)?;
+        let gone = entry.lit.opposite();
+        self.left.clear();
+        exchange(&mut self.watches.lists, code(gone), &mut self.left);
+        self.follow(alloc, problem, trail, gone)
+    }
+
+    /// A false clause, or else a unit one, or else nothing.
+    pub(crate) fn find(
+        &mut self,
+        alloc: Global,
+        problem: &Problem,
+        trail: &Trail,
+    ) -> Result<Found, AllocError>
+        requires few { length problem.now.clauses < 2 ^ 32 }
+        requires trail { IsTrail problem.now.clauses trail.now }
+        requires ready { IsReady problem.now.clauses trail.now self.old }
+        ensures found { IfOk result (λ found. IsFound found problem.now.clauses trail.now) }
+        ensures watched { IfOk result (λ found. StayWatched found problem.now.clauses trail.now self.new.watches) }
+    {
+        if let Some(clause) = self.conflict {
+            let _ = lits_of(problem, clause);
+            return Ok(Found::Conflict(clause));
+        }
+        while let Some(clause) = self.watches.units.pop() {
+            if clause < clause_count(problem) {
+                let lits = lits_of(problem, clause);
+                match self.watches.consider(alloc, trail, lits, clause)? {
+                    Look::False => return Ok(Found::Conflict(clause)),
+                    Look::Unit(lit) => {
+                        self.watches.units.push(clause)?;
+                        return Ok(Found::Forced(clause, lit));
+                    }
+                    Look::Open(_) => {}
+                }
+            }
+        }
+        Ok(Found::Nothing)
+    }
+}

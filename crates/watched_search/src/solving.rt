@@ -1,0 +1,234 @@
+// The search: it goes about its work as the plain one, and finds false and unit clauses by watched literals.
+ghost use Rattle.std.specs.Prelude.{◌≡◌, ◌<◌, ◌^◌, ◌⊎◌, ℕ, Bool, List, true, false, length};
+ghost use Rattle.std.specs.List.{list_any};
+ghost use Rattle.lin_rows.specs.Rows.{Row as PlainRow};
+ghost use Rattle.proof_lines.specs.declared.clause.Lit.{Lit as PlainLit};
+ghost use Rattle.proof_lines.specs.Clauses.{is_empty};
+ghost use Rattle.proof_lines.specs.Problems.{PlainProblem};
+ghost use Rattle.search_logs.specs.Trails.{named, Settled};
+ghost use Rattle.sat_core.specs.declared.asking.Outcome.TheVariants.{Memory};
+ghost use Rattle.sat_core.specs.Answers.{AreRowsOf, IsAnswer, ShowsNone};
+ghost use Rattle.sat_core.specs.Searching.{InSearch, InChain, IsChain};
+ghost use Rattle.sat_core.specs.Outcomes.{IsOutcome, IsPushed};
+ghost use Rattle.watched_search.specs.Watches.{AllWatched};
+ghost use Rattle.watched_search.specs.Ready.{IsReady, IfGoes};
+
+use crate::hints::Hints;
+use crate::propagation::Propagation;
+use items::Items;
+use proof_lines::problem::law_rows;
+use proof_lines::{Line, Lit, Problem, RangeEvidence, RowsEvidence};
+use sat_core::Answer;
+use sat_core::asking::{Outcome, ask};
+use sat_core::explaining::explain;
+use sat_core::finding::Found;
+use sat_core::growing::atom_count;
+use search_logs::{Entry, Trail};
+use std::alloc::Global;
+use theory_api::Theory;
+
+/// What a search knows besides its problem, its trail and its log.
+#[derive(Drop)]
+struct Knowledge {
+    index: Propagation,
+    hints: Hints,
+}
+
+// Takes a literal to be true.
+fn take(
+    alloc: Global,
+    problem: &Problem,
+    trail: &mut Trail,
+    knowledge: &mut Knowledge,
+    lit: Lit,
+    reason: Option<u32>,
+) -> Outcome
+    requires few { length problem.now.clauses < 2 ^ 32 }
+    requires watched { AllWatched problem.now.clauses trail.old knowledge.old.index.watches }
+    ensures pushed { IsPushed result trail.old lit reason trail.new }
+    ensures ready { IfGoes result (IsReady problem.now.clauses trail.new knowledge.new.index) }
+{
+    if knowledge.hints.note(lit).is_err() {
+        return Outcome::Memory;
+    }
+    match knowledge
+        .index
+        .push(alloc, problem, trail, Entry { lit, reason })
+    {
+        Ok(()) => Outcome::Goes,
+        Err(_) => Outcome::Memory,
+    }
+}
+
+// Lets all clauses watch anew where the search goes on: the trail was cut, or there are more clauses or atoms.
+fn begin_anew(
+    alloc: Global,
+    problem: &Problem,
+    trail: &Trail,
+    knowledge: &mut Knowledge,
+    outcome: Outcome,
+) -> Outcome
+    requires few { IfGoes outcome (length problem.now.clauses < 2 ^ 32) }
+    ensures same { (result ≡ outcome) ⊎ (result ≡ Memory) }
+    ensures ready { IfGoes result (IsReady problem.now.clauses trail.now knowledge.new.index) }
+{
+    match outcome {
+        Outcome::Goes => {
+            knowledge.hints.from = 0;
+            match knowledge.index.begin(alloc, problem, trail) {
+                Ok(()) => Outcome::Goes,
+                Err(_) => Outcome::Memory,
+            }
+        }
+        other => other,
+    }
+}
+
+// Explains why a clause is false.
+fn meet(
+    alloc: Global,
+    grown: &mut Problem,
+    trail: &mut Trail,
+    log: &mut Items<Line>,
+    knowledge: &mut Knowledge,
+    start: u32,
+    budget: u32,
+) -> Outcome
+    requires chain { IsChain budget grown.old trail.old log.old start }
+    ensures outcome { (split stop : Bool) (p : PlainProblem) → InChain (record { problem = p; split = split }) budget (length log.old) grown.old trail.old log.old start → IsOutcome result split stop p budget grown.old trail.old log.old grown.new trail.new log.new }
+    ensures ready { IfGoes result (IsReady grown.new.clauses trail.new knowledge.new.index) }
+{
+    let outcome = explain(alloc, grown, trail, log, start, budget).outcome();
+    begin_anew(alloc, grown, trail, knowledge, outcome)
+}
+
+// Asks the solver of rows where all atoms have values.
+fn turn<T: Theory>(
+    alloc: Global,
+    theory: &mut T,
+    problem: &Problem,
+    grown: &mut Problem,
+    trail: &mut Trail,
+    log: &mut Items<Line>,
+    knowledge: &mut Knowledge,
+    budget: u32,
+) -> Outcome
+    requires search { InSearch (record { problem = problem.now; split = T.MAY_SPLIT }) budget grown.old trail.old log.old }
+    requires settled { Settled trail.old grown.old.clauses }
+    requires named { (a : ℕ) → a < length grown.old.atoms → named trail.old a ≡ true }
+    requires taken { T.MAY_SPLIT ≡ false → (lits : List PlainLit) (rows : List PlainRow) → AreRowsOf problem.now.atoms lits rows → T.takes rows problem.now.ints }
+    ensures outcome { IsOutcome result T.MAY_SPLIT T.MAY_STOP problem.now budget grown.old trail.old log.old grown.new trail.new log.new }
+    ensures ready { IfGoes result (IsReady grown.new.clauses trail.new knowledge.new.index) }
+{
+    match ask(alloc, theory, problem, grown, trail, log, budget) {
+        Ok(outcome) => begin_anew(alloc, grown, trail, knowledge, outcome),
+        Err(_) => Outcome::Memory,
+    }
+}
+
+// One step: a conflict is explained at once; then what is forced is taken to be true; then an atom is decided; and where all atoms
+// have values, the solver of rows is asked.
+fn advance<T: Theory>(
+    alloc: Global,
+    theory: &mut T,
+    problem: &Problem,
+    grown: &mut Problem,
+    trail: &mut Trail,
+    log: &mut Items<Line>,
+    knowledge: &mut Knowledge,
+    budget: u32,
+) -> Outcome
+    requires search { InSearch (record { problem = problem.now; split = T.MAY_SPLIT }) budget grown.old trail.old log.old }
+    requires ready { IsReady grown.old.clauses trail.old knowledge.old.index }
+    requires taken { T.MAY_SPLIT ≡ false → (lits : List PlainLit) (rows : List PlainRow) → AreRowsOf problem.now.atoms lits rows → T.takes rows problem.now.ints }
+    ensures outcome { IsOutcome result T.MAY_SPLIT T.MAY_STOP problem.now budget grown.old trail.old log.old grown.new trail.new log.new }
+    ensures ready { IfGoes result (IsReady grown.new.clauses trail.new knowledge.new.index) }
+{
+    let Ok(found) = knowledge.index.find(alloc, grown, trail) else {
+        return Outcome::Memory;
+    };
+    match found {
+        Found::Conflict(start) => meet(alloc, grown, trail, log, knowledge, start, budget),
+        Found::Forced(reason, lit) => take(alloc, grown, trail, knowledge, lit, Some(reason)),
+        Found::Nothing => match knowledge.hints.undecided(trail, atom_count(grown)) {
+            Some(atom) => {
+                let positive = knowledge.hints.sign(grown, atom);
+                take(alloc, grown, trail, knowledge, Lit { atom, positive }, None)
+            }
+            None => turn(alloc, theory, problem, grown, trail, log, knowledge, budget),
+        },
+    }
+}
+
+fn holds_empty(problem: &Problem) -> bool
+    ensures { result ≡ list_any is_empty problem.now.clauses }
+{
+    problem.clauses.iter().any(|clause| clause.is_empty())
+}
+
+// The search, without the fact that its Unsat means that there is no interpretation.
+fn search<T: Theory>(alloc: Global, problem: &Problem, theory: &mut T, budget: u32) -> Answer
+    requires taken { T.MAY_SPLIT ≡ false → (lits : List PlainLit) (rows : List PlainRow) → AreRowsOf problem.now.atoms lits rows → T.takes rows problem.now.ints }
+    ensures { IsAnswer T.MAY_SPLIT T.MAY_STOP problem.now budget result }
+{
+    let Ok(mut grown) = problem.copy(alloc) else {
+        return Answer::Memory;
+    };
+    if grown.clauses.len() > u32::MAX as usize || grown.atoms.len() > u32::MAX as usize {
+        return Answer::Memory;
+    }
+    let mut log = Items::new(alloc);
+    if holds_empty(problem) {
+        return Answer::Unsat(log);
+    }
+    let mut trail = Trail::new(alloc);
+    let mut knowledge = Knowledge {
+        index: Propagation::new(alloc),
+        hints: Hints::new(alloc),
+    };
+    let Ok(()) = knowledge.index.begin(alloc, &grown, &trail) else {
+        return Answer::Memory;
+    };
+    'search: loop {
+        match advance(
+            alloc,
+            theory,
+            problem,
+            &mut grown,
+            &mut trail,
+            &mut log,
+            &mut knowledge,
+            budget,
+        ) {
+            Outcome::Goes => {}
+            Outcome::Refuted => return Answer::Unsat(log),
+            Outcome::Found(interpretation) => return Answer::Sat(interpretation),
+            Outcome::Spent => return Answer::Lines(log),
+            Outcome::Rows { used, steps } => {
+                return Answer::Rows(RowsEvidence { log, used, steps });
+            }
+            Outcome::Range { used, steps, what } => {
+                return Answer::Range(RangeEvidence {
+                    log,
+                    used,
+                    steps,
+                    what,
+                });
+            }
+            Outcome::Memory => return Answer::Memory,
+        }
+    }
+}
+
+/// Searches for an interpretation that makes all clauses of a problem true, or for a log of at most `budget` lines that shows
+/// that there is none, as `solve_plain` does. A row of the problem with the bound 2^127 - 1 has no negation, and may be answered as
+/// want of memory.
+pub fn solve<T: Theory>(alloc: Global, problem: &Problem, theory: &mut T, budget: u32) -> Answer
+    requires taken { T.MAY_SPLIT ≡ false → (lits : List PlainLit) (rows : List PlainRow) → AreRowsOf problem.now.atoms lits rows → T.takes rows problem.now.ints }
+    ensures promised { IsAnswer T.MAY_SPLIT T.MAY_STOP problem.now budget result }
+    ensures none { ShowsNone problem.now result }
+{
+    problem.law_fits();
+    law_rows(problem.atoms.as_slice());
+    search(alloc, problem, theory, budget)
+}

@@ -1,0 +1,119 @@
+// Problems as text.
+ghost use Rattle.std.specs.Prelude.{◌≡◌};
+ghost use Rattle.lin_rows.specs.Numbers.{in_range};
+ghost use Rattle.lin_rows.specs.Rows.{all_in_range};
+
+use items::Items;
+use lin_rows::number::is_in_range;
+use lin_rows::{Row, RowTerm, row_of};
+use proof_lines::{AtomKind, Clause, Lit, Problem};
+use std::alloc::{AllocError, Global};
+
+fn literal(word: &str) -> Option<Lit> {
+    let (positive, number) = match word.split_once('-') {
+        Some((_, number)) => (false, number),
+        None => (true, word),
+    };
+    match number.parse::<u32>() {
+        Ok(number) => Some(Lit {
+            atom: number.saturating_sub(1),
+            positive,
+        }),
+        Err(_) => None,
+    }
+}
+
+fn clause(alloc: Global, part: &str) -> Result<Clause, AllocError> {
+    let mut clause = Clause::empty(alloc);
+    for word in part.split(' ') {
+        if let Some(lit) = literal(word) {
+            clause.insert(lit)?;
+        }
+    }
+    Ok(clause)
+}
+
+fn all_fit(terms: &[RowTerm]) -> bool
+    ensures { result ≡ all_in_range terms.now }
+{
+    terms.iter().all(|term| is_in_range(term.coef))
+}
+
+fn row_with(alloc: Global, terms: &[RowTerm], bound: i128) -> Result<Row, AllocError> {
+    if !all_fit(terms) || !is_in_range(bound) {
+        return Err(AllocError);
+    }
+    match row_of(alloc, terms, bound) {
+        Ok(row) => Ok(row),
+        Err(_) => Err(AllocError),
+    }
+}
+
+fn terms(alloc: Global, words: &str) -> Result<Vec<RowTerm>, AllocError> {
+    let mut terms = Vec::new(alloc);
+    let mut place = 0u32;
+    for word in words.split(' ') {
+        if let Ok(coef) = word.parse::<i128>() {
+            terms.push(RowTerm { place, coef })?;
+            place = place.saturating_add(1);
+        }
+    }
+    Ok(terms)
+}
+
+fn row(alloc: Global, words: &str, bound: &str) -> Result<Row, AllocError> {
+    let Ok(bound) = bound.parse::<i128>() else {
+        return Err(AllocError);
+    };
+    let terms = terms(alloc, words)?;
+    row_with(alloc, terms.as_slice(), bound)
+}
+
+fn kinds(alloc: Global, atoms: usize, parts: &str) -> Result<Items<AtomKind>, AllocError> {
+    let mut kinds = Items::new(alloc);
+    for part in parts.split(';') {
+        if let Some((words, bound)) = part.split_once("<= ") {
+            kinds.push(AtomKind::Row(row(alloc, words, bound)?))?;
+        }
+    }
+    for _ in kinds.len()..atoms {
+        kinds.push(AtomKind::Plain)?;
+    }
+    Ok(kinds)
+}
+
+fn clauses(alloc: Global, parts: &str) -> Result<Items<Clause>, AllocError> {
+    let mut clauses = Items::new(alloc);
+    for part in parts.split(';') {
+        if part.split_once("<= ").is_none() {
+            clauses.push(clause(alloc, part)?)?;
+        }
+    }
+    Ok(clauses)
+}
+
+fn count(word: &str) -> u32 {
+    match word.parse::<u32>() {
+        Ok(count) => count,
+        Err(_) => 0,
+    }
+}
+
+/// The problem of a text: how many atoms and integers there are, a colon, and parts with semicolons between them. A part with `<=` is
+/// the row of the next atom: the coefficients of the first integers, and the bound. Any other part is a clause: numbers of atoms,
+/// which begin at 1, with `-` before those that are to be false.
+pub fn problem(alloc: Global, text: &str) -> Result<Option<Problem>, AllocError> {
+    let Some((counts, parts)) = text.split_once(':') else {
+        return Ok(None);
+    };
+    let Some((atoms, ints)) = counts.split_once(' ') else {
+        return Ok(None);
+    };
+    match (
+        kinds(alloc, count(atoms) as usize, parts),
+        clauses(alloc, parts),
+    ) {
+        (Ok(kinds), Ok(clauses)) => Ok(Problem::new(kinds, count(ints), clauses)),
+        _ => Err(AllocError),
+    }
+}
