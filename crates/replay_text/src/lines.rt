@@ -75,7 +75,7 @@ fn push_spaced(alloc: Global, text: &mut Vec<u8>, elements: &[u32]) -> Result<()
 }
 
 /// Adds the counter, the key and the value of a refused effect.
-fn push_range(
+pub fn push_range(
     alloc: Global,
     text: &mut Vec<u8>,
     name: &[u8],
@@ -93,7 +93,7 @@ fn push_range(
 }
 
 /// The name of a counter; empty where there is none.
-fn counter_name(spec: &Spec, counter: u8) -> &[u8]
+pub fn counter_name(spec: &Spec, counter: u8) -> &[u8]
     ensures { result.now ≡ (get_or spec.now.counters counter no_counter).name }
 {
     match spec.counters.as_slice().get(counter as usize) {
@@ -103,7 +103,7 @@ fn counter_name(spec: &Spec, counter: u8) -> &[u8]
 }
 
 /// The name of an invariant; empty where there is none.
-fn invariant_name(spec: &Spec, place: usize) -> &[u8]
+pub fn invariant_name(spec: &Spec, place: usize) -> &[u8]
     ensures { result.now ≡ (get_or spec.now.invariants place no_invariant).name }
 {
     match spec.invariants.as_slice().get(place) {

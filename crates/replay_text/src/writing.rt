@@ -12,7 +12,7 @@ ghost use Rattle.replay_text.specs.Asked.{AllHeld, OthersHeld, IsFrontElsewhere}
 
 use crate::lines::{push, push_number, push_step, push_stop};
 use crate::stop::Stop;
-use replica_replay::{Replay, Step, StepRefused};
+use replica_replay::{Replay, Step, StepRefused, Steps};
 use spec_core::{Spec, World, invariant_broken_at, write_state};
 use std::alloc::{AllocError, Global};
 
@@ -27,10 +27,10 @@ fn replica_of(step: &Step) -> u32
 }
 
 /// The first invariant that the state of a replica breaks.
-fn broken_invariant(spec: &Spec, replay: &Replay, replica: u32) -> Option<usize>
-    requires spec { replay.now.spec ≡ spec.now }
-    requires replica { replica < length replay.now.held.taken }
-    ensures { result ≡ broken_at spec.now replay.now.world (state_at spec.now replay.now.world replay.now.held replica) }
+fn broken_invariant<R: Steps>(spec: &Spec, replay: &R, replica: u32) -> Option<usize>
+    requires spec { (R.replayed replay.now).spec ≡ spec.now }
+    requires replica { replica < length (R.replayed replay.now).held.taken }
+    ensures { result ≡ broken_at spec.now (R.replayed replay.now).world (state_at spec.now (R.replayed replay.now).world (R.replayed replay.now).held replica) }
 {
     invariant_broken_at(spec, replay.world(), replay.state_of(replica))
 }
@@ -43,9 +43,9 @@ fn is_front(mine: &[u32], theirs: &[u32]) -> bool
 }
 
 // Whether a replica has taken what another one has taken first.
-fn is_front_elsewhere(replay: &Replay, replica: u32) -> bool
-    requires { replica < length replay.now.held.taken }
-    ensures { result ≡ true → IsFrontElsewhere replay.now.held replica }
+fn is_front_elsewhere<R: Steps>(replay: &R, replica: u32) -> bool
+    requires { replica < length (R.replayed replay.now).held.taken }
+    ensures { result ≡ true → IsFrontElsewhere (R.replayed replay.now).held replica }
 {
     let count = replay.replica_count();
     if count > u32::MAX as usize {
@@ -61,11 +61,11 @@ fn is_front_elsewhere(replay: &Replay, replica: u32) -> bool
 }
 
 /// The first invariant that the state of a replica breaks. The invariants aren't asked where another replica has had that state.
-fn broken_after(spec: &Spec, replay: &Replay, replica: u32) -> Option<usize>
-    requires spec { replay.now.spec ≡ spec.now }
-    requires replica { replica < length replay.now.held.taken }
-    requires others { OthersHeld spec.now replay.now.world replay.now.held replica }
-    ensures { result ≡ broken_at spec.now replay.now.world (state_at spec.now replay.now.world replay.now.held replica) }
+fn broken_after<R: Steps>(spec: &Spec, replay: &R, replica: u32) -> Option<usize>
+    requires spec { (R.replayed replay.now).spec ≡ spec.now }
+    requires replica { replica < length (R.replayed replay.now).held.taken }
+    requires others { OthersHeld spec.now (R.replayed replay.now).world (R.replayed replay.now).held replica }
+    ensures { result ≡ broken_at spec.now (R.replayed replay.now).world (state_at spec.now (R.replayed replay.now).world (R.replayed replay.now).held replica) }
 {
     if is_front_elsewhere(replay, replica) {
         return None;
@@ -82,12 +82,12 @@ enum Stepped {
 }
 
 /// Carries a step out, and asks the invariants of its replica's state.
-fn carry_out(spec: &Spec, replay: &mut Replay, step: &Step) -> Result<Stepped, AllocError>
-    requires spec { replay.old.spec ≡ spec.now }
-    requires holds { AllHeld spec.now replay.old.world replay.old.held }
-    ensures stepped { IfOk result (λ s. IsStepped spec.now replay.old.world replay.old.held step.now s replay.new.held) }
-    ensures world { OnOk result (replay.new.world ≡ replay.old.world) }
-    ensures spec { OnOk result (replay.new.spec ≡ replay.old.spec) }
+fn carry_out<R: Steps>(spec: &Spec, replay: &mut R, step: &Step) -> Result<Stepped, AllocError>
+    requires spec { (R.replayed replay.old).spec ≡ spec.now }
+    requires holds { AllHeld spec.now (R.replayed replay.old).world (R.replayed replay.old).held }
+    ensures stepped { IfOk result (λ s. IsStepped spec.now (R.replayed replay.old).world (R.replayed replay.old).held step.now s (R.replayed replay.new).held) }
+    ensures world { OnOk result ((R.replayed replay.new).world ≡ (R.replayed replay.old).world) }
+    ensures spec { OnOk result ((R.replayed replay.new).spec ≡ (R.replayed replay.old).spec) }
 {
     replay.is_held();
     match replay.step(step) {
@@ -108,18 +108,18 @@ struct Stopped {
 }
 
 /// Carries steps out, up to the first that is refused or breaks an invariant, and adds the lines of the accepted ones.
-fn write_steps(
+fn write_steps<R: Steps>(
     alloc: Global,
     spec: &Spec,
-    replay: &mut Replay,
+    replay: &mut R,
     steps: &[Step],
     text: &mut Vec<u8>,
 ) -> Result<Stopped, AllocError>
-    requires spec { replay.old.spec ≡ spec.now }
-    requires holds { AllHeld spec.now replay.old.world replay.old.held }
-    ensures reached { IfOk result (λ s. IsReached (course_from spec.now replay.old.world replay.old.held steps.now) steps.now text.old.items text.new.items s.accepted s.stop replay.new.held) }
-    ensures world { OnOk result (replay.new.world ≡ replay.old.world) }
-    ensures spec { OnOk result (replay.new.spec ≡ replay.old.spec) }
+    requires spec { (R.replayed replay.old).spec ≡ spec.now }
+    requires holds { AllHeld spec.now (R.replayed replay.old).world (R.replayed replay.old).held }
+    ensures reached { IfOk result (λ s. IsReached (course_from spec.now (R.replayed replay.old).world (R.replayed replay.old).held steps.now) steps.now text.old.items text.new.items s.accepted s.stop (R.replayed replay.new).held) }
+    ensures world { OnOk result ((R.replayed replay.new).world ≡ (R.replayed replay.old).world) }
+    ensures spec { OnOk result ((R.replayed replay.new).spec ≡ (R.replayed replay.old).spec) }
 {
     for (number, step) in steps.iter().enumerate() {
         replay.is_held();
@@ -151,31 +151,31 @@ fn write_steps(
 }
 
 /// Adds the lines of a replica's state.
-fn push_state(
+fn push_state<R: Steps>(
     alloc: Global,
     text: &mut Vec<u8>,
     spec: &Spec,
-    replay: &Replay,
+    replay: &R,
     replica: u32,
 ) -> Result<(), AllocError>
-    requires spec { replay.now.spec ≡ spec.now }
-    requires replica { replica < length replay.now.held.taken }
-    ensures { OnOk result (text.new.items ≡ text.old.items ++ state_text spec.now replay.now.world (state_at spec.now replay.now.world replay.now.held replica)) }
+    requires spec { (R.replayed replay.now).spec ≡ spec.now }
+    requires replica { replica < length (R.replayed replay.now).held.taken }
+    ensures { OnOk result (text.new.items ≡ text.old.items ++ state_text spec.now (R.replayed replay.now).world (state_at spec.now (R.replayed replay.now).world (R.replayed replay.now).held replica)) }
 {
     write_state(alloc, spec, replay.state_of(replica), text)
 }
 
 /// Adds the lines of a replica.
-fn push_replica(
+fn push_replica<R: Steps>(
     alloc: Global,
     text: &mut Vec<u8>,
     spec: &Spec,
-    replay: &Replay,
+    replay: &R,
     replica: u32,
 ) -> Result<(), AllocError>
-    requires spec { replay.now.spec ≡ spec.now }
-    requires replica { replica < length replay.now.held.taken }
-    ensures { OnOk result (text.new.items ≡ text.old.items ++ replica_text spec.now replay.now.world replay.now.held replica (get_or replay.now.held.taken replica [])) }
+    requires spec { (R.replayed replay.now).spec ≡ spec.now }
+    requires replica { replica < length (R.replayed replay.now).held.taken }
+    ensures { OnOk result (text.new.items ≡ text.old.items ++ replica_text spec.now (R.replayed replay.now).world (R.replayed replay.now).held replica (get_or (R.replayed replay.now).held.taken replica [])) }
 {
     push_number(alloc, text, b"replica ", replica as usize)?;
     push_number(alloc, text, b" taken ", replay.seen_by(replica).len())?;
@@ -184,16 +184,16 @@ fn push_replica(
 }
 
 /// Adds the lines of all replicas.
-fn push_replicas(
+fn push_replicas<R: Steps>(
     alloc: Global,
     text: &mut Vec<u8>,
     spec: &Spec,
-    replay: &Replay,
+    replay: &R,
     count: u32,
 ) -> Result<(), AllocError>
-    requires spec { replay.now.spec ≡ spec.now }
-    requires count { length replay.now.held.taken ≡ count }
-    ensures { OnOk result (text.new.items ≡ text.old.items ++ replica_texts spec.now replay.now.world replay.now.held 0 replay.now.held.taken) }
+    requires spec { (R.replayed replay.now).spec ≡ spec.now }
+    requires count { length (R.replayed replay.now).held.taken ≡ count }
+    ensures { OnOk result (text.new.items ≡ text.old.items ++ replica_texts spec.now (R.replayed replay.now).world (R.replayed replay.now).held 0 (R.replayed replay.now).held.taken) }
 {
     for replica in 0..count {
         push_replica(alloc, text, spec, replay, replica)?;
@@ -202,20 +202,20 @@ fn push_replicas(
 }
 
 /// Carries a whole schedule out, and adds the lines of the accepted steps.
-fn write_course(
+fn write_course<R: Steps>(
     alloc: Global,
     spec: &Spec,
-    replay: &mut Replay,
+    replay: &mut R,
     replicas: u32,
     steps: &[Step],
     text: &mut Vec<u8>,
 ) -> Result<Stopped, AllocError>
-    requires spec { replay.old.spec ≡ spec.now }
-    requires held { replay.old.held ≡ none_held replicas }
+    requires spec { (R.replayed replay.old).spec ≡ spec.now }
+    requires held { (R.replayed replay.old).held ≡ none_held replicas }
     requires some { 1 ≤ replicas }
-    ensures reached { IfOk result (λ s. IsReached (course spec.now replay.old.world replicas steps.now) steps.now text.old.items text.new.items s.accepted s.stop replay.new.held) }
-    ensures world { OnOk result (replay.new.world ≡ replay.old.world) }
-    ensures spec { OnOk result (replay.new.spec ≡ replay.old.spec) }
+    ensures reached { IfOk result (λ s. IsReached (course spec.now (R.replayed replay.old).world replicas steps.now) steps.now text.old.items text.new.items s.accepted s.stop (R.replayed replay.new).held) }
+    ensures world { OnOk result ((R.replayed replay.new).world ≡ (R.replayed replay.old).world) }
+    ensures spec { OnOk result ((R.replayed replay.new).spec ≡ (R.replayed replay.old).spec) }
 {
     match broken_invariant(spec, replay, 0) {
         Some(place) => Ok(Stopped {
@@ -245,19 +245,19 @@ pub struct Report {
 }
 
 /// Writes a course and how it stops, and answers the status.
-fn write_replay(
+fn write_replay<R: Steps>(
     alloc: Global,
     spec: &Spec,
-    replay: &mut Replay,
+    replay: &mut R,
     replicas: u32,
     steps: &[Step],
     text: &mut Vec<u8>,
 ) -> Result<u8, AllocError>
-    requires spec { replay.old.spec ≡ spec.now }
-    requires held { replay.old.held ≡ none_held replicas }
+    requires spec { (R.replayed replay.old).spec ≡ spec.now }
+    requires held { (R.replayed replay.old).held ≡ none_held replicas }
     requires some { 1 ≤ replicas }
-    ensures text { OnOk result (text.new.items ≡ text.old.items ++ replay_text spec.now replay.old.world replicas steps.now) }
-    ensures status { IfOk result (λ status. status ≡ replay_status spec.now replay.old.world replicas steps.now) }
+    ensures text { OnOk result (text.new.items ≡ text.old.items ++ replay_text spec.now (R.replayed replay.old).world replicas steps.now) }
+    ensures status { IfOk result (λ status. status ≡ replay_status spec.now (R.replayed replay.old).world replicas steps.now) }
 {
     push(text, b"cise replay 1\n")?;
     let stopped = write_course(alloc, spec, replay, replicas, steps, text)?;
@@ -266,8 +266,27 @@ fn write_replay(
     Ok(status_of(&stopped.stop))
 }
 
-/// Replays the steps of a schedule, at so many replicas in a world: a text, and a status, which is 0 where all steps were accepted
-/// and no state broke, 1 where a state broke, 4 where a step was refused.
+/// Carries the steps of a schedule out, with what carries steps out as a replay does and has accepted none yet: the text of the replay,
+/// and a status, which is 0 where all steps were accepted and no state broke, 1 where a state broke, 4 where a step was refused.
+pub fn replay_by<R: Steps>(
+    alloc: Global,
+    spec: &Spec,
+    replay: &mut R,
+    replicas: u32,
+    steps: &[Step],
+) -> Result<Report, AllocError>
+    requires spec { (R.replayed replay.old).spec ≡ spec.now }
+    requires held { (R.replayed replay.old).held ≡ none_held replicas }
+    requires some { 1 ≤ replicas }
+    ensures text { IfOk result (λ report. report.text.items ≡ replay_text spec.now (R.replayed replay.old).world replicas steps.now) }
+    ensures status { IfOk result (λ report. report.status ≡ replay_status spec.now (R.replayed replay.old).world replicas steps.now) }
+{
+    let mut text = Vec::new(alloc);
+    let status = write_replay(alloc, spec, replay, replicas, steps, &mut text)?;
+    Ok(Report { status, text })
+}
+
+/// Replays the steps of a schedule, at so many replicas in a world, with the text and the status of `replay_by`.
 pub fn replay(
     alloc: Global,
     spec: &Spec,
@@ -280,8 +299,6 @@ pub fn replay(
     ensures text { IfOk result (λ report. report.text.items ≡ replay_text spec.now world replicas steps.now) }
     ensures status { IfOk result (λ report. report.status ≡ replay_status spec.now world replicas steps.now) }
 {
-    let mut text = Vec::new(alloc);
     let mut replay = Replay::new(alloc, spec, world, replicas)?;
-    let status = write_replay(alloc, spec, &mut replay, replicas, steps, &mut text)?;
-    Ok(Report { status, text })
+    replay_by(alloc, spec, &mut replay, replicas, steps)
 }

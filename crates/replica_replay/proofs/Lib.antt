@@ -3,7 +3,6 @@ pub mod Refusing
 pub mod Executed
 pub mod Finding
 pub mod Lines
-pub mod Tokens
 pub mod Spares
 pub mod Fronts
 pub mod Kept

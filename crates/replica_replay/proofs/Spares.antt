@@ -1,7 +1,8 @@
 -- The second states of replicas, as one is taken away or put in its place.
 use Rattle.std.specs.Prelude.{slice_get, Option, None, Some, replicate}
-use Rattle.std.proofs.Common.{◌≡◌, ℕ, zero, suc, true, List, [], ◌∷◌, ◌++◌, length, get_or, set, sym, ◌∙◌, subst}
+use Rattle.std.proofs.Common.{◌≡◌, ℕ, zero, suc, true, List, [], ◌∷◌, ◌++◌, ◌<◌, length, get_or, set, sym, ◌∙◌, ap, subst}
 use Rattle.std.proofs.Math.Seq.{get_or-append_seam}
+use Rattle.std.proofs.lemmas.Option.{slice_get-get_or}
 use Rattle.spec_core.specs.declared.world.World.{World}
 use Rattle.spec_core.specs.declared.world.Call.{Call}
 use Rattle.spec_core.specs.Specification.{Specification}
@@ -11,7 +12,7 @@ use Rattle.effectors.specs.Effect.{after}
 use Rattle.effectors.specs.Spare.{IsSpare}
 use Rattle.replica_replay.specs.declared.keeping.Replica.{Replica}
 use Rattle.replica_replay.specs.Holding.{AreSpares, Leads}
-use Rattle.replica_replay.proofs.Taking.{absent, one_found}
+use Rattle.replica_replay.proofs.Taking.{absent, one_found, at_set}
 
 module _ (d : Specification) (w : World) where
   pub none_spare : (rs : List Replica) (n : ℕ) → AreSpares d w rs (replicate n None)
@@ -46,6 +47,15 @@ module _ (d : Specification) (w : World) where
   pub leads_from : (rs : List Replica) (i : ℕ) (at : Replica) (call : Call) (next : Listing) → slice_get rs i ≡ Some at → is_state d w at.state ≡ true → reads next ≡ after d w call (reads at.state)
       → (r : Replica) → slice_get rs i ≡ Some r → Leads d w call r.state next
   leads_from rs i at call next here fits reads_so r q = subst (λ (z : Replica). Leads d w call z.state next) (one_found at r (sym here ∙ q)) (record { fits = fits; reads_so = reads_so })
+
+  -- the state before a replica's event leads to its state
+  pub leads_still : (rs all : List Replica) (i : ℕ) (new : Replica) (call : Call) (before : Listing) → all ≡ set rs i new → i < length rs
+      → ((r : Replica) → slice_get rs i ≡ Some r → before ≡ r.state) → ((r : Replica) → slice_get rs i ≡ Some r → Leads d w call r.state new.state)
+      → (r : Replica) → slice_get all i ≡ Some r → Leads d w call before r.state
+  leads_still rs all i new call before same lt was leads r q =
+      let there = slice_get-get_or rs i r lt in let old = get_or rs i r in
+      let is_new = at_set rs i new r (ap (λ (l : List Replica). slice_get l i) (sym same) ∙ q) in
+      subst (λ (s : Listing). Leads d w call s r.state) (sym (was old there)) (subst (λ (x : Replica). Leads d w call old.state x.state) is_new (leads old there))
 
 -- what was put behind a list stands at its end
 pub last_is : {X : Type 0} {x : X} (xs all : List X) (n : ℕ) (y : X) → all ≡ xs ++ x ∷ [] → n ≡ length xs → y ≡ get_or all n y → y ≡ x

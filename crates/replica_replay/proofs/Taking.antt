@@ -31,6 +31,12 @@ get_set (x ∷ xs) zero (suc j) v y h = inr h
 get_set (x ∷ xs) (suc i) zero v y h = inr h
 get_set (x ∷ xs) (suc i) (suc j) v y h = elim (get_set xs i j v y h) [ inl p ↦ inl (ap suc p.0, p.1) | inr q ↦ inr q ]
 
+-- and what it has at the place itself
+pub at_set : {X : Type 0} (xs : List X) (i : ℕ) (v y : X) → slice_get (set xs i v) i ≡ Some y → v ≡ y
+at_set [] i v y h = absurd (absent y h)
+at_set (x ∷ xs) zero v y h = one_found v y h
+at_set (x ∷ xs) (suc i) v y h = at_set xs i v y h
+
 pub get_map : {X Y : Type 0} (f : X → Y) (xs : List X) (i : ℕ) (x : X) → slice_get xs i ≡ Some x → slice_get (map f xs) i ≡ Some (f x)
 get_map f [] i x h = absurd (absent x h)
 get_map f (y ∷ xs) zero x h = ap (λ z. Some (f z)) (one_found y x h)

@@ -3,4 +3,3 @@ pub mod Refusals
 pub mod Steps
 pub mod Holding
 pub mod Replayed
-pub mod Rivals

@@ -3,7 +3,7 @@
 // What an event has seen is a front of what its replica had taken, so it is kept as the replica and a length. Beside the state of
 // each replica a second one is kept that reads alike, so that a step writes what it changes and copies nothing else.
 
-ghost use Rattle.std.specs.Prelude.{◌≡◌, ◌+◌, ◌<◌, ◌^◌, true, [], ◌∷◌, ◌++◌, length, take, set, get_or, slice_get, replicate, None, Some, All, OnOk, OnErr, IfOk, IfErr};
+ghost use Rattle.std.specs.Prelude.{◌≡◌, ◌+◌, ◌<◌, ◌^◌, true, [], ◌∷◌, ◌++◌, length, take, set, get_or, slice_get, replicate, None, Some, All, List, OnOk, OnErr, IfOk, IfErr};
 ghost use Rattle.spec_core.specs.State.{reads};
 ghost use Rattle.spec_core.specs.Meaning.{initial as initial_of};
 ghost use Rattle.spec_core.specs.Fits.{world_fits, call_fits, is_state};
@@ -122,6 +122,78 @@ fn front(events: &[u32], before: usize) -> &[u32]
     }
 }
 
+/// A replica takes an event, which leads to this state. Gives the state before it.
+pub fn note_taking(
+    replicas: &mut Vec<Replica>,
+    replica: usize,
+    event: u32,
+    state: State,
+) -> Result<State, AllocError>
+    requires { replica < length replicas.old.items }
+    ensures before { IfOk result (λ s. (r : Replica) → slice_get replicas.old.items replica ≡ Some r → s ≡ r.state) }
+    ensures ok { OnOk result (replicas.new.items ≡ set replicas.old.items replica (record { order = get_or (orders_of replicas.old.items) replica [] ++ event ∷ []; state = state })) }
+    ensures err { OnErr result (replicas.new.items ≡ replicas.old.items) }
+{
+    replicas[replica].take(event, state)
+}
+
+/// A call becomes the next event, and its replica takes it, which leads to this state. Gives the state before it.
+pub fn note_call(
+    happened: &mut Vec<Happened>,
+    replicas: &mut Vec<Replica>,
+    replica: u32,
+    call: Call,
+    state: State,
+) -> Result<State, AllocError>
+    requires replica { replica < length replicas.old.items }
+    requires few { length happened.old.items < 2 ^ 32 }
+    ensures few { OnOk result (length happened.old.items + 1 < 2 ^ 32) }
+    ensures happened { OnOk result (happened.new.items ≡ happened.old.items ++ record { call = call; replica = replica; before = length (get_or (orders_of replicas.old.items) replica []) } ∷ []) }
+    ensures replicas { OnOk result (replicas.new.items ≡ set replicas.old.items replica (record { order = get_or (orders_of replicas.old.items) replica [] ++ length happened.old.items ∷ []; state = state })) }
+    ensures before { IfOk result (λ s. (r : Replica) → slice_get replicas.old.items replica ≡ Some r → s ≡ r.state) }
+    ensures err { OnErr result ((happened.new.items ≡ happened.old.items) × (replicas.new.items ≡ replicas.old.items)) }
+{
+    let event = happened.len() as u32;
+    if event == u32::MAX {
+        return Err(AllocError);
+    }
+    let before = replicas[replica as usize].order.as_slice().len();
+    let Ok(()) = happened.push(Happened {
+        call,
+        replica,
+        before,
+    }) else {
+        return Err(AllocError);
+    };
+    let Ok(earlier) = note_taking(replicas, replica as usize, event, state) else {
+        happened.pop();
+        return Err(AllocError);
+    };
+    Ok(earlier)
+}
+
+// Brings the state before an event to read as the one after it, and keeps it as the replica's second state.
+fn keep_spare(
+    alloc: Global,
+    spec: &Spec,
+    world: &World,
+    call: &Call,
+    replicas: &[Replica],
+    spares: &mut Vec<Option<State>>,
+    replica: usize,
+    before: State,
+)
+    requires replica { replica < length replicas.now }
+    requires world { world_fits spec.now world.now ≡ true }
+    requires call { call_fits spec.now world.now call.now ≡ true }
+    requires leads { (r : Replica) → slice_get replicas.now replica ≡ Some r → Leads spec.now world.now call.now before r.state }
+    ensures { (rs : List Replica) (x : Replica) → replicas.now ≡ set rs replica x → AreSpares spec.now world.now rs spares.old.items → AreSpares spec.now world.now replicas.now spares.new.items }
+{
+    let latest = &replicas[replica].state;
+    let spare = caught_up(alloc, spec, world, call, latest, before);
+    put_spare(spares, replica, spare);
+}
+
 /// A replica takes an event of this call, which leads to this state. Its second state, if it has one, is brought to read alike.
 pub fn keep_taking(
     alloc: Global,
@@ -144,10 +216,10 @@ pub fn keep_taking(
     ensures spares { AreSpares spec.now world.now replicas.old.items spares.old.items → AreSpares spec.now world.now replicas.new.items spares.new.items }
     ensures memory { IfErr result (λ why. why ≡ StepRefused.Memory) }
 {
-    let at = &mut replicas[replica];
-    let before = at.take(event, state)?;
-    let spare = caught_up(alloc, spec, world, call, &at.state, before);
-    put_spare(spares, replica, spare);
+    let Ok(before) = note_taking(replicas, replica, event, state) else {
+        return Err(StepRefused::Memory);
+    };
+    keep_spare(alloc, spec, world, call, replicas, spares, replica, before);
     Ok(Taken { event })
 }
 
@@ -176,32 +248,21 @@ pub fn keep_call(
     ensures spares { AreSpares spec.now world.now replicas.old.items spares.old.items → AreSpares spec.now world.now replicas.new.items spares.new.items }
     ensures memory { IfErr result (λ why. why ≡ StepRefused.Memory) }
 {
-    let event = happened.len() as u32;
-    if event == u32::MAX {
-        return Err(StepRefused::Memory);
-    }
-    let before = replicas[replica as usize].order.as_slice().len();
-    let Ok(()) = happened.push(Happened {
-        call,
-        replica,
-        before,
-    }) else {
+    let event = happened.len();
+    let Ok(before) = note_call(happened, replicas, replica, call, state) else {
         return Err(StepRefused::Memory);
     };
-    let at = event as usize;
-    let Ok(taken) = keep_taking(
+    keep_spare(
         alloc,
         spec,
         world,
-        &happened[at].call,
+        &happened[event].call,
         replicas,
         spares,
         replica as usize,
-        event,
-        state,
-    ) else {
-        happened.pop();
-        return Err(StepRefused::Memory);
-    };
-    Ok(taken)
+        before,
+    );
+    Ok(Taken {
+        event: event as u32,
+    })
 }

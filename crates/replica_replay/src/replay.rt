@@ -11,8 +11,8 @@ use crate::keeping::{
     Happened, Replica, count, first_replicas, keep_call, keep_taking, no_spares, seen_by_event,
     take_spare,
 };
-use crate::rivals::rivals_of;
 use crate::step::{Step, StepRefused, Taken};
+use call_rivals::rivals_of;
 use items::Items;
 use spec_core::{Call, Spec, State, World};
 use std::alloc::{AllocError, Global};

@@ -1,6 +1,6 @@
 -- What a node answers tells what came of a call or of a message.
 use Rattle.std.specs.Prelude.{Bool, true, false, cond, List, Option, None, Some}
-use Rattle.std.proofs.Common.{◌≡◌, refl}
+use Rattle.std.proofs.Common.{◌≡◌, ℕ, refl}
 use Rattle.spec_core.specs.declared.world.World.{World}
 use Rattle.spec_core.specs.declared.world.Call.{Call}
 use Rattle.spec_core.specs.Specification.{Specification}
@@ -15,7 +15,8 @@ use Rattle.token_protocol.specs.declared.node.WhyVoid.{WhyVoid}
 use Rattle.token_protocol.specs.declared.node.NodeRefused.TheVariants as refusal
 use Rattle.token_protocol.specs.Ids.{same_id, is_among, first_outside}
 use Rattle.token_protocol.specs.Node.{Node, Run, ran, run, run_with, why_void, refused, waits, runs, begin, begin_with, takes_none, next_id, with_turn, with_waiting, grants, takes, notes, old, hear, hear_grant, grant_open, first_open, without_waiting, take_after, take_within, with_void}
-use Rattle.token_core.specs.Log.{id_of}
+use Rattle.token_core.specs.Log.{id_of, event_of, event_for}
+use Rattle.std.specs.Option.{option_map}
 
 module _ (d : Specification) (w : World) where
   -- a call that was run is the one that was to be run
@@ -92,6 +93,12 @@ module _ (d : Specification) (w : World) where
     hear_ran (message.Grant id named) h = grant_ran id named n.waiting refl h
     hear_ran (message.Done id call seen) h = absurd (done_ran id call seen (is_among n.taken id) h)
     hear_ran (message.Void id) h = absurd (void_ran id (is_among n.void id) h)
+
+    -- it was a Grant that let the waiting call run
+    pub grant_event : (taken : List ℕ) (x : Message) → hear d w n x ≡ grants (ran i c s m) → event_for taken n.waiting x ≡ option_map (λ (q : Request). event_of q.call taken) n.waiting
+    grant_event taken (message.Grant id named) h = refl
+    grant_event taken (message.Done id call seen) h = absurd (done_ran id call seen (is_among n.taken id) h)
+    grant_event taken (message.Void id) h = absurd (void_ran id (is_among n.void id) h)
 
   -- the event that is taken is the one of which the Done tells
   module _ (n : Node) (i : EventId) (m : Node) where

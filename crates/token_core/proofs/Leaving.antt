@@ -6,6 +6,7 @@ use Rattle.spec_core.specs.declared.world.World.{World}
 use Rattle.spec_core.specs.declared.world.Call.{Call}
 use Rattle.spec_core.specs.Specification.{Specification}
 use Rattle.executions.specs.Orders.{Event}
+use Rattle.token_protocol.specs.declared.message.EventId.{EventId}
 use Rattle.token_protocol.specs.declared.message.Request.{Request}
 use Rattle.token_protocol.specs.declared.message.Message.{Message}
 use Rattle.token_protocol.specs.declared.message.Message.TheVariants as message
@@ -20,8 +21,8 @@ use Rattle.token_protocol.specs.declared.network.NetDid.TheVariants as did
 use Rattle.token_protocol.specs.Node.{Node, ran, void, Begin, refused, waits, runs, begin, begin_answer, node_after_begin, Hear, not_heard, awaits, grants, takes, notes, old, hear, hear_answer, node_after_hear}
 use Rattle.token_protocol.specs.Network.{Network, Replica, number_of, Outcome, accepted, begin_at, hear_at, answer, network_after}
 use Rattle.token_protocol.proofs.Places.{one_found}
-use Rattle.token_core.specs.Log.{Lists, network_with, Left, id_of, event_of, after_ran, after_void, after_asked, after_took, after_none, after_begun, IsAfterRan, IsAfterHeard, IsPrepared}
-use Rattle.token_core.proofs.Inversion.{begin_call, RanWaiting, hear_ran, hear_takes}
+use Rattle.token_core.specs.Log.{Lists, network_with, Left, id_of, event_of, event_for, after_ran, after_void, after_asked, after_took, after_none, after_begun, IsAfterRan, IsAfterHeard, IsPrepared}
+use Rattle.token_core.proofs.Inversion.{begin_call, hear_ran, grant_event, hear_takes}
 
 pub ok_same : {A E : Type 0} (x y : A) → (let r : Result A E = Ok x in r) ≡ Ok y → x ≡ y
 ok_same x y h = cc
@@ -70,20 +71,22 @@ module _ (d : Specification) (w : World) (replicas : List Replica) (granted : Li
     begin_left told = begun_left (begin d w n call) refl told
 
   -- ---- a message
-  abbrev waiting_event : Option (Event Call)
-  waiting_event = option_map (λ (q : Request). event_of q.call taken) n.waiting
-
   -- where the waiting call was run, its event was made
-  made : (c : Call) (event : Option (Event Call)) → event ≡ waiting_event → RanWaiting d w n c → event ≡ Some (event_of c taken)
-  made c event is ran_ =
-      is ∙ ap (option_map (λ (q : Request). event_of q.call taken)) ran_.waiting ∙ ap (λ x. Some (event_of x taken)) ran_.call
+  made : (id : EventId) (c : Call) (seen : List EventId) (next : Node) (m : Message) (event : Option (Event Call)) → event ≡ event_for taken n.waiting m → hear d w n m ≡ grants (ran id c seen next)
+      → event ≡ Some (event_of c taken)
+  made id c seen next m event is from =
+      let ran_ = hear_ran d w n id c seen next m from in
+      is
+      ∙ grant_event d w n id c seen next taken m from
+      ∙ ap (option_map (λ (q : Request). event_of q.call taken)) ran_.waiting
+      ∙ ap (λ x. Some (event_of x taken)) ran_.call
 
-  module _ (m : Message) (heard_ : Heard) (event : Option (Event Call)) (is : event ≡ waiting_event) where
+  module _ (m : Message) (heard_ : Heard) (event : Option (Event Call)) (is : event ≡ event_for taken n.waiting m) where
     heard_prepared : (b : Hear) → hear d w n m ≡ b → (let a : Result Heard NodeRefused = Ok heard_ in a) ≡ hear_answer b → IsPrepared event heard_
     heard_prepared (not_heard cause) from told = absurd (not_ok cause heard_ (sym told))
     heard_prepared (awaits id) from told = subst (IsPrepared event) (sym (ok_same heard_ (heard.Awaits id) told)) tt
     heard_prepared (grants (ran id c seen next)) from told =
-        subst (IsPrepared event) (sym (ok_same heard_ (heard.Ran (message.Done id c seen)) told)) (event_of c taken, made c event is (hear_ran d w n id c seen next m from))
+        subst (IsPrepared event) (sym (ok_same heard_ (heard.Ran (message.Done id c seen)) told)) (event_of c taken, made id c seen next m event is from)
     heard_prepared (grants (void cause id next)) from told = subst (IsPrepared event) (sym (ok_same heard_ (heard.Void cause (message.Void id)) told)) tt
     heard_prepared (takes id next) from told = subst (IsPrepared event) (sym (ok_same heard_ heard.Took told)) tt
     heard_prepared (notes next) from told = subst (IsPrepared event) (sym (ok_same heard_ heard.Noted told)) tt
@@ -107,7 +110,7 @@ module _ (d : Specification) (w : World) (replicas : List Replica) (granted : Li
       heard_left (awaits id) from told = still (did.Awaits id) (told_after (heard.Awaits id) (ok_same heard_ (heard.Awaits id) told))
       heard_left (grants (ran id c seen next)) from told =
           let leads : left ≡ after_ran lists taken (event_of c taken) (message.Done id c seen) =
-          subst (λ e. IsAfterRan lists taken e (message.Done id c seen) left) (made c event is (hear_ran d w n id c seen next m from))
+          subst (λ e. IsAfterRan lists taken e (message.Done id c seen) left) (made id c seen next m event is from)
           (told_after (heard.Ran (message.Done id c seen)) (ok_same heard_ (heard.Ran (message.Done id c seen)) told)) in
           subst (λ l. IsLeft l next (hear_at net r (replica n taken) (grants (ran id c seen next)))) (sym leads) (record { did = refl; network = refl })
       heard_left (grants (void cause id next)) from told =

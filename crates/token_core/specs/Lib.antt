@@ -1,6 +1,5 @@
 pub mod Members
 pub mod Tried
-pub mod Granting
 pub mod Held
 pub mod Ended
 pub mod Log

@@ -1,5 +1,6 @@
 -- What was sent in a network and what happened, and how a log grows; this mirrors src/log.rt and src/replica.rt.
 use Rattle.std.specs.Prelude.{◌≡◌, ℕ, ◌<◌, ◌^◌, List, [], ◌∷◌, ◌++◌, Option, None, Some, length, vec_len, vec_capacity}
+use Rattle.std.specs.Option.{option_map}
 use Rattle.spec_core.specs.declared.world.Call.{Call}
 use Rattle.executions.specs.Orders.{Event}
 use Rattle.token_protocol.specs.declared.message.EventId.{EventId}
@@ -96,6 +97,12 @@ abbrev pub after_begun : Lists → List ℕ → Event Call → Begun → Left
 after_begun lists taken event (begun.Asked request) = after_asked lists taken request
 after_begun lists taken event (begun.Ran done) = after_ran lists taken event done
 after_begun lists taken event (begun.Void cause told) = after_void lists taken cause told
+
+-- the event that a message may bring about: only a Grant lets the waiting call run
+abbrev pub event_for : List ℕ → Option Request → Message → Option (Event Call)
+event_for taken waiting (message.Grant id named) = option_map (λ (q : Request). event_of q.call taken) waiting
+event_for taken waiting (message.Done id call seen) = None
+event_for taken waiting (message.Void id) = None
 
 -- where the waiting call was run, there is its event
 abbrev pub IsAfterRan : Lists → List ℕ → Option (Event Call) → Message → Left → Type 0

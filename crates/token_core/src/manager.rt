@@ -1,11 +1,19 @@
 // The manager, which grants calls.
+//
+// A call meets only the grants of calls that can conflict with it by their operations, which an index tells, and of those it passes over
+// the ones whose argument isn't the one that all rules want, before it asks the rules.
 
-ghost use Rattle.std.specs.Prelude.{◌≡◌, [], map, filter, take, OnOk, OnErr, IfOk};
+ghost use Rattle.std.specs.Prelude.{◌≡◌, [], ◌∷◌, ◌++◌, cond, map, filter, slice_get, OnOk, OnErr, IfOk};
 ghost use Rattle.std.specs.List.{find};
 ghost use Rattle.std.specs.Option.{option_copied};
 ghost use Rattle.token_protocol.specs.Manager.{conflicting, grant_of, grant_message, asked};
-ghost use Rattle.token_core.specs.Granting.{with_next};
+ghost use Rattle.token_rules.specs.Conflict.{conflicts};
+ghost use Rattle.call_rivals.specs.Rivals.{rivals_of};
+ghost use Rattle.grant_index.specs.Index.{numbers_from};
+ghost use Rattle.grant_index.specs.Named.{id_if, ids_at};
 
+use call_rivals::{Rivalry, may_conflict, rivals_of};
+use grant_index::GrantIndex;
 use items::Items;
 use spec_core::{Call, Spec, World};
 use std::alloc::{AllocError, Global};
@@ -18,15 +26,19 @@ use token_rules::conflicts;
 pub struct Manager {
     alloc: Global,
     granted: Items<Granted>,
+    index: GrantIndex,
 }
 
 impl Model for Manager {
     ghost use Rattle.std.specs.Prelude.{List};
     ghost use Rattle.token_protocol.specs.declared.granted.Granted.{Granted};
+    ghost use Rattle.grant_index.specs.Index.{AreUpTo};
 
     ghost Value = { List Granted };
 
     ghost view = { λ a. a.granted };
+
+    ghost invariant = { λ a. AreUpTo a.granted a.index };
 }
 
 /// A copy of a call.
@@ -49,35 +61,71 @@ fn grant_of(granted: &[Granted], id: EventId) -> Option<&Granted>
     None
 }
 
+// A granted call conflicts with another.
+fn do_conflict(spec: &Spec, world: &World, rivals: &[Rivalry], granted: &Call, call: &Call) -> bool
+    requires { rivals.now ≡ rivals_of spec.now call.now.op }
+    ensures { result ≡ conflicts spec.now world.now granted.now call.now }
+{
+    if !may_conflict(rivals, granted, call) {
+        return false;
+    }
+    conflicts(spec, world, granted, call)
+}
+
 // Adds the id of a granted call where it conflicts with another call.
 fn add_conflicting(
     spec: &Spec,
     world: &World,
+    rivals: &[Rivalry],
     call: &Call,
     ids: &mut Items<EventId>,
     granted: &Granted,
 ) -> Result<(), AllocError>
-    ensures { OnOk result (ids.new ≡ with_next spec.now world.now call.now ids.old granted.now) }
+    requires { rivals.now ≡ rivals_of spec.now call.now.op }
+    ensures { OnOk result (ids.new ≡ ids.old ++ cond (conflicts spec.now world.now granted.now.call call.now) (granted.now.id ∷ []) []) }
 {
-    if conflicts(spec, world, &granted.call, call) {
+    if do_conflict(spec, world, rivals, &granted.call, call) {
         ids.push(granted.id)?;
     }
     Ok(())
 }
 
-// The calls granted so far that conflict with a call, in the order granted.
+// Adds the id of the granted call of this number, if there is one, where it conflicts with another call.
+fn add_numbered(
+    spec: &Spec,
+    world: &World,
+    rivals: &[Rivalry],
+    call: &Call,
+    ids: &mut Items<EventId>,
+    granted: &Items<Granted>,
+    number: usize,
+) -> Result<(), AllocError>
+    requires { rivals.now ≡ rivals_of spec.now call.now.op }
+    ensures { OnOk result (ids.new ≡ ids.old ++ id_if spec.now world.now call.now (slice_get granted.now number)) }
+{
+    match granted.get(number) {
+        Some(earlier) => add_conflicting(spec, world, rivals, call, ids, earlier),
+        None => Ok(()),
+    }
+}
+
+// The calls granted so far that conflict with a call, in the order granted. Those on the list of its operation have these numbers.
 fn conflicting(
     alloc: Global,
     spec: &Spec,
     world: &World,
-    granted: &[Granted],
+    rivals: &[Rivalry],
+    granted: &Items<Granted>,
+    numbers: &[usize],
     call: &Call,
 ) -> Result<Items<EventId>, AllocError>
+    requires rivals { rivals.now ≡ rivals_of spec.now call.now.op }
+    requires numbers { numbers.now ≡ numbers_from rivals.now 0 granted.now }
     ensures { IfOk result (λ ids. ids ≡ conflicting spec.now world.now granted.now call.now) }
 {
     let mut ids = Items::new(alloc);
-    for earlier in granted {
-        add_conflicting(spec, world, call, &mut ids, earlier)?;
+    for number in numbers {
+        add_numbered(spec, world, rivals, call, &mut ids, granted, *number)?;
     }
     Ok(ids)
 }
@@ -101,7 +149,33 @@ impl Manager {
         Manager {
             alloc,
             granted: Items::new(alloc),
+            index: GrantIndex::new(alloc),
         }
+    }
+
+    // The calls granted so far that conflict with a call, in the order granted.
+    fn named(
+        &mut self,
+        spec: &Spec,
+        world: &World,
+        call: &Call,
+    ) -> Result<Items<EventId>, AllocError>
+        ensures ids { IfOk result (λ ids. ids ≡ conflicting spec.now world.now self.old call.now) }
+        ensures same { self.new ≡ self.old }
+    {
+        let rivals = rivals_of(self.alloc, spec, call.op)?;
+        let granted = self.granted.as_slice();
+        self.index.catch_up(self.alloc, call.op, &rivals, granted)?;
+        let numbers = self.index.numbers(call.op);
+        conflicting(
+            self.alloc,
+            spec,
+            world,
+            &rivals,
+            &self.granted,
+            numbers,
+            call,
+        )
     }
 
     /// Grants a call. The grant names the calls granted before that conflict with it, in the order granted; a call that was granted
@@ -119,8 +193,7 @@ impl Manager {
         if let Some(granted) = grant_of(self.granted.as_slice(), request.id) {
             return message_of(self.alloc, granted);
         }
-        let granted = self.granted.as_slice();
-        let after = conflicting(self.alloc, spec, world, granted, &request.call)?;
+        let after = self.named(spec, world, &request.call)?;
         let call = copy_call(self.alloc, &request.call)?;
         let granted = Granted {
             id: request.id,

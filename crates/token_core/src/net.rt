@@ -1,6 +1,7 @@
 // A network: its replicas, its manager, and what was sent.
 
 ghost use Rattle.std.specs.Prelude.{◌≡◌, ℕ, ◌<◌, ◌⊎◌, true, [], Some, Err, List, length, map, get_or, slice_get, All, IfOk, OnOk, OnErr};
+ghost use Rattle.std.specs.Option.{is_some};
 ghost use Rattle.spec_core.specs.State.{reads};
 ghost use Rattle.spec_core.specs.Fits.{is_state};
 ghost use Rattle.token_protocol.specs.declared.network.NetStep.TheVariants as step;
@@ -127,6 +128,14 @@ impl<R: Runner + Drop> Net<R> {
         ensures fits { is_state self.now.spec self.now.world result.now ≡ true }
     {
         self.replicas[replica as usize].node.state()
+    }
+
+    /// Whether a call of a replica waits for a grant.
+    pub fn is_waiting(&self, replica: u32) -> bool
+        requires { replica < length self.now.replicas }
+        ensures { (at : HeldReplica) → slice_get self.now.replicas replica ≡ Some at → result ≡ is_some at.node.waiting }
+    {
+        self.replicas[replica as usize].node.waiting().is_some()
     }
 
     /// A fact for proofs: the events form an execution, and what each replica has taken is a delivery order of it.

@@ -9,7 +9,7 @@ ghost use Rattle.token_protocol.specs.declared.granted.Granted.{Granted};
 ghost use Rattle.token_protocol.specs.Node.{begin};
 ghost use Rattle.token_protocol.specs.Network.{Replica as ReplicaOf, number_of as number_of_call, node_refused, begin_at, hears_message, asks, network_after, answer};
 ghost use Rattle.token_core.specs.Held.{node_of, waiting_fits, message_fits};
-ghost use Rattle.token_core.specs.Log.{lists_of, HasRoom, network_with, id_of, event_of, after_begun, IsAfterHeard, IsPrepared, Left, after_ran, after_void};
+ghost use Rattle.token_core.specs.Log.{lists_of, HasRoom, network_with, id_of, event_of, event_for, after_begun, IsAfterHeard, IsPrepared, Left, after_ran, after_void};
 ghost use Rattle.token_core.specs.Fields.{held_replica, replica_at};
 
 use crate::log::{Happened, Log, make_room, number_of, put};
@@ -62,6 +62,17 @@ fn waiting_event(alloc: Global, at: &Replica) -> Result<Option<Event>, AllocErro
             Ok(Some(event))
         }
         None => Ok(None),
+    }
+}
+
+// The event that a message may bring about: only a Grant lets the waiting call run.
+fn event_for(alloc: Global, at: &Replica, sent: &Message) -> Result<Option<Event>, AllocError>
+    ensures { IfOk result (λ event. event ≡ event_for at.now.taken.items at.now.node.waiting sent.now) }
+{
+    match sent {
+        Message::Grant { .. } => waiting_event(alloc, at),
+        Message::Done { .. } => Ok(None),
+        Message::Void { .. } => Ok(None),
     }
 }
 
@@ -214,8 +225,8 @@ pub fn hear_at<R: Runner>(
     }
     log.make_room()?;
     make_room(&mut at.taken)?;
-    let event = waiting_event(alloc, at)?;
     let sent = &log.messages[message as usize];
+    let event = event_for(alloc, at, sent)?;
     let id = id_of(sent);
     match at.node.hear(runner, sent) {
         Ok(heard) => Ok(keep_heard(log, &mut at.taken, id, event, heard)),

@@ -11,8 +11,8 @@ use Rattle.replay_text.proofs.Going.{accepted_step}
 use Rattle.replay_text.proofs.writing.carry_out.Goals as goal
 
 pub returns-in-Ok-clause-stepped : goal.returns-in-Ok-clause-stepped
-returns-in-Ok-clause-stepped c =
-    let old = c.args.replay.now in let s = c.args.step.now in let e = c.in-Ok.taken.event in let new = c.step.new.self in
+returns-in-Ok-clause-stepped g c =
+    let old = g.R.Steps.replayed c.args.replay.now in let s = c.args.step.now in let e = c.in-Ok.taken.event in let new = g.R.Steps.replayed c.step.new.self in
     let went = accepted_step (outcome old.spec old.world old.held s) old.held c.in-Ok.taken c.in-Ok.ensures.answer in
     let held_is = ap (λ (p : Replayed). p.held) c.in-Ok.ensures.ok in
     let world_is = ap (λ (p : Replayed). p.world) c.in-Ok.ensures.ok in
@@ -22,8 +22,8 @@ returns-in-Ok-clause-stepped c =
     )
 
 pub broken_after-requires-clause-others : goal.broken_after-requires-clause-others
-broken_after-requires-clause-others c =
-    let old = c.args.replay.now in let d = c.args.spec.now in let s = c.args.step.now in let e = c.in-Ok.taken.event in let new = c.step.new.self in
+broken_after-requires-clause-others g c =
+    let old = g.R.Steps.replayed c.args.replay.now in let d = c.args.spec.now in let s = c.args.step.now in let e = c.in-Ok.taken.event in let new = g.R.Steps.replayed c.step.new.self in
     let went = accepted_step (outcome old.spec old.world old.held s) old.held c.in-Ok.taken c.in-Ok.ensures.answer in
     let held_is = ap (λ (p : Replayed). p.held) c.in-Ok.ensures.ok in
     let world_is = ap (λ (p : Replayed). p.world) c.in-Ok.ensures.ok in

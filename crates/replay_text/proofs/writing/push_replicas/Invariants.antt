@@ -3,6 +3,7 @@ use Rattle.replay_text.specs.Text.{replica_texts}
 use Rattle.replay_text.proofs.writing.push_replicas.Given as goal
 
 abbrev pub invariant-loop-replica : goal.invariant-loop-replica
-invariant-loop-replica l =
-    l.fn.text.items ++ replica_texts l.spec l.replay.world l.replay.held 0 l.replay.held.taken
-    ≡ l.text.items ++ replica_texts l.spec l.replay.world l.replay.held l.replica (drop l.replica l.replay.held.taken)
+invariant-loop-replica g l =
+    let p = g.R.Steps.replayed l.replay in
+    l.fn.text.items ++ replica_texts l.spec p.world p.held 0 p.held.taken
+    ≡ l.text.items ++ replica_texts l.spec p.world p.held l.replica (drop l.replica p.held.taken)

@@ -2,4 +2,6 @@ use Rattle.replay_text.proofs.Going.{Between}
 use Rattle.replay_text.proofs.writing.write_steps.Given as goal
 
 abbrev pub invariant-loop-number : goal.invariant-loop-number
-invariant-loop-number l = Between l.spec l.fn.replay.world l.fn.replay.held l.steps l.fn.text.items l.text.items l.number l.replay
+invariant-loop-number g l =
+    let first = g.R.Steps.replayed l.fn.replay in
+    Between l.spec first.world first.held l.steps l.fn.text.items l.text.items l.number (g.R.Steps.replayed l.replay)

@@ -1,12 +1,16 @@
-use Rattle.std.proofs.Common.{◌≡◌, length, rules, sym, ap, subst}
+use Rattle.std.proofs.Common.{◌≡◌, [], ◌∷◌, ◌++◌, length, get_or, rules, sym, ◌∙◌, ap, subst}
 use Rattle.spec_core.specs.declared.world.Call.{Call}
 use Rattle.replica_replay.specs.declared.keeping.Happened.{Happened}
-use Rattle.replica_replay.specs.Holding.{Leads}
-use Rattle.replica_replay.proofs.Spares.{last_is}
+use Rattle.replica_replay.specs.declared.keeping.Replica.{Replica}
+use Rattle.replica_replay.specs.Holding.{orders_of, Leads}
+use Rattle.replica_replay.proofs.Spares.{last_is, leads_still}
 use Rattle.replica_replay.proofs.keeping.keep_call.Goals as goal
 
-pub keep_taking-requires-clause-leads : goal.keep_taking-requires-clause-leads
-keep_taking-requires-clause-leads c = λ r here.
-    let len : c.len-event.result ≡ length c.args.happened.now.items = search rules in
-    let last = last_is c.args.happened.now.items c.push.new.self.items c.len-event.result c.index-2.result.now c.in-Ok.ensures.items len c.index-2.ensures in
-    subst (λ (k : Call). Leads c.args.spec.now c.args.world.now k r.state c.args.state) (sym (ap (λ (h : Happened). h.call) last)) (c.requires.leads r here)
+pub keep_spare-requires-clause-leads : goal.keep_spare-requires-clause-leads
+keep_spare-requires-clause-leads c = λ r here.
+    let d = c.args.spec.now in let w = c.args.world.now in let rs = c.args.replicas.now.items in let hs = c.args.happened.now.items in
+    let new : Replica = record { order = get_or (orders_of rs) c.args.replica [] ++ length hs ∷ []; state = c.args.state } in
+    let len : c.len-event.result ≡ length hs = search rules in
+    let last = last_is hs c.note_call.new.happened.items c.len-event.result c.index.result.now c.in-Ok.ensures.happened len c.index.ensures in
+    subst (λ (k : Call). Leads d w k c.in-Ok.before r.state) (sym (ap (λ (h : Happened). h.call) last))
+    (leads_still d w rs c.deref.result.now c.args.replica new c.args.call c.in-Ok.before (c.deref.ensures.value ∙ c.in-Ok.ensures.replicas) c.requires.replica c.in-Ok.ensures.before c.requires.leads r here)

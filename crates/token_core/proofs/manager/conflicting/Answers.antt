@@ -1,10 +1,19 @@
 use Rattle.std.proofs.Common.{◌+◌, List, ◌++◌, drop, sym, ◌∙◌, ap}
 use Rattle.token_protocol.specs.declared.message.EventId.{EventId}
 use Rattle.token_protocol.specs.Manager.{conflicting}
+use Rattle.grant_index.specs.Named.{ids_at}
+use Rattle.grant_index.proofs.Listed.{conflicts_listed}
 use Rattle.token_core.proofs.Granting.{next}
 use Rattle.token_core.proofs.manager.conflicting.Goals as goal
 
-pub loop-earlier-preserved : goal.loop-earlier-preserved
-loop-earlier-preserved c =
-    next c.args.spec.now c.args.world.now c.args.granted.now c.args.call.now c.loop-earlier.earlier-index c.loop-earlier.ids c.earlier-item.result c.loop-earlier-test.true c.earlier-item.is c.loop-earlier.invariant
-    ∙ ap (λ (l : List EventId). l ++ conflicting c.args.spec.now c.args.world.now (drop (c.loop-earlier.earlier-index + 1) c.args.granted.now) c.args.call.now) (sym c.in_ok-add_conflicting.ensures)
+pub loop-number-init : goal.loop-number-init
+loop-number-init c =
+    sym (conflicts_listed c.args.spec.now c.args.world.now c.args.call.now c.args.rivals.now c.requires.rivals c.args.granted.now)
+    ∙ ap (ids_at c.args.spec.now c.args.world.now c.args.call.now c.args.granted.now) (sym c.requires.numbers)
+    ∙ ap (λ (l : List EventId). l ++ ids_at c.args.spec.now c.args.world.now c.args.call.now c.args.granted.now c.args.numbers.now) (sym c.new-ids.ensures)
+
+pub loop-number-preserved : goal.loop-number-preserved
+loop-number-preserved c =
+    next c.args.spec.now c.args.world.now c.args.call.now c.args.granted.now c.args.numbers.now c.loop-number.number-index
+    (conflicting c.args.spec.now c.args.world.now c.args.granted.now c.args.call.now) c.loop-number.ids c.loop-number-test.true c.loop-number.invariant
+    ∙ ap (λ (l : List EventId). l ++ ids_at c.args.spec.now c.args.world.now c.args.call.now c.args.granted.now (drop (c.loop-number.number-index + 1) c.args.numbers.now)) (sym c.in_ok-add_numbered.ensures)

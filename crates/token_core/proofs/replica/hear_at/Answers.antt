@@ -1,13 +1,11 @@
 use Rattle.std.proofs.Common.{◌≡◌, ◌<◌, length, arith, inr, List, ℕ, sym, ◌∙◌, ap, subst}
 use Rattle.std.specs.Prelude.{Some, [], slice_get}
 use Rattle.token_protocol.specs.declared.message.EventId.{EventId}
-use Rattle.std.specs.Option.{option_map}
-use Rattle.token_protocol.specs.declared.message.Request.{Request}
 use Rattle.token_protocol.specs.declared.node.NodeRefused.TheVariants as refusal
 use Rattle.token_protocol.specs.Node.{hear, hear_answer, node_after_hear}
 use Rattle.token_protocol.specs.Network.{hear_at, hears_message, answer, network_after}
 use Rattle.token_core.specs.Held.{node_of}
-use Rattle.token_core.specs.Log.{Lists, Left, lists_of, network_with, event_of, id_of, IsAfterHeard}
+use Rattle.token_core.specs.Log.{Lists, Left, lists_of, network_with, event_for, id_of, IsAfterHeard}
 use Rattle.token_core.proofs.Fitting.{read_at}
 use Rattle.token_core.proofs.Leaving.{replica, hear_left, is_prepared, told_so, next_network}
 use Rattle.token_core.proofs.replica.hear_at.Goals as goal
@@ -32,7 +30,7 @@ keep_heard-requires-clause-prepared g c =
     let same_length = ap (λ (l : Lists). length l.messages) c.make_room.ensures.same in
     let lt : c.args.message < length c.make_room.new.self.messages.items = omega (arith, c.if-message-len.false, c.len.ensures, c.args.log.now.messages.ok.0, same_length) in
     let sent = subst (λ (l : Lists). slice_get l.messages c.args.message ≡ Some m) c.make_room.ensures.same (read_at c.make_room.new.self.messages.items c.args.message m lt c.index-sent.ensures) in
-    let is = c.in_ok-event.ensures ∙ ap (λ (t : List ℕ). option_map (λ (q : Request). event_of q.call t) n.waiting) c.make_room-2.ensures.same in
+    let is = c.in_ok-event.ensures ∙ ap (λ (t : List ℕ). event_for t n.waiting m) c.make_room-2.ensures.same in
     let told = told_so c.in-Ok.heard refusal.Memory (hear_answer (hear d w n m)) c.in-Ok.ensures.answer in
     is_prepared d w [] [] lists 0 n taken m c.in-Ok.heard c.in_ok-event.event is told
 
@@ -46,7 +44,7 @@ returns-in-Ok-clause-answer g c = λ replicas granted r here.
     let lt : c.args.message < length c.make_room.new.self.messages.items = omega (arith, c.if-message-len.false, c.len.ensures, c.args.log.now.messages.ok.0, same_length) in
     let sent = subst (λ (l : Lists). slice_get l.messages c.args.message ≡ Some m) c.make_room.ensures.same (read_at c.make_room.new.self.messages.items c.args.message m lt c.index-sent.ensures) in
     let left : Left = record { did = c.keep_heard.result; lists = lists_of c.keep_heard.new.log; taken = c.keep_heard.new.taken.items } in
-    let is = c.in_ok-event.ensures ∙ ap (λ (t : List ℕ). option_map (λ (q : Request). event_of q.call t) n.waiting) c.make_room-2.ensures.same in
+    let is = c.in_ok-event.ensures ∙ ap (λ (t : List ℕ). event_for t n.waiting m) c.make_room-2.ensures.same in
     let after =
     subst (λ (t : List ℕ). IsAfterHeard lists t (id_of m) c.in_ok-event.event c.in-Ok.heard left) c.make_room-2.ensures.same
     (subst (λ (l : Lists). IsAfterHeard l c.make_room-2.new.list.items (id_of m) c.in_ok-event.event c.in-Ok.heard left) c.make_room.ensures.same
@@ -65,7 +63,7 @@ returns-in-Ok-clause-ok g c = λ replicas granted r here.
     let lt : c.args.message < length c.make_room.new.self.messages.items = omega (arith, c.if-message-len.false, c.len.ensures, c.args.log.now.messages.ok.0, same_length) in
     let sent = subst (λ (l : Lists). slice_get l.messages c.args.message ≡ Some m) c.make_room.ensures.same (read_at c.make_room.new.self.messages.items c.args.message m lt c.index-sent.ensures) in
     let left : Left = record { did = c.keep_heard.result; lists = lists_of c.keep_heard.new.log; taken = c.keep_heard.new.taken.items } in
-    let is = c.in_ok-event.ensures ∙ ap (λ (t : List ℕ). option_map (λ (q : Request). event_of q.call t) n.waiting) c.make_room-2.ensures.same in
+    let is = c.in_ok-event.ensures ∙ ap (λ (t : List ℕ). event_for t n.waiting m) c.make_room-2.ensures.same in
     let after =
     subst (λ (t : List ℕ). IsAfterHeard lists t (id_of m) c.in_ok-event.event c.in-Ok.heard left) c.make_room-2.ensures.same
     (subst (λ (l : Lists). IsAfterHeard l c.make_room-2.new.list.items (id_of m) c.in_ok-event.event c.in-Ok.heard left) c.make_room.ensures.same

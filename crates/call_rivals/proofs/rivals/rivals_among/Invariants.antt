@@ -1,0 +1,7 @@
+use Rattle.std.proofs.Common.{◌≡◌, map, take}
+use Rattle.call_rivals.specs.Rivals.{rivalry}
+use Rattle.call_rivals.proofs.rivals.rivals_among.Given as goal
+
+-- those of the operations so far
+abbrev pub invariant-loop-operation : goal.invariant-loop-operation
+invariant-loop-operation l = l.rivals.items ≡ map (λ o. rivalry l.rules o.takes l.takes) (take l.operation-index l.operations)

@@ -1,0 +1,16 @@
+// Which grants can conflict with the calls of an operation, found once for each grant.
+//
+// For each operation of which a call has asked, an index has a list: how calls of each operation can conflict with its calls, and the
+// numbers of the grants of calls that can. A list is caught up when it is asked for. So each grant is gone through once for each list,
+// and a call that asks meets the grants on its list alone. A list rests on the rules: where it is asked for with others than before, it
+// is begun anew.
+//
+// It stands on `call_rivals` and `token_protocol`. `specs/Index.antt` says what a list and an index are, `specs/Named.antt` which calls
+// the grants on a list name; that these are all that conflict is the lemma `conflicts_listed` of proofs/Listed.
+#![tactic(auto)]
+
+mod index;
+mod list;
+
+pub use index::GrantIndex;
+pub use list::Candidates;

@@ -1,5 +1,0 @@
-use Rattle.std.proofs.Common.{length}
-use Rattle.replica_replay.proofs.rivals.+key_of.Given as goal
-
-abbrev pub decreases-key_of : goal.decreases-key_of
-decreases-key_of l = length l.takes.now
