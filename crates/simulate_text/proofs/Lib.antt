@@ -1,0 +1,4 @@
+mod Keeping
+pub mod Safety
+mod Carrying
+mod Going

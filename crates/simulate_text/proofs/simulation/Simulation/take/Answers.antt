@@ -1,0 +1,20 @@
+use Rattle.std.proofs.Common.{Some}
+use Rattle.token_core.specs.HeldNet.{network_held}
+use Rattle.simulate_text.specs.declared.simulation.Simulation.{Simulation}
+use Rattle.simulate_text.specs.Course.{taken, takes}
+use Rattle.simulate_text.specs.Reached.{simulated_in}
+use Rattle.simulate_text.proofs.Carrying.{does_from, takes_part}
+use Rattle.simulate_text.proofs.simulation.Simulation.take.Goals as goal
+
+pub returns : goal.returns
+returns c =
+    let old = c.args.self.now in
+    let mid : Simulation = record { net = c.go.new.net; dones = old.dones; grants = old.grants } in
+    does_from c.taken.result (λ d w. taken d w c.args.replica c.args.event c.in_ok-answer.answer)
+    (λ d w. takes d w c.args.replica c.args.event (Some c.args.done)) mid old c.args.said.now.items c.taken.new.said.items c.taken.new.self
+    (λ d w of.
+    let gone = c.in_ok-answer.ensures d w of in (
+      gone.of,
+      takes_part d w (simulated_in old) (network_held c.go.new.net) c.args.replica c.args.event c.args.done c.in_ok-answer.answer gone.told_is gone.net_is,
+    ))
+    c.taken.ensures

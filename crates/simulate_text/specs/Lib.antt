@@ -1,0 +1,6 @@
+pub mod Lines
+pub mod Course
+pub mod Text
+pub mod Recorded
+pub mod Safely
+pub mod Reached

@@ -1,0 +1,342 @@
+// A simulation, and the parts of its steps.
+
+ghost use Rattle.std.specs.Prelude.{◌≡◌, ◌≢◌, true, Ok, set, slice_get, IfOk, OnOk};
+ghost use Rattle.spec_core.specs.declared.world.World.{World as Setting};
+ghost use Rattle.spec_core.specs.Specification.{Specification};
+ghost use Rattle.spec_core.specs.Fits.{world_fits};
+ghost use Rattle.token_protocol.specs.Network.{outcome};
+ghost use Rattle.token_core.specs.HeldNet.{network_held};
+ghost use Rattle.simulate_text.specs.Course.{refusal_of, heard_by_all, broken_of, saying, asked_at, ran, void, granted, hears_grant, asks, begun, begins, is_waiting, tries_again, taken, takes, first_simulated};
+ghost use Rattle.simulate_text.specs.Reached.{simulated_in, IsOf, IsGone, Does};
+
+use crate::said::{Said, SimulateRefused, Stop};
+use spec_core::{Call, Spec, World, invariant_broken_at};
+use std::alloc::{AllocError, Global};
+use token_core::{Net, Plain, Runner, number_of};
+use token_protocol::{NetDid, NetRefused, NetStep, WhyVoid};
+
+/// A simulation: its network, and the numbers of the messages that it delivers again: for each event that of its Done, and for each
+/// replica that of the first grant of the last call that waited there.
+#[derive(Drop)]
+pub struct Simulation<'a> {
+    pub net: Net<Plain<'a>>,
+    pub dones: Vec<u32>,
+    pub grants: Vec<u32>,
+}
+
+/// A number as one of 32 bits, where it has no more.
+pub fn as_number(count: usize) -> Result<u32, AllocError>
+    ensures { IfOk result (λ number. number ≡ count) }
+{
+    if count > u32::MAX as usize {
+        return Err(AllocError);
+    }
+    Ok(count as u32)
+}
+
+/// The number at a place of a list.
+pub fn number_at(numbers: &[u32], place: u32) -> Option<u32>
+    ensures { result ≡ slice_get numbers.now place }
+{
+    numbers.get(place as usize).copied()
+}
+
+fn set_number(numbers: &mut Vec<u32>, place: u32, number: u32)
+    ensures { numbers.new.items ≡ set numbers.old.items place number }
+{
+    if let Some(old) = numbers.get_mut(place as usize) {
+        *old = number;
+    }
+}
+
+// Why a step is refused, where it isn't for want of memory.
+fn refusal_of(why: NetRefused) -> Result<SimulateRefused, AllocError>
+    ensures refusal { IfOk result (λ refusal. refusal ≡ refusal_of why) }
+    ensures memory { OnOk result (why ≢ NetRefused.Memory) }
+{
+    match why {
+        NetRefused::Replica => Ok(SimulateRefused::Replica),
+        NetRefused::NoMessage => Ok(SimulateRefused::NoEvent),
+        NetRefused::Arguments => Ok(SimulateRefused::Arguments),
+        NetRefused::Waiting { .. } => Ok(SimulateRefused::Waiting),
+        NetRefused::Range {
+            counter,
+            key,
+            value,
+        } => Ok(SimulateRefused::Range {
+            counter,
+            key,
+            value,
+        }),
+        NetRefused::Memory => Err(AllocError),
+    }
+}
+
+// Carries a step of the network out.
+fn go(net: &mut Net<Plain>, step: &NetStep) -> Result<Result<NetDid, SimulateRefused>, AllocError>
+    ensures { IfOk result (λ it. (d : Specification) (w : Setting) → IsOf d w net.old → IsGone d w (outcome d w (network_held net.old) step.now) (network_held net.old) it net.new) }
+{
+    match net.step(step) {
+        Ok(did) => Ok(Ok(did)),
+        Err(why) => Ok(Err(refusal_of(why)?)),
+    }
+}
+
+// All replicas in turn hear a message.
+fn tell_all(net: &mut Net<Plain>, message: u32) -> Result<(), AllocError>
+    ensures { OnOk result ((d : Specification) (w : Setting) → IsOf d w net.old → IsOf d w net.new × (heard_by_all d w message (network_held net.old) ≡ network_held net.new)) }
+{
+    let count = as_number(net.replica_count())?;
+    for replica in 0..count {
+        let _ = go(net, &NetStep::Hear { replica, message })?;
+    }
+    Ok(())
+}
+
+/// The first invariant that the state of a replica breaks.
+pub fn broken_of(net: &Net<Plain>, replica: u32) -> Option<usize>
+    ensures { (d : Specification) (w : Setting) → IsOf d w net.now → result ≡ broken_of d w (slice_get (network_held net.now).replicas replica) }
+{
+    if replica as usize >= net.replica_count() {
+        return None;
+    }
+    let runner = net.runner();
+    invariant_broken_at(runner.spec(), runner.world(), net.state_of(replica))
+}
+
+// Whether a call of a replica waits for its grant.
+fn is_waiting(net: &Net<Plain>, replica: u32) -> bool
+    ensures { result ≡ is_waiting (slice_get (network_held net.now).replicas replica) }
+{
+    (replica as usize) < net.replica_count() && net.is_waiting(replica)
+}
+
+impl<'a> Simulation<'a> {
+    /// A simulation of so many replicas, before its first step.
+    pub fn new(
+        alloc: Global,
+        spec: &'a Spec,
+        world: &'a World,
+        replicas: u32,
+    ) -> Result<Simulation<'a>, AllocError>
+        requires { world_fits spec.now world.now ≡ true }
+        ensures { IfOk result (λ sim. IsOf spec.now world.now sim.net × (simulated_in sim ≡ first_simulated spec.now world.now replicas)) }
+    {
+        let net = Net::new(alloc, Plain::new(alloc, spec, world), replicas)?;
+        let mut grants = Vec::new(alloc);
+        for _i in 0..replicas {
+            grants.push(0)?;
+        }
+        Ok(Simulation {
+            net,
+            dones: Vec::new(alloc),
+            grants,
+        })
+    }
+
+    // A call of a replica was run: it is this event, whose Done has this number.
+    fn ran(
+        &mut self,
+        replica: u32,
+        event: u32,
+        done: u32,
+        said: &mut Vec<Said>,
+    ) -> Result<Option<Stop>, AllocError>
+        ensures { IfOk result (λ stop. Does (λ d w. ran d w replica event done) self.old said.old.items said.new.items stop self.new) }
+    {
+        self.dones.push(done)?;
+        said.push(Said::Call(event))?;
+        match broken_of(&self.net, replica) {
+            Some(place) => Ok(Some(Stop::Broken(place))),
+            None => Ok(None),
+        }
+    }
+
+    // A call is void, and the message that says so has this number.
+    fn void(
+        &mut self,
+        why: WhyVoid,
+        message: u32,
+        said: &mut Vec<Said>,
+    ) -> Result<Option<Stop>, AllocError>
+        ensures { IfOk result (λ stop. Does (λ d w. void d w why message) self.old said.old.items said.new.items stop self.new) }
+    {
+        said.push(Said::Void(why))?;
+        tell_all(&mut self.net, message)?;
+        Ok(None)
+    }
+
+    // What a replica answers to the grant of its waiting call, before which so many messages had been sent.
+    fn granted(
+        &mut self,
+        replica: u32,
+        sent: u32,
+        tells: bool,
+        answer: Result<NetDid, SimulateRefused>,
+        said: &mut Vec<Said>,
+    ) -> Result<Option<Stop>, AllocError>
+        ensures { IfOk result (λ stop. Does (λ d w. granted d w replica sent tells answer) self.old said.old.items said.new.items stop self.new) }
+    {
+        match answer {
+            Err(why) => Ok(Some(Stop::Refused(why))),
+            Ok(NetDid::Ran { event }) => self.ran(replica, event, sent, said),
+            Ok(NetDid::Void { why, message }) => self.void(why, message, said),
+            Ok(NetDid::Awaits { id }) => {
+                if tells {
+                    said.push(Said::Awaits(id))?;
+                }
+                Ok(None)
+            }
+            Ok(_) => Ok(None),
+        }
+    }
+
+    // A replica hears the grant of its waiting call. That the call waits on is told or not.
+    fn hear_grant(
+        &mut self,
+        replica: u32,
+        message: u32,
+        tells: bool,
+        said: &mut Vec<Said>,
+    ) -> Result<Option<Stop>, AllocError>
+        ensures { IfOk result (λ stop. Does (λ d w. hears_grant d w replica message tells) self.old said.old.items said.new.items stop self.new) }
+    {
+        let sent = as_number(self.net.messages().len())?;
+        let answer = go(&mut self.net, &NetStep::Hear { replica, message })?;
+        self.granted(replica, sent, tells, answer, said)
+    }
+
+    // A call waits: the manager gets its request twice, and its replica hears the first grant.
+    fn ask(
+        &mut self,
+        replica: u32,
+        request: u32,
+        said: &mut Vec<Said>,
+    ) -> Result<Option<Stop>, AllocError>
+        ensures { IfOk result (λ stop. Does (λ d w. asks d w replica request) self.old said.old.items said.new.items stop self.new) }
+    {
+        let grant = as_number(self.net.messages().len())?;
+        let _ = go(&mut self.net, &NetStep::Ask { request })?;
+        let _ = go(&mut self.net, &NetStep::Ask { request })?;
+        set_number(&mut self.grants, replica, grant);
+        self.hear_grant(replica, grant, true, said)
+    }
+
+    // What a replica answers to a call, before which so many messages had been sent.
+    fn begun(
+        &mut self,
+        replica: u32,
+        sent: u32,
+        answer: Result<NetDid, SimulateRefused>,
+        said: &mut Vec<Said>,
+    ) -> Result<Option<Stop>, AllocError>
+        ensures { IfOk result (λ stop. Does (λ d w. begun d w replica sent answer) self.old said.old.items said.new.items stop self.new) }
+    {
+        match answer {
+            Err(why) => Ok(Some(Stop::Refused(why))),
+            Ok(NetDid::Ran { event }) => self.ran(replica, event, sent, said),
+            Ok(NetDid::Void { why, message }) => self.void(why, message, said),
+            Ok(NetDid::Asked { request }) => self.ask(replica, request, said),
+            Ok(_) => Ok(None),
+        }
+    }
+
+    /// A replica makes a call.
+    pub fn call(
+        &mut self,
+        replica: u32,
+        call: Call,
+        said: &mut Vec<Said>,
+    ) -> Result<Option<Stop>, AllocError>
+        ensures { IfOk result (λ stop. Does (λ d w. begins d w replica call) self.old said.old.items said.new.items stop self.new) }
+    {
+        let sent = as_number(self.net.messages().len())?;
+        let answer = go(&mut self.net, &NetStep::Begin { replica, call })?;
+        self.begun(replica, sent, answer, said)
+    }
+
+    // Where a call of a replica waits, it hears its grant again.
+    fn try_again(&mut self, replica: u32, said: &mut Vec<Said>) -> Result<Option<Stop>, AllocError>
+        ensures { IfOk result (λ stop. Does (λ d w. tries_again d w replica) self.old said.old.items said.new.items stop self.new) }
+    {
+        if !is_waiting(&self.net, replica) {
+            return Ok(None);
+        }
+        let grant = number_at(&self.grants, replica).unwrap_or(0);
+        self.hear_grant(replica, grant, false, said)
+    }
+
+    // A replica took an event. The invariants are asked before a call that waits hears its grant again.
+    fn took(
+        &mut self,
+        replica: u32,
+        event: u32,
+        said: &mut Vec<Said>,
+    ) -> Result<Option<Stop>, AllocError>
+        ensures { IfOk result (λ stop. Does (λ d w sim. saying (Said.Take event) (asked_at d w replica sim (tries_again d w replica sim))) self.old said.old.items said.new.items stop self.new) }
+    {
+        said.push(Said::Take(event))?;
+        match broken_of(&self.net, replica) {
+            Some(place) => Ok(Some(Stop::Broken(place))),
+            None => self.try_again(replica, said),
+        }
+    }
+
+    // What a replica did when it heard the Done of this event.
+    fn heard_done(
+        &mut self,
+        replica: u32,
+        event: u32,
+        did: &NetDid,
+        said: &mut Vec<Said>,
+    ) -> Result<Option<Stop>, AllocError>
+        ensures { IfOk result (λ stop. Does (λ d w. taken d w replica event (Ok did.now)) self.old said.old.items said.new.items stop self.new) }
+    {
+        match did {
+            NetDid::Took { .. } => self.took(replica, event, said),
+            NetDid::Awaits { id } => {
+                said.push(Said::Early(number_of(self.net.events(), *id)))?;
+                Ok(None)
+            }
+            NetDid::Old => {
+                said.push(Said::Old(event))?;
+                Ok(None)
+            }
+            _ => Ok(None),
+        }
+    }
+
+    // What a replica answers to the Done of this event.
+    fn taken(
+        &mut self,
+        replica: u32,
+        event: u32,
+        answer: Result<NetDid, SimulateRefused>,
+        said: &mut Vec<Said>,
+    ) -> Result<Option<Stop>, AllocError>
+        ensures { IfOk result (λ stop. Does (λ d w. taken d w replica event answer) self.old said.old.items said.new.items stop self.new) }
+    {
+        match answer {
+            Ok(did) => self.heard_done(replica, event, &did, said),
+            Err(why) => Ok(Some(Stop::Refused(why))),
+        }
+    }
+
+    /// A replica takes an event, whose Done has this number.
+    pub fn take(
+        &mut self,
+        replica: u32,
+        event: u32,
+        done: u32,
+        said: &mut Vec<Said>,
+    ) -> Result<Option<Stop>, AllocError>
+        ensures { IfOk result (λ stop. Does (λ d w. takes d w replica event (Some done)) self.old said.old.items said.new.items stop self.new) }
+    {
+        let heard = NetStep::Hear {
+            replica,
+            message: done,
+        };
+        let answer = go(&mut self.net, &heard)?;
+        self.taken(replica, event, answer, said)
+    }
+}

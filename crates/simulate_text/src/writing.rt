@@ -1,0 +1,226 @@
+// Going through the steps of a schedule, and writing the text.
+
+ghost use Rattle.std.specs.Prelude.{◌≡◌, ◌++◌, ℕ, ◌≤◌, ◌<◌, true, Some, length, slice_get, IfOk, OnOk};
+ghost use Rattle.spec_core.specs.declared.world.World.{World as Setting};
+ghost use Rattle.spec_core.specs.Fits.{world_fits};
+ghost use Rattle.replica_replay.specs.Steps.{operation_named as named_operation};
+ghost use Rattle.token_core.specs.HeldNet.{HeldReplica, replica_of as replica_held, network_held};
+ghost use Rattle.simulate_text.specs.Course.{calls, takes, part_of, replica_of, course_from, course, first_simulated};
+ghost use Rattle.simulate_text.specs.Text.{replica_text, replica_texts, simulate_text, simulate_status, status_of};
+ghost use Rattle.simulate_text.specs.Reached.{simulated_in, IsOf, Does, IsStep, IsReached};
+
+use crate::lines::{push_lines, push_stop};
+use crate::said::{Said, SimulateRefused, Stop};
+use crate::simulation::{Simulation, as_number, broken_of, number_at};
+use items::Items;
+use replay_text::{Report, push, push_number};
+use replica_replay::{Step, operation_named};
+use spec_core::{Call, Spec, World, write_state};
+use std::alloc::{AllocError, Global};
+use token_core::{Net, Plain, Runner};
+
+/// The replica of a step.
+fn replica_of(step: &Step) -> u32
+    ensures { result ≡ replica_of step.now }
+{
+    match step {
+        Step::Call { replica, .. } => *replica,
+        Step::Take { replica, .. } => *replica,
+    }
+}
+
+// A replica calls an operation by its name.
+fn call_named(
+    alloc: Global,
+    sim: &mut Simulation,
+    replica: u32,
+    name: &[u8],
+    args: &[i64],
+    said: &mut Vec<Said>,
+) -> Result<Option<Stop>, AllocError>
+    ensures { IfOk result (λ stop. Does (λ d w. calls d w replica args.now (named_operation d name.now)) sim.old said.old.items said.new.items stop sim.new) }
+{
+    let Some(op) = operation_named(sim.net.runner().spec(), name) else {
+        return Ok(Some(Stop::Refused(SimulateRefused::Operation)));
+    };
+    let args = Items::from_slice(alloc, args)?;
+    sim.call(replica, Call { op, args }, said)
+}
+
+// A replica takes an event by its number.
+fn take_numbered(
+    sim: &mut Simulation,
+    replica: u32,
+    event: u32,
+    said: &mut Vec<Said>,
+) -> Result<Option<Stop>, AllocError>
+    ensures { IfOk result (λ stop. Does (λ d w s. takes d w replica event (slice_get s.dones event) s) sim.old said.old.items said.new.items stop sim.new) }
+{
+    match number_at(&sim.dones, event) {
+        Some(done) => sim.take(replica, event, done, said),
+        None => Ok(Some(Stop::Refused(SimulateRefused::NoEvent))),
+    }
+}
+
+/// Carries a recorded step out.
+fn carry_out(
+    alloc: Global,
+    sim: &mut Simulation,
+    step: &Step,
+    said: &mut Vec<Said>,
+) -> Result<Option<Stop>, AllocError>
+    ensures { IfOk result (λ stop. Does (λ d w. part_of d w step.now) sim.old said.old.items said.new.items stop sim.new) }
+{
+    if replica_of(step) as usize >= sim.net.replica_count() {
+        return Ok(Some(Stop::Refused(SimulateRefused::Replica)));
+    }
+    match step {
+        Step::Call { replica, op, args } => {
+            call_named(alloc, sim, *replica, op.bytes(), args.as_slice(), said)
+        }
+        Step::Take { replica, event } => take_numbered(sim, *replica, *event, said),
+    }
+}
+
+/// Carries a recorded step out, and adds its lines.
+fn write_step(
+    alloc: Global,
+    spec: &Spec,
+    sim: &mut Simulation,
+    number: usize,
+    step: &Step,
+    text: &mut Vec<u8>,
+) -> Result<Option<Stop>, AllocError>
+    ensures { IfOk result (λ stop. (w : Setting) → IsOf spec.now w sim.old.net → IsStep spec.now w (part_of spec.now w step.now (simulated_in sim.old)) number step.now text.old.items text.new.items stop sim.new) }
+{
+    let mut said = Vec::new(alloc);
+    let stop = carry_out(alloc, sim, step, &mut said)?;
+    push_lines(alloc, text, spec, number, replica_of(step), said.as_slice())?;
+    Ok(stop)
+}
+
+/// How a simulation has stopped, and at which step.
+#[derive(Drop)]
+struct Stopped {
+    at: usize,
+    stop: Stop,
+}
+
+/// Carries steps out, up to the one at which it stops, and adds their lines.
+fn write_steps(
+    alloc: Global,
+    spec: &Spec,
+    sim: &mut Simulation,
+    steps: &[Step],
+    text: &mut Vec<u8>,
+) -> Result<Stopped, AllocError>
+    ensures { IfOk result (λ s. (w : Setting) → IsOf spec.now w sim.old.net → IsReached spec.now w (course_from spec.now w 0 steps.now (simulated_in sim.old)) text.old.items text.new.items s.at s.stop sim.new) }
+{
+    for (number, step) in steps.iter().enumerate() {
+        match write_step(alloc, spec, sim, number, step, text)? {
+            Some(stop) => return Ok(Stopped { at: number, stop }),
+            None => {}
+        }
+    }
+    Ok(Stopped {
+        at: steps.len(),
+        stop: Stop::Done,
+    })
+}
+
+/// Carries a whole schedule out, and adds the lines of its steps.
+fn write_course(
+    alloc: Global,
+    spec: &Spec,
+    sim: &mut Simulation,
+    steps: &[Step],
+    text: &mut Vec<u8>,
+) -> Result<Stopped, AllocError>
+    ensures { IfOk result (λ s. (w : Setting) (replicas : ℕ) → 1 ≤ replicas → simulated_in sim.old ≡ first_simulated spec.now w replicas → IsOf spec.now w sim.old.net → IsReached spec.now w (course spec.now w replicas steps.now) text.old.items text.new.items s.at s.stop sim.new) }
+{
+    match broken_of(&sim.net, 0) {
+        Some(place) => Ok(Stopped {
+            at: 0,
+            stop: Stop::BrokenFirst(place),
+        }),
+        None => write_steps(alloc, spec, sim, steps, text),
+    }
+}
+
+/// Adds the lines of a replica.
+fn push_replica(
+    alloc: Global,
+    text: &mut Vec<u8>,
+    net: &Net<Plain>,
+    replica: u32,
+) -> Result<(), AllocError>
+    requires { replica < length net.now.replicas }
+    ensures { OnOk result ((at : HeldReplica) → slice_get net.now.replicas replica ≡ Some at → text.new.items ≡ text.old.items ++ replica_text net.now.spec net.now.world replica (replica_held at)) }
+{
+    push_number(alloc, text, b"replica ", replica as usize)?;
+    push_number(alloc, text, b" taken ", net.taken(replica).len())?;
+    push(text, b"\n")?;
+    write_state(alloc, net.runner().spec(), net.state_of(replica), text)
+}
+
+/// Adds the lines of all replicas.
+fn push_replicas(alloc: Global, text: &mut Vec<u8>, net: &Net<Plain>) -> Result<(), AllocError>
+    ensures { OnOk result (text.new.items ≡ text.old.items ++ replica_texts net.now.spec net.now.world 0 (network_held net.now).replicas) }
+{
+    let count = as_number(net.replica_count())?;
+    for replica in 0..count {
+        push_replica(alloc, text, net, replica)?;
+    }
+    Ok(())
+}
+
+/// The status that a stop comes to.
+fn status_of(stop: &Stop) -> u8
+    ensures { result ≡ status_of stop.now }
+{
+    match stop {
+        Stop::Done => 0,
+        Stop::BrokenFirst(_) => 1,
+        Stop::Broken(_) => 1,
+        Stop::Refused(_) => 4,
+    }
+}
+
+/// Writes a course and how it stops, and answers the status.
+fn write_simulation(
+    alloc: Global,
+    spec: &Spec,
+    sim: &mut Simulation,
+    steps: &[Step],
+    text: &mut Vec<u8>,
+) -> Result<u8, AllocError>
+    ensures text { OnOk result ((w : Setting) (replicas : ℕ) → 1 ≤ replicas → simulated_in sim.old ≡ first_simulated spec.now w replicas → IsOf spec.now w sim.old.net → text.new.items ≡ text.old.items ++ simulate_text spec.now w replicas steps.now) }
+    ensures status { IfOk result (λ status. (w : Setting) (replicas : ℕ) → 1 ≤ replicas → simulated_in sim.old ≡ first_simulated spec.now w replicas → IsOf spec.now w sim.old.net → status ≡ simulate_status spec.now w replicas steps.now) }
+{
+    push(text, b"cise simulate 1\n")?;
+    let stopped = write_course(alloc, spec, sim, steps, text)?;
+    push_stop(alloc, text, spec, stopped.at, &stopped.stop)?;
+    push_replicas(alloc, text, &sim.net)?;
+    Ok(status_of(&stopped.stop))
+}
+
+/// Simulates the steps of a schedule, at so many replicas in a world: a text, and a status, which is 0 where all steps were carried
+/// out and no state broke, 1 where a state broke, 4 where a step was refused.
+pub fn simulate(
+    alloc: Global,
+    spec: &Spec,
+    world: &World,
+    replicas: u32,
+    steps: &[Step],
+) -> Result<Report, AllocError>
+    requires world { world_fits spec.now world.now ≡ true }
+    requires some { 1 ≤ replicas }
+    ensures text { IfOk result (λ report. report.text.items ≡ simulate_text spec.now world.now replicas steps.now) }
+    ensures status { IfOk result (λ report. report.status ≡ simulate_status spec.now world.now replicas steps.now) }
+{
+    let mut text = Vec::new(alloc);
+    let mut sim = Simulation::new(alloc, spec, world, replicas)?;
+    let status = write_simulation(alloc, spec, &mut sim, steps, &mut text)?;
+    drop(sim);
+    Ok(Report { status, text })
+}
