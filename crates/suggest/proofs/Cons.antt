@@ -1,7 +1,6 @@
 -- The members of a list with one more at its head, and what tests of all members say.
 use Rattle.std.proofs.Common.{◌≡◌, ℕ, zero, suc, ◌<◌, Bool, true, false, ◌||◌, ◌⊎◌, inl, inr, List, [], ◌∷◌, length, slice_index_or, refl, arith}
 use Rattle.std.specs.List.{list_any, Contains}
-use Rattle.obligation_list.proofs.Members.{here, there}
 
 pub nowhere : {X : Type 0} (y : X) → Contains [] y → ⊥
 nowhere y m = let lt = m.1 in omega arith
@@ -13,7 +12,7 @@ cons_cases x xs y m = at m.0 m.1 m.2
     at zero lt e = inl e
     at (suc k) lt e = inr (k, (let less : k < length xs = omega arith in less), e)
 
-or_false : (a b : Bool) → (a || b) ≡ false → (a ≡ false) × (b ≡ false)
+pub or_false : (a b : Bool) → (a || b) ≡ false → (a ≡ false) × (b ≡ false)
 or_false true b h = absurd cc
 or_false false b h = (refl, h)
 

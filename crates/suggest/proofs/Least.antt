@@ -1,5 +1,5 @@
 -- What answers for the pairs of a specification say.
-use Rattle.std.proofs.Common.{◌≡◌, ℕ, suc, ◌≤◌, Bool, true, false, ◌&&◌, ◌||◌, ◌==◌, ◌⊎◌, inl, inr, List, [], ◌∷◌, ◌++◌, refl, sym, ◌∙◌, ap, subst}
+use Rattle.std.proofs.Common.{◌≡◌, ℕ, Bool, true, false, ◌&&◌, ◌||◌, ◌==◌, ◌⊎◌, inl, inr, List, [], ◌∷◌, refl, sym, ◌∙◌, ap, subst}
 use Rattle.std.specs.List.{list_any, Contains}
 use Rattle.std.proofs.lemmas.Bool.{and_parts, and_from, cases_Bool, eqb-true, eq-eqb}
 use Rattle.std.proofs.lemmas.List.Elements.{Contains-append_right}
@@ -17,8 +17,8 @@ use Rattle.check_run.specs.Shown.{listing_of}
 use Rattle.check_run.specs.Good.{IsGood}
 use Rattle.keyed_specs.specs.Bare.{bare}
 use Rattle.keyed_specs.specs.Keyed.{keyed}
-use Rattle.suggest.specs.Pairs.{obligations_of_pair, PairHolds, IsPair, IsEnough, pairs_of, keys_of}
-use Rattle.suggest.specs.Answers.{IsFound, IsFoundIn, is_refuted, is_undecided, is_proved, keys_after, AreKeyAnswers, IsAnswer, AreAnswers, is_for, is_needed, is_unknown, is_key, is_enough_by}
+use Rattle.suggest.specs.Pairs.{PairHolds, IsPair, IsEnough, pairs_of, keys_of}
+use Rattle.suggest.specs.Answers.{IsFoundIn, is_refuted, is_undecided, is_proved, keys_after, AreKeyAnswers, IsAnswer, AreAnswers, is_for, is_needed, is_unknown, is_key, is_enough_by}
 use Rattle.suggest.specs.Theorem.{IsShownToBreak, IsBroken, IsRight}
 use Rattle.suggest.specs.declared.answer.Pair.{Pair}
 use Rattle.suggest.specs.declared.answer.Key.{Key}
@@ -134,10 +134,13 @@ module _ (holds : (d : Specification) (budget : ℕ) (ob : Obligation) (log : Li
       }
   refuted_breaks d budget a b (found.Undecided ob cause) h e = absurd cc
 
-  shown_breaks : (d : Specification) (budget a b : ℕ) (f : Found) (ob : Obligation) (w : Witness) → IsFoundIn d budget a b f → f ≡ found.Refuted ob w → IsShownToBreak d ob w
+  shown_breaks : (d : Specification) (budget a b : ℕ) (f : Found) (ob : Obligation) (w : Witness) → IsFoundIn d budget a b f → f ≡ found.Refuted ob w → IsShownToBreak d a b ob w
   shown_breaks d budget a b f ob w h e =
       let r = (subst (λ (g : Found). IsFoundIn d budget a b g) e h).comes_to in
-      breaks d budget ob (shown_by d w) w.elements r.refutes
+      record {
+        of_pair = subst (λ (os : List Obligation). Contains os ob) (sym r.listed) (Contains-append_right r.before (ob ∷ r.behind) ob (here ob r.behind ob refl));
+        breaks = breaks d budget ob (shown_by d w) w.elements r.refutes;
+      }
 
   module _ (d : Specification) (budget : ℕ) (xs : List PairAnswer) (good : AreAnswers d budget (pairs_of d) xs) where
     needed_breaks : (a b : ℕ) → is_needed xs a b ≡ true → IsPair d a b × IsBroken (bare d) a b
@@ -184,17 +187,21 @@ module _ (holds : (d : Specification) (budget : ℕ) (ob : Obligation) (log : Li
         (moved (λ i j. PairHolds (keyed d r.0.first i r.0.second j) r.0.first r.0.second) k.0.p k.0.q p q f.0 f.1
         (proved_holds (keyed d r.0.first k.0.p r.0.second k.0.q) budget r.0.first r.0.second k.1.found k.3 s.1))
 
-    needed_shown : (x : PairAnswer) (ob : Obligation) (w : Witness) → Contains xs x → x.found ≡ found.Refuted ob w → IsShownToBreak (bare d) ob w
-    needed_shown x ob w m e = let r = pair_of d budget (pairs_of d) xs good x m in shown_breaks (bare d) budget r.0.first r.0.second x.found ob w r.1.bare_found e
+    needed_shown : (x : PairAnswer) (ob : Obligation) (w : Witness) → Contains xs x → x.found ≡ found.Refuted ob w → IsShownToBreak (bare d) x.pair.first x.pair.second ob w
+    needed_shown x ob w m e =
+        let r = pair_of d budget (pairs_of d) xs good x m in
+        let same = r.1.pair_is in
+        moved (λ i j. IsShownToBreak (bare d) i j ob w) r.0.first r.0.second x.pair.first x.pair.second (ap (λ (p : Pair). p.first) (sym same)) (ap (λ (p : Pair). p.second) (sym same))
+        (shown_breaks (bare d) budget r.0.first r.0.second x.found ob w r.1.bare_found e)
 
     notby_shown : (x : PairAnswer) (y : KeyAnswer) (ob : Obligation) (w : Witness) → Contains xs x → Contains x.keys y → y.found ≡ found.Refuted ob w
-        → IsShownToBreak (keyed d x.pair.first y.key.p x.pair.second y.key.q) ob w
+        → IsShownToBreak (keyed d x.pair.first y.key.p x.pair.second y.key.q) x.pair.first x.pair.second ob w
     notby_shown x y ob w m k e =
         let r = pair_of d budget (pairs_of d) xs good x m in
         let t = key_of d budget r.0.first r.0.second (keys_after x.found (keys_of d r.0.first r.0.second)) x.keys r.1.keys y k in
         let same = r.1.pair_is in let at = t.1 in
-        moved (λ i j. IsShownToBreak (keyed d i y.key.p j y.key.q) ob w) r.0.first r.0.second x.pair.first x.pair.second (ap (λ (p : Pair). p.first) (sym same)) (ap (λ (p : Pair). p.second) (sym same))
-        (moved (λ i j. IsShownToBreak (keyed d r.0.first i r.0.second j) ob w) t.0.p t.0.q y.key.p y.key.q (ap (λ (z : Key). z.p) (sym at)) (ap (λ (z : Key). z.q) (sym at))
+        moved (λ i j. IsShownToBreak (keyed d i y.key.p j y.key.q) i j ob w) r.0.first r.0.second x.pair.first x.pair.second (ap (λ (p : Pair). p.first) (sym same)) (ap (λ (p : Pair). p.second) (sym same))
+        (moved (λ i j. IsShownToBreak (keyed d r.0.first i r.0.second j) r.0.first r.0.second ob w) t.0.p t.0.q y.key.p y.key.q (ap (λ (z : Key). z.p) (sym at)) (ap (λ (z : Key). z.q) (sym at))
         (shown_breaks (keyed d r.0.first t.0.p r.0.second t.0.q) budget r.0.first r.0.second y.found ob w t.2 e))
 
     pub right : IsRight d xs

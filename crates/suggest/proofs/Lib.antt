@@ -1,4 +1,9 @@
 pub mod Cons
 pub mod Listed
+pub mod Findings
+pub mod First
 pub mod Least
 pub mod Counting
+pub mod Appending
+pub mod Written
+pub mod Whole

@@ -1,6 +1,6 @@
 -- The members of the lists of pairs and of parameters.
-use Rattle.std.proofs.Common.{◌≡◌, ℕ, suc, ◌+◌, ◌<◌, ◌≤◌, Bool, true, false, cond, inl, inr, List, [], ◌∷◌, ◌++◌, length, nat_le, refl, subst, ap, ◌∙◌, take, get_or, arith}
-use Rattle.std.proofs.lemmas.Bool.{leb-true, le-leb, cases_Bool}
+use Rattle.std.proofs.Common.{◌≡◌, ℕ, suc, ◌+◌, ◌<◌, Bool, true, false, cond, inl, inr, List, [], ◌∷◌, ◌++◌, length, nat_le, refl, sym, subst, ap, ◌∙◌, append_assoc, take, get_or, arith}
+use Rattle.std.proofs.lemmas.Bool.{leb-true, le-leb}
 use Rattle.std.specs.List.{filter, flat_map, Contains}
 use Rattle.std.proofs.lemmas.List.Elements.{filter-append}
 use Rattle.std.proofs.Math.Seq.{take-suc}
@@ -9,9 +9,10 @@ use Rattle.spec_core.specs.World.{below}
 use Rattle.spec_core.specs.Typed.{same_sort}
 use Rattle.obligation_list.specs.declared.obligation.Obligation.{Obligation}
 use Rattle.obligation_list.specs.Obligations.{obligations_of, IsObligation}
-use Rattle.obligation_list.proofs.Members.{here, there, Contains-filter_cases, Contains-flat_map, Contains-flat_map_cases, Contains-below, Contains-below_cases}
+use Rattle.obligation_list.proofs.Below.{flat_map-below_more}
+use Rattle.obligation_list.proofs.Members.{here, Contains-filter_cases, Contains-flat_map, Contains-flat_map_cases, Contains-below, Contains-below_cases}
 use Rattle.keyed_specs.specs.Keyed.{sort_of_parameter, CanBeKeyed}
-use Rattle.suggest.specs.Pairs.{is_of_pair, obligations_of_pair, IsPair, pairs_from, pairs_of, keys_from, keys_of}
+use Rattle.suggest.specs.Pairs.{is_of_pair, IsPair, pairs_from, pairs_of, keys_from, keys_of}
 use Rattle.suggest.specs.declared.answer.Pair.{Pair}
 use Rattle.suggest.specs.declared.answer.Key.{Key}
 use Rattle.suggest.proofs.Cons.{nowhere, cons_cases}
@@ -59,3 +60,7 @@ pub filter_next : (p : Obligation → Bool) (obs : List Obligation) (i : ℕ) (o
     → filter p (take (i + 1) obs) ≡ filter p (take i obs) ++ filter p (get_or obs i ob ∷ [])
 filter_next p obs i ob lt =
     ap (λ n. filter p (take n obs)) (let e : i + 1 ≡ suc i = omega arith in e) ∙ ap (filter p) (take-suc obs i ob lt) ∙ filter-append p (take i obs) (get_or obs i ob ∷ [])
+
+-- a list for each number below a size, with one more
+pub listed_more : {X : Type 0} (f : ℕ → List X) (old mid new : List X) (n : ℕ) → mid ≡ old ++ flat_map f (below n) → new ≡ mid ++ f n → new ≡ old ++ flat_map f (below (n + 1))
+listed_more f old mid new n e h = h ∙ ap (λ t. t ++ f n) e ∙ append_assoc old (flat_map f (below n)) (f n) ∙ ap (λ t. old ++ t) (sym (flat_map-below_more f n))

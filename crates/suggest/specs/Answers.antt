@@ -12,7 +12,7 @@ use Rattle.report_text.specs.Showing.{shown_by, shown_cause}
 use Rattle.check_run.specs.Good.{IsGood}
 use Rattle.keyed_specs.specs.Bare.{bare}
 use Rattle.keyed_specs.specs.Keyed.{keyed}
-use Rattle.suggest.specs.Pairs.{obligations_of_pair, pairs_of, keys_of}
+use Rattle.suggest.specs.Pairs.{obligations_of_pair, keys_of}
 use Rattle.suggest.specs.declared.answer.Pair.{Pair}
 use Rattle.suggest.specs.declared.answer.Key.{Key}
 use Rattle.suggest.specs.declared.answer.Found.{Found}

@@ -1,5 +1,5 @@
 -- Pairs of operations, their obligations, and when a set of pairs is enough.
-use Rattle.std.specs.Prelude.{◌≡◌, ℕ, ◌<◌, ◌≤◌, nat_le, Bool, true, false, ◌&&◌, ◌||◌, ◌==◌, if◌then◌else◌, List, [], ◌∷◌, length}
+use Rattle.std.specs.Prelude.{◌≡◌, ℕ, ◌<◌, ◌≤◌, nat_le, Bool, false, ◌&&◌, ◌||◌, ◌==◌, if◌then◌else◌, List, [], ◌∷◌, length}
 use Rattle.std.specs.List.{filter, flat_map, Contains}
 use Rattle.spec_core.specs.Specification.{Specification, op_of}
 use Rattle.spec_core.specs.World.{below}

@@ -14,7 +14,6 @@ use Rattle.keyed_specs.specs.Keyed.{keyed}
 use Rattle.suggest.specs.Pairs.{pairs_of}
 use Rattle.suggest.specs.Answers.{AreAnswers, AreAnswersSoFar, counted}
 use Rattle.suggest.specs.declared.answer.Pair.{Pair}
-use Rattle.suggest.specs.declared.answer.Key.{Key}
 use Rattle.suggest.specs.declared.answer.Found.{Found}
 use Rattle.suggest.specs.declared.answer.Found.TheVariants as found
 use Rattle.suggest.specs.declared.answer.KeyAnswer.{KeyAnswer}

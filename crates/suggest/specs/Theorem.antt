@@ -18,9 +18,11 @@ use Rattle.suggest.specs.declared.answer.Found.TheVariants as found
 use Rattle.suggest.specs.declared.answer.KeyAnswer.{KeyAnswer}
 use Rattle.suggest.specs.declared.answer.PairAnswer.{PairAnswer}
 
--- What is shown of a witness breaks an obligation: its calls break it in its world and in the state that is shown, at its elements.
-abbrev pub IsShownToBreak : Specification → Obligation → Witness → Type 0
-IsShownToBreak d ob w = Breaks d ob w.world (listing_of d (shown_by d w)) w.calls w.elements
+-- What a block shows: it names an obligation of a pair, and the calls of its witness break this one in its world and in the state that is
+-- shown, at its elements.
+pub record IsShownToBreak (d : Specification) (a b : ℕ) (ob : Obligation) (w : Witness) : Type 0 where
+  pub of_pair : Contains (obligations_of_pair d a b) ob
+  pub breaks : Breaks d ob w.world (listing_of d (shown_by d w)) w.calls w.elements
 
 -- an obligation of a pair is broken
 pub record IsBroken (d : Specification) (a b : ℕ) : Type 0 where
@@ -34,10 +36,11 @@ pub record IsBroken (d : Specification) (a b : ℕ) : Type 0 where
 
 -- What answers for the pairs of a specification say.
 pub record IsRight (d : Specification) (answers : List PairAnswer) : Type 0 where
-  -- Each block under `needed` breaks its obligation in the bare specification, and each under `notby` in the keyed one.
-  pub needed_shown : (x : PairAnswer) (ob : Obligation) (w : Witness) → Contains answers x → x.found ≡ found.Refuted ob w → IsShownToBreak (bare d) ob w
+  -- Each block under `needed` breaks an obligation of its pair in the bare specification, and each under `notby` in the keyed one.
+  pub needed_shown : (x : PairAnswer) (ob : Obligation) (w : Witness) → Contains answers x → x.found ≡ found.Refuted ob w
+      → IsShownToBreak (bare d) x.pair.first x.pair.second ob w
   pub notby_shown : (x : PairAnswer) (y : KeyAnswer) (ob : Obligation) (w : Witness) → Contains answers x → Contains x.keys y → y.found ≡ found.Refuted ob w
-      → IsShownToBreak (keyed d x.pair.first y.key.p x.pair.second y.key.q) ob w
+      → IsShownToBreak (keyed d x.pair.first y.key.p x.pair.second y.key.q) x.pair.first x.pair.second ob w
   -- An obligation of each needed pair is broken where nothing conflicts,
   pub broken : (a b : ℕ) → is_needed answers a b ≡ true → IsBroken (bare d) a b
   -- so each set of pairs that is enough contains all needed ones.

@@ -1,5 +1,5 @@
 use Rattle.suggest.proofs.Least.{right}
-use Rattle.suggest.proofs.Counting.{none_unknown}
+use Rattle.suggest.proofs.Counting.{none_unknown, none_counted}
 use Rattle.suggest.proofs.law.law_least_pairs.Goals as goal
 
 pub returns-clause-right : goal.returns-clause-right
@@ -7,3 +7,6 @@ returns-clause-right c = λ d budget answers good. right c.law_good_verdicts.ens
 
 pub returns-clause-complete : goal.returns-clause-complete
 returns-clause-complete c = λ answers h a b. none_unknown answers h a b
+
+pub returns-clause-incomplete : goal.returns-clause-incomplete
+returns-clause-incomplete c = λ answers none. none_counted answers none

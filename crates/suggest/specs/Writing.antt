@@ -1,0 +1,75 @@
+-- What the code of a suggestion has done after each of its steps.
+use Rattle.std.specs.Prelude.{◌≡◌, ℕ, Bool, List, [], ◌∷◌, ◌++◌, length, Option, Result, Ok, Err, take}
+use Rattle.std.specs.List.{flat_map}
+use Rattle.std.specs.Io.KnownBytes.{Appends}
+use Rattle.spec_core.specs.Specification.{Specification}
+use Rattle.obligation_list.specs.Obligations.{IsObligation}
+use Rattle.proof_report.specs.Texts.{WitnessFits}
+use Rattle.check_run.specs.declared.checking.WriteOut.{WriteOut}
+use Rattle.check_run.specs.declared.checking.WriteOut.TheVariants.{Fault, Memory}
+use Rattle.keyed_specs.specs.Bare.{bare}
+use Rattle.keyed_specs.specs.Keyed.{keyed}
+use Rattle.suggest.specs.Pairs.{pairs_of}
+use Rattle.report_lines.specs.Words.{line_text}
+use Rattle.report_lines.specs.Blocks.{operation_name}
+use Rattle.suggest.specs.Answers.{is_refuted, IsFoundIn, IsAnswer, AreAnswers, AreAnswersSoFar, AreKeyAnswers, with_answer, counted}
+use Rattle.suggest.specs.Texts.{pair_word, found_text, pair_text, key_text, pairs_text, IsSuggestion, IsSuggestionFront}
+use Rattle.suggest.specs.declared.answer.Pair.{Pair}
+use Rattle.suggest.specs.declared.answer.Key.{Key}
+use Rattle.suggest.specs.declared.answer.Found.{Found}
+use Rattle.suggest.specs.declared.answer.Found.TheVariants as found
+use Rattle.suggest.specs.declared.answer.KeyAnswer.{KeyAnswer}
+use Rattle.suggest.specs.declared.answer.PairAnswer.{PairAnswer}
+use Rattle.suggest.specs.declared.answer.SuggestTally.{SuggestTally}
+
+-- what is found has a text
+abbrev pub CanBeWritten : Specification → Found → Type 0
+CanBeWritten d found.Proved = Unit {0}
+CanBeWritten d (found.Refuted ob w) = IsObligation d ob × WitnessFits d w
+CanBeWritten d (found.Undecided ob cause) = IsObligation d ob
+
+-- the entry of two parameters was appended, which is good
+abbrev pub IsKeyAppended : Specification → ℕ → Pair → Key → List ℕ → List ℕ → Type 0
+IsKeyAppended d budget pair k old new =
+    (y : KeyAnswer) × (y.key ≡ k) × IsFoundIn (keyed d pair.first k.p pair.second k.q) budget pair.first pair.second y.found × (new ≡ old ++ key_text d pair y)
+
+-- the entries of some parameters were
+abbrev pub AreKeysAppended : Specification → ℕ → Pair → List Key → List ℕ → List ℕ → Type 0
+AreKeysAppended d budget pair ks old new =
+    (ys : List KeyAnswer) × AreKeyAnswers d budget pair.first pair.second ks ys × (new ≡ old ++ flat_map (key_text d pair) ys)
+
+-- what a pair comes to in the bare specification was appended and counted
+abbrev pub IsBareAppended : Specification → ℕ → Pair → SuggestTally → Bool → SuggestTally → List ℕ → List ℕ → Type 0
+IsBareAppended d budget pair told needed now old new =
+    (f : Found) × IsFoundIn (bare d) budget pair.first pair.second f × (needed ≡ is_refuted f) × (now ≡ with_answer f told)
+    × (new ≡ old ++ (line_text (pair_word f ∷ operation_name d pair.first ∷ operation_name d pair.second ∷ []) ++ found_text (bare d) f))
+
+-- the text of a good answer for a pair was appended, and the answer counted
+abbrev pub IsPairAppended : Specification → ℕ → Pair → SuggestTally → SuggestTally → List ℕ → List ℕ → Type 0
+IsPairAppended d budget pair told now old new =
+    (x : PairAnswer) × IsAnswer d budget pair x × (now ≡ with_answer x.found told) × (new ≡ old ++ pair_text d x)
+
+-- the text of a good answer was written, and the answer counted; or a front of it was written; or nothing
+abbrev pub IsPairWritten : Specification → ℕ → Pair → SuggestTally → Option (List ℕ) → Option (List ℕ) → Result SuggestTally WriteOut → Type 0
+IsPairWritten d budget pair told before after (Ok now) =
+    (x : PairAnswer) × IsAnswer d budget pair x × (now ≡ with_answer x.found told) × Appends before after (pair_text d x)
+IsPairWritten d budget pair told before after (Err Fault) = (x : PairAnswer) × (n : ℕ) × IsAnswer d budget pair x × Appends before after (take n (pair_text d x))
+IsPairWritten d budget pair told before after (Err Memory) = Appends before after []
+
+-- the texts of good answers for the first pairs were written
+pub record AreWritten (d : Specification) (budget n : ℕ) (tally : SuggestTally) (before after : Option (List ℕ)) : Type 0 where
+  pub answers : List PairAnswer
+  pub good : AreAnswers d budget (take n (pairs_of d)) answers
+  pub tally_is : tally ≡ counted answers
+  pub written : Appends before after (pairs_text d answers)
+
+-- those of all were, or a front of them
+abbrev pub ArePairs : Specification → ℕ → Option (List ℕ) → Option (List ℕ) → Result SuggestTally WriteOut → Type 0
+ArePairs d budget before after (Ok tally) = AreWritten d budget (length (pairs_of d)) tally before after
+ArePairs d budget before after (Err why) =
+    (xs : List PairAnswer) × (n : ℕ) × AreAnswersSoFar d budget (pairs_of d) xs × Appends before after (take n (pairs_text d xs))
+
+-- The text of a suggestion was written, and its answers counted; or a front of it.
+abbrev pub IsSuggested : Specification → ℕ → Option (List ℕ) → Option (List ℕ) → Result SuggestTally WriteOut → Type 0
+IsSuggested d budget before after (Ok tally) = (text : List ℕ) × IsSuggestion d budget tally text × Appends before after text
+IsSuggested d budget before after (Err why) = (front : List ℕ) × IsSuggestionFront d budget front × Appends before after front
