@@ -15,7 +15,7 @@ use Rattle.report_verifier.specs.declared.refused.VerifyRefused.{VerifyRefused}
 use Rattle.report_verifier.specs.declared.refused.VerifyRefused.TheVariants as refused
 use Rattle.report_verifier.specs.Verified.{IsVerified, IsOnAll}
 use Rattle.cise_run.specs.declared.words.Task.{Task}
-use Rattle.cise_run.specs.declared.words.Task.TheVariants.{Check, Verify, Upgrade, Replay, Spell}
+use Rattle.cise_run.specs.declared.words.Task.TheVariants.{Check, Verify, Upgrade, Replay, Simulate, Suggest, Spell}
 use Rattle.cise_run.specs.declared.words.Job.{Job}
 use Rattle.cise_run.specs.declared.words.Job.TheVariants.{OfSpec, Sample}
 use Rattle.cise_run.specs.Words.{job_of}
@@ -38,6 +38,8 @@ agree_one (Check budget) s t x y one = inl one
 agree_one Verify s t x y one = one
 agree_one Upgrade s t x y one = one
 agree_one Replay s t x y one = one
+agree_one Simulate s t x y one = one
+agree_one Suggest s t x y one = inl one
 agree_one Spell s t x y one = one
 
 -- where a specification is refused, every answer refuses it so
@@ -116,6 +118,8 @@ outcomes_agree : (task : Task) (tree : TreeForm) (d : Specification) (more : Lis
 outcomes_agree (Check budget) tree d more s t x y one is a b = inr (d, a, b)
 outcomes_agree Verify tree d more s t x y one is a b = verdicts_agree d more s t x y one is a b
 outcomes_agree Upgrade tree d more s t x y one is a b = upgrades_agree d more s t x y one is a b
+outcomes_agree Simulate tree d more s t x y one is a b = one_of_two s t x y _ _ a.status_is a.text_is b.status_is b.text_is
+outcomes_agree Suggest tree d more s t x y one is a b = inr (d, a, b)
 outcomes_agree Replay tree d more s t x y one is a b = one_of_two s t x y _ _ a.status_is a.text_is b.status_is b.text_is
 outcomes_agree Spell tree d more s t x y one is a b = one_of_two s t x y _ _ a.status_is a.text_is b.status_is b.text_is
 

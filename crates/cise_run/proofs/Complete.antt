@@ -1,5 +1,5 @@
 -- That there is an answer where the specification is read and nothing fails.
-use Rattle.std.proofs.Common.{◌≡◌, ◌⊎◌, ℕ, ◌<◌, Bool, true, false, ◌||◌, ◌==◌, List, length, Option, Some, None, Result, refl, sym, subst, ◌∙◌, inl, inr, arith}
+use Rattle.std.proofs.Common.{◌≡◌, ◌⊎◌, ℕ, zero, suc, ◌<◌, Bool, true, false, ◌||◌, ◌==◌, List, length, Option, Some, None, Result, refl, sym, subst, ◌∙◌, inl, inr, arith}
 use Rattle.std.specs.Prelude.{nat_le, if◌then◌else◌, Ok, Err}
 use Rattle.spec_core.specs.Specification.{Specification}
 use Rattle.spec_reader.specs.Form.{TreeForm}
@@ -14,16 +14,22 @@ use Rattle.replay_text.specs.declared.stop.Stop.TheVariants as stop
 use Rattle.replay_text.specs.Text as replay
 use Rattle.replay_text.specs.Course.{course}
 use Rattle.replay_text.specs.Recorded.{status_read, schedule_status}
+use Rattle.simulate_text.specs.declared.said.Stop.{Stop as SimulationStop}
+use Rattle.simulate_text.specs.declared.said.Stop.TheVariants as halt
+use Rattle.simulate_text.specs.Text as simulation
+use Rattle.simulate_text.specs.Course.{course as simulated}
+use Rattle.simulate_text.specs.Recorded.{status_read as status_simulated, simulated_status}
 use Rattle.report_lines.specs.declared.head.Tally.{Tally}
 use Rattle.report_lines.specs.declared.head.Outcome.{Outcome}
 use Rattle.check_run.specs.Reports.{status_of}
 use Rattle.proof_report.specs.Events.{outcome_of}
 use Rattle.report_verifier.specs.declared.refused.VerifyRefused.{VerifyRefused}
 use Rattle.cise_run.specs.declared.words.Task.{Task}
-use Rattle.cise_run.specs.declared.words.Task.TheVariants.{Check, Verify, Upgrade, Replay, Spell}
+use Rattle.cise_run.specs.declared.words.Task.TheVariants.{Check, Verify, Upgrade, Replay, Simulate, Suggest, Spell}
 use Rattle.cise_run.specs.declared.words.Job.{Job}
 use Rattle.cise_run.specs.declared.words.Job.TheVariants.{OfSpec, Sample}
 use Rattle.cise_run.specs.commands.Verify.{status_said}
+use Rattle.cise_run.specs.commands.Suggest.{status_by}
 use Rattle.cise_run.specs.Answer.{IsOutcome, IsAnswerOf, IsAnswerTo}
 use Rattle.cise_run.specs.Headline.{is_outcome, is_memory, may_end_of, TellsSpecification, IsComplete}
 use Rattle.cise_run.proofs.Outcomes.{is_outcome-status_of}
@@ -54,6 +60,19 @@ choice_ends false n h = refl
 replay_ends : (d : Specification) (bytes : List ℕ) → is_replay_status (schedule_status d bytes) ≡ true
 replay_ends d bytes = choice_ends (nat_le (length bytes) most_schedule_bytes) (status_read d (schedule_from d bytes)) (read_ends d (schedule_from d bytes))
 
+stopped_ends : (s : SimulationStop) → is_replay_status (simulation.status_of s) ≡ true
+stopped_ends halt.Done = refl
+stopped_ends (halt.BrokenFirst place) = refl
+stopped_ends (halt.Broken place) = refl
+stopped_ends (halt.Refused why) = refl
+
+simulated_ends : (d : Specification) (r : Checked Schedule) → is_replay_status (status_simulated d r) ≡ true
+simulated_ends d (Ok s) = stopped_ends (simulated d s.world s.replicas s.steps).stop
+simulated_ends d _ = refl
+
+simulation_ends : (d : Specification) (bytes : List ℕ) → is_replay_status (simulated_status d bytes) ≡ true
+simulation_ends d bytes = choice_ends (nat_le (length bytes) most_schedule_bytes) (status_simulated d (schedule_from d bytes)) (simulated_ends d (schedule_from d bytes))
+
 may_replay : (a b c m : Bool) → a || (b || c) ≡ true → a || (b || (c || m)) ≡ true
 may_replay true b c m e = refl
 may_replay false true c m e = refl
@@ -67,14 +86,22 @@ said_ends : (said : Result Tally VerifyRefused) → may_end_of Verify (status_sa
 said_ends (Ok tally) = outcome_or (outcome_of tally) _
 said_ends (Err why) = refl
 
+suggestion_ends : (unknown : ℕ) → may_end_of Suggest (status_by unknown) ≡ true
+suggestion_ends zero = refl
+suggestion_ends (suc n) = refl
+
 -- what is true of the status that it is, is true of it
 at_status : (task : Task) (status s : ℕ) → status ≡ s → may_end_of task s ≡ true → may_end_of task status ≡ true
 at_status task status s e = subst (λ n. may_end_of task n ≡ true) (sym e)
 
-outcome_ends : (task : Task) (tree : TreeForm) (d : Specification) (more : List ℕ) (status : ℕ) (text : List ℕ) → IsOutcome task tree d more status text → may_end_of task status ≡ true
+pub outcome_ends : (task : Task) (tree : TreeForm) (d : Specification) (more : List ℕ) (status : ℕ) (text : List ℕ) → IsOutcome task tree d more status text → may_end_of task status ≡ true
 outcome_ends (Check budget) tree d more status text r = at_status (Check budget) status _ r.status_is (outcome_or (outcome_of r.tally) _)
 outcome_ends Verify tree d more status text v = at_status Verify status _ v.status_is (said_ends v.said)
 outcome_ends Upgrade tree d more status text r = let v = (as_verdict d more status text r).1 in at_status Upgrade status _ v.status_is (said_ends v.said)
+outcome_ends Simulate tree d more status text r =
+    let s = simulated_status d more in
+    at_status Simulate status s r.status_is (may_replay (s == 0) (s == 1) (s == 4) (is_memory s) (simulation_ends d more))
+outcome_ends Suggest tree d more status text r = at_status Suggest status (status_by r.tally.unknown) r.status_is (suggestion_ends r.tally.unknown)
 outcome_ends Replay tree d more status text r =
     let s = schedule_status d more in
     at_status Replay status s r.status_is (may_replay (s == 0) (s == 1) (s == 4) (is_memory s) (replay_ends d more))
@@ -96,6 +123,8 @@ memory_ends (Check budget) = refl
 memory_ends Verify = refl
 memory_ends Upgrade = refl
 memory_ends Replay = refl
+memory_ends Simulate = refl
+memory_ends Suggest = refl
 memory_ends Spell = refl
 
 -- ---- how a run ends

@@ -8,16 +8,18 @@ use Rattle.executions.proofs.Safety.{converges}
 use Rattle.obligation_list.specs.Breaking.{Safe}
 use Rattle.replay_text.specs.Recorded.{schedule_status}
 use Rattle.replay_text.proofs.Safety.{safe_status, schedule_safely}
+use Rattle.simulate_text.specs.Recorded.{simulated_status}
+use Rattle.simulate_text.proofs.Safety.{safe_status as safe_simulation, schedule_safely as simulated_safely_alike}
 use Rattle.spec_from_bytes.specs.Refusal.{IsReadAs, IsSpecificationOf}
 use Rattle.spec_from_bytes.proofs.Reasons.{specification_unique}
 use Rattle.cise_run.specs.declared.words.Task.{Task}
-use Rattle.cise_run.specs.declared.words.Task.TheVariants.{Check, Verify, Upgrade, Replay, Spell}
+use Rattle.cise_run.specs.declared.words.Task.TheVariants.{Check, Verify, Upgrade, Replay, Simulate, Suggest, Spell}
 use Rattle.cise_run.specs.declared.words.Job.{Job}
 use Rattle.cise_run.specs.declared.words.Job.TheVariants.{OfSpec, Sample}
 use Rattle.report_lines.specs.Heads.{most_budget}
-use Rattle.cise_run.specs.Words.{is_within, is_task, is_job, job_of, judges, is_judging, is_replay}
+use Rattle.cise_run.specs.Words.{is_within, is_task, is_job, job_of, judges, is_judging, is_replay, is_simulation}
 use Rattle.cise_run.specs.Answer.{IsOutcome, IsAnswerOf, IsAnswerTo, IsAnswer}
-use Rattle.cise_run.specs.Headline.{IsProved, is_outcome, IsRefutedRightly, RefutesOf, Refutes, IsReplayedSafely}
+use Rattle.cise_run.specs.Headline.{IsProved, is_outcome, IsRefutedRightly, RefutesOf, Refutes, IsReplayedSafely, IsSimulatedSafely}
 use Rattle.cise_run.proofs.Laws.{TypesWell, OfChecks, OfReports}
 use Rattle.cise_run.proofs.Jobs.{is_job-job_of}
 use Rattle.cise_run.proofs.Reports.{is_specification-read, safe_checked, right_checked, safe_verified, right_verified}
@@ -41,6 +43,8 @@ safe_outcome (Check budget) tree d more text checks reports j is r = safe_checke
 safe_outcome Verify tree d more text checks reports j is v = safe_verified d more text reports is v
 safe_outcome Upgrade tree d more text checks reports j is v = let said = as_verdict d more 0 text v in safe_verified d more said.0 reports is said.1
 safe_outcome Replay tree d more text checks reports j is v = absurd cc
+safe_outcome Simulate tree d more text checks reports j is v = absurd cc
+safe_outcome Suggest tree d more text checks reports j is v = absurd cc
 safe_outcome Spell tree d more text checks reports j is v = absurd cc
 
 proved_task : (task : Task) (bytes more text : List ℕ) → TypesWell → OfChecks → OfReports → is_judging task ≡ true → IsAnswerOf task bytes more 0 text → IsProved bytes
@@ -91,6 +95,8 @@ refutes_told Upgrade (Some bytes) None status text before after well checks repo
 refutes_told Upgrade (Some bytes) (Some report) status text before after well checks reports t o (given, more, told, also, a) w =
     subst (λ bs. IsRefutedRightly bs report) (sym told) (subst (IsRefutedRightly given) (sym also) (refutes_upgraded given more status text reports o a))
 refutes_told Replay told extra status text before after well checks reports t o a w = tt
+refutes_told Simulate told extra status text before after well checks reports t o a w = tt
+refutes_told Suggest told extra status text before after well checks reports t o a w = tt
 refutes_told Spell told extra status text before after well checks reports t o a w = tt
 
 refutes_job : (job : Option Job) (told extra : Option (List ℕ)) (status : ℕ) (text : List ℕ) (before after : Option (List ℕ)) → TypesWell → OfChecks → OfReports → IfSome job (λ j. is_job j ≡ true)
@@ -134,4 +140,41 @@ replayed_safely (Some (OfSpec Spell)) (Some bytes) extra status c a = absurd (cc
 replayed_safely (Some (OfSpec (Check budget))) (Some bytes) extra status c a = absurd (cc c)
 replayed_safely (Some (OfSpec Verify)) (Some bytes) extra status c a = absurd (cc c)
 replayed_safely (Some (OfSpec Upgrade)) (Some bytes) extra status c a = absurd (cc c)
+replayed_safely (Some (OfSpec Simulate)) (Some bytes) extra status c a = absurd (cc c)
+replayed_safely (Some (OfSpec Suggest)) (Some bytes) extra status c a = absurd (cc c)
 replayed_safely (Some (OfSpec Replay)) (Some bytes) extra status c a = replayed_told bytes extra status a
+
+-- ---- a simulation
+
+broken_simulation : (bytes more text : List ℕ) (d : Specification) → IsSpecificationOf bytes d → Safe d → IsAnswerOf Simulate bytes more 1 text → ⊥
+broken_simulation bytes more text d is safe (inl (why, r, one)) = omega (arith, one.0)
+broken_simulation bytes more text d is safe (inr (tree, e, read, done)) =
+    let same = specification_unique bytes e d (tree, read) is in
+    let status = done.status_is in
+    safe_simulation d safe more (sym (subst (λ (f : Specification). 1 ≡ simulated_status f more) same status))
+
+told_simulation : (bytes : List ℕ) (extra : Option (List ℕ)) (text : List ℕ) (d : Specification) → IsSpecificationOf bytes d → Safe d → IsAnswerTo (Some (OfSpec Simulate)) (Some bytes) extra 1 text → ⊥
+told_simulation bytes extra text d is safe (given, more, told, also, a) =
+    broken_simulation bytes more text d is safe (subst (λ bs. IsAnswerOf Simulate bs more 1 text) (sym told) a)
+
+simulated_told : (bytes : List ℕ) (extra : Option (List ℕ)) (status : ℕ)
+    → (status < 6 → (text : List ℕ) × IsAnswerTo (Some (OfSpec Simulate)) (Some bytes) extra status text) → IsSimulatedSafely bytes extra status
+simulated_told bytes extra status a = record {
+  unbroken = λ d is safe e. let at = a (omega (arith, e)) in
+      told_simulation bytes extra at.0 d is safe (subst (λ n. IsAnswerTo (Some (OfSpec Simulate)) (Some bytes) extra n at.0) e at.1);
+  alike = λ d more s is safe told e. (simulated_safely_alike d safe more s e).alike;
+}
+
+-- a simulation of a safe specification
+pub simulated_safely : (job : Option Job) (told extra : Option (List ℕ)) (status : ℕ) → is_simulation job ≡ true
+    → (status < 6 → (text : List ℕ) × IsAnswerTo job told extra status text) → IfSome told (λ bytes. IsSimulatedSafely bytes extra status)
+simulated_safely job None extra status c a = tt
+simulated_safely None (Some bytes) extra status c a = absurd (cc c)
+simulated_safely (Some (Sample n)) (Some bytes) extra status c a = absurd (cc c)
+simulated_safely (Some (OfSpec Spell)) (Some bytes) extra status c a = absurd (cc c)
+simulated_safely (Some (OfSpec (Check budget))) (Some bytes) extra status c a = absurd (cc c)
+simulated_safely (Some (OfSpec Verify)) (Some bytes) extra status c a = absurd (cc c)
+simulated_safely (Some (OfSpec Upgrade)) (Some bytes) extra status c a = absurd (cc c)
+simulated_safely (Some (OfSpec Replay)) (Some bytes) extra status c a = absurd (cc c)
+simulated_safely (Some (OfSpec Suggest)) (Some bytes) extra status c a = absurd (cc c)
+simulated_safely (Some (OfSpec Simulate)) (Some bytes) extra status c a = simulated_told bytes extra status a

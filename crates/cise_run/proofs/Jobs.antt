@@ -5,7 +5,7 @@ use Rattle.std.specs.Str.{bytes_eq}
 use Rattle.word_cut.specs.Whole.{size_read}
 use Rattle.report_lines.specs.Heads.{most_budget}
 use Rattle.cise_run.specs.declared.words.Task.{Task}
-use Rattle.cise_run.specs.declared.words.Task.TheVariants.{Check, Verify, Upgrade, Replay, Spell}
+use Rattle.cise_run.specs.declared.words.Task.TheVariants.{Check, Verify, Upgrade, Replay, Simulate, Suggest, Spell}
 use Rattle.cise_run.specs.declared.words.Job.{Job}
 use Rattle.cise_run.specs.declared.words.Job.TheVariants.{OfSpec, Sample}
 use Rattle.cise_run.specs.Words.{default_budget, most_sample, is_within, within, number_in, check_within, sample_of, job_of_two, job_of_three, job_of_four, job_of, is_job}
@@ -37,14 +37,16 @@ sample_allowed (Some n) = allowed_sample (is_within most_sample n) n refl
 two_allowed : (command word : List ℕ) → IsAllowed (job_of_two command word)
 two_allowed command word =
     choose (bytes_eq command (codes "check")) (Some (OfSpec (Check default_budget))) _ refl
+    (choose (bytes_eq command (codes "suggest")) (Some (OfSpec Suggest)) _ refl
     (choose (bytes_eq command (codes "spell")) (Some (OfSpec Spell)) _ refl
-    (choose (bytes_eq command (codes "sample")) (sample_of (number_in most_sample word)) None (sample_allowed (size_read word)) tt))
+    (choose (bytes_eq command (codes "sample")) (sample_of (number_in most_sample word)) None (sample_allowed (size_read word)) tt)))
 
 three_allowed : (command : List ℕ) → IsAllowed (job_of_three command)
 three_allowed command =
     choose (bytes_eq command (codes "verify")) (Some (OfSpec Verify)) _ refl
     (choose (bytes_eq command (codes "upgrade")) (Some (OfSpec Upgrade)) _ refl
-    (choose (bytes_eq command (codes "replay")) (Some (OfSpec Replay)) None refl tt))
+    (choose (bytes_eq command (codes "replay")) (Some (OfSpec Replay)) _ refl
+    (choose (bytes_eq command (codes "simulate")) (Some (OfSpec Simulate)) None refl tt)))
 
 four_allowed : (command option word : List ℕ) → IsAllowed (job_of_four command option word)
 four_allowed command option word =

@@ -1,6 +1,7 @@
 mod Endings
 mod Texts
 mod Replays
+mod Simulations
 mod Jobs
 mod Laws
 mod Outcomes
@@ -8,5 +9,7 @@ mod Reports
 mod Upgrades
 mod Agreement
 mod Upgraded
+mod Suggestions
 mod Headline
 mod Complete
+mod Refusals

@@ -32,7 +32,7 @@ pub read_told : (P : List ℕ → Type 0) (told : Option (List ℕ)) (bytes : Li
 read_told P None bytes h p = (bytes, tt, p)
 read_told P (Some given) bytes h p = (given, refl, subst P h p)
 
-too_many : (n : ℕ) → most_schedule_bytes < n → nat_le n most_schedule_bytes ≡ false
+pub too_many : (n : ℕ) → most_schedule_bytes < n → nat_le n most_schedule_bytes ≡ false
 too_many n h = grind (arith, nat_tests)
 
 -- the answer to too many bytes
@@ -48,7 +48,7 @@ low_read : (d : Specification) (r : Checked Schedule) → status_read d r < 5
 low_read d (Ok s) = low_stop (course d s.world s.replicas s.steps).stop
 low_read d _ = omega arith
 
-low_choice : (b : Bool) (n : ℕ) → n < 5 → (if b then n else 4) < 5
+pub low_choice : (b : Bool) (n : ℕ) → n < 5 → (if b then n else 4) < 5
 low_choice true n h = h
 low_choice false n h = omega arith
 

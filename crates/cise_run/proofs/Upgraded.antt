@@ -6,7 +6,7 @@ use Rattle.spec_from_bytes.proofs.Reasons.{specification_unique, refused_or_spec
 use Rattle.proof_report.specs.Events.{outcome_of}
 use Rattle.check_run.specs.Reports.{status_of}
 use Rattle.report_verifier.specs.Verified.{most_report_bytes}
-use Rattle.cise_run.specs.declared.words.Task.TheVariants.{Check, Verify, Upgrade, Replay, Spell}
+use Rattle.cise_run.specs.declared.words.Task.TheVariants.{Check, Verify, Upgrade, Replay, Simulate, Suggest, Spell}
 use Rattle.cise_run.specs.declared.words.Job.{Job}
 use Rattle.cise_run.specs.declared.words.Job.TheVariants.{OfSpec, Sample}
 use Rattle.cise_run.specs.Words.{is_upgrade}
@@ -47,6 +47,8 @@ upgrades_alike (Some (Sample n)) (Some bytes) extra status text before after wel
 upgrades_alike (Some (OfSpec (Check budget))) (Some bytes) extra status text before after well one keeps o is a w = absurd (cc is)
 upgrades_alike (Some (OfSpec Verify)) (Some bytes) extra status text before after well one keeps o is a w = absurd (cc is)
 upgrades_alike (Some (OfSpec Replay)) (Some bytes) extra status text before after well one keeps o is a w = absurd (cc is)
+upgrades_alike (Some (OfSpec Simulate)) (Some bytes) extra status text before after well one keeps o is a w = absurd (cc is)
+upgrades_alike (Some (OfSpec Suggest)) (Some bytes) extra status text before after well one keeps o is a w = absurd (cc is)
 upgrades_alike (Some (OfSpec Spell)) (Some bytes) extra status text before after well one keeps o is a w = absurd (cc is)
 upgrades_alike (Some (OfSpec Upgrade)) (Some bytes) extra status text before after well one keeps o is (given, more, told, also, a) w =
     (text, w, verified_as bytes more text status well one keeps o (subst (λ (bs : List ℕ). IsAnswerOf Upgrade bs more status text) (sym told) a))

@@ -7,7 +7,7 @@ use Rattle.spec_from_bytes.specs.Lines.{line}
 use Rattle.spec_from_bytes.specs.Refusal.{IsReadAs, Refusal, IsRefusal, refusal_text}
 use Rattle.spec_from_bytes.specs.Reading.{Tells}
 use Rattle.cise_run.specs.declared.words.Task.{Task}
-use Rattle.cise_run.specs.declared.words.Task.TheVariants.{Check, Verify, Upgrade, Replay, Spell}
+use Rattle.cise_run.specs.declared.words.Task.TheVariants.{Check, Verify, Upgrade, Replay, Simulate, Suggest, Spell}
 use Rattle.cise_run.specs.declared.words.Job.{Job}
 use Rattle.cise_run.specs.declared.words.Job.TheVariants.{OfSpec, Sample}
 use Rattle.cise_run.specs.Words.{job_of}
@@ -16,6 +16,8 @@ use Rattle.cise_run.specs.commands.Check.{IsReport, IsReportFront}
 use Rattle.cise_run.specs.commands.Verify.{IsVerdict, IsVerdictFront}
 use Rattle.cise_run.specs.commands.Upgrade.{IsUpgraded, IsUpgradeFront}
 use Rattle.cise_run.specs.commands.Replay.{IsReplayed, IsReplayFront}
+use Rattle.cise_run.specs.commands.Simulate.{IsSimulated, IsSimulationFront}
+use Rattle.cise_run.specs.commands.Suggest.{IsSuggested, IsSuggestionFront}
 use Rattle.cise_run.specs.commands.Spell.{IsSpelled, IsSpellFront}
 use Rattle.cise_run.specs.commands.Sample.{IsSampled, IsSampleFront}
 
@@ -28,6 +30,8 @@ IsOutcome (Check budget) tree d more status text = IsReport budget d status text
 IsOutcome Verify tree d more status text = IsVerdict d more status text
 IsOutcome Upgrade tree d more status text = IsUpgraded d more status text
 IsOutcome Replay tree d more status text = IsReplayed d more status text
+IsOutcome Simulate tree d more status text = IsSimulated d more status text
+IsOutcome Suggest tree d more status text = IsSuggested d status text
 IsOutcome Spell tree d more status text = IsSpelled tree status text
 
 -- what is left of it where it is stopped
@@ -36,6 +40,8 @@ IsOutcomeFront (Check budget) tree d more front = IsReportFront budget d front
 IsOutcomeFront Verify tree d more front = IsVerdictFront d more front
 IsOutcomeFront Upgrade tree d more front = IsUpgradeFront d more front
 IsOutcomeFront Replay tree d more front = IsReplayFront d more front
+IsOutcomeFront Simulate tree d more front = IsSimulationFront d more front
+IsOutcomeFront Suggest tree d more front = IsSuggestionFront d front
 IsOutcomeFront Spell tree d more front = IsSpellFront tree front
 
 -- ---- the specification
@@ -107,7 +113,7 @@ IsStopped words spec extra held_before held_after = IsBroken (IsFrontTo (job_of 
 
 -- ---- two answers
 
--- Two answers to one task agree: they are the same, or both are reports of one specification, with one budget.
+-- Two answers to one task agree: they are the same, or both are reports of one specification, with one budget, or suggestions for one.
 -- Verdicts, witnesses and logs are free.
 abbrev pub AgreeOf : Task → ℕ → List ℕ → ℕ → List ℕ → Type 0
 AgreeOf (Check budget) status text other_status other_text =
@@ -116,6 +122,10 @@ AgreeOf (Check budget) status text other_status other_text =
 AgreeOf Verify status text other_status other_text = IsOne status text other_status other_text
 AgreeOf Upgrade status text other_status other_text = IsOne status text other_status other_text
 AgreeOf Replay status text other_status other_text = IsOne status text other_status other_text
+AgreeOf Simulate status text other_status other_text = IsOne status text other_status other_text
+AgreeOf Suggest status text other_status other_text =
+    IsOne status text other_status other_text
+    ⊎ ((d : Specification) × IsSuggested d status text × IsSuggested d other_status other_text)
 AgreeOf Spell status text other_status other_text = IsOne status text other_status other_text
 
 -- So do two answers to the same words: they are the same, or both count verdicts on the same sample.

@@ -1,9 +1,10 @@
--- What status 0 of a check or of a verified report says, what a refutation says, what a replay of a safe specification keeps, and which
--- statuses may come at all.
+-- What status 0 of a check or of a verified report says, what a refutation says, what a replay or a simulation of a safe specification
+-- keeps, what a suggestion says, for what bytes are refused, and which statuses may come at all.
 use Rattle.std.specs.Prelude.{◌≡◌, ◌⊎◌, ℕ, ◌≤◌, length, Bool, true, ◌||◌, ◌==◌, List, Option, None, Some, IfSome, Ok, slice_get}
 use Rattle.std.specs.Io.KnownBytes.{Appends}
 use Rattle.spec_core.specs.Specification.{Specification}
 use Rattle.spec_core.specs.State.{Listing, reads}
+use Rattle.spec_reader.specs.Form.{TreeForm}
 use Rattle.obligation_list.specs.declared.obligation.Obligation.{Obligation}
 use Rattle.obligation_list.specs.Breaking.{Breaks, Safe}
 use Rattle.executions.specs.Convergence.{Converges}
@@ -11,15 +12,24 @@ use Rattle.proof_report.specs.declared.place.PartialWitness.{PartialWitness}
 use Rattle.proof_report.specs.Verdicts.{refuted, obligation_at, ReportForm}
 use Rattle.proof_report.specs.Reader.{reads_of}
 use Rattle.report_text.specs.Bytes.{report_bytes}
-use Rattle.spec_from_bytes.specs.Refusal.{IsSpecificationOf}
+use Rattle.typing_rules.specs.Fault.{Fault}
+use Rattle.typing_faults.specs.Faults.{IsLeastFault}
+use Rattle.spec_from_bytes.specs.Refusal.{IsTreeOf, IsSpecificationOf, Refusal, faulty, IsRefusal, refusal_text}
 use Rattle.schedule_json.specs.declared.schedule.Schedule.{Schedule}
 use Rattle.schedule_json.specs.Schedules.{schedule_from}
 use Rattle.replay_text.specs.Course.{course}
 use Rattle.replay_text.specs.Safely.{PrintAlike}
+use Rattle.simulate_text.specs.Course.{course as simulated}
+use Rattle.simulate_text.specs.Safely.{PrintAlike as SimulatedAlike}
 use Rattle.check_run.specs.Shown.{listing_of}
 use Rattle.report_verifier.specs.Verified.{most_report_bytes}
+use Rattle.suggest.specs.declared.answer.PairAnswer.{PairAnswer}
+use Rattle.suggest.specs.Pairs.{IsEnough}
+use Rattle.suggest.specs.Answers.{is_needed}
+use Rattle.suggest.specs.Texts.{suggest_text}
+use Rattle.suggest.specs.Theorem.{IsRight as SaysRightly}
 use Rattle.cise_run.specs.declared.words.Task.{Task}
-use Rattle.cise_run.specs.declared.words.Task.TheVariants.{Check, Verify, Upgrade, Replay, Spell}
+use Rattle.cise_run.specs.declared.words.Task.TheVariants.{Check, Verify, Upgrade, Replay, Simulate, Suggest, Spell}
 use Rattle.cise_run.specs.declared.words.Job.{Job}
 use Rattle.cise_run.specs.declared.words.Job.TheVariants.{OfSpec, Sample}
 use Rattle.cise_run.specs.Answer.{IsAnswerOf}
@@ -68,6 +78,8 @@ RefutesOf (Check budget) spec extra held_before held_after = WritesRightly spec 
 RefutesOf Verify spec extra held_before held_after = VerifiesRightly spec extra
 RefutesOf Upgrade spec extra held_before held_after = VerifiesRightly spec extra
 RefutesOf Replay spec extra held_before held_after = Unit {0}
+RefutesOf Simulate spec extra held_before held_after = Unit {0}
+RefutesOf Suggest spec extra held_before held_after = Unit {0}
 RefutesOf Spell spec extra held_before held_after = Unit {0}
 
 -- Where the words ask for a verdict on a specification, each refutation that is written or verified is right.
@@ -95,6 +107,43 @@ IsVerifiedAs bytes text status = length text ≤ most_report_bytes → (other : 
 abbrev pub UpgradesAlike : Option (List ℕ) → Option (List ℕ) → Option (List ℕ) → ℕ → Type 0
 UpgradesAlike spec held_before held_after status = IfSome spec (λ bytes. (text : List ℕ) × Appends held_before held_after text × IsVerifiedAs bytes text status)
 
+-- ---- simulations
+
+-- Where the bytes are a safe specification, no simulation of it ends with status 1. And in the simulation of the schedule that the second
+-- source tells, replicas that have taken the same events print the same lines of their states.
+pub record IsSimulatedSafely (bytes : List ℕ) (told : Option (List ℕ)) (status : ℕ) : Type 0 where
+  pub unbroken : (d : Specification) → IsSpecificationOf bytes d → Safe d → status ≡ 1 → ⊥
+  pub alike : (d : Specification) (more : List ℕ) (s : Schedule) → IsSpecificationOf bytes d → Safe d → told ≡ Some more → schedule_from d more ≡ Ok s
+      → SimulatedAlike d s.world (simulated d s.world s.replicas s.steps)
+
+-- ---- suggestions
+
+-- Some bytes are a specification, and a text is the suggestion for it, which is right: each block under `needed` breaks its obligation
+-- where nothing conflicts, so each set of pairs that is enough contains all needed pairs; and with status 0 the needed pairs are enough.
+pub record IsSuggestedRightly (bytes text : List ℕ) (status : ℕ) : Type 0 where
+  pub specification : Specification
+  pub read : IsSpecificationOf bytes specification
+  pub answers : List PairAnswer
+  pub written : text ≡ suggest_text specification answers
+  pub right : SaysRightly specification answers
+  pub enough : status ≡ 0 → IsEnough specification (is_needed answers)
+
+-- What was written is such a suggestion, for the specification that the first source told.
+abbrev pub SuggestsRightly : Option (List ℕ) → ℕ → Option (List ℕ) → Option (List ℕ) → Type 0
+SuggestsRightly spec status held_before held_after = IfSome spec (λ bytes. (text : List ℕ) × Appends held_before held_after text × IsSuggestedRightly bytes text status)
+
+-- ---- refused specifications
+
+-- Where some bytes are refused for a fault of their tree, it is the least one: no rule finds another at an earlier word, or at the same word
+-- and earlier in the order unknown, twice, kind, count, limit.
+abbrev pub IsLeastOf : List ℕ → Refusal → Type 0
+IsLeastOf bytes why = (f : Fault) → why ≡ faulty f → (t : TreeForm) × IsTreeOf bytes t × IsLeastFault t f
+
+-- What the first source told is no specification, for one reason, which was written, and so with a fault.
+abbrev pub RefusesRightly : Option (List ℕ) → Option (List ℕ) → Option (List ℕ) → Type 0
+RefusesRightly spec held_before held_after =
+    IfSome spec (λ bytes. (why : Refusal) × IsRefusal bytes why × Appends held_before held_after (refusal_text why) × IsLeastOf bytes why)
+
 -- ---- completeness
 
 -- the status of verdicts: all are proved, one is refuted, or none is and one is undecided
@@ -112,6 +161,8 @@ may_end_of (Check budget) status = is_outcome status || is_memory status
 may_end_of Verify status = is_outcome status || ((status == 4) || is_memory status)
 may_end_of Upgrade status = is_outcome status || ((status == 4) || is_memory status)
 may_end_of Replay status = (status == 0) || ((status == 1) || ((status == 4) || is_memory status))
+may_end_of Simulate status = (status == 0) || ((status == 1) || ((status == 4) || is_memory status))
+may_end_of Suggest status = (status == 0) || ((status == 5) || is_memory status)
 may_end_of Spell status = (status == 0) || is_memory status
 
 -- the first source tells a specification

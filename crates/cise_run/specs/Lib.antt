@@ -4,3 +4,4 @@ pub mod commands
 pub mod Answer
 pub mod Headline
 pub mod Replayed
+pub mod Simulated

@@ -5,7 +5,7 @@ use Rattle.byte_ports.specs.Faults.{IsFault}
 use Rattle.word_cut.specs.Whole.{size_read}
 use Rattle.report_lines.specs.Heads.{most_budget}
 use Rattle.cise_run.specs.declared.words.Task.{Task}
-use Rattle.cise_run.specs.declared.words.Task.TheVariants.{Check, Verify, Upgrade, Replay, Spell}
+use Rattle.cise_run.specs.declared.words.Task.TheVariants.{Check, Verify, Upgrade, Replay, Simulate, Suggest, Spell}
 use Rattle.cise_run.specs.declared.words.Job.{Job}
 use Rattle.cise_run.specs.declared.words.Job.TheVariants.{OfSpec, Sample}
 
@@ -45,21 +45,23 @@ sample_of (Some n) = Some (Sample n)
 abbrev pub job_of_two : List ℕ → List ℕ → Option Job
 job_of_two command word =
     if bytes_eq command (codes "check") then Some (OfSpec (Check default_budget))
+    else (if bytes_eq command (codes "suggest") then Some (OfSpec Suggest)
     else (if bytes_eq command (codes "spell") then Some (OfSpec Spell)
-    else (if bytes_eq command (codes "sample") then sample_of (number_in most_sample word) else None))
+    else (if bytes_eq command (codes "sample") then sample_of (number_in most_sample word) else None)))
 
 abbrev pub job_of_three : List ℕ → Option Job
 job_of_three command =
     if bytes_eq command (codes "verify") then Some (OfSpec Verify)
     else (if bytes_eq command (codes "upgrade") then Some (OfSpec Upgrade)
-    else (if bytes_eq command (codes "replay") then Some (OfSpec Replay) else None))
+    else (if bytes_eq command (codes "replay") then Some (OfSpec Replay)
+    else (if bytes_eq command (codes "simulate") then Some (OfSpec Simulate) else None)))
 
 abbrev pub job_of_four : List ℕ → List ℕ → List ℕ → Option Job
 job_of_four command option word =
     if bytes_eq command (codes "check") then (if bytes_eq option (codes "--budget") then check_within (number_in most_budget word) else None) else None
 
 -- The job that the words ask for; none where they aren't accepted. The accepted words are `check SPEC`, `check SPEC --budget N` with N
--- from 1 to 1,000,000, `verify SPEC REPORT`, `upgrade SPEC REPORT`, `replay SPEC SCHEDULE`,
+-- from 1 to 1,000,000, `verify SPEC REPORT`, `upgrade SPEC REPORT`, `replay SPEC SCHEDULE`, `simulate SPEC SCHEDULE`, `suggest SPEC`,
 -- `spell SPEC` and `sample N` with N from 1 to 12; SPEC, REPORT and SCHEDULE are any texts.
 abbrev pub job_of : List (List ℕ) → Option Job
 job_of [] = None
@@ -75,6 +77,8 @@ is_task (Check budget) = is_within most_budget budget
 is_task Verify = true
 is_task Upgrade = true
 is_task Replay = true
+is_task Simulate = true
+is_task Suggest = true
 is_task Spell = true
 
 abbrev pub is_job : Job → Bool
@@ -89,6 +93,8 @@ takes_extra (Check budget) = false
 takes_extra Verify = true
 takes_extra Upgrade = true
 takes_extra Replay = true
+takes_extra Simulate = true
+takes_extra Suggest = false
 takes_extra Spell = false
 
 -- Which inputs are read for a job: that of the specification, and the second one. Where the words aren't accepted, neither is.
@@ -113,6 +119,8 @@ is_judging (Check budget) = true
 is_judging Verify = true
 is_judging Upgrade = true
 is_judging Replay = false
+is_judging Simulate = false
+is_judging Suggest = false
 is_judging Spell = false
 
 abbrev pub judges : Option Job → Bool
@@ -126,6 +134,8 @@ is_replaying (Check budget) = false
 is_replaying Verify = false
 is_replaying Upgrade = false
 is_replaying Replay = true
+is_replaying Simulate = false
+is_replaying Suggest = false
 is_replaying Spell = false
 
 abbrev pub is_replay : Option Job → Bool
@@ -139,9 +149,41 @@ is_upgrading (Check budget) = false
 is_upgrading Verify = false
 is_upgrading Upgrade = true
 is_upgrading Replay = false
+is_upgrading Simulate = false
+is_upgrading Suggest = false
 is_upgrading Spell = false
 
 abbrev pub is_upgrade : Option Job → Bool
 is_upgrade None = false
 is_upgrade (Some (OfSpec task)) = is_upgrading task
 is_upgrade (Some (Sample n)) = false
+
+-- they ask for a simulation
+abbrev pub is_simulating : Task → Bool
+is_simulating (Check budget) = false
+is_simulating Verify = false
+is_simulating Upgrade = false
+is_simulating Replay = false
+is_simulating Simulate = true
+is_simulating Suggest = false
+is_simulating Spell = false
+
+abbrev pub is_simulation : Option Job → Bool
+is_simulation None = false
+is_simulation (Some (OfSpec task)) = is_simulating task
+is_simulation (Some (Sample n)) = false
+
+-- they ask for a suggestion
+abbrev pub is_suggesting : Task → Bool
+is_suggesting (Check budget) = false
+is_suggesting Verify = false
+is_suggesting Upgrade = false
+is_suggesting Replay = false
+is_suggesting Simulate = false
+is_suggesting Suggest = true
+is_suggesting Spell = false
+
+abbrev pub is_suggestion : Option Job → Bool
+is_suggestion None = false
+is_suggestion (Some (OfSpec task)) = is_suggesting task
+is_suggestion (Some (Sample n)) = false

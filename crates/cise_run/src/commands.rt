@@ -2,6 +2,8 @@
 pub mod check;
 pub mod replay;
 pub mod sample;
+pub mod simulate;
 pub mod spell;
+pub mod suggestion;
 pub mod upgrade;
 pub mod verify;

@@ -3,24 +3,30 @@ ghost use Rattle.std.specs.Prelude.{◌≡◌, ℕ, true, List, Option, Some, If
 ghost use Rattle.std.specs.Io.KnownBytes.{Appends};
 ghost use Rattle.spec_from_bytes.specs.Refusal.{Refusal, IsRefusal, refusal_text};
 ghost use Rattle.cise_run.specs.declared.words.Task.{Task};
-ghost use Rattle.cise_run.specs.Words.{job_of, judges, is_upgrade};
+ghost use Rattle.cise_run.specs.Words.{job_of, reads_spec, judges, is_upgrade, is_suggestion};
 ghost use Rattle.cise_run.specs.Ending.{IsOne};
 ghost use Rattle.cise_run.specs.Answer.{IsAnswer, IsAnswerOf, Agree};
-ghost use Rattle.cise_run.specs.Headline.{IsProved, is_outcome, Refutes, UpgradesAlike};
+ghost use Rattle.cise_run.specs.Headline.{IsProved, is_outcome, Refutes, UpgradesAlike, SuggestsRightly, RefusesRightly};
 
 use check_run::{law_checked_is_read, law_good_verdicts, law_safe};
 use report_upgrader::law_upgraded_report_is_accepted;
 use report_verifier::{law_accepted_is_safe, law_one_answer, law_refuted_breaks};
+use spec_from_bytes::law_least_refusal;
+use suggest::law_least_pairs;
 use typing_rules::law_typed_is_well_formed;
 
 /// Where a check, or the verification of a report, is answered with status 0, the bytes are a specification that is safe and
-/// converges. Where it is answered with the outcome of verdicts, each refutation breaks its obligation.
+/// converges. Where it is answered with the outcome of verdicts, each refutation breaks its obligation. And what is answered to a
+/// suggestion is right.
 pub fn law_headline()
     ensures proved { (words : List (List ℕ)) (spec extra : Option (List ℕ)) (text : List ℕ)
         → judges (job_of words) ≡ true → IsAnswer words spec extra 0 text → IfSome spec IsProved }
     ensures refuted { (words : List (List ℕ)) (spec extra : Option (List ℕ)) (status : ℕ) (text : List ℕ) (held_before held_after : Option (List ℕ))
         → is_outcome status ≡ true → IsAnswer words spec extra status text → Appends held_before held_after text
         → Refutes (job_of words) spec extra held_before held_after }
+    ensures suggested { (words : List (List ℕ)) (spec extra : Option (List ℕ)) (status : ℕ) (text : List ℕ) (held_before held_after : Option (List ℕ))
+        → is_suggestion (job_of words) ≡ true → is_outcome status ≡ true → IsAnswer words spec extra status text → Appends held_before held_after text
+        → SuggestsRightly spec status held_before held_after }
 {
     law_typed_is_well_formed();
     law_safe();
@@ -28,6 +34,7 @@ pub fn law_headline()
     law_checked_is_read();
     law_accepted_is_safe();
     law_refuted_breaks();
+    law_least_pairs();
 }
 
 /// Two answers to the same words and bytes agree: they are the same, but for the verdicts of a report.
@@ -55,4 +62,12 @@ pub fn law_upgrades_are_verified()
     law_typed_is_well_formed();
     law_one_answer();
     law_upgraded_report_is_accepted();
+}
+
+/// Where a specification is refused, what is written says why, and a fault of its tree is the least one.
+pub fn law_least_fault_is_answered()
+    ensures { (words : List (List ℕ)) (spec extra : Option (List ℕ)) (text : List ℕ) (held_before held_after : Option (List ℕ))
+        → reads_spec (job_of words) ≡ true → IsAnswer words spec extra 3 text → Appends held_before held_after text → RefusesRightly spec held_before held_after }
+{
+    law_least_refusal();
 }

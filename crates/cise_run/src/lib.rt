@@ -6,11 +6,13 @@
 // agree.
 //
 // It stands on `spec_from_bytes`, which reads the specification, on `check_run`, which decides its obligations and writes the report, on
-// `report_verifier`, which verifies one, on `replay_text`, which replays a schedule, and on `executions`, whose theorem makes a check that
-// ends with status 0 a proof of convergence. The definitions stand in specs/, in this order: Words (which words are accepted, what they
+// `report_verifier`, which verifies one, on `report_upgrader`, which upgrades one, on `replay_text` and `simulate_text`, which carry a
+// schedule out, on `suggest`, which finds the pairs that must conflict, and on `executions`, whose theorem makes a check that ends with
+// status 0 a proof of convergence. The definitions stand in specs/, in this order: Words (which words are accepted, what they
 // ask for, and which inputs that reads), Ending (how the writing of a text ends), commands (what each command answers, in a file for
 // each), Answer (which status and text belong to which words and bytes), Headline (what status 0 says, what a refutation says, what a
-// replay of a safe specification keeps, and which statuses may come). Replayed mirrors the code.
+// replay or a simulation of a safe specification keeps, what a suggestion says, for what bytes are refused, and which statuses may come).
+// Replayed and Simulated mirror the code.
 #![tactic(auto)]
 
 mod commands;
@@ -20,4 +22,7 @@ mod outcome;
 pub mod run;
 mod words;
 
-pub use law::{law_answers_agree, law_headline, law_refused_for_all};
+pub use law::{
+    law_answers_agree, law_headline, law_least_fault_is_answered, law_refused_for_all,
+    law_upgrades_are_verified,
+};

@@ -4,19 +4,21 @@ ghost use Rattle.byte_ports.specs.Faults.{IsFault};
 ghost use Rattle.spec_reader.specs.Form.{tree_of};
 ghost use Rattle.spec_from_bytes.specs.Reading.{Tells, IsReadingOf};
 ghost use Rattle.cise_run.specs.declared.words.Job.TheVariants.{OfSpec};
-ghost use Rattle.cise_run.specs.Words.{job_of, is_task, judges, is_replay, is_upgrade, takes_extra, reads_spec, reads_extra, IsInputFault};
+ghost use Rattle.cise_run.specs.Words.{job_of, is_task, judges, is_replay, is_upgrade, is_simulation, is_suggestion, takes_extra, reads_spec, reads_extra, IsInputFault};
 ghost use Rattle.cise_run.specs.Ending.{Ends};
 ghost use Rattle.cise_run.specs.Answer.{IsOutcome, IsOutcomeFront, IsAnswerOf, IsFrontOfAnswer, IsAnswerTo, IsFrontTo, EndsWith, IsAnswered, IsStopped};
-ghost use Rattle.cise_run.specs.Headline.{IsProved, is_outcome, Refutes, IsReplayedSafely, UpgradesAlike, IsComplete};
+ghost use Rattle.cise_run.specs.Headline.{IsProved, is_outcome, Refutes, IsReplayedSafely, IsSimulatedSafely, UpgradesAlike, SuggestsRightly, RefusesRightly, IsComplete};
 
 use crate::commands::check::check;
 use crate::commands::replay::replay_schedule;
 use crate::commands::sample::sample;
+use crate::commands::simulate::simulate_schedule;
 use crate::commands::spell::spell_tree;
+use crate::commands::suggestion::suggest_pairs;
 use crate::commands::upgrade::upgrade;
 use crate::commands::verify::verify;
 use crate::ending::{MEMORY, READ_FAULT, SPECIFICATION, WORDS, write_answer};
-use crate::law::{law_headline, law_upgrades_are_verified};
+use crate::law::{law_headline, law_least_fault_is_answered, law_upgrades_are_verified};
 use crate::words::{Job, Task, job_asked};
 use byte_ports::{Sink, Source};
 use spec_core::Spec;
@@ -44,6 +46,8 @@ fn do_task<E: Source, K: Sink>(
         Task::Verify => verify(alloc, spec, extra, out),
         Task::Upgrade => upgrade(alloc, spec, extra, out),
         Task::Replay => replay_schedule(alloc, spec, extra, out),
+        Task::Simulate => simulate_schedule(alloc, spec, extra, out),
+        Task::Suggest => suggest_pairs(alloc, spec, out),
         Task::Spell => spell_tree(alloc, tree, out),
     }
 }
@@ -95,10 +99,11 @@ fn answer_task<S: Source, E: Source, K: Sink>(
 
 /// Answers the words, those behind the program's name, from the bytes of the two inputs, and writes the answer's text.
 ///
-/// The statuses: 0, all verdicts are proved, of a check or of a report that is verified or upgraded, the specification was spelled, or all
-/// steps were accepted and no state broke; 1, a verdict is refuted, or a state breaks an invariant; 2, the words aren't accepted; 3, the
-/// bytes are no specification; 4, the bytes of the second input are no report or no schedule, or a line or a step breaks its rule; 5, no
-/// verdict is refuted and one is undecided; 6, a source that is read for the job has failed; 7, the sink has failed; 8, out of memory.
+/// The statuses: 0, all verdicts are proved, of a check or of a report that is verified or upgraded, no pair is unknown, the specification
+/// was spelled, or all steps were accepted and no state broke; 1, a verdict is refuted, or a state breaks an invariant; 2, the words
+/// aren't accepted; 3, the bytes are no specification; 4, the bytes of the second input are no report or no schedule, or a line or a step
+/// breaks its rule; 5, no verdict is refuted and one is undecided, or a pair is unknown; 6, a source that is read for the job has failed;
+/// 7, the sink has failed; 8, out of memory.
 pub fn run<S: Source, E: Source, K: Sink>(
     alloc: Global,
     words: &[String],
@@ -119,8 +124,17 @@ pub fn run<S: Source, E: Source, K: Sink>(
     // Each refutation that is written or verified breaks its obligation.
     ensures refuted { is_outcome result ≡ true → Refutes (job_of (map string_bytes words.now)) (S.left spec.old) (E.left extra.old) (K.held out.old) (K.held out.new) }
 
-    // And a safe specification is never replayed to a state that breaks an invariant.
+    // And a safe specification is never replayed to a state that breaks an invariant, nor simulated to one.
     ensures safe { is_replay (job_of (map string_bytes words.now)) ≡ true → IfSome (S.left spec.old) (λ bytes. IsReplayedSafely bytes (E.left extra.old) result) }
+    ensures simulated { is_simulation (job_of (map string_bytes words.now)) ≡ true → IfSome (S.left spec.old) (λ bytes. IsSimulatedSafely bytes (E.left extra.old) result) }
+
+    // A suggestion says which pairs of operations have to conflict: where nothing conflicts, each block under `needed` breaks its
+    // obligation, so every set of pairs that is enough contains the needed pairs; with status 0 they are enough; and where `by P Q` stands,
+    // a conflict on equal arguments for P and Q is enough for the pair.
+    ensures suggested { is_suggestion (job_of (map string_bytes words.now)) ≡ true → is_outcome result ≡ true → SuggestsRightly (S.left spec.old) result (K.held out.old) (K.held out.new) }
+
+    // Bytes that are no specification are refused for one reason, which is written; where that is a fault of their tree, it is the least.
+    ensures least { reads_spec (job_of (map string_bytes words.now)) ≡ true → result ≡ 3 → RefusesRightly (S.left spec.old) (K.held out.old) (K.held out.new) }
 
     // What an upgrade wrote is verified with the status that the upgrade ended with.
     ensures upgraded { is_outcome result ≡ true → is_upgrade (job_of (map string_bytes words.now)) ≡ true → UpgradesAlike (S.left spec.old) (K.held out.old) (K.held out.new) result }
@@ -134,6 +148,7 @@ pub fn run<S: Source, E: Source, K: Sink>(
 {
     law_headline();
     law_upgrades_are_verified();
+    law_least_fault_is_answered();
     match job_asked(words) {
         Some(Job::OfSpec(task)) => answer_task(alloc, task, spec, extra, out),
         Some(Job::Sample(number)) => sample(alloc, number, out),

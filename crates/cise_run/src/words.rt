@@ -16,6 +16,10 @@ pub enum Task {
     Upgrade,
     /// To replay a schedule.
     Replay,
+    /// To simulate the token protocol on a schedule.
+    Simulate,
+    /// To find which pairs of its operations must conflict.
+    Suggest,
     /// To write its words in the layout of the language.
     Spell,
 }
@@ -73,6 +77,8 @@ fn job_of_two(command: &str, word: &str) -> Option<Job>
 {
     if command == "check" {
         Some(Job::OfSpec(Task::Check(DEFAULT_BUDGET)))
+    } else if command == "suggest" {
+        Some(Job::OfSpec(Task::Suggest))
     } else if command == "spell" {
         Some(Job::OfSpec(Task::Spell))
     } else if command == "sample" {
@@ -92,6 +98,8 @@ fn job_of_three(command: &str) -> Option<Job>
         Some(Job::OfSpec(Task::Upgrade))
     } else if command == "replay" {
         Some(Job::OfSpec(Task::Replay))
+    } else if command == "simulate" {
+        Some(Job::OfSpec(Task::Simulate))
     } else {
         None
     }

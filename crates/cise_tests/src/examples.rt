@@ -1,4 +1,4 @@
-// Specifications in the layout of the language.
+// Specifications in the layout of the language, and a report.
 
 /// A flag.
 pub const FLAG: &[u8] = b"cise 1
@@ -212,4 +212,23 @@ invariant i4 forall x : A , y : A , z : A . ( r ( x ) implies r ( x ) )
 operation f ( p : A , q : A , s : A , t : A , u : A , v : A )
   insert r ( p )
 end
+";
+
+/// A report on a flag that may be raised, with logs that were written by hand.
+pub const RAISED_REPORT: &[u8] = b"cise report 1
+budget 10000
+obligations 3
+init alive
+proved 0
+safety raise alive
+proved 1
+r 2 1 1
+commute raise raise up
+proved 4
+r 7 3 2
+r 6 4 1
+r 1 10 5
+r 12 11 6
+summary proved 3 refuted 0 undecided 0
+accepted
 ";

@@ -4,14 +4,16 @@
 // Each test is a table. It stands in a crate of its own so that no library is proved again with tests.
 //
 // `ports` has the sources and sinks. `printing` and `running` run the program on words and bytes and say what it prints; `check`,
-// `verify`, `sample`, `replay` and `spell` have the commands, with the texts of `examples`; `words` has the words, `refusals` what is no
-// specification, `limits` the limits of the language, and `statuses` what stops a run.
+// `verify`, `upgrade`, `sample`, `replay`, `simulate`, `suggestions` and `spell` have the commands, with the texts of `examples`; `words` has the
+// words, `refusals` what is no specification, `limits` the limits of the language, and `statuses` and `failing` what stops a run.
 #![tactic(auto)]
 
 #[cfg(test)]
 mod check;
 #[cfg(test)]
 mod examples;
+#[cfg(test)]
+mod failing;
 #[cfg(test)]
 mod limits;
 #[cfg(test)]
@@ -27,9 +29,15 @@ mod running;
 #[cfg(test)]
 mod sample;
 #[cfg(test)]
+mod simulate;
+#[cfg(test)]
 mod spell;
 #[cfg(test)]
 mod statuses;
+#[cfg(test)]
+mod suggestions;
+#[cfg(test)]
+mod upgrade;
 #[cfg(test)]
 mod verify;
 #[cfg(test)]

@@ -1,7 +1,6 @@
-// Replays of recorded schedules: what they print, and what stops them.
+// Replays of recorded schedules: what they print, and what is no schedule.
 use crate::examples::{DEPOSITS, FLAG, PURSES, ROOMS, SHOP, TOURNAMENTS, WITHDRAWALS};
-use byte_ports::{EndlessSource, MemSink, MemSource, Source};
-use cise_run::run::run;
+use crate::running::ends_with;
 use std::alloc::{AllocError, Global};
 
 /// A schedule of a specification, with the status and the text that its replay comes to.
@@ -21,10 +20,10 @@ invariant alive up
 ";
 
 /// One replica that does nothing.
-const NOTHING: &[u8] = b"{\"sizes\":{},\"constants\":{},\"replicas\":1,\"steps\":[]}";
+pub const NOTHING: &[u8] = b"{\"sizes\":{},\"constants\":{},\"replicas\":1,\"steps\":[]}";
 
 /// Two withdrawals that don't know of one another.
-const TWO_WITHDRAWALS: &[u8] =
+pub const TWO_WITHDRAWALS: &[u8] =
     b"{\"sizes\":{\"Account\":1},\"constants\":{},\"replicas\":2,\"steps\":[
 {\"replica\":0,\"call\":\"deposit\",\"args\":[0,100]},{\"replica\":1,\"take\":0},
 {\"replica\":0,\"call\":\"withdraw\",\"args\":[0,60]},
@@ -225,114 +224,15 @@ count sold 5
 ];
 
 /// The words of a replay.
-fn words_of(alloc: Global) -> Result<Vec<String>, AllocError> {
-    let mut words = Vec::new(alloc);
-    words.push(String::from_str(alloc, "replay")?)?;
-    words.push(String::from_str(alloc, "s.cise")?)?;
-    words.push(String::from_str(alloc, "s.json")?)?;
-    Ok(words)
-}
-
-/// How a replay ended: with this status; and how many bytes of the wanted text were written, if they are its first ones.
-#[derive(Clone, Copy)]
-struct Ended {
-    status: u8,
-    written: Option<usize>,
-}
-
-/// How a replay ends for what two sources give, at a sink that fails at these calls.
-fn end_of<S: Source, E: Source>(
-    alloc: Global,
-    spec: &mut S,
-    extra: &mut E,
-    write_fails: &[u32],
-    text: &[u8],
-) -> Result<Ended, AllocError> {
-    let words = words_of(alloc)?;
-    let mut out = MemSink::new(alloc, 4000, 8, Vec::from_slice(alloc, write_fails)?)?;
-    let status = run(alloc, &words, spec, extra, &mut out);
-    drop(words);
-    let held = out.held();
-    let written = if text.starts_with(held) {
-        Some(held.len())
-    } else {
-        None
-    };
-    drop(out);
-    Ok(Ended { status, written })
-}
-
-/// What may fail: the source of the specification, that of the schedule, the sink.
-#[derive(Clone, Copy)]
-enum Port {
-    Spec,
-    Schedule,
-    Out,
-}
-
-/// A call of a port, by its number.
-#[derive(Clone, Copy)]
-struct Call {
-    port: Port,
-    number: u32,
-}
-
-/// How a row ends where a call fails.
-fn row_end(alloc: Global, row: &Row, failing: Option<Call>) -> Result<Ended, AllocError> {
-    let mut spec_fails = Vec::new(alloc);
-    let mut extra_fails = Vec::new(alloc);
-    let mut write_fails = Vec::new(alloc);
-    if let Some(call) = failing {
-        match call.port {
-            Port::Spec => spec_fails.push(call.number)?,
-            Port::Schedule => extra_fails.push(call.number)?,
-            Port::Out => write_fails.push(call.number)?,
-        }
-    }
-    let mut spec = MemSource::new(Vec::from_slice(alloc, row.spec)?, 100, spec_fails);
-    let mut extra = MemSource::new(Vec::from_slice(alloc, row.schedule)?, 100, extra_fails);
-    let end = end_of(alloc, &mut spec, &mut extra, &write_fails, row.text);
-    drop(spec);
-    drop(extra);
-    end
-}
+pub const REPLAY: &[&str] = &["replay", "s.cise", "s.json"];
 
 #[test]
 fn prints_what_the_schedule_comes_to(rt: HostRuntime) {
     for row in &ROWS {
-        let end = row_end(rt.alloc(), row, None).expect(&rt, "memory");
-        assert!(rt; end.status == row.status && end.written == Some(row.text.len()));
+        let (spec, schedule) = (row.spec, row.schedule);
+        let same = ends_with(rt.alloc(), REPLAY, spec, schedule, row.status, row.text);
+        assert!(rt; same.expect(&rt, "memory"));
     }
-}
-
-/// How many runs of a row a failing call stops, where the calls of one port fail one after the other up to the first run that ends as
-/// the row does. A failing source leaves nothing written, a failing sink a front of the text.
-fn stopped_runs(alloc: Global, row: &Row, port: Port) -> Result<Option<u32>, AllocError> {
-    for number in 0..100 {
-        let end = row_end(alloc, row, Some(Call { port, number }))?;
-        if end.status == row.status {
-            return Ok(Some(number));
-        }
-        let as_wanted = match port {
-            Port::Out => end.status == 7 && end.written.is_some(),
-            _ => end.status == 6 && end.written == Some(0),
-        };
-        if !as_wanted {
-            return Ok(None);
-        }
-    }
-    Ok(None)
-}
-
-#[test]
-fn names_the_port_that_failed(rt: HostRuntime) {
-    let row = &ROWS[0];
-    let spec = stopped_runs(rt.alloc(), row, Port::Spec).expect(&rt, "memory");
-    assert!(rt; spec == Some(5));
-    let schedule = stopped_runs(rt.alloc(), row, Port::Schedule).expect(&rt, "memory");
-    assert!(rt; schedule == Some(4));
-    let out = stopped_runs(rt.alloc(), row, Port::Out).expect(&rt, "memory");
-    assert!(rt; out == Some(29));
 }
 
 /// What is refused of a schedule, and the path.
@@ -484,25 +384,13 @@ const REFUSALS: [Refused; 34] = [
     },
 ];
 
-/// Whether what a source gives is refused so, as a schedule of a specification of one sort with a constant.
-fn is_refused<E: Source>(alloc: Global, extra: &mut E, line: &[u8]) -> Result<bool, AllocError> {
+/// Whether some bytes are refused so, as a schedule of a specification of one sort with a constant.
+fn bytes_refused(alloc: Global, bytes: &[u8], line: &[u8]) -> Result<bool, AllocError> {
     let mut text = Vec::from_slice(alloc, b"refused schedule ")?;
     text.extend_from_slice(line)?;
     text.push(b'\n')?;
-    let mut spec = MemSource::new(Vec::from_slice(alloc, HOME)?, 100, Vec::new(alloc));
-    let end = end_of(alloc, &mut spec, extra, &[], &text);
-    drop(spec);
-    let length = text.len();
+    let refused = ends_with(alloc, REPLAY, HOME, bytes, 4, &text);
     drop(text);
-    let end = end?;
-    Ok(end.status == 4 && end.written == Some(length))
-}
-
-/// Whether some bytes are refused so.
-fn bytes_refused(alloc: Global, bytes: &[u8], line: &[u8]) -> Result<bool, AllocError> {
-    let mut extra = MemSource::new(Vec::from_slice(alloc, bytes)?, 1000, Vec::new(alloc));
-    let refused = is_refused(alloc, &mut extra, line);
-    drop(extra);
     refused
 }
 
@@ -551,6 +439,4 @@ fn refuses_what_is_too_much(rt: HostRuntime) {
     let deep = brackets(alloc, 200).expect(&rt, "memory");
     assert!(rt; bytes_refused(alloc, &deep, b"json").expect(&rt, "memory"));
     drop(deep);
-    let endless = is_refused(alloc, &mut EndlessSource::new(), b"long").expect(&rt, "memory");
-    assert!(rt; endless);
 }

@@ -1,5 +1,5 @@
 // Runs of the program on words and on the bytes of two inputs.
-use byte_ports::{MemSink, MemSource};
+use byte_ports::{MemSink, MemSource, Source};
 use cise_run::run::run;
 use std::alloc::{AllocError, Global};
 
@@ -25,6 +25,19 @@ pub struct Call {
     pub number: u32,
 }
 
+/// The most bytes that the sources give, and the sink takes, at a call.
+#[derive(Clone, Copy)]
+pub struct Pieces {
+    pub given: usize,
+    pub taken: usize,
+}
+
+/// Those of a run of which nothing else is said.
+const PIECES: Pieces = Pieces {
+    given: 100,
+    taken: 100,
+};
+
 /// The most bytes of a text that a run writes here.
 const ROOM: usize = 400_000;
 
@@ -37,14 +50,17 @@ pub fn words_from(alloc: Global, words: &[&str]) -> Result<Vec<String>, AllocErr
     Ok(copies)
 }
 
-/// Runs the program on words and bytes, where a call fails. Sources give a hundred bytes at a call, and the sink takes as many.
+/// Runs the program on words and bytes in such pieces, where a call fails.
 pub fn run_failing(
     alloc: Global,
     words: &[&str],
     spec: &[u8],
     extra: &[u8],
+    pieces: Pieces,
     failing: Option<Call>,
 ) -> Result<Ended, AllocError> {
+    let given = pieces.given.max(1);
+    let taken = pieces.taken.max(1);
     let mut spec_fails = Vec::new(alloc);
     let mut extra_fails = Vec::new(alloc);
     let mut write_fails = Vec::new(alloc);
@@ -55,9 +71,9 @@ pub fn run_failing(
             Port::Out => write_fails.push(call.number)?,
         }
     }
-    let mut out = MemSink::new(alloc, ROOM, 100, write_fails)?;
-    let mut spec = MemSource::new(Vec::from_slice(alloc, spec)?, 100, spec_fails);
-    let mut extra = MemSource::new(Vec::from_slice(alloc, extra)?, 100, extra_fails);
+    let mut out = MemSink::new(alloc, ROOM, taken, write_fails)?;
+    let mut spec = MemSource::new(Vec::from_slice(alloc, spec)?, given, spec_fails);
+    let mut extra = MemSource::new(Vec::from_slice(alloc, extra)?, given, extra_fails);
     let words = words_from(alloc, words)?;
     let status = run(alloc, &words, &mut spec, &mut extra, &mut out);
     drop(words);
@@ -78,7 +94,7 @@ pub fn run_on(
     spec: &[u8],
     extra: &[u8],
 ) -> Result<Ended, AllocError> {
-    run_failing(alloc, words, spec, extra, None)
+    run_failing(alloc, words, spec, extra, PIECES, None)
 }
 
 /// Whether a run ends with this status and this text.
@@ -93,6 +109,24 @@ pub fn ends_with(
     let ended = run_on(alloc, words, spec, extra)?;
     let same = ended.status == status && ended.text.as_slice() == text;
     drop(ended);
+    Ok(same)
+}
+
+/// Whether a run ends with this status and this text for what two sources give.
+pub fn ends_from<S: Source, E: Source>(
+    alloc: Global,
+    words: &[&str],
+    spec: &mut S,
+    extra: &mut E,
+    status: u8,
+    text: &[u8],
+) -> Result<bool, AllocError> {
+    let words = words_from(alloc, words)?;
+    let mut out = MemSink::new(alloc, 4000, 100, Vec::new(alloc))?;
+    let ended = run(alloc, &words, spec, extra, &mut out);
+    drop(words);
+    let same = ended == status && out.held() == text;
+    drop(out);
     Ok(same)
 }
 
@@ -140,14 +174,15 @@ pub fn stopped_runs(
     words: &[&str],
     spec: &[u8],
     extra: &[u8],
+    pieces: Pieces,
     port: Port,
 ) -> Result<Option<u32>, AllocError> {
     let whole = run_on(alloc, words, spec, extra)?;
     let mut stopped = None;
     for number in 0..100 {
         let call = Call { port, number };
-        let ended = run_failing(alloc, words, spec, extra, Some(call))?;
-        if ended.status == whole.status {
+        let ended = run_failing(alloc, words, spec, extra, pieces, Some(call))?;
+        if ended.status == whole.status && ended.text.as_slice() == whole.text.as_slice() {
             stopped = Some(number);
             break;
         }

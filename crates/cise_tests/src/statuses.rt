@@ -1,7 +1,5 @@
-// What stops a run: words that aren't accepted, a source or a sink that fails, and a source without end.
-use crate::printing::{prints_despite, prints_from};
-use crate::running::{Port, stopped_runs};
-use byte_ports::EndlessSource;
+// What stops a run: words that aren't accepted, and a source or a sink that fails.
+use crate::printing::prints_despite;
 
 const FLAG: &[u8] = b"cise 1 relation up initially up true invariant alive up";
 
@@ -67,24 +65,5 @@ fn names_what_stopped_it(rt: HostRuntime) {
         )
         .expect(&rt, "memory");
         assert!(rt; same);
-    }
-}
-
-#[test]
-fn reads_no_more_than_the_limit(rt: HostRuntime) {
-    for command in ["check", "spell"] {
-        let mut spec = EndlessSource::new();
-        let text = b"refused specification long\n";
-        let same = prints_from(rt.alloc(), command, &mut spec, &[], 3, text).expect(&rt, "memory");
-        assert!(rt; same);
-    }
-}
-
-#[test]
-fn names_the_call_that_failed(rt: HostRuntime) {
-    let alloc = rt.alloc();
-    for (port, runs) in [(Port::Spec, 2), (Port::Extra, 0), (Port::Out, 3)] {
-        let stopped = stopped_runs(alloc, &["check", "s.cise"], FLAG, b"", port);
-        assert!(rt; stopped.expect(&rt, "memory") == Some(runs));
     }
 }

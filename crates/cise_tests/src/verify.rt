@@ -1,6 +1,6 @@
 // Reports that are refused: the line, and what is wrong with it.
-use crate::examples::{FLAG, NO_FLAG, PURSES, RAISED};
-use crate::running::{Ended, Port, ends_with, replaced, run_on, stopped_runs};
+use crate::examples::{FLAG, NO_FLAG, RAISED, RAISED_REPORT};
+use crate::running::{ends_with, replaced, run_on};
 use std::alloc::{AllocError, Global};
 
 const VERIFY: &[&str] = &["verify", "s.cise", "s.report"];
@@ -21,25 +21,6 @@ const FLAG_REPORT: &[u8] =
 /// The report of one that isn't.
 const NO_FLAG_REPORT: &[u8] =
     b"cise report 1\nbudget 10000\nobligations 1\ninit alive\nrefuted\nat\nsummary proved 0 refuted 1 undecided 0\nrejected\n";
-
-/// A report on a flag that may be raised, with logs that were written by hand.
-const RAISED_REPORT: &[u8] = b"cise report 1
-budget 10000
-obligations 3
-init alive
-proved 0
-safety raise alive
-proved 1
-r 2 1 1
-commute raise raise up
-proved 4
-r 7 3 2
-r 6 4 1
-r 1 10 5
-r 12 11 6
-summary proved 3 refuted 0 undecided 0
-accepted
-";
 
 const ROWS: [Row; 6] = [
     Row {
@@ -161,10 +142,12 @@ fn names_the_line_and_the_rule(rt: HostRuntime) {
 }
 
 #[test]
-fn names_the_source_that_failed(rt: HostRuntime) {
+fn refuses_a_report_that_is_cut(rt: HostRuntime) {
     let alloc = rt.alloc();
-    for (port, runs) in [(Port::Spec, 2), (Port::Extra, 4), (Port::Out, 1)] {
-        let stopped = stopped_runs(alloc, VERIFY, RAISED, RAISED_REPORT, port);
-        assert!(rt; stopped.expect(&rt, "memory") == Some(runs));
+    for count in 0..FLAG_REPORT.len() {
+        let ended = run_on(alloc, VERIFY, FLAG, &FLAG_REPORT[..count]).expect(&rt, "memory");
+        let refused = ended.status == 4 && ended.text.starts_with(b"refused report line ");
+        drop(ended);
+        assert!(rt; refused);
     }
 }

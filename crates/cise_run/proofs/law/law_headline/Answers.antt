@@ -1,5 +1,6 @@
 use Rattle.cise_run.proofs.Laws.{TypesWell, OfChecks, OfReports}
 use Rattle.cise_run.proofs.Headline.{IsProved-zero, Refutes-answer}
+use Rattle.cise_run.proofs.Suggestions.{suggested_rightly}
 use Rattle.cise_run.proofs.law.law_headline.Goals as goal
 
 pub returns-clause-proved : goal.returns-clause-proved
@@ -17,3 +18,7 @@ returns-clause-refuted c = λ words spec extra status text before after outcome 
     (record { safe = c.law_safe.ensures.safe; breaks = c.law_good_verdicts.ensures.refuted; is_read = c.law_checked_is_read.ensures })
     (record { safe = c.law_accepted_is_safe.ensures.safe; breaks = c.law_refuted_breaks.ensures })
     outcome answer written
+
+pub returns-clause-suggested : goal.returns-clause-suggested
+returns-clause-suggested c = λ words spec extra status text before after suggestion outcome answer written.
+    suggested_rightly words spec extra status text before after (record { right = c.law_least_pairs.ensures.right; complete = c.law_least_pairs.ensures.complete }) suggestion outcome answer written

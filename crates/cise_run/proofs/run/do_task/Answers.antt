@@ -1,5 +1,5 @@
 use Rattle.spec_reader.specs.Form.{tree_of}
-use Rattle.cise_run.specs.declared.words.Task.TheVariants.{Check, Upgrade, Spell}
+use Rattle.cise_run.specs.declared.words.Task.TheVariants.{Check, Upgrade, Suggest, Spell}
 use Rattle.cise_run.proofs.Endings.{Ends-task, some_told}
 use Rattle.cise_run.proofs.run.do_task.Goals as goal
 
@@ -17,3 +17,8 @@ pub returns-in-Upgrade-clause-ends : goal.returns-in-Upgrade-clause-ends
 returns-in-Upgrade-clause-ends g c =
     let e = c.upgrade.ensures.ends in
     (e.0, e.1, Ends-task c.args.task Upgrade (tree_of c.args.tree.now) c.args.spec.now e.0 c.upgrade.result _ _ _ _ c.in-Upgrade.is e.2)
+
+pub returns-in-Suggest-clause-ends : goal.returns-in-Suggest-clause-ends
+returns-in-Suggest-clause-ends g c =
+    let given = some_told (g.E.Source.left c.args.extra.now) in
+    (given.0, given.1, Ends-task c.args.task Suggest (tree_of c.args.tree.now) c.args.spec.now given.0 c.suggest_pairs.result _ _ _ _ c.in-Suggest.is c.suggest_pairs.ensures.ends)

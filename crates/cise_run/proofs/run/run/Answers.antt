@@ -4,7 +4,7 @@ use Rattle.cise_run.specs.Words.{job_of}
 use Rattle.cise_run.specs.Answer.{IsAnswerTo}
 use Rattle.cise_run.proofs.Endings.{Ends-asked, Ends-sample, IsInputFault-asked}
 use Rattle.cise_run.proofs.Complete.{IsComplete-run}
-use Rattle.cise_run.proofs.Headline.{replayed_safely}
+use Rattle.cise_run.proofs.Headline.{replayed_safely, simulated_safely}
 use Rattle.cise_run.proofs.Outcomes.{is_outcome-low}
 use Rattle.cise_run.proofs.run.run.Goals as goal
 
@@ -49,6 +49,26 @@ returns-in-Some-OfSpec-clause-upgraded g c = λ outcome upgrade.
     let answer = returns-in-Some-OfSpec-clause-answered g c (is_outcome-low c.answer_task.result outcome) in
     c.law_upgrades_are_verified.ensures (map string_bytes c.args.words.now) (g.S.Source.left c.args.spec.now) (g.E.Source.left c.args.extra.now) c.answer_task.result answer.0
     (g.K.Sink.held c.args.out.now) (g.K.Sink.held c.answer_task.new.out) outcome upgrade answer.1 answer.2
+
+pub returns-in-Some-OfSpec-clause-simulated : goal.returns-in-Some-OfSpec-clause-simulated
+returns-in-Some-OfSpec-clause-simulated g c = λ simulation.
+    simulated_safely (job_of (map string_bytes c.args.words.now)) (g.S.Source.left c.args.spec.now) (g.E.Source.left c.args.extra.now) c.answer_task.result simulation
+    (λ below. let a = returns-in-Some-OfSpec-clause-answered g c below in (a.0, a.1))
+
+pub returns-in-Some-OfSpec-clause-suggested : goal.returns-in-Some-OfSpec-clause-suggested
+returns-in-Some-OfSpec-clause-suggested g c = λ suggestion outcome.
+    let answer = returns-in-Some-OfSpec-clause-answered g c (is_outcome-low c.answer_task.result outcome) in
+    c.law_headline.ensures.suggested (map string_bytes c.args.words.now) (g.S.Source.left c.args.spec.now) (g.E.Source.left c.args.extra.now) c.answer_task.result answer.0
+    (g.K.Sink.held c.args.out.now) (g.K.Sink.held c.answer_task.new.out) suggestion outcome answer.1 answer.2
+
+pub returns-in-Some-OfSpec-clause-least : goal.returns-in-Some-OfSpec-clause-least
+returns-in-Some-OfSpec-clause-least g c = λ reads three.
+    let words = map string_bytes c.args.words.now in
+    let told = g.S.Source.left c.args.spec.now in
+    let extra = g.E.Source.left c.args.extra.now in
+    let answer = returns-in-Some-OfSpec-clause-answered g c (omega (arith, three)) in
+    c.law_least_fault_is_answered.ensures words told extra answer.0 (g.K.Sink.held c.args.out.now) (g.K.Sink.held c.answer_task.new.out) reads
+    (subst (λ n. IsAnswerTo (job_of words) told extra n answer.0) three answer.1) answer.2
 
 pub returns-in-Some-OfSpec-clause-complete : goal.returns-in-Some-OfSpec-clause-complete
 returns-in-Some-OfSpec-clause-complete g c = λ no_input no_output.
