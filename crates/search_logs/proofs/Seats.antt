@@ -10,8 +10,8 @@ use Rattle.proof_lines.specs.Clauses.{same_lit, same_bool, flip, lit_of}
 use Rattle.std.proofs.lemmas.Bool.{eqb-true}
 use Rattle.proof_lines.proofs.Sets.{same_nat-refl, same_lit-is, same_lit-refl}
 use Rattle.search_logs.specs.declared.trail.Entry.{Entry}
-use Rattle.search_logs.specs.Trails.{in_trail, negated, named, open_in, after, before_last}
-use Rattle.search_logs.specs.Places.{place_of, lies_before, lies_from, ArePlaces}
+use Rattle.search_logs.specs.Trails.{in_trail, negated, named, open_in, after, before_last, has_decision}
+use Rattle.search_logs.specs.Places.{place_of, lies_before, lies_from, ArePlaces, with_decision, decision_places, some_place, top_place}
 
 -- a literal has a place exactly where it is in the trail
 pub place-in : (t : List Entry) (l : Lit) → in_trail t l ≡ is_some (place_of t l)
@@ -186,6 +186,24 @@ open_by_places t n c h = is_count_by (open_in (before_last t)) (λ l. not (lies_
     swap true false n h = absurd cc
     swap false true n h = absurd cc
     swap false false n h = refl
+
+-- a trail has a decision where there is a place of one
+pub decision-some : (t : List Entry) → has_decision t ≡ some_place (decision_places t)
+decision-some [] = refl
+decision-some (e ∷ t) = by_case e.reason (decision-some t)
+  where
+    by_case : (r : Option ℕ) → has_decision t ≡ some_place (decision_places t) → (is_none r || has_decision t) ≡ some_place (with_decision r (length t) (decision_places t))
+    by_case None h = refl
+    by_case (Some r) h = h
+
+-- what stands before the last decision ends at its place
+pub before_last-place : (t : List Entry) → length (before_last t) ≡ top_place (decision_places t)
+before_last-place [] = refl
+before_last-place (e ∷ t) = by_case e.reason (before_last-place t)
+  where
+    by_case : (r : Option ℕ) → length (before_last t) ≡ top_place (decision_places t) → length (after r t (before_last t)) ≡ top_place (with_decision r (length t) (decision_places t))
+    by_case None h = refl
+    by_case (Some r) h = h
 
 -- going back from a forced entry leaves what stands before the last decision
 pub cut-more : (e : Entry) (t u s : List Entry) → u ≡ e ∷ t → is_none e.reason ≡ false → before_last u ≡ s → before_last t ≡ s

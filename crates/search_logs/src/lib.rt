@@ -12,6 +12,7 @@
 // follows by forced literals alone).
 #![tactic(auto)]
 
+mod decisions;
 mod places;
 pub mod trail;
 

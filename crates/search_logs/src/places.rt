@@ -46,8 +46,8 @@ fn widen(places: &mut Vec<Option<usize>>, atom: u32) -> Result<(), AllocError>
     Ok(())
 }
 
-/// Adds an entry whose literal is new. A refused one leaves entries and places as they were.
-pub(crate) fn enter(
+// Adds an entry whose literal is new. A refused one leaves entries and places as they were.
+fn enter_new(
     entries: &mut Vec<Entry>,
     places: &mut Vec<Option<usize>>,
     entry: Entry,
@@ -62,6 +62,23 @@ pub(crate) fn enter(
     entries.push(entry)?;
     places[entry.lit.atom as usize] = Some(place);
     Ok(())
+}
+
+/// Adds an entry. A refused one leaves entries and places as they were.
+pub(crate) fn enter(
+    entries: &mut Vec<Entry>,
+    places: &mut Vec<Option<usize>>,
+    entry: Entry,
+) -> Result<(), AllocError>
+    requires { ArePlaces places.old.items entry.lit.positive (reverse entries.old.items) }
+    ensures ok { OnOk result ((entries.new.items ≡ entries.old.items ++ entry ∷ []) × ArePlaces places.new.items entry.lit.positive (entry ∷ reverse entries.old.items)) }
+    ensures err { OnErr result ((entries.new.items ≡ entries.old.items) × ArePlaces places.new.items entry.lit.positive (reverse entries.old.items)) }
+{
+    if place_at(places.as_slice(), entry.lit.atom).is_some() {
+        entries.push(entry)?;
+        return Ok(());
+    }
+    enter_new(entries, places, entry)
 }
 
 /// Forgets the place of the literal of an entry that was the newest, where it has no older one.

@@ -1,9 +1,11 @@
 // Trails: the literals that a search takes to be true, in the order in which it came to them.
-ghost use Rattle.std.specs.Prelude.{◌≡◌, ◌<◌, ◌≤◌, ◌+◌, true, OnOk, OnErr, IfSome, IfNone, MatchOption, false, [], ◌∷◌, length, reverse, take};
+ghost use Rattle.std.specs.Prelude.{◌≡◌, ◌<◌, ◌≤◌, ◌+◌, true, OnOk, OnErr, IfSome, IfNone, MatchOption, false, [], ◌∷◌, ◌++◌, reverse};
 ghost use Rattle.proof_lines.specs.Clauses.{has, flip};
 ghost use Rattle.search_logs.specs.Trails.{in_trail, negated, named, is_false, is_unit, open_in, before_last, has_decision, is_done, lone};
-ghost use Rattle.search_logs.specs.Places.{place_of};
+ghost use Rattle.search_logs.specs.Places.{place_of, ArePlaces};
 
+use crate::decisions;
+use crate::decisions::{forget, note, top};
 use crate::places::{enter, leave, lies_before, place_at};
 use proof_lines::Lit;
 use proof_lines::clause::holds;
@@ -17,13 +19,14 @@ pub struct Entry {
     pub reason: Option<u32>,
 }
 
-/// The literals that a search takes to be true. Contracts see the newest first. A question about one literal takes the same time
-/// however many there are.
+/// The literals that a search takes to be true. Contracts see the newest first. A question about one literal, or
+/// about the last decision, takes the same time however many there are.
 #[derive(Drop)]
 pub struct Trail {
     entries: Vec<Entry>,
     positive: Vec<Option<usize>>,
     negative: Vec<Option<usize>>,
+    decisions: Vec<usize>,
 }
 
 impl Model for Trail {
@@ -39,28 +42,28 @@ impl Model for Trail {
 
     ghost view = { λ a. reverse a.entries.items };
 
-    ghost invariant = { λ a. IsIndexed a.positive.items a.negative.items (reverse a.entries.items) };
+    ghost invariant = { λ a. IsIndexed a.positive.items a.negative.items a.decisions.items (reverse a.entries.items) };
 }
 
-fn decides(entries: &[Entry]) -> bool
-    ensures { result ≡ has_decision (reverse entries.now) }
+// Adds an entry to the entries, and its literal to the places of its sign. A refused one leaves them as they were.
+fn put(
+    entries: &mut Vec<Entry>,
+    positive: &mut Vec<Option<usize>>,
+    negative: &mut Vec<Option<usize>>,
+    entry: Entry,
+) -> Result<(), AllocError>
+    requires positive { ArePlaces positive.old.items true (reverse entries.old.items) }
+    requires negative { ArePlaces negative.old.items false (reverse entries.old.items) }
+    ensures ok { OnOk result (entries.new.items ≡ entries.old.items ++ entry ∷ []) }
+    ensures err { OnErr result (entries.new.items ≡ entries.old.items) }
+    ensures positive { ArePlaces positive.new.items true (reverse entries.new.items) }
+    ensures negative { ArePlaces negative.new.items false (reverse entries.new.items) }
 {
-    entries.iter().rev().any(|entry| entry.reason.is_none())
-}
-
-// How many entries stand before the last decision, or 0 where there is none.
-fn kept(entries: &[Entry]) -> usize
-    ensures within { result ≤ length entries.now }
-    ensures before { before_last (reverse entries.now) ≡ reverse (take result entries.now) }
-{
-    let mut i = entries.len();
-    while i > 0 {
-        i -= 1;
-        if entries[i].reason.is_none() {
-            return i;
-        }
+    if entry.lit.positive {
+        enter(entries, positive, entry)
+    } else {
+        enter(entries, negative, entry)
     }
-    0
 }
 
 impl Trail {
@@ -72,6 +75,7 @@ impl Trail {
             entries: Vec::new(alloc),
             positive: Vec::new(alloc),
             negative: Vec::new(alloc),
+            decisions: Vec::new(alloc),
         }
     }
 
@@ -80,15 +84,17 @@ impl Trail {
         ensures ok { OnOk result (self.new ≡ entry ∷ self.old) }
         ensures err { OnErr result (self.new ≡ self.old) }
     {
-        if self.holds(entry.lit) {
-            self.entries.push(entry)?;
-            return Ok(());
-        }
-        if entry.lit.positive {
-            enter(&mut self.entries, &mut self.positive, entry)
-        } else {
-            enter(&mut self.entries, &mut self.negative, entry)
-        }
+        note(&mut self.decisions, self.entries.len(), entry)?;
+        let Ok(()) = put(
+            &mut self.entries,
+            &mut self.positive,
+            &mut self.negative,
+            entry,
+        ) else {
+            forget(&mut self.decisions, entry);
+            return Err(AllocError);
+        };
+        Ok(())
     }
 
     /// Takes the newest entry away.
@@ -96,6 +102,7 @@ impl Trail {
         ensures { MatchOption result ((self.old ≡ []) × (self.new ≡ [])) (λ e. self.old ≡ e ∷ self.new) }
     {
         let entry = self.entries.pop()?;
+        forget(&mut self.decisions, entry);
         if entry.lit.positive {
             leave(&mut self.positive, self.entries.as_slice(), entry);
         } else {
@@ -157,14 +164,14 @@ impl Trail {
     pub fn decides(&self) -> bool
         ensures { result ≡ has_decision self.now }
     {
-        decides(self.entries.as_slice())
+        decisions::is_some(self.decisions.as_slice())
     }
 
     /// How many literals of a clause don't have their negations before the last decision.
     pub fn count_open_before(&self, lits: &[Lit]) -> usize
         ensures { result ≡ open_in (before_last self.now) lits.now }
     {
-        let end = kept(self.entries.as_slice());
+        let end = top(self.decisions.as_slice());
         lits.iter()
             .filter(|lit| !lies_before(end, self.place(lit.opposite())))
             .count()

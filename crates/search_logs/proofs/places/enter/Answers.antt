@@ -1,9 +1,9 @@
-use Rattle.std.proofs.Common.{rules, ◌≡◌, ◌∙◌, length, reverse, arith}
-use Rattle.std.proofs.lemmas.List.{length-reverse}
-use Rattle.search_logs.proofs.Seats.{places-put}
+use Rattle.std.proofs.Common.{◌≡◌, false, reverse, slice_index_or, None, sym, ◌∙◌, ap, is_some}
+use Rattle.search_logs.proofs.Seats.{place-in}
 use Rattle.search_logs.proofs.places.enter.Goals as goal
 
-pub returns-clause-ok : goal.returns-clause-ok
-returns-clause-ok c =
-    let l : c.len-place.result ≡ length (reverse c.args.entries.now.items) = (let r = length-reverse c.args.entries.now.items in let m : c.len-place.result ≡ length c.args.entries.now.items = search rules in omega (arith, r, m)) in
-    (c.in_ok-push.ensures.items, places-put c.args.entry (reverse c.args.entries.now.items) c.widen.new.places.items c.len-place.result l c.in_ok-widen.ensures.wide c.requires.new (λ a. c.in_ok-widen.ensures.kept a ∙ c.requires.places a))
+pub enter_new-requires-clause-new : goal.enter_new-requires-clause-new
+enter_new-requires-clause-new c =
+    let t = reverse c.args.entries.now.items in
+    let p : is_some (slice_index_or c.args.places.now.items c.args.entry.lit.atom None) ≡ false = (let v = c.as_slice.ensures.value in cc) in
+    place-in t c.args.entry.lit ∙ ap is_some (sym (c.requires c.args.entry.lit.atom)) ∙ p
