@@ -81,7 +81,7 @@ any-put p (x ∷ lists) (suc at) (suc k) e lt = any-put p lists at k e (omega ar
 pub index-put : (m : ℕ) (slots : List (Option (List Lit))) (old new : List (List Entry)) (earlier : List (List Lit)) (number : ℕ) (d : List Lit)
     → IsIndex m slots old earlier → slice_index_or slots number None ≡ Some d → PutsOne m d number old new → IsIndex m slots new (earlier ++ d ∷ [])
 index-put m slots old new earlier number d h is p c =
-    let e : Entry = record { number = number; other = p.other } in
+    let e : Entry = record { number = number; second = p.second; third = p.third; fourth = p.fourth } in
     let q : Entry → Bool = entry_within m slots c in
     let one : finds m slots new c ≡ list_any (λ k. list_any q (slice_index_or old k []) || ((k == p.at) && q e)) (spots m c) =
     ap (λ (z : List (List Entry)). finds m slots z c) p.lists ∙ (λ i. list_any (λ k. any-put q old p.at k e p.within i) (spots m c)) in
@@ -93,15 +93,17 @@ index-put m slots old new earlier number d h is p c =
     within : (o : Option (List Lit)) → o ≡ Some d → slot_within c o ≡ sub d c
     within o e = ap (slot_within c) e
 
-    last : (b : Bool) → sub d c ≡ b → (stands_in (spots m c) p.at && (stands_in (spots m c) p.other && slot_within c (slice_index_or slots number None))) ≡ (b || false)
+    last : (b : Bool) → sub d c ≡ b → (stands_in (spots m c) p.at && ((stands_in (spots m c) p.second && (stands_in (spots m c) p.third && stands_in (spots m c) p.fourth)) && slot_within c (slice_index_or slots number None))) ≡ (b || false)
     last true e =
         let s = sub-all_spots m d c p.at e p.at_spot in
-        let t = sub-all_spots m d c p.other e p.other_spot in
+        let t = sub-all_spots m d c p.second e p.second_spot in
+        let u = sub-all_spots m d c p.third e p.third_spot in
+        let v = sub-all_spots m d c p.fourth e p.fourth_spot in
         let w = within (slice_index_or slots number None) is ∙ e in
-        all_true _ _ _ s t w
+        all_true _ _ _ _ _ s t u v w
       where
-        all_true : (x y z : Bool) → x ≡ true → y ≡ true → z ≡ true → (x && (y && z)) ≡ true
-        all_true x y z s t w = grind arith
+        all_true : (a x y z b : Bool) → a ≡ true → x ≡ true → y ≡ true → z ≡ true → b ≡ true → (a && ((x && (y && z)) && b)) ≡ true
+        all_true a x y z b s t u v w = grind arith
     last false e = let w = within (slice_index_or slots number None) is ∙ e in one_false _ _ _ w
       where
         one_false : (x y z : Bool) → z ≡ false → (x && (y && z)) ≡ false
@@ -143,7 +145,7 @@ marks-set m c marks k some sized clear = marks-at m c marks true k some sized �
 pub finds-marked : (m : ℕ) (marks : List Bool) (slots : List (Option (List Lit))) (lists : List (List Entry)) (c : List Lit) → 0 < m → length marks ≡ m → HasNoMark marks
     → finds_marked m (with_marks m marks c true) slots lists c ≡ finds m slots lists c
 finds-marked m marks slots lists c some sized clear =
-    λ i. list_any (λ k. list_any (λ (e : Entry). (same e.other i) && slot_within c (slice_index_or slots e.number None)) (slice_index_or lists k [])) (spots m c)
+    λ i. list_any (λ k. list_any (λ (e : Entry). (same e.second i && (same e.third i && same e.fourth i)) && slot_within c (slice_index_or slots e.number None)) (slice_index_or lists k [])) (spots m c)
   where
     same : (k : ℕ) → marked (with_marks m marks c true) k ≡ stands_in (spots m c) k
     same k = ap (λ b. (0 == k) || b) (marks-set m c marks k some sized clear)

@@ -26,9 +26,13 @@ abbrev pub slot_within : List Lit → Option (List Lit) → Bool
 slot_within c (Some d) = sub d c
 slot_within c None = false
 
--- the second spot of an entry is a spot of a clause, within which the clause of its number lies
+-- the spots of an entry are spots of a clause
+abbrev pub spots_among : ℕ → List Lit → Entry → Bool
+spots_among m c e = stands_in (spots m c) e.second && (stands_in (spots m c) e.third && stands_in (spots m c) e.fourth)
+
+-- and the clause of its number lies within that clause
 abbrev pub entry_within : ℕ → List (Option (List Lit)) → List Lit → Entry → Bool
-entry_within m slots c e = stands_in (spots m c) e.other && slot_within c (slice_index_or slots e.number None)
+entry_within m slots c e = spots_among m c e && slot_within c (slice_index_or slots e.number None)
 
 -- one such entry stands in a list of the clause's spots
 abbrev pub finds : ℕ → List (Option (List Lit)) → List (List Entry) → List Lit → Bool
@@ -41,11 +45,15 @@ IsIndex m slots lists earlier = (c : List Lit) → finds m slots lists c ≡ lis
 -- the lists have one entry more, for the clause of a number, in the list of one of its spots
 pub record PutsOne (m : ℕ) (c : List Lit) (number : ℕ) (old new : List (List Entry)) : Type 0 where
   pub at : ℕ
-  pub other : ℕ
+  pub second : ℕ
+  pub third : ℕ
+  pub fourth : ℕ
   pub within : at < length old
   pub at_spot : stands_in (spots m c) at ≡ true
-  pub other_spot : stands_in (spots m c) other ≡ true
-  pub lists : new ≡ slice_set old at (slice_index_or old at [] ++ record { number = number; other = other } ∷ [])
+  pub second_spot : stands_in (spots m c) second ≡ true
+  pub third_spot : stands_in (spots m c) third ≡ true
+  pub fourth_spot : stands_in (spots m c) fourth ≡ true
+  pub lists : new ≡ slice_set old at (slice_index_or old at [] ++ record { number = number; second = second; third = third; fourth = fourth } ∷ [])
 
 -- marks on the spots of some literals, set or taken away
 abbrev pub with_marks : ℕ → List Bool → List Lit → Bool → List Bool
@@ -54,8 +62,11 @@ with_marks m marks c b = fold (λ ms l. slice_set ms (spot m l) b) marks c
 abbrev pub marked : List Bool → ℕ → Bool
 marked marks k = (0 == k) || slice_index_or marks k false
 
+abbrev pub all_marked : List Bool → Entry → Bool
+all_marked marks e = marked marks e.second && (marked marks e.third && marked marks e.fourth)
+
 abbrev pub marked_within : List Bool → List (Option (List Lit)) → List Lit → Entry → Bool
-marked_within marks slots c e = marked marks e.other && slot_within c (slice_index_or slots e.number None)
+marked_within marks slots c e = all_marked marks e && slot_within c (slice_index_or slots e.number None)
 
 abbrev pub finds_marked : ℕ → List Bool → List (Option (List Lit)) → List (List Entry) → List Lit → Bool
 finds_marked m marks slots lists c = list_any (λ k. list_any (marked_within marks slots c) (slice_index_or lists k [])) (spots m c)

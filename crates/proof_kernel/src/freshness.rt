@@ -3,8 +3,8 @@
 //
 // An index finds the earlier clauses that lie within a clause. A literal has a spot, and each earlier clause stands in the list
 // of the spot of one of its literals: the shortest of those lists. A clause that lies within another shares that literal with
-// it, so it stands in a list of the other's spots. Its entry has the spot of a second literal too, so that a look at a mark
-// passes over most entries. Clauses without literals stand in the list of spot 0, which is always looked through. Where there is
+// it, so it stands in a list of the other's spots. Its entry has the spots of up to three more literals too, so that a look at
+// some marks passes over nearly all entries, without a look at their clauses. Clauses without literals stand in the list of spot 0, which is always looked through. Where there is
 // no memory for the index, each clause is compared with each earlier one.
 ghost use Rattle.std.specs.Prelude.{◌≡◌, ◌+◌, ◌*◌, ◌^◌, ◌<◌, ◌≤◌, ◌++◌, ◌∷◌, true, cond, IfOk, OnOk, drop, take, length, is_some, map, slice_index_or, slice_set, Some, None, []};
 ghost use Rattle.std.specs.List.{list_all, list_any};
@@ -12,17 +12,19 @@ ghost use Rattle.proof_lines.specs.Clauses.{sub};
 ghost use Rattle.proof_kernel.specs.Rules.{live_of};
 ghost use Rattle.proof_lines.specs.Numbers.{stands_in};
 ghost use Rattle.proof_kernel.specs.Evidence.{is_new, each_new};
-ghost use Rattle.proof_kernel.specs.Index.{HasNoEntry, HasNoMark, slot_new, IsIndex, PutsOne, finds, finds_marked, marked, marked_within, slot_within, sign_number, spot, spots, with_marks};
+ghost use Rattle.proof_kernel.specs.Index.{HasNoEntry, HasNoMark, slot_new, IsIndex, PutsOne, finds, finds_marked, marked, all_marked, marked_within, slot_within, sign_number, spot, spots, with_marks};
 
 use items::Items;
 use proof_lines::clause::{Clause, Lit, holds_both_ways, is_within};
 use std::alloc::{AllocError, Global};
 
-/// An earlier clause in a list of the index: its number, and the spot of one of its literals.
+/// An earlier clause in a list of the index: its number, and the spots of three of its literals, or 0 where it has fewer.
 #[derive(Clone, Copy)]
 pub struct Entry {
     number: usize,
-    other: usize,
+    second: usize,
+    third: usize,
+    fourth: usize,
 }
 
 fn sign_number(positive: bool) -> usize
@@ -56,6 +58,14 @@ fn is_marked(marks: &[bool], at: usize) -> bool
     at == 0 || (at < marks.len() && marks[at])
 }
 
+// Whether the spots of an entry are marked.
+fn all_marked(marks: &[bool], entry: Entry) -> bool
+    ensures { result ≡ all_marked marks.now entry }
+{
+    is_marked(marks, entry.second)
+        && (is_marked(marks, entry.third) && is_marked(marks, entry.fourth))
+}
+
 // Sets marks on the spots of literals, or takes them away.
 fn mark(marks: &mut Vec<bool>, count: usize, lits: &[Lit], value: bool)
     requires some { 0 < count }
@@ -80,8 +90,7 @@ fn list_at(lists: &[Items<Entry>], at: usize) -> &[Entry]
 fn any_within(marks: &[bool], slots: &[Option<Clause>], lits: &[Lit], entries: &[Entry]) -> bool
     ensures { result ≡ list_any (marked_within marks.now slots.now lits.now) entries.now }
 {
-    entries.iter().any(|entry| is_marked(marks, entry.other)
-        && slot_within(slots, entry.number, lits))
+    entries.iter().any(|entry| all_marked(marks, *entry) && slot_within(slots, entry.number, lits))
 }
 
 // Whether a marked entry of a list of a clause's spots names a clause that lies within it.
@@ -138,8 +147,20 @@ fn finds(
     found
 }
 
-// Of the spots of a clause but one, that with the shortest list; 0 where there is none.
-fn rarest(count: usize, lists: &[Items<Entry>], lits: &[Lit], but: usize) -> usize
+// Whether a spot is none of three.
+fn is_other(at: usize, first: usize, second: usize, third: usize) -> bool {
+    at != first && at != second && at != third
+}
+
+// Of the spots of a clause but three, that with the shortest list; 0 where there is none.
+fn rarest(
+    count: usize,
+    lists: &[Items<Entry>],
+    lits: &[Lit],
+    first: usize,
+    second: usize,
+    third: usize,
+) -> usize
     requires { 0 < count }
     ensures below { result < count }
     ensures among { stands_in (spots count lits.now) result ≡ true }
@@ -149,7 +170,7 @@ fn rarest(count: usize, lists: &[Items<Entry>], lits: &[Lit], but: usize) -> usi
     for lit in lits {
         let at = spot(count, *lit);
         let length = list_at(lists, at).len();
-        if at != but && length < fewest {
+        if is_other(at, first, second, third) && length < fewest {
             best = at;
             fewest = length;
         }
@@ -176,9 +197,17 @@ fn put(
     requires listed { length lists.old.items ≡ count }
     ensures { OnOk result (PutsOne count lits.now number lists.old.items lists.new.items) }
 {
-    let at = rarest(count, lists.as_slice(), lits, 0);
-    let other = rarest(count, lists.as_slice(), lits, at);
-    put_at(lists, at, Entry { number, other })
+    let first = rarest(count, lists.as_slice(), lits, 0, 0, 0);
+    let second = rarest(count, lists.as_slice(), lits, first, 0, 0);
+    let third = rarest(count, lists.as_slice(), lits, first, second, 0);
+    let fourth = rarest(count, lists.as_slice(), lits, first, second, third);
+    let entry = Entry {
+        number,
+        second,
+        third,
+        fourth,
+    };
+    put_at(lists, first, entry)
 }
 
 // Puts the clause of a number into the index, unless it was dropped.
