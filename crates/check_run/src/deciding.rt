@@ -13,13 +13,13 @@ ghost use Rattle.check_run.specs.Reports.{written_version};
 ghost use Rattle.instances.specs.Ground.{IsGrounded};
 
 use crate::fitting::numbered;
-use crate::searching::search;
 use crate::shrinking::shrink;
 use clausify::problem_of;
 use ground_numbers::{law_clauses_make_formulas_true, law_obligation_fits};
 use instances::{GroundRefused, Grounded, ground};
 use model_back::witness_of;
 use obligation_list::Obligation;
+use problem_search::search;
 use proof_lines::{Interpretation, Problem};
 use proof_report::{Cause, Verdict};
 use sat_core::Answer;

@@ -7,7 +7,6 @@ mod deciding;
 mod fitting;
 mod laws;
 mod narrowing;
-mod searching;
 mod shrinking;
 
 pub use checking::{WriteOut, check_all};

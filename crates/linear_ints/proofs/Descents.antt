@@ -49,7 +49,8 @@ use Rattle.linear_ints.proofs.Ranges.{beyond-value, beyond-sum}
 use Rattle.linear_ints.proofs.Runs.{combined-sum}
 use Rattle.linear_ints.proofs.Stopping.{given-some}
 use Rattle.linear_ints.proofs.Unsettled.{unsettled-one, none-settles}
-use Rattle.linear_ints.proofs.Eliminating.{eliminated, stands-there}
+use Rattle.indexed_rows.proofs.Standing.{stands-there}
+use Rattle.linear_ints.proofs.Eliminating.{eliminated}
 use Rattle.linear_ints.proofs.BoundLemmas.{on-named}
 
 -- THE STAGE of a row on a side

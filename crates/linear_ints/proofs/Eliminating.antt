@@ -2,7 +2,7 @@ use Rattle.std.proofs.Common.{◌≡◌, ℕ, zero, suc, ◌<◌, ◌≤◌, ◌
 use Rattle.std.specs.Prelude.{◌==◌}
 use Rattle.std.specs.List.{list_any, list_all, filter}
 use Rattle.std.proofs.lemmas.Int.{ints}
-use Rattle.std.proofs.lemmas.Bool.{and_parts, and_from, or_cases, or_left, or_right, cases_lt, eqb-true, eq-eqb, ne_eqb, not-true}
+use Rattle.std.proofs.lemmas.Bool.{and_parts, and_from, or_cases, cases_lt, eqb-true, eq-eqb, ne_eqb, not-true}
 use Rattle.std.proofs.lemmas.List.Folds.{list_any-append}
 use Rattle.std.proofs.lemmas.Map.Views.{any-filter_same}
 use Rattle.lin_rows.specs.Numbers.{is_zero}
@@ -12,6 +12,7 @@ use Rattle.proof_lines.specs.Numbers.{stands_in, are_different}
 use Rattle.theory_api.specs.Elimination.{stage}
 use Rattle.linear_ints.specs.declared.tableau.Tableau.{Tableau}
 use Rattle.theory_api.specs.Ends.{names_none}
+use Rattle.indexed_rows.proofs.Standing.{stands-there}
 use Rattle.linear_ints.specs.Standing.{place_at, IsCombined, IsCombinedAt}
 use Rattle.linear_ints.specs.Descent.{Pair, Paired, Eliminated}
 use Rattle.linear_ints.specs.Tableaux.{IsTableau, IsElimination, Grown, IsGrown, CanAllMeet, AreCombined, AreTaken}
@@ -253,11 +254,6 @@ stands-at (n ∷ ns) q h = elim (or_cases (n == q) (stands_in ns q) h) [
   | inl e ↦ (0, omega arith, eqb-true n q e)
   | inr e ↦ (let g = stands-at ns q e in (suc g.0, (let l = g.1 in omega arith), g.2))
 ]
-
-pub stands-there : (ns : List ℕ) (m : ℕ) → m < length ns → stands_in ns (place_at ns m) ≡ true
-stands-there [] m h = absurd (omega arith)
-stands-there (n ∷ ns) zero h = or_left (n == n) (stands_in ns n) (eq-eqb n n refl)
-stands-there (n ∷ ns) (suc m) h = or_right (n == place_at ns m) (stands_in ns (place_at ns m)) (stands-there ns m (omega arith))
 
 -- numbers at different places of different ones differ
 different-at : (ns : List ℕ) (m k : ℕ) → are_different ns ≡ true → m < k → k < length ns → place_at ns k ≡ place_at ns m → ⊥

@@ -27,4 +27,3 @@ pub mod Namings
 pub mod Descents
 pub mod Taking
 pub mod ListedLemmas
-pub mod Fingerprinting

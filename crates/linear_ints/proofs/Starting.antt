@@ -14,7 +14,7 @@ use Rattle.theory_api.specs.Laws.{all_below}
 use Rattle.linear_ints.specs.declared.tableau.Tableau.{Tableau}
 use Rattle.linear_ints.specs.declared.stop.Stop.{Stop}
 use Rattle.linear_ints.specs.declared.stop.Stop.TheVariants.{Contradiction, Full, Gap, Beyond, Memory}
-use Rattle.linear_ints.specs.Places.{names}
+use Rattle.indexed_rows.specs.Places.{names}
 use Rattle.linear_ints.specs.Stops.{IsStop, IsEarlyStop}
 use Rattle.linear_ints.specs.Descending.{AreZeros}
 

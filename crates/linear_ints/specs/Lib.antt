@@ -13,6 +13,3 @@ pub mod Sides
 pub mod Needed
 pub mod Descending
 pub mod Listed
-pub mod Places
-pub mod Naming
-pub mod Fingerprints

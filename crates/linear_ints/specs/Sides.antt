@@ -1,5 +1,5 @@
 -- The upper and the lower rows of a place, and the bounds that they give. It mirrors src/sides and src/bounds.
-use Rattle.std.specs.Prelude.{◌≡◌, ℕ, ◌<◌, ℤ, pos, neg_ℤ, ◌-ℤ◌, ◌≤ℤ◌, ◌^◌, Bool, true, cond, ◌&&◌, List, length, slice_index_or, Some, ◌⊎◌}
+use Rattle.std.specs.Prelude.{◌≡◌, ℕ, ◌<◌, ℤ, pos, neg_ℤ, ◌-ℤ◌, ◌≤ℤ◌, ◌^◌, Bool, true, cond, ◌&&◌, nat_lt, List, length, slice_index_or, Some, ◌⊎◌}
 use Rattle.lin_rows.specs.Rows.{Row, coefficient_at, point_of}
 use Rattle.proof_lines.specs.Numbers.{stands_in}
 use Rattle.proof_lines.specs.Steps.{row_at, is_positive, is_negative}
@@ -13,6 +13,10 @@ use Rattle.linear_ints.specs.Ceilings.{IsBound}
 -- a row names no place before, and its coefficient at the place has the side's sign
 abbrev pub is_on : Bool → List ℕ → ℕ → Row → Bool
 is_on upper before place r = cond upper (is_positive (coefficient_at r.terms place)) (is_negative (coefficient_at r.terms place)) && names_none before r
+
+-- a number is one of a row on a side of a place
+abbrev pub is_on_at : Bool → List ℕ → ℕ → List Row → ℕ → Bool
+is_on_at upper before place held i = nat_lt i (length held) && is_on upper before place (row_at held i)
 
 -- the numbers of those of the first n held rows that are on one side
 pub record IsSide (upper : Bool) (before : List ℕ) (place : ℕ) (held : List Row) (n : ℕ) (numbers : List ℕ) : Type 0 where

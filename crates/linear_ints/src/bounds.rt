@@ -11,9 +11,9 @@ ghost use Rattle.linear_ints.specs.Sides.{IsBoundAt, IsGreatest, IsGreatestOf};
 ghost use Rattle.linear_ints.specs.Standing.{place_at};
 
 use crate::ceiling::bound;
-use crate::order::Order;
 use crate::sides::is_on_at;
 use crate::tableau::Tableau;
+use indexed_rows::Order;
 use lin_rows::{Row, RowTerm, add_product};
 use proof_lines::splitting::is_above;
 

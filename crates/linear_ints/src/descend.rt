@@ -13,9 +13,9 @@ ghost use Rattle.linear_ints.specs.Stops.{IsStop};
 ghost use Rattle.linear_ints.specs.Tableaux.{IsElimination};
 
 use crate::bounds::{Bound, Fault, FaultAt, side_bound, value_of};
-use crate::order::prefix;
 use crate::stop::Stop;
 use crate::tableau::Tableau;
+use indexed_rows::prefix;
 use items::Items;
 use lin_rows::Row;
 use lin_rows::number::minus;

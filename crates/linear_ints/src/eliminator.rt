@@ -8,13 +8,11 @@ ghost use Rattle.linear_ints.specs.Tableaux.{IsTaking};
 
 use crate::descend::descend;
 use crate::eliminate::eliminate_all;
-use crate::held::Held;
-use crate::order::Order;
-use crate::places::named_places;
 use crate::stop::Stop;
 use crate::tableau::Tableau;
 use crate::take::take_all;
 use crate::trim::{Conflict, trimmed};
+use indexed_rows::{Held, Order, named_places};
 use items::Items;
 use lin_rows::Row;
 use std::alloc::{AllocError, Global};
@@ -78,10 +76,13 @@ fn answer(tableau: Tableau, alloc: Global, rows: &[Row], ints: u32, stop: Stop) 
         ints: _,
         used,
         steps,
-        held: _,
-        order: _,
-        left: _,
+        held,
+        order,
+        left,
     } = tableau;
+    drop(held);
+    drop(order);
+    drop(left);
     match stop {
         Stop::Contradiction => {
             let Conflict { used, steps } = trimmed(alloc, rows, used, steps);

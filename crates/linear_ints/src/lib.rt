@@ -23,31 +23,26 @@
 // that leaves it is Sum, and a bound beyond the range of a state is Value (Range). Each answer has its certificate by construction.
 //
 // What it costs. One place with m upper and n lower rows takes m * n steps, and so the next place with the fewest pairs is taken each
-// time. The rows may grow doubly exponentially in the number of places; the limit of rows bounds this. Whether a new row is held is
-// asked of an index of fingerprints, whether a place is eliminated of a flag. The rows of a place are found by an index that has for each
-// place the numbers of the rows that name it, so each term of a held row is met a few times in all. How many pairs a place has is counted
-// as rows are held and as places are eliminated; the next place is looked for among all that are left.
+// time. The rows may grow doubly exponentially in the number of places; the limit of rows bounds this. Whether a new row is held, which
+// rows name a place and how many pairs it has is asked of the indexes of `indexed_rows`; the next place is looked for among all that are
+// left.
 //
-// Files, in the order in which a reader needs them: src/naming and src/counts (the rows and the pairs of each place), src/held, src/order
-// and src/tableau (the rows that are held, the places that are eliminated, and both together), src/places and src/take (the places of
-// the given rows, and those rows), src/steps (the pairs of a place), src/sides and src/choosing (the rows of a place, the next place),
-// src/eliminate (all places), src/ceiling and src/bounds (what a row says of a value), src/descend (the values), src/trim (what a
-// conflict rests on), src/eliminator (the solver).
+// The layer stands on `theory_api`, whose trait it keeps, and on `indexed_rows`, which has the rows that are held and the places that are
+// eliminated; both stand on `items`, `lin_rows` and `proof_lines`.
+//
+// Files, in the order in which a reader needs them: src/tableau and src/stop (the held rows with the eliminated places, and why an
+// elimination ends), src/take (the given rows), src/sides and src/steps (the rows of a place, and their pairs), src/eliminate (all
+// places), src/ceiling and src/bounds (what a row says of a value), src/descend (the values), src/trim (what a conflict rests on),
+// src/eliminator (the solver).
 // Definitions: specs/Tableaux (what a tableau keeps), specs/Stops (the reasons to stop), specs/Sides and specs/Descending (what is
-// known while values are chosen), specs/Naming (the index of the rows of a place); the others are steps of the proofs.
+// known while values are chosen); the others are steps of the proofs.
 #![tactic(auto)]
 
 pub mod bounds;
 pub mod ceiling;
-pub mod choosing;
-pub mod counts;
 pub mod descend;
 pub mod eliminate;
 pub mod eliminator;
-pub mod held;
-pub mod naming;
-pub mod order;
-pub mod places;
 pub mod sides;
 pub mod steps;
 pub mod stop;

@@ -5,11 +5,10 @@ ghost use Rattle.lin_rows.specs.Rows.{coefficient_at};
 ghost use Rattle.proof_lines.specs.Numbers.{stands_in};
 ghost use Rattle.proof_lines.specs.Steps.{is_negative, is_positive};
 ghost use Rattle.theory_api.specs.Ends.{names_none};
-ghost use Rattle.linear_ints.specs.Naming.{is_on_at};
-ghost use Rattle.linear_ints.specs.Sides.{is_on, IsSide};
+ghost use Rattle.linear_ints.specs.Sides.{is_on, is_on_at, IsSide};
 
-use crate::order::Order;
 use crate::tableau::Tableau;
+use indexed_rows::Order;
 use items::Items;
 use lin_rows::{Row, RowTerm};
 use proof_lines::splitting::{is_negative, is_positive};

@@ -1,8 +1,7 @@
 // The rows that are held while places are eliminated.
 ghost use Rattle.std.specs.Prelude.{◌≡◌, [], ◌∷◌, ◌++◌, OnOk};
 
-use crate::held::Held;
-use crate::order::Order;
+use indexed_rows::{Held, Order};
 use items::Items;
 use lin_rows::Row;
 use proof_lines::RowStep;

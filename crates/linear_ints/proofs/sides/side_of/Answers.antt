@@ -2,8 +2,7 @@ use Rattle.std.proofs.Common.{◌≡◌, ℕ, List, length, ◌∙◌, ap}
 use Rattle.std.specs.List.{filter}
 use Rattle.std.proofs.lemmas.Result.{IfOk-weaker}
 use Rattle.lin_rows.specs.Rows.{Row}
-use Rattle.linear_ints.specs.Naming.{is_on_at}
-use Rattle.linear_ints.specs.Sides.{IsSide}
+use Rattle.linear_ints.specs.Sides.{is_on_at, IsSide}
 use Rattle.linear_ints.proofs.Namings.{side-filtered}
 use Rattle.linear_ints.proofs.sides.side_of.Goals as goal
 
