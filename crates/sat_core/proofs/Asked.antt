@@ -141,7 +141,7 @@ stand-places n atoms (l ∷ lits) (r ∷ rows) p s = and_from (places_below n r)
     by_sign false h = by_row (atom_row atoms l.atom) refl h
 
 -- plain atoms have no rows, so nothing is said of rows
-stand-plain : (atoms : List AtomKind) (lits : List Lit) (rows : List Row) (used : List ℕ) → are_plain atoms ≡ true → Stand atoms lits rows → are_given rows used ≡ true → ⊥
+pub stand-plain : (atoms : List AtomKind) (lits : List Lit) (rows : List Row) (used : List ℕ) → are_plain atoms ≡ true → Stand atoms lits rows → are_given rows used ≡ true → ⊥
 stand-plain atoms lits rows used p s g = by_rows lits rows s g
   where
     no_row : (atoms : List AtomKind) (x : ℕ) → are_plain atoms ≡ true → atom_row atoms x ≡ None

@@ -60,8 +60,8 @@ impl Explained {
     }
 }
 
-// Learns from rows in conflict.
-fn refute(
+/// Learns from rows in conflict: literals of a settled trail, whose rows the steps refute.
+pub fn refute(
     alloc: Global,
     grown: &mut Problem,
     trail: &mut Trail,

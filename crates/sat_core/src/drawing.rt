@@ -29,8 +29,8 @@ impl Drawn {
     }
 }
 
-// The row of a literal over an atom with a row. A negation beyond the range of a row is answered as want of memory.
-fn row_of_sign(alloc: Global, row: &Row, positive: bool) -> Result<Row, AllocError>
+/// The row of a literal over an atom with a row. A negation beyond the range of a row is answered as want of memory.
+pub fn row_of_sign(alloc: Global, row: &Row, positive: bool) -> Result<Row, AllocError>
     ensures { IfOk result (λ r. cond positive (Some row.now) (negated row.now) ≡ Some r) }
 {
     if positive {

@@ -3,3 +3,4 @@ mod Resting
 mod Following
 mod Changing
 mod Going
+mod Rows

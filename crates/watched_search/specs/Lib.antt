@@ -1,2 +1,3 @@
 pub mod Watches
 pub mod Ready
+pub mod Early

@@ -2,17 +2,18 @@
 ghost use Rattle.std.specs.Prelude.{◌≡◌, ◌<◌, ◌^◌, ℕ, true, false, length, MatchOption};
 ghost use Rattle.search_logs.specs.Trails.{named};
 
-use proof_lines::{Lit, Problem};
+use crate::held::Held;
+use proof_lines::{AtomKind, Lit, Problem};
 use sat_core::finding::unnamed;
-use sat_core::growing::{atom_count, sign_of};
 use search_logs::Trail;
 use std::alloc::{AllocError, Global};
 
-/// A number below which all atoms had values when it was noted, and the values that atoms had last.
+/// A number below which all atoms had values when it was noted, the values that atoms had last, and the rows of the trail.
 #[derive(Drop)]
 pub struct Hints {
     pub from: u32,
     pub values: Vec<Option<bool>>,
+    pub held: Held,
 }
 
 impl Hints {
@@ -20,16 +21,23 @@ impl Hints {
         Hints {
             from: 0,
             values: Vec::new(alloc),
+            held: Held::new(alloc),
         }
     }
 
     /// Notes the value that an atom got.
-    pub(crate) fn note(&mut self, lit: Lit) -> Result<(), AllocError> {
+    pub(crate) fn note(&mut self, problem: &Problem, lit: Lit) -> Result<(), AllocError> {
         while self.values.len() <= lit.atom as usize {
             self.values.push(None)?;
         }
         self.values[lit.atom as usize] = Some(lit.positive);
-        Ok(())
+        self.held.note(problem, lit)
+    }
+
+    /// Forgets what no longer holds of a trail that was cut, or of a problem that has more atoms.
+    pub(crate) fn cut(&mut self, trail: &Trail) {
+        self.from = 0;
+        self.held.cut(trail);
     }
 
     /// An atom that has no value.
@@ -45,13 +53,16 @@ impl Hints {
         unnamed(trail, atoms)
     }
 
-    /// The sign with which an atom is decided: that of the value that it had last.
+    /// The sign with which an atom is decided: a row by the numbers that the solver found last, any other atom as it was last.
     pub(crate) fn sign(&self, problem: &Problem, atom: u32) -> bool
         requires { atom < length problem.now.atoms }
     {
-        match self.values.get(atom as usize) {
-            Some(Some(value)) => *value,
-            _ => sign_of(problem, atom),
+        match &problem.atoms.as_slice()[atom as usize] {
+            AtomKind::Row(row) => self.held.truth(row),
+            AtomKind::Plain => match self.values.get(atom as usize) {
+                Some(Some(value)) => *value,
+                _ => true,
+            },
         }
     }
 }

@@ -1,10 +1,10 @@
 // The clause search on watched literals, joined with any solver of rows, under the contract of the plain search of `sat_core`.
 //
 // The search goes about its work as the plain one does: the same trail, the same chains of resolvents, the same questions to the
-// solver. What differs is how a false or a unit clause is found. Each clause watches two of its literals, and for each literal there
-// is the list of the clauses that watch it. A clause is at rest where one of the two is true, or where they are two and neither is
-// false; then it is neither false nor unit. A clause with one literal that isn't false watches that one twice, and waits among the
-// clauses that may be unit.
+// solver where all atoms have values. What differs is how a false or a unit clause is found, and that the solver is asked sooner.
+// Each clause watches two of its literals, and for each literal there is the list of the clauses that watch it. A clause is at rest
+// where one of the two is true, or where they are two and neither is false; then it is neither false nor unit. A clause with one
+// literal that isn't false watches that one twice, and waits among the clauses that may be unit.
 //
 // Why no unit clause is missed. When a literal is taken to be true, its opposite becomes false, and the clauses that watch that
 // opposite are looked at, each once, before anything else is done. One that doesn't watch it is as much at rest, or as open, as it was:
@@ -17,10 +17,18 @@
 // are clauses like others: after each chain all clauses, those of the chain among them, watch anew under the shortened trail. This
 // takes as long as going through the clauses once for each conflict, and between conflicts only lists are gone through.
 //
+// The solver of rows is asked where all atoms have values, as in the plain search, and before that too: where the trail is settled, an
+// atom is to be decided, and rows were added that the solver's last numbers aren't known to satisfy. Rows that contradict each other
+// are learned from at once, for the chain of a Farkas line wants no more than a settled trail. Numbers prove nothing there, since
+// they satisfy some of the rows only; but the rows that follow are decided by them, so that the solver isn't asked again before a row
+// is forced that they don't satisfy. Where the solver would split or stop, the search goes on: that is answered of a whole trail alone.
+//
 // Definitions, in the order in which a reader needs them: specs/Watches (clauses at rest, what is watched), specs/Ready (where the
-// watched literals stand between the steps of a search).
+// watched literals stand between the steps of a search), specs/Early (what is known of the rows that are asked about early).
 #![tactic(auto)]
 
+mod early;
+mod held;
 mod hints;
 mod lists;
 mod looking;

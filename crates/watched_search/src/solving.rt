@@ -1,5 +1,5 @@
 // The search: it goes about its work as the plain one, and finds false and unit clauses by watched literals.
-ghost use Rattle.std.specs.Prelude.{◌≡◌, ◌<◌, ◌^◌, ◌⊎◌, ℕ, Bool, List, true, false, length};
+ghost use Rattle.std.specs.Prelude.{◌≡◌, ◌<◌, ◌^◌, ◌⊎◌, ℕ, Bool, List, true, false, length, IfOk, IfSome};
 ghost use Rattle.std.specs.List.{list_any};
 ghost use Rattle.lin_rows.specs.Rows.{Row as PlainRow};
 ghost use Rattle.proof_lines.specs.declared.clause.Lit.{Lit as PlainLit};
@@ -8,23 +8,27 @@ ghost use Rattle.proof_lines.specs.Problems.{PlainProblem};
 ghost use Rattle.search_logs.specs.Trails.{named, Settled};
 ghost use Rattle.sat_core.specs.declared.asking.Outcome.TheVariants.{Memory};
 ghost use Rattle.sat_core.specs.Answers.{AreRowsOf, IsAnswer, ShowsNone};
-ghost use Rattle.sat_core.specs.Searching.{InSearch, InChain, IsChain};
+ghost use Rattle.theory_api.specs.Laws.{all_below};
+ghost use Rattle.sat_core.specs.Searching.{InSearch, InChain, IsChain, IsRefutation};
 ghost use Rattle.sat_core.specs.Outcomes.{IsOutcome, IsPushed};
 ghost use Rattle.watched_search.specs.Watches.{AllWatched};
 ghost use Rattle.watched_search.specs.Ready.{IsReady, IfGoes};
+ghost use Rattle.watched_search.specs.Early.{IsClash};
 
+use crate::early::{Clash, Said, ask_early};
+use crate::held::Held;
 use crate::hints::Hints;
 use crate::propagation::Propagation;
 use items::Items;
 use proof_lines::problem::law_rows;
 use proof_lines::{Line, Lit, Problem, RangeEvidence, RowsEvidence};
 use sat_core::Answer;
-use sat_core::asking::{Outcome, ask};
+use sat_core::asking::{Outcome, ask, refute};
 use sat_core::explaining::explain;
 use sat_core::finding::Found;
 use sat_core::growing::atom_count;
 use search_logs::{Entry, Trail};
-use std::alloc::Global;
+use std::alloc::{AllocError, Global};
 use theory_api::Theory;
 
 /// What a search knows besides its problem, its trail and its log.
@@ -48,7 +52,7 @@ fn take(
     ensures pushed { IsPushed result trail.old lit reason trail.new }
     ensures ready { IfGoes result (IsReady problem.now.clauses trail.new knowledge.new.index) }
 {
-    if knowledge.hints.note(lit).is_err() {
+    if knowledge.hints.note(problem, lit).is_err() {
         return Outcome::Memory;
     }
     match knowledge
@@ -74,7 +78,7 @@ fn begin_anew(
 {
     match outcome {
         Outcome::Goes => {
-            knowledge.hints.from = 0;
+            knowledge.hints.cut(trail);
             match knowledge.index.begin(alloc, problem, trail) {
                 Ok(()) => Outcome::Goes,
                 Err(_) => Outcome::Memory,
@@ -102,6 +106,50 @@ fn meet(
     begin_anew(alloc, grown, trail, knowledge, outcome)
 }
 
+// Asks the solver about the rows of a trail that may name some atoms only, where that is due. Rows in conflict are answered.
+fn consult<T: Theory>(
+    alloc: Global,
+    theory: &mut T,
+    problem: &Problem,
+    trail: &Trail,
+    held: &mut Held,
+) -> Result<Option<Clash>, AllocError>
+    requires taken { (lits : List PlainLit) (rows : List PlainRow) → AreRowsOf problem.now.atoms lits rows → all_below problem.now.ints rows ≡ true → T.takes rows problem.now.ints }
+    ensures { IfOk result (λ found. IfSome found (λ clash. IsClash problem.now trail.now clash.used clash.steps)) }
+{
+    if !held.is_due() {
+        return Ok(None);
+    }
+    held.asked = held.lits.len();
+    match ask_early(alloc, theory, problem, trail, held.lits.as_slice())? {
+        Said::Model(numbers) => {
+            held.keep(numbers);
+            Ok(None)
+        }
+        Said::Clash(clash) => Ok(Some(clash)),
+        Said::Nothing => Ok(None),
+    }
+}
+
+// Learns from rows in conflict.
+fn meet_rows(
+    alloc: Global,
+    grown: &mut Problem,
+    trail: &mut Trail,
+    log: &mut Items<Line>,
+    knowledge: &mut Knowledge,
+    clash: Clash,
+    budget: u32,
+) -> Outcome
+    requires refutation { IsRefutation budget grown.old trail.old log.old clash.used clash.steps }
+    ensures outcome { (split stop : Bool) (p : PlainProblem) → InSearch (record { problem = p; split = split }) budget grown.old trail.old log.old → IsOutcome result split stop p budget grown.old trail.old log.old grown.new trail.new log.new }
+    ensures ready { IfGoes result (IsReady grown.new.clauses trail.new knowledge.new.index) }
+{
+    let Clash { used, steps } = clash;
+    let outcome = refute(alloc, grown, trail, log, used, steps, budget).outcome();
+    begin_anew(alloc, grown, trail, knowledge, outcome)
+}
+
 // Asks the solver of rows where all atoms have values.
 fn turn<T: Theory>(
     alloc: Global,
@@ -126,8 +174,9 @@ fn turn<T: Theory>(
     }
 }
 
-// One step: a conflict is explained at once; then what is forced is taken to be true; then an atom is decided; and where all atoms
-// have values, the solver of rows is asked.
+// One step: a conflict is explained at once; then what is forced is taken to be true. Where neither is left to do, the solver of rows
+// is asked, if rows were added that its last numbers don't satisfy, and then an atom is decided; where all atoms have values, the
+// solver is asked in any case.
 fn advance<T: Theory>(
     alloc: Global,
     theory: &mut T,
@@ -152,8 +201,17 @@ fn advance<T: Theory>(
         Found::Forced(reason, lit) => take(alloc, grown, trail, knowledge, lit, Some(reason)),
         Found::Nothing => match knowledge.hints.undecided(trail, atom_count(grown)) {
             Some(atom) => {
-                let positive = knowledge.hints.sign(grown, atom);
-                take(alloc, grown, trail, knowledge, Lit { atom, positive }, None)
+                let Ok(clash) = consult(alloc, theory, grown, trail, &mut knowledge.hints.held)
+                else {
+                    return Outcome::Memory;
+                };
+                match clash {
+                    Some(clash) => meet_rows(alloc, grown, trail, log, knowledge, clash, budget),
+                    None => {
+                        let positive = knowledge.hints.sign(grown, atom);
+                        take(alloc, grown, trail, knowledge, Lit { atom, positive }, None)
+                    }
+                }
             }
             None => turn(alloc, theory, problem, grown, trail, log, knowledge, budget),
         },

@@ -28,15 +28,17 @@ fn in_short(alloc: Global, problem: &Problem, answer: &Answer) -> Said {
     }
 }
 
-fn said_plainly(alloc: Global, problem: &Problem) -> Said {
-    let answer = solve_plain(alloc, problem, &mut Eliminator::new(), 1000);
+/// What the plain search says with a budget of lines.
+pub fn said_plainly(alloc: Global, problem: &Problem, budget: u32) -> Said {
+    let answer = solve_plain(alloc, problem, &mut Eliminator::new(), budget);
     let short = in_short(alloc, problem, &answer);
     drop(answer);
     short
 }
 
-fn said_by_watching(alloc: Global, problem: &Problem) -> Said {
-    let answer = solve(alloc, problem, &mut Eliminator::new(), 1000);
+/// What the search on watched literals says with a budget of lines.
+pub fn said_by_watching(alloc: Global, problem: &Problem, budget: u32) -> Said {
+    let answer = solve(alloc, problem, &mut Eliminator::new(), budget);
     let short = in_short(alloc, problem, &answer);
     drop(answer);
     short
@@ -46,7 +48,8 @@ fn said_by_watching(alloc: Global, problem: &Problem) -> Said {
 pub fn both_say(alloc: Global, text: &str, what: Said) -> bool {
     match problem(alloc, text) {
         Ok(Some(problem)) => {
-            said_plainly(alloc, &problem) == what && said_by_watching(alloc, &problem) == what
+            said_plainly(alloc, &problem, 1000) == what
+                && said_by_watching(alloc, &problem, 1000) == what
         }
         _ => false,
     }

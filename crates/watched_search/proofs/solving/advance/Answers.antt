@@ -1,9 +1,13 @@
-use Rattle.std.proofs.Common.{ℕ, ◌<◌, length, Some, None, subst}
+use Rattle.std.proofs.Common.{ℕ, ◌<◌, length, Option, Some, None, subst}
+use Rattle.std.specs.Prelude.{IfSome}
 use Rattle.proof_lines.specs.Clauses.{lit_of}
 use Rattle.sat_core.specs.declared.finding.Found.{Found}
 use Rattle.sat_core.specs.Searching.{IsFound}
 use Rattle.sat_core.proofs.Resolving.{chain_begins}
 use Rattle.sat_core.proofs.Outcomes.{aim_of, pushed-outcome, forced-step}
+use Rattle.watched_search.specs.declared.early.Clash.{Clash}
+use Rattle.watched_search.specs.Early.{IsClash}
+use Rattle.watched_search.proofs.Rows.{takes-grown, refutation-of}
 use Rattle.watched_search.proofs.solving.advance.Goals as goal
 
 pub meet-requires : goal.meet-requires
@@ -30,10 +34,26 @@ returns-in-Forced-clause-outcome g c =
     pushed-outcome c.take.result g.T.Theory.MAY_SPLIT g.T.Theory.MAY_STOP c.args.problem.now c.args.budget c.args.grown.now c.args.trail.now c.args.log.now c.in-Forced.lit (Some c.in-Forced.reason) c.take.new.trail
     c.requires.search h.2 f.0 f.1 (h.0, h.1) c.take.ensures.pushed
 
-pub returns-in-Some-clause-outcome : goal.returns-in-Some-clause-outcome
-returns-in-Some-clause-outcome g c =
+pub consult-requires : goal.consult-requires
+consult-requires g c = record {
+  taken = takes-grown g.T.Theory.MAY_SPLIT g.T.Theory.takes c.args.problem.now c.args.budget c.args.grown.now c.args.trail.now c.args.log.now g.met.T.Theory.takes_all c.requires.taken c.requires.search;
+}
+
+pub meet_rows-requires : goal.meet_rows-requires
+meet_rows-requires g c =
+    let h = subst (λ (z : Found). IsFound z c.args.grown.now.clauses c.args.trail.now) c.in-Nothing.is c.in-Ok.ensures.found in
+    let k = subst (λ (z : Option Clash). IfSome z (λ x. IsClash c.args.grown.now c.args.trail.now x.used x.steps)) c.in-Some-clash.is c.in-Ok-consult.ensures in
+    record {
+      refutation = refutation-of g.T.Theory.MAY_SPLIT c.args.problem.now c.args.budget c.args.grown.now c.args.trail.now c.args.log.now c.in-Some-clash.clash.used c.in-Some-clash.clash.steps c.requires.search h.0 k;
+    }
+
+pub returns-in-Some-clash-clause-outcome : goal.returns-in-Some-clash-clause-outcome
+returns-in-Some-clash-clause-outcome g c = c.meet_rows.ensures.outcome g.T.Theory.MAY_SPLIT g.T.Theory.MAY_STOP c.args.problem.now c.requires.search
+
+pub returns-in-None-clash-clause-outcome : goal.returns-in-None-clash-clause-outcome
+returns-in-None-clash-clause-outcome g c =
     let h = subst (λ (z : Found). IsFound z c.args.grown.now.clauses c.args.trail.now) c.in-Nothing.is c.in-Ok.ensures.found in
     let u = c.in-Some.ensures in
     let b : c.in-Some.atom < length c.args.grown.now.atoms = subst (λ (n : ℕ). c.in-Some.atom < n) c.atom_count.ensures u.0 in
-    pushed-outcome c.take-in-Some.result g.T.Theory.MAY_SPLIT g.T.Theory.MAY_STOP c.args.problem.now c.args.budget c.args.grown.now c.args.trail.now c.args.log.now (lit_of c.in-Some.atom c.sign-positive.result) None c.take-in-Some.new.trail
-    c.requires.search h.1 u.1 b h.0 c.take-in-Some.ensures.pushed
+    pushed-outcome c.take-in-None-clash.result g.T.Theory.MAY_SPLIT g.T.Theory.MAY_STOP c.args.problem.now c.args.budget c.args.grown.now c.args.trail.now c.args.log.now (lit_of c.in-Some.atom c.sign-positive.result) None c.take-in-None-clash.new.trail
+    c.requires.search h.1 u.1 b h.0 c.take-in-None-clash.ensures.pushed

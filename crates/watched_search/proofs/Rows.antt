@@ -1,0 +1,83 @@
+use Rattle.std.proofs.Common.{◌≡◌, ℕ, ◌^◌, ◌<◌, Bool, true, false, cond, List, [], ◌∷◌, ◌++◌, length, map, refl, sym, ◌∙◌, subst, arith, Some, slice_get}
+use Rattle.std.specs.List.{list_all}
+use Rattle.std.specs.Option.{option_and_then}
+use Rattle.std.proofs.lemmas.Bool.{and_from}
+use Rattle.std.proofs.lemmas.List.{map-append}
+use Rattle.std.proofs.lemmas.List.Folds.{list_all-append}
+use Rattle.lin_rows.specs.Rows.{Row, negated}
+use Rattle.proof_lines.specs.declared.clause.Lit.{Lit}
+use Rattle.proof_lines.specs.declared.problem.AtomKind.{AtomKind}
+use Rattle.proof_lines.specs.declared.problem.AtomKind.TheVariants.{Row as OfRow}
+use Rattle.proof_lines.specs.declared.line.RowStep.{RowStep}
+use Rattle.proof_lines.specs.declared.line.Line.{Line}
+use Rattle.proof_lines.specs.Problems.{PlainProblem}
+use Rattle.proof_lines.specs.Steps.{row_of_kind, lit_row}
+use Rattle.theory_api.specs.Laws.{all_below, IsConflict}
+use Rattle.theory_api.proofs.Standing.{lit_at}
+use Rattle.search_logs.specs.declared.trail.Entry.{Entry}
+use Rattle.search_logs.specs.Trails.{in_trail, Settled}
+use Rattle.search_logs.specs.Forcing.{are_plain}
+use Rattle.search_logs.proofs.Taken.{farkas_taken}
+use Rattle.search_logs.proofs.Valued.{stand-of}
+use Rattle.sat_core.specs.declared.explaining.Explained.{Explained}
+use Rattle.sat_core.specs.declared.explaining.Explained.TheVariants.{Empty, Cut, Spent as SpentThere, Memory as NoMemory}
+use Rattle.sat_core.specs.Answers.{AreRowsOf}
+use Rattle.sat_core.specs.Searching.{Aim, InSearch, IsDrawn, IsLearned, IsRefutation}
+use Rattle.sat_core.specs.Outcomes.{outcome_of}
+use Rattle.sat_core.proofs.Asked.{stand-plain, given-lits, picked-in}
+use Rattle.sat_core.proofs.Outcomes.{aim_of}
+use Rattle.watched_search.specs.Ready.{IfGoes}
+use Rattle.watched_search.specs.Early.{AreHeld, IsClash}
+
+-- Rows of a trail that names some atoms only.
+
+-- one more literal with its row
+pub held-row : (atoms : List AtomKind) (t : List Entry) (lits : List Lit) (rows : List Row) (l : Lit) (q r : Row) → AreHeld atoms t lits rows → slice_get atoms l.atom ≡ Some (OfRow q) → in_trail t l ≡ true
+    → cond l.positive (Some q) (negated q) ≡ Some r → AreHeld atoms t (lits ++ l ∷ []) (rows ++ r ∷ [])
+held-row atoms t lits rows l q r h k i e =
+    let one : lit_row atoms l ≡ Some r = (λ j. cond l.positive (row_of_kind (k j)) (option_and_then negated (row_of_kind (k j)))) ∙ e in
+    record {
+      stand = map-append (lit_row atoms) lits (l ∷ []) ∙ ((λ j. h.stand j ++ one j ∷ []) ∙ sym (map-append (λ (x : Row). Some x) rows (r ∷ [])));
+      in_it = list_all-append (in_trail t) lits (l ∷ []) ∙ and_from (list_all (in_trail t) lits) (list_all (in_trail t) (l ∷ [])) h.in_it (and_from (in_trail t l) true i refl);
+    }
+
+-- they are drawn from the trail, whatever they leave out
+pub drawn-held : (atoms : List AtomKind) (t : List Entry) (lits : List Lit) (rows : List Row) → AreHeld atoms t lits rows → IsDrawn atoms t 0 lits rows
+drawn-held atoms t lits rows h = record { stand = h.stand; in_it = h.in_it; covers = λ x r l. absurd (omega (arith, l)) }
+
+-- rows in conflict are a clash of their literals
+pub clash-so : (q : PlainProblem) (t : List Entry) (lits : List Lit) (rows : List Row) (used : List ℕ) (used2 : List Lit) (steps : List RowStep) → AreHeld q.atoms t lits rows → IsConflict rows used steps → used2 ≡ map (lit_at lits) used → IsClash q t used2 steps
+clash-so q t lits rows used used2 steps h c e =
+    let stand = stand-of q.atoms lits rows h.stand in
+    subst (λ (z : List Lit). IsClash q t z steps) (sym e) (record {
+      in_it = picked-in t lits used h.in_it (given-lits q.atoms lits rows used stand c.given);
+      refuted = λ given. farkas_taken given q lits rows used steps stand c;
+      with_rows = λ p. stand-plain q.atoms lits rows used p stand c.given;
+    })
+
+-- a clash is refuted in a search whose trail is settled
+pub refutation-of : (split : Bool) (p : PlainProblem) (budget : ℕ) (q : PlainProblem) (t : List Entry) (ls : List Line) (used : List Lit) (steps : List RowStep) → InSearch (aim_of p split) budget q t ls → Settled t q.clauses → IsClash q t used steps → IsRefutation budget q t ls used steps
+refutation-of split p budget q t ls used steps x w c = record {
+  aim = aim_of p split;
+  search = x;
+  settled = w;
+  in_it = c.in_it;
+  taken = c.refuted;
+  uneasy = λ a y e. c.with_rows (subst (λ (z : List AtomKind). are_plain z ≡ true) (sym (y.keeps.plain e.0)) e.0);
+}
+
+-- the rows of a search are taken by its solver
+pub takes-grown : (split : Bool) (takes : List Row → ℕ → Type 0) (p : PlainProblem) (budget : ℕ) (q : PlainProblem) (t : List Entry) (ls : List Line)
+    → (split ≡ true → (rows : List Row) (ints : ℕ) → all_below ints rows ≡ true → takes rows ints) → (split ≡ false → (lits : List Lit) (rows : List Row) → AreRowsOf p.atoms lits rows → takes rows p.ints)
+    → InSearch (aim_of p split) budget q t ls → (lits : List Lit) (rows : List Row) → AreRowsOf q.atoms lits rows → all_below q.ints rows ≡ true → takes rows q.ints
+takes-grown split takes p budget q t ls all some x lits rows o b = by_case split refl
+  where
+    by_case : (s : Bool) → split ≡ s → takes rows q.ints
+    by_case true h = all h rows q.ints b
+    by_case false h = subst (λ (n : ℕ). takes rows n) (sym x.keeps.ints) (some h lits rows (subst (λ (z : List AtomKind). AreRowsOf z lits rows) (x.keeps.unsplit h) o))
+
+pub few_learned : (e : Explained) (budget : ℕ) (q : PlainProblem) (t : List Entry) (ls : List Line) (r : PlainProblem) (u : List Entry) (ms : List Line) (a : Aim) → InSearch a budget q t ls → IsLearned e budget q t ls r u ms → IfGoes (outcome_of e) (length r.clauses < 2 ^ 32)
+few_learned Empty budget q t ls r u ms a x h = tt
+few_learned Cut budget q t ls r u ms a x h = (h a x).0.keeps.few_clauses
+few_learned SpentThere budget q t ls r u ms a x h = tt
+few_learned NoMemory budget q t ls r u ms a x h = tt

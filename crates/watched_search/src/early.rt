@@ -1,0 +1,100 @@
+// The solver of rows is asked before all atoms have values, about the rows of the trail so far.
+ghost use Rattle.std.specs.Prelude.{◌≡◌, List, true, OnOk, IfOk};
+ghost use Rattle.lin_rows.specs.Rows.{Row as PlainRow};
+ghost use Rattle.proof_lines.specs.declared.clause.Lit.{Lit as PlainLit};
+ghost use Rattle.sat_core.specs.Answers.{AreRowsOf};
+ghost use Rattle.theory_api.specs.Laws.{all_below};
+ghost use Rattle.watched_search.specs.Early.{AreHeld, IsSaid};
+
+use items::Items;
+use proof_lines::{AtomKind, Lit, Problem, RowStep};
+use sat_core::drawing::{Drawn, pick, row_of_sign};
+use search_logs::Trail;
+use std::alloc::{AllocError, Global};
+use theory_api::{Theory, TheoryAnswer};
+
+/// Literals of a trail whose rows contradict each other, by these steps.
+#[derive(Drop)]
+pub struct Clash {
+    pub used: Items<Lit>,
+    pub steps: Items<RowStep>,
+}
+
+/// What a solver says of some rows, as far as the search goes on from it before all atoms have values.
+#[derive(Drop)]
+pub enum Said {
+    /// These numbers satisfy them.
+    Model(Items<i128>),
+    /// They contradict each other.
+    Clash(Clash),
+    /// Neither: it would split whole numbers, or stop.
+    Nothing,
+}
+
+// Adds a literal and its row, where the trail has the literal and its atom stands for a row.
+fn draw_lit(
+    alloc: Global,
+    problem: &Problem,
+    trail: &Trail,
+    drawn: &mut Drawn,
+    lit: Lit,
+) -> Result<(), AllocError>
+    requires { AreHeld problem.now.atoms trail.now drawn.old.lits drawn.old.rows }
+    ensures { OnOk result (AreHeld problem.now.atoms trail.now drawn.new.lits drawn.new.rows) }
+{
+    if !trail.holds(lit) {
+        return Ok(());
+    }
+    match problem.atoms.get(lit.atom as usize) {
+        Some(AtomKind::Row(row)) => {
+            let row = row_of_sign(alloc, row, lit.positive)?;
+            drawn.lits.push(lit)?;
+            drawn.rows.push(row)?;
+        }
+        _ => {}
+    }
+    Ok(())
+}
+
+// Those of some literals that a trail has and whose atoms stand for rows, and their rows.
+fn draw_held(
+    alloc: Global,
+    problem: &Problem,
+    trail: &Trail,
+    lits: &[Lit],
+) -> Result<Drawn, AllocError>
+    ensures { IfOk result (λ d. AreHeld problem.now.atoms trail.now d.lits d.rows) }
+{
+    let mut drawn = Drawn {
+        lits: Items::new(alloc),
+        rows: Items::new(alloc),
+    };
+    for lit in lits {
+        draw_lit(alloc, problem, trail, &mut drawn, *lit)?;
+    }
+    Ok(drawn)
+}
+
+/// Asks a solver about the rows of literals that a trail has.
+pub(crate) fn ask_early<T: Theory>(
+    alloc: Global,
+    theory: &mut T,
+    problem: &Problem,
+    trail: &Trail,
+    lits: &[Lit],
+) -> Result<Said, AllocError>
+    requires taken { (lits : List PlainLit) (rows : List PlainRow) → AreRowsOf problem.now.atoms lits rows → all_below problem.now.ints rows ≡ true → T.takes rows problem.now.ints }
+    ensures { IfOk result (λ said. IsSaid said problem.now trail.now) }
+{
+    problem.law_fits();
+    let drawn = draw_held(alloc, problem, trail, lits)?;
+    match theory.check(alloc, drawn.rows.as_slice(), problem.ints) {
+        TheoryAnswer::Model(numbers) => Ok(Said::Model(numbers)),
+        TheoryAnswer::Conflict { used, steps } => {
+            let used = pick(alloc, drawn.lits.as_slice(), used.as_slice())?;
+            Ok(Said::Clash(Clash { used, steps }))
+        }
+        TheoryAnswer::Memory => Err(AllocError),
+        _ => Ok(Said::Nothing),
+    }
+}
