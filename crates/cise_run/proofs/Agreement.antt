@@ -1,6 +1,7 @@
 -- Two answers to the same words and bytes agree.
 use Rattle.std.proofs.Common.{◌≡◌, ℕ, ◌≤◌, ◌<◌, true, List, Option, Some, None, refl, sym, subst, ap, ◌∙◌, inl, inr, arith}
 use Rattle.std.specs.Prelude.{Result, Ok, Err}
+use Rattle.answers.specs.Ending.{IsOne}
 use Rattle.spec_core.specs.Specification.{Specification}
 use Rattle.spec_core.specs.Typed.{is_specification}
 use Rattle.spec_reader.specs.Form.{TreeForm}
@@ -19,7 +20,6 @@ use Rattle.cise_run.specs.declared.words.Task.TheVariants.{Check, Verify, Upgrad
 use Rattle.cise_run.specs.declared.words.Job.{Job}
 use Rattle.cise_run.specs.declared.words.Job.TheVariants.{OfSpec, Sample}
 use Rattle.cise_run.specs.Words.{job_of}
-use Rattle.cise_run.specs.Ending.{IsOne}
 use Rattle.cise_run.specs.commands.Verify.{status_said, text_said, IsVerdict}
 use Rattle.cise_run.specs.commands.Upgrade.{IsUpgraded}
 use Rattle.cise_run.specs.Answer.{IsOutcome, IsAnswerOf, IsAnswerFor, IsAnswerTo, IsAnswer, AgreeOf, Agree}

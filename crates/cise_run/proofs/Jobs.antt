@@ -1,13 +1,12 @@
 -- The numbers in the jobs that words ask for.
-use Rattle.std.proofs.Common.{◌≡◌, ℕ, ◌<◌, ◌≤◌, Bool, true, false, ◌&&◌, List, [], ◌∷◌, length, get_or, map, Option, Some, None, IfSome, refl, sym, ap, ◌∙◌, arith}
-use Rattle.std.specs.Prelude.{if◌then◌else◌, nat_le, codes}
+use Rattle.std.proofs.Common.{◌≡◌, ℕ, ◌<◌, ◌≤◌, Bool, true, false, List, [], ◌∷◌, length, get_or, map, Option, Some, None, IfSome, refl, sym, ap, ◌∙◌, arith}
+use Rattle.std.specs.Prelude.{if◌then◌else◌, codes}
 use Rattle.std.specs.Str.{bytes_eq}
 use Rattle.word_cut.specs.Whole.{size_read}
 use Rattle.report_lines.specs.Heads.{most_budget}
-use Rattle.cise_run.specs.declared.words.Task.{Task}
 use Rattle.cise_run.specs.declared.words.Task.TheVariants.{Check, Verify, Upgrade, Replay, Simulate, Suggest, Spell}
 use Rattle.cise_run.specs.declared.words.Job.{Job}
-use Rattle.cise_run.specs.declared.words.Job.TheVariants.{OfSpec, Sample}
+use Rattle.cise_run.specs.declared.words.Job.TheVariants.{OfSpec}
 use Rattle.cise_run.specs.Words.{default_budget, most_sample, is_within, within, number_in, check_within, sample_of, job_of_two, job_of_three, job_of_four, job_of, is_job}
 
 abbrev IsAllowed : Option Job → Type 0

@@ -1,5 +1,5 @@
 -- What the layers below promise of reports, as the proofs of the headline use it.
-use Rattle.std.proofs.Common.{◌≡◌, ◌≤◌, ℕ, true, List, length, Option, Some, None}
+use Rattle.std.proofs.Common.{◌≡◌, ◌≤◌, ℕ, true, List, length, Some, None}
 use Rattle.std.specs.Prelude.{Ok, slice_get}
 use Rattle.spec_core.specs.Specification.{Specification}
 use Rattle.spec_core.specs.State.{Listing, reads}

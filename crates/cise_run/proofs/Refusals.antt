@@ -1,5 +1,5 @@
 -- Bytes that are no specification are refused for one reason; where it is a fault of their tree, it is the least.
-use Rattle.std.proofs.Common.{◌≡◌, ◌↔◌, ℕ, true, List, Option, Some, None, IfSome, sym, subst, inl, inr}
+use Rattle.std.proofs.Common.{◌≡◌, ◌↔◌, ℕ, true, List, Option, Some, None, sym, subst, inl, inr}
 use Rattle.std.specs.Io.KnownBytes.{Appends}
 use Rattle.spec_reader.specs.Form.{TreeForm}
 use Rattle.typing_rules.specs.Fault.{Fault}

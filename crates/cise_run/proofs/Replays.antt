@@ -1,9 +1,8 @@
--- What a second input comes to, of the bytes that its source tells.
-use Rattle.std.proofs.Common.{◌≡◌, ℕ, zero, suc, ◌<◌, Bool, true, false, List, [], ◌∷◌, length, Option, None, Some, IfSome, refl, subst, arith}
+-- What a schedule comes to in a replay.
+use Rattle.std.proofs.Common.{◌≡◌, ℕ, ◌<◌, Bool, true, false, List, length, refl, arith}
 use Rattle.std.specs.Prelude.{nat_le, if◌then◌else◌, Ok}
 use Rattle.std.proofs.lemmas.Bool.Decides.{nat_tests}
 use Rattle.spec_core.specs.Specification.{Specification}
-use Rattle.spec_from_bytes.specs.Reading.{Tells}
 use Rattle.schedule_json.specs.Checks.{Checked}
 use Rattle.schedule_json.specs.declared.schedule.Schedule.{Schedule}
 use Rattle.schedule_json.specs.Schedules.{schedule_from}
@@ -14,23 +13,6 @@ use Rattle.replay_text.specs.Text.{status_of}
 use Rattle.replay_text.specs.Course.{course}
 use Rattle.replay_text.specs.Recorded.{status_read, schedule_status}
 use Rattle.cise_run.specs.commands.Replay.{IsReplayed}
-
--- some bytes that are more than so many
-more_than : (n : ℕ) → (bytes : List ℕ) × (n < length bytes)
-more_than zero = (0 ∷ [], omega arith)
-more_than (suc n) = let some = more_than n in (0 ∷ some.0, omega (arith, some.1))
-
--- what is said of bytes that are too many is said of those that a source gives
-pub long_told : (n : ℕ) (P : List ℕ → Type 0) (told : Option (List ℕ)) → IfSome told (λ bytes. n < length bytes)
-    → ((bytes : List ℕ) → n < length bytes → P bytes) → (bytes : List ℕ) × Tells told bytes × P bytes
-long_told n P None h f = let some = more_than n in (some.0, tt, f some.0 some.1)
-long_told n P (Some bytes) h f = (bytes, refl, f bytes h)
-
--- what is said of the bytes that were read is said of those that the source tells
-pub read_told : (P : List ℕ → Type 0) (told : Option (List ℕ)) (bytes : List ℕ) → IfSome told (λ given. bytes ≡ given) → P bytes
-    → (given : List ℕ) × Tells told given × P given
-read_told P None bytes h p = (bytes, tt, p)
-read_told P (Some given) bytes h p = (given, refl, subst P h p)
 
 pub too_many : (n : ℕ) → most_schedule_bytes < n → nat_le n most_schedule_bytes ≡ false
 too_many n h = grind (arith, nat_tests)

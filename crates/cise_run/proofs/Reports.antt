@@ -1,5 +1,5 @@
 -- What a report says of its specification, where it was written by a check or verified.
-use Rattle.std.proofs.Common.{◌≡◌, ℕ, ◌≤◌, true, List, Option, Some, None, refl, sym, subst, ap, ◌∙◌, inl, inr, arith}
+use Rattle.std.proofs.Common.{◌≡◌, ℕ, ◌≤◌, true, List, refl, sym, subst, ap, ◌∙◌, inl, inr, arith}
 use Rattle.std.specs.Prelude.{Result, Ok, Err, nat_le}
 use Rattle.std.proofs.lemmas.Bool.{and_parts}
 use Rattle.std.proofs.lemmas.Bool.Decides.{nat_tests}
@@ -9,8 +9,6 @@ use Rattle.spec_reader.specs.Form.{TreeForm}
 use Rattle.obligation_list.specs.Obligations.{obligations_of}
 use Rattle.obligation_list.specs.Breaking.{Safe}
 use Rattle.report_lines.specs.declared.head.Tally.{Tally}
-use Rattle.report_lines.specs.declared.head.Outcome.TheVariants.{Accepted}
-use Rattle.proof_report.specs.declared.place.PartialWitness.{PartialWitness}
 use Rattle.proof_report.specs.Verdicts.{refuted, obligation_at}
 use Rattle.report_lines.specs.Heads.{most_budget}
 use Rattle.report_text.specs.Showing.{report_on}
@@ -23,7 +21,7 @@ use Rattle.spec_from_bytes.specs.Refusal.{IsReadAs, IsSpecificationOf}
 use Rattle.cise_run.specs.Words.{is_within}
 use Rattle.cise_run.specs.commands.Check.{IsReport}
 use Rattle.cise_run.specs.commands.Verify.{status_said, IsVerdict}
-use Rattle.cise_run.specs.Headline.{IsRight, IsRefutedRightly, is_outcome}
+use Rattle.cise_run.specs.Headline.{IsRefutedRightly, is_outcome}
 use Rattle.cise_run.proofs.Laws.{TypesWell, OfChecks, OfReports}
 use Rattle.cise_run.proofs.Outcomes.{accepted_zero, good_at}
 

@@ -1,6 +1,6 @@
--- What a schedule comes to in a simulation, of the bytes that a source tells.
-use Rattle.std.proofs.Common.{◌≡◌, ℕ, ◌<◌, Bool, true, false, List, length, refl, arith}
-use Rattle.std.specs.Prelude.{nat_le, if◌then◌else◌, Ok}
+-- What a schedule comes to in a simulation.
+use Rattle.std.proofs.Common.{ℕ, ◌<◌, List, length, refl, arith}
+use Rattle.std.specs.Prelude.{nat_le, Ok}
 use Rattle.spec_core.specs.Specification.{Specification}
 use Rattle.schedule_json.specs.Checks.{Checked}
 use Rattle.schedule_json.specs.declared.schedule.Schedule.{Schedule}

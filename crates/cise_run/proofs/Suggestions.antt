@@ -1,11 +1,11 @@
 -- What a suggestion that was written says.
-use Rattle.std.proofs.Common.{◌≡◌, ℕ, zero, suc, true, false, List, Option, Some, None, IfSome, refl, sym, ◌∙◌, ap, subst, inl, inr}
+use Rattle.std.proofs.Common.{◌≡◌, ℕ, zero, suc, true, false, List, Option, Some, None, refl, sym, ◌∙◌, ap, subst, inl, inr}
 use Rattle.std.specs.Io.KnownBytes.{Appends}
 use Rattle.spec_core.specs.Specification.{Specification}
 use Rattle.spec_from_bytes.specs.Refusal.{IsSpecificationOf}
 use Rattle.suggest.specs.declared.answer.PairAnswer.{PairAnswer}
-use Rattle.suggest.specs.Pairs.{pairs_of, IsEnough}
-use Rattle.suggest.specs.Answers.{AreAnswers, counted, is_unknown, is_needed}
+use Rattle.suggest.specs.Pairs.{pairs_of}
+use Rattle.suggest.specs.Answers.{AreAnswers, counted, is_unknown}
 use Rattle.suggest.specs.Theorem.{IsRight}
 use Rattle.cise_run.specs.declared.words.Job.{Job}
 use Rattle.cise_run.specs.declared.words.Job.TheVariants.{OfSpec, Sample}

@@ -1,10 +1,12 @@
 -- An upgrade says what a verification says.
-use Rattle.std.proofs.Common.{◌≡◌, ℕ, ◌≤◌, ◌<◌, List, [], ◌∷◌, length, take, Option, None, Some, inl, inr, refl, sym, ap, subst, ◌∙◌, decimal, arith}
+use Rattle.std.proofs.Common.{◌≡◌, ℕ, ◌≤◌, ◌<◌, List, [], ◌∷◌, length, take, Option, None, Some, inl, inr, refl, sym, subst, ◌∙◌, decimal, arith}
 use Rattle.std.specs.Prelude.{Ok, Err, codes}
-use Rattle.std.specs.Io.KnownBytes.{Keeps, Appends}
+use Rattle.std.specs.Io.KnownBytes.{Appends}
 use Rattle.byte_ports.specs.Faults.{IsFault}
+use Rattle.answers.specs.Told.{Tells}
+use Rattle.answers.specs.Ending.{IsOne, IsFrontOf, IsBroken, Ends}
+use Rattle.answers.proofs.Endings.{Ends-one}
 use Rattle.spec_core.specs.Specification.{Specification}
-use Rattle.spec_from_bytes.specs.Reading.{Tells}
 use Rattle.report_lines.specs.declared.head.Tally.{Tally}
 use Rattle.report_lines.specs.declared.head.Outcome.{Outcome}
 use Rattle.report_lines.specs.declared.head.Outcome.TheVariants.{Accepted, Rejected, Undecided}
@@ -18,11 +20,9 @@ use Rattle.report_verifier.specs.Verified.{most_report_bytes, IsVerified, IsAcce
 use Rattle.report_upgrader.specs.declared.refused.UpgradeRefused.{UpgradeRefused}
 use Rattle.report_upgrader.specs.declared.refused.UpgradeRefused.TheVariants as upgrading
 use Rattle.report_upgrader.specs.Upgrading.{IsUpgradedText, IsFront, IsUpgradedFrom, IsUnwritten}
-use Rattle.cise_run.specs.Ending.{IsOne, IsFrontOf, IsFrontOfOne, IsBroken, Ends}
 use Rattle.cise_run.specs.Answer.{EndsWith}
 use Rattle.cise_run.specs.commands.Verify.{kind_word, verified_text, refused_report, text_said, IsVerdict}
-use Rattle.cise_run.specs.commands.Upgrade.{IsUpgradedReport, IsUpgraded, IsUpgradeFront}
-use Rattle.cise_run.proofs.Endings.{Ends-one}
+use Rattle.cise_run.specs.commands.Upgrade.{IsUpgraded, IsUpgradeFront}
 
 -- what `verify` says of a report that is accepted
 pub verdict_on : (d : Specification) (bytes : List ℕ) (tally : Tally) → length bytes ≤ most_report_bytes → IsAccepted d bytes tally → IsVerdict d bytes (status_of (outcome_of tally)) (verified_text tally)

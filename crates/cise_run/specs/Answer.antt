@@ -1,17 +1,17 @@
 -- What the program answers: which status and which text belong to its words and to the bytes of its inputs.
 use Rattle.std.specs.Prelude.{◌⊎◌, ℕ, List, [], ◌∷◌, Option, None, Some, codes}
 use Rattle.std.specs.Io.KnownBytes.{Appends}
+use Rattle.answers.specs.Told.{Tells}
+use Rattle.answers.specs.Ending.{IsOne, IsFrontOf, IsBroken, Ends}
 use Rattle.spec_core.specs.Specification.{Specification}
 use Rattle.spec_reader.specs.Form.{TreeForm}
 use Rattle.spec_from_bytes.specs.Lines.{line}
 use Rattle.spec_from_bytes.specs.Refusal.{IsReadAs, Refusal, IsRefusal, refusal_text}
-use Rattle.spec_from_bytes.specs.Reading.{Tells}
 use Rattle.cise_run.specs.declared.words.Task.{Task}
 use Rattle.cise_run.specs.declared.words.Task.TheVariants.{Check, Verify, Upgrade, Replay, Simulate, Suggest, Spell}
 use Rattle.cise_run.specs.declared.words.Job.{Job}
 use Rattle.cise_run.specs.declared.words.Job.TheVariants.{OfSpec, Sample}
 use Rattle.cise_run.specs.Words.{job_of}
-use Rattle.cise_run.specs.Ending.{IsOne, IsFrontOf, IsBroken, Ends}
 use Rattle.cise_run.specs.commands.Check.{IsReport, IsReportFront}
 use Rattle.cise_run.specs.commands.Verify.{IsVerdict, IsVerdictFront}
 use Rattle.cise_run.specs.commands.Upgrade.{IsUpgraded, IsUpgradeFront}

@@ -1,5 +1,5 @@
--- What status 0 of a check or of a verified report says, what a refutation says, what a replay or a simulation of a safe specification
--- keeps, what a suggestion says, for what bytes are refused, and which statuses may come at all.
+-- What status 0 of a check, or of a report that is verified or upgraded, says, what a refutation says, what a replay or a simulation of a
+-- safe specification keeps, what a suggestion says, for what bytes are refused, and which statuses may come at all.
 use Rattle.std.specs.Prelude.{◌≡◌, ◌⊎◌, ℕ, ◌≤◌, length, Bool, true, ◌||◌, ◌==◌, List, Option, None, Some, IfSome, Ok, slice_get}
 use Rattle.std.specs.Io.KnownBytes.{Appends}
 use Rattle.spec_core.specs.Specification.{Specification}

@@ -1,7 +1,4 @@
 pub mod Words
-pub mod Ending
 pub mod commands
 pub mod Answer
 pub mod Headline
-pub mod Replayed
-pub mod Simulated

@@ -1,10 +1,10 @@
 // What the answers of the program say, and that two answers to the same words and bytes agree.
 ghost use Rattle.std.specs.Prelude.{◌≡◌, ℕ, true, List, Option, Some, IfSome};
 ghost use Rattle.std.specs.Io.KnownBytes.{Appends};
+ghost use Rattle.answers.specs.Ending.{IsOne};
 ghost use Rattle.spec_from_bytes.specs.Refusal.{Refusal, IsRefusal, refusal_text};
 ghost use Rattle.cise_run.specs.declared.words.Task.{Task};
 ghost use Rattle.cise_run.specs.Words.{job_of, reads_spec, judges, is_upgrade, is_suggestion};
-ghost use Rattle.cise_run.specs.Ending.{IsOne};
 ghost use Rattle.cise_run.specs.Answer.{IsAnswer, IsAnswerOf, Agree};
 ghost use Rattle.cise_run.specs.Headline.{IsProved, is_outcome, Refutes, UpgradesAlike, SuggestsRightly, RefusesRightly};
 
@@ -15,8 +15,8 @@ use spec_from_bytes::law_least_refusal;
 use suggest::law_least_pairs;
 use typing_rules::law_typed_is_well_formed;
 
-/// Where a check, or the verification of a report, is answered with status 0, the bytes are a specification that is safe and
-/// converges. Where it is answered with the outcome of verdicts, each refutation breaks its obligation. And what is answered to a
+/// Where a check, or the verification or the upgrade of a report, is answered with status 0, the bytes are a specification that is safe
+/// and converges. Where it is answered with the outcome of verdicts, each refutation breaks its obligation. And what is answered to a
 /// suggestion is right.
 pub fn law_headline()
     ensures proved { (words : List (List ℕ)) (spec extra : Option (List ℕ)) (text : List ℕ)
@@ -37,7 +37,8 @@ pub fn law_headline()
     law_least_pairs();
 }
 
-/// Two answers to the same words and bytes agree: they are the same, but for the verdicts of a report.
+/// Two answers to the same words and bytes agree: they are the same, but for the verdicts of a report, the blocks of a suggestion and the
+/// counts of a sample.
 pub fn law_answers_agree()
     ensures { (words : List (List ℕ)) (spec extra : List ℕ) (status other_status : ℕ) (text other_text : List ℕ)
         → IsAnswer words (Some spec) (Some extra) status text → IsAnswer words (Some spec) (Some extra) other_status other_text

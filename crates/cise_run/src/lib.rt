@@ -1,22 +1,20 @@
 // The program but for its edge: from words, two sources and a sink to a status.
 //
 // `run::run` is the whole, and its clauses say what each status means. `words` has the accepted words, `commands` a file for each
-// command, which writes its text to the sink and answers the status; `ending` is what every writer of a text ends with, `outcome` the
-// status that verdicts come to. `law` says what the answers say of a specification, and that two answers to the same words and bytes
-// agree.
+// command, which writes its text to the sink and answers the status, `outcome` the status that verdicts come to. `law` says what the
+// answers say of a specification, and that two answers to the same words and bytes agree.
 //
-// It stands on `spec_from_bytes`, which reads the specification, on `check_run`, which decides its obligations and writes the report, on
-// `report_verifier`, which verifies one, on `report_upgrader`, which upgrades one, on `replay_text` and `simulate_text`, which carry a
-// schedule out, on `suggest`, which finds the pairs that must conflict, and on `executions`, whose theorem makes a check that ends with
-// status 0 a proof of convergence. The definitions stand in specs/, in this order: Words (which words are accepted, what they
-// ask for, and which inputs that reads), Ending (how the writing of a text ends), commands (what each command answers, in a file for
-// each), Answer (which status and text belong to which words and bytes), Headline (what status 0 says, what a refutation says, what a
-// replay or a simulation of a safe specification keeps, what a suggestion says, for what bytes are refused, and which statuses may come).
-// Replayed and Simulated mirror the code.
+// It stands on `answers`, which says how the writing of a text ends and answers the bytes of a source, on `spec_from_bytes`, which reads the
+// specification, on `check_run`, which decides its obligations and writes the report, on `report_verifier`, which verifies one, on
+// `report_upgrader`, which upgrades one, on `replay_text` and `simulate_text`, which carry a schedule out, on `suggest`, which finds the
+// pairs that must conflict, and on `executions`, whose theorem makes a check that ends with status 0 a proof of convergence. The definitions
+// stand in specs/, in this order: Words (which words are accepted, what they ask for, and which inputs that reads), commands (what each
+// command answers, in a file for each), Answer (which status and text belong to which words and bytes), Headline (what status 0 says, what a
+// refutation says, what a replay or a simulation of a safe specification keeps, what a suggestion says, for what bytes are refused, and which
+// statuses may come).
 #![tactic(auto)]
 
 mod commands;
-mod ending;
 mod law;
 mod outcome;
 pub mod run;

@@ -1,11 +1,12 @@
 // The program but for its edge: from words, sources and a sink to a status.
 ghost use Rattle.std.specs.Prelude.{◌≡◌, ◌⊎◌, ◌<◌, true, false, List, ℕ, Option, Some, map, string_bytes, IfSome};
 ghost use Rattle.byte_ports.specs.Faults.{IsFault};
+ghost use Rattle.answers.specs.Told.{Tells};
+ghost use Rattle.answers.specs.Ending.{Ends};
 ghost use Rattle.spec_reader.specs.Form.{tree_of};
-ghost use Rattle.spec_from_bytes.specs.Reading.{Tells, IsReadingOf};
+ghost use Rattle.spec_from_bytes.specs.Reading.{IsReadingOf};
 ghost use Rattle.cise_run.specs.declared.words.Job.TheVariants.{OfSpec};
 ghost use Rattle.cise_run.specs.Words.{job_of, is_task, judges, is_replay, is_upgrade, is_simulation, is_suggestion, takes_extra, reads_spec, reads_extra, IsInputFault};
-ghost use Rattle.cise_run.specs.Ending.{Ends};
 ghost use Rattle.cise_run.specs.Answer.{IsOutcome, IsOutcomeFront, IsAnswerOf, IsFrontOfAnswer, IsAnswerTo, IsFrontTo, EndsWith, IsAnswered, IsStopped};
 ghost use Rattle.cise_run.specs.Headline.{IsProved, is_outcome, Refutes, IsReplayedSafely, IsSimulatedSafely, UpgradesAlike, SuggestsRightly, RefusesRightly, IsComplete};
 
@@ -17,14 +18,19 @@ use crate::commands::spell::spell_tree;
 use crate::commands::suggestion::suggest_pairs;
 use crate::commands::upgrade::upgrade;
 use crate::commands::verify::verify;
-use crate::ending::{MEMORY, READ_FAULT, SPECIFICATION, WORDS, write_answer};
 use crate::law::{law_headline, law_least_fault_is_answered, law_upgrades_are_verified};
 use crate::words::{Job, Task, job_asked};
+use answers::{MEMORY, READ_FAULT, Stopped, write_answer};
 use byte_ports::{Sink, Source};
 use spec_core::Spec;
-use spec_from_bytes::{Reading, Stopped, read_specification};
+use spec_from_bytes::{Reading, read_specification};
 use spec_reader::Tree;
 use std::alloc::Global;
+
+/// The words aren't accepted.
+const WORDS: u8 = 2;
+/// The bytes are no specification.
+const SPECIFICATION: u8 = 3;
 
 /// Does a task for a specification and its tree.
 fn do_task<E: Source, K: Sink>(

@@ -2,16 +2,16 @@
 //
 // The contract of a solver says what each answer promises; here it is seen which answer comes, and that it isn't always want of
 // memory. They stand in a crate of their own so that the solvers stay small. `asked` makes rows and asks the elimination solver,
-// `answers` has single systems worked by hand, `systems` a table of small systems with what another program says of them, and
+// `singles` has single systems worked by hand, `systems` a table of small systems with what another program says of them, and
 // `searches` gives systems to the search. `differences` asks the solver of difference rows, and `bounds` has systems for it.
 #![tactic(auto)]
 
-#[cfg(test)]
-mod answers;
 pub mod asked;
 #[cfg(test)]
 mod bounds;
 pub mod differences;
 pub mod searches;
+#[cfg(test)]
+mod singles;
 #[cfg(test)]
 mod systems;

@@ -1,3 +1,3 @@
 pub mod Reasons
 mod Least
-mod Long
+mod Unread

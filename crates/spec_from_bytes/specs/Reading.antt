@@ -1,5 +1,6 @@
 -- What is answered of some bytes, and of a source that gives them.
-use Rattle.std.specs.Prelude.{◌≡◌, ℕ, List, Option, None, Some, Ok, Err}
+use Rattle.std.specs.Prelude.{◌≡◌, ℕ, List, Option, Ok, Err}
+use Rattle.answers.specs.Told.{Tells}
 use Rattle.spec_reader.specs.Form.{TreeForm, tree_of}
 use Rattle.typing_rules.specs.Fault.{Fault}
 use Rattle.typing_rules.specs.Items.{typing}
@@ -26,11 +27,6 @@ SaysRefusal bytes text = (why : Refusal) × IsRefusal bytes why × (text ≡ ref
 abbrev pub IsReadingOf : List ℕ → Reading → Type 0
 IsReadingOf bytes (reading.Specified tree d) = IsReadAs bytes (tree_of tree) d
 IsReadingOf bytes (reading.Refused text) = SaysRefusal bytes text.items
-
--- the bytes that a source had left, where it tells them
-abbrev pub Tells : Option (List ℕ) → List ℕ → Type 0
-Tells None bytes = Unit {0}
-Tells (Some told) bytes = told ≡ bytes
 
 -- what the bytes that a source gives are
 abbrev pub IsReadingFrom : Option (List ℕ) → Reading → Type 0

@@ -6,9 +6,9 @@
 // and `law` says that bytes are one specification, or refused for one reason, and never both, and that this is the least fault of a
 // tree, where a fault is the reason.
 //
-// It stands on the layers of the language, from `word_cut` to `spec_types`. The definitions stand in specs/, in this order: Lines
-// (a line of words), Refusal (which specification some bytes are, why they are none, and the text that says so), Reading (what a
-// call answers of bytes and of a source).
+// It stands on the layers of the language, from `word_cut` to `spec_types`, and on `answers`, which says which bytes a source tells.
+// The definitions stand in specs/, in this order: Lines (a line of words), Refusal (which specification some bytes are, why they are
+// none, and the text that says so), Reading (what a call answers of bytes and of a source).
 #![tactic(auto)]
 
 mod faults;
@@ -19,4 +19,4 @@ pub mod texts;
 pub use law::{
     law_least_refusal, law_one_refusal, law_one_specification, law_refused_or_specified,
 };
-pub use reading::{Reading, SPECIFICATION_LIMIT, Stopped, read_bytes, read_specification};
+pub use reading::{Reading, SPECIFICATION_LIMIT, read_bytes, read_specification};

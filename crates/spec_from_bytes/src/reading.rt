@@ -11,6 +11,7 @@ ghost use Rattle.spec_from_bytes.specs.Reading.{SaysFault, IsTyped, SaysRefusal,
 
 use crate::faults::{limit_text, named_text};
 use crate::texts::{push, push_placed};
+use answers::Stopped;
 use byte_ports::{ReadRefused, Source, read_up_to};
 use spec_core::Spec;
 use spec_reader::{SyntaxRefused, Tree, parse};
@@ -129,14 +130,6 @@ pub fn read_bytes(alloc: Global, bytes: &[u8]) -> Result<Reading, AllocError>
 
 /// The most bytes of a specification.
 pub const SPECIFICATION_LIMIT: usize = 65_536;
-
-/// Why a source gave nothing to read.
-#[derive(Clone, Copy, Debug)]
-pub enum Stopped {
-    /// The source failed.
-    Fault,
-    Memory,
-}
 
 /// The text where there are too many bytes.
 fn too_long(alloc: Global) -> Result<Vec<u8>, AllocError>

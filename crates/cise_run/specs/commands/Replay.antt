@@ -1,8 +1,8 @@
 -- What `replay` answers for a specification and the bytes of a schedule.
 use Rattle.std.specs.Prelude.{◌≡◌, ℕ, List}
+use Rattle.answers.specs.Ending.{IsFrontOfOne}
 use Rattle.spec_core.specs.Specification.{Specification}
 use Rattle.replay_text.specs.Recorded.{schedule_status, schedule_text}
-use Rattle.cise_run.specs.Ending.{IsFrontOfOne}
 
 -- The text of the replay, or of the refusal of the schedule, and its status.
 pub record IsReplayed (d : Specification) (bytes : List ℕ) (status : ℕ) (text : List ℕ) : Type 0 where

@@ -1,5 +1,6 @@
 -- What `sample` answers: the verdicts on a generated specification, counted.
 use Rattle.std.specs.Prelude.{◌≡◌, ℕ, List, [], ◌∷◌, ◌++◌, codes, decimal}
+use Rattle.answers.specs.Ending.{IsFrontOfOne}
 use Rattle.report_lines.specs.declared.head.Tally.{Tally}
 use Rattle.proof_report.specs.Verdicts.{obligation_count}
 use Rattle.proof_report.specs.Events.{outcome_of}
@@ -8,7 +9,6 @@ use Rattle.spec_from_bytes.specs.Lines.{line}
 use Rattle.check_run.specs.Reports.{IsDecided, status_of}
 use Rattle.sample_specs.specs.Sample.{sample}
 use Rattle.cise_run.specs.Words.{default_budget}
-use Rattle.cise_run.specs.Ending.{IsFrontOfOne}
 
 -- which sample, how many obligations it has, how many verdicts of each kind, and what they come to
 abbrev pub sample_text : ℕ → Tally → List ℕ

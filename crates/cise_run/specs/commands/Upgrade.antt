@@ -1,12 +1,12 @@
 -- What `upgrade` answers for a specification and the bytes of a report.
 use Rattle.std.specs.Prelude.{◌≡◌, ◌⊎◌, ℕ, ◌≤◌, List, length}
+use Rattle.answers.specs.Ending.{IsFrontOfOne}
 use Rattle.spec_core.specs.Specification.{Specification}
 use Rattle.report_lines.specs.declared.head.Tally.{Tally}
 use Rattle.proof_report.specs.Events.{outcome_of}
 use Rattle.check_run.specs.Reports.{status_of}
 use Rattle.report_verifier.specs.Verified.{most_report_bytes}
 use Rattle.report_upgrader.specs.Upgrading.{IsUpgradedText}
-use Rattle.cise_run.specs.Ending.{IsFrontOfOne}
 use Rattle.cise_run.specs.commands.Verify.{IsVerdict}
 
 -- The text of the upgraded report, where the report stands, and the status that its verdicts come to: 0 where all are proved, 1 where one is

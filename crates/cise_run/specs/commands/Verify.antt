@@ -1,5 +1,6 @@
 -- What `verify` answers for a specification and the bytes of a report.
 use Rattle.std.specs.Prelude.{◌≡◌, ℕ, List, [], ◌∷◌, ◌++◌, Option, None, Some, Result, Ok, Err, codes, decimal}
+use Rattle.answers.specs.Ending.{IsFrontOfOne}
 use Rattle.spec_core.specs.Specification.{Specification}
 use Rattle.report_lines.specs.declared.head.Tally.{Tally}
 use Rattle.proof_report.specs.declared.kind.ReportKind.{ReportKind}
@@ -11,7 +12,6 @@ use Rattle.check_run.specs.Reports.{status_of}
 use Rattle.report_verifier.specs.declared.refused.VerifyRefused.{VerifyRefused}
 use Rattle.report_verifier.specs.declared.refused.VerifyRefused.TheVariants as refused
 use Rattle.report_verifier.specs.Verified.{IsVerified}
-use Rattle.cise_run.specs.Ending.{IsFrontOfOne}
 
 -- ---- texts
 

@@ -1,48 +1,27 @@
 // The command `replay`: the text of a replayed schedule.
-ghost use Rattle.std.specs.Prelude.{◌≡◌, ◌<◌, ℕ, List, length, IfOk, IsErrOf};
+ghost use Rattle.std.specs.Prelude.{◌≡◌, ◌≤◌, length, IfOk};
 ghost use Rattle.byte_ports.specs.Faults.{IsFault};
 ghost use Rattle.schedule_json.specs.Texts.{most_schedule_bytes};
 ghost use Rattle.cise_run.specs.Answer.{EndsWith};
-ghost use Rattle.cise_run.specs.Replayed.{IsReportOf, IsReportFrom};
 ghost use Rattle.cise_run.specs.commands.Replay.{IsReplayed, IsReplayFront};
 
-use crate::ending::{MEMORY, READ_FAULT, SECOND_INPUT, write_answer};
-use byte_ports::{ReadRefused, Sink, Source, read_up_to};
-use replay_text::{Report, replay_bytes};
+use answers::{Answer, write_answer_from};
+use byte_ports::{Sink, Source};
+use replay_text::replay_bytes;
 use schedule_json::{LONG, MOST_SCHEDULE_BYTES};
 use spec_core::Spec;
-use spec_from_bytes::Stopped;
 use std::alloc::{AllocError, Global};
 
-/// The answer to more bytes than a schedule has.
-fn too_long(alloc: Global, spec: &Spec) -> Result<Report, AllocError>
-    ensures { (bytes : List ℕ) → most_schedule_bytes < length bytes → IfOk result (IsReportOf spec.now bytes) }
+/// The answer to the bytes of a schedule, of which there aren't too many.
+fn replayed(alloc: Global, spec: &Spec, bytes: &[u8]) -> Result<Answer, AllocError>
+    requires { length bytes.now ≤ most_schedule_bytes }
+    ensures { IfOk result (λ answer. IsReplayed spec.now bytes.now answer.status answer.text.items) }
 {
-    let _version = spec.version;
-    let text = Vec::from_slice(alloc, LONG)?;
-    Ok(Report {
-        status: SECOND_INPUT,
-        text,
+    let report = replay_bytes(alloc, spec, bytes)?;
+    Ok(Answer {
+        status: report.status,
+        text: report.text,
     })
-}
-
-/// What the bytes that a source gives come to. Of more bytes than the limit it reads one, and no further.
-fn replay_from<E: Source>(alloc: Global, spec: &Spec, extra: &mut E) -> Result<Report, Stopped>
-    ensures ok { IfOk result (IsReportFrom spec.now (E.left extra.old)) }
-    ensures fault { IsErrOf result Stopped.Fault → IsFault (E.faults extra.old) (E.faults extra.new) }
-{
-    match read_up_to(alloc, extra, MOST_SCHEDULE_BYTES) {
-        Ok(bytes) => match replay_bytes(alloc, spec, bytes.as_slice()) {
-            Ok(report) => Ok(report),
-            Err(_) => Err(Stopped::Memory),
-        },
-        Err(ReadRefused::TooLong) => match too_long(alloc, spec) {
-            Ok(report) => Ok(report),
-            Err(_) => Err(Stopped::Memory),
-        },
-        Err(ReadRefused::Fault) => Err(Stopped::Fault),
-        Err(ReadRefused::Memory) => Err(Stopped::Memory),
-    }
 }
 
 /// Replays the schedule that a source gives: 0 where all steps were accepted and no state broke, 1 where a state broke, 4 where the
@@ -57,9 +36,7 @@ pub fn replay_schedule<E: Source, K: Sink>(
     ensures read_fault { result ≡ 6 → IsFault (E.faults extra.old) (E.faults extra.new) }
     ensures unwritten { result ≡ 6 → out.new ≡ out.old }
 {
-    match replay_from(alloc, spec, extra) {
-        Ok(report) => write_answer(out, report.status, &report.text),
-        Err(Stopped::Fault) => READ_FAULT,
-        Err(Stopped::Memory) => MEMORY,
-    }
+    write_answer_from(alloc, extra, out, MOST_SCHEDULE_BYTES, LONG, |bytes| {
+        replayed(alloc, spec, bytes)
+    })
 }

@@ -1,16 +1,16 @@
 // The command `sample`: the verdicts on a generated specification, counted.
 ghost use Rattle.std.specs.Prelude.{◌≡◌, ◌≢◌, ◌++◌, [], ◌∷◌, true, IfOk, codes, decimal};
+ghost use Rattle.answers.specs.Ending.{Ends};
 ghost use Rattle.proof_report.specs.Verdicts.{obligation_count};
 ghost use Rattle.proof_report.specs.Texts.{end_text};
 ghost use Rattle.spec_from_bytes.specs.Lines.{line};
 ghost use Rattle.check_run.specs.Reports.{IsDecided};
 ghost use Rattle.cise_run.specs.Words.{default_budget, most_sample, is_within};
-ghost use Rattle.cise_run.specs.Ending.{Ends};
 ghost use Rattle.cise_run.specs.commands.Sample.{IsSampled, IsSampleFront};
 
-use crate::ending::{Answer, MEMORY, write_answer};
 use crate::outcome::status_of;
 use crate::words::DEFAULT_BUDGET;
+use answers::{Answer, MEMORY, write_answer};
 use byte_ports::Sink;
 use check_run::decide_all;
 use obligation_list::list;

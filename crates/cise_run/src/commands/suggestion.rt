@@ -1,9 +1,10 @@
 // The command `suggest`: the least set of pairs of operations that have to conflict.
 ghost use Rattle.std.specs.Prelude.{◌≡◌, ◌≢◌};
-ghost use Rattle.cise_run.specs.Ending.{Ends};
+ghost use Rattle.answers.specs.Ending.{Ends};
 ghost use Rattle.cise_run.specs.commands.Suggest.{IsSuggested, IsSuggestionFront, status_by as status_by_of};
 
-use crate::ending::{MEMORY, WRITE_FAULT};
+use crate::words::DEFAULT_BUDGET;
+use answers::{MEMORY, WRITE_FAULT};
 use byte_ports::Sink;
 use check_run::WriteOut;
 use spec_core::Spec;
@@ -23,7 +24,7 @@ pub fn suggest_pairs<K: Sink>(alloc: Global, spec: &Spec, out: &mut K) -> u8
     ensures ends { Ends (IsSuggested spec.now) (IsSuggestionFront spec.now) result (K.held out.old) (K.held out.new) (K.faults out.old) (K.faults out.new) }
     ensures no_source { result ≢ 6 }
 {
-    match suggest_all(alloc, spec, 10_000, out) {
+    match suggest_all(alloc, spec, DEFAULT_BUDGET, out) {
         Ok(tally) => status_by(tally.unknown),
         Err(WriteOut::Fault) => WRITE_FAULT,
         Err(WriteOut::Memory) => MEMORY,

@@ -1,14 +1,14 @@
 // The command `upgrade`: a report that stands, in version 2 of the format.
 ghost use Rattle.std.specs.Prelude.{◌≡◌, ◌≢◌, List, ℕ, Some, Err};
 ghost use Rattle.byte_ports.specs.Faults.{IsFault};
+ghost use Rattle.answers.specs.Ending.{IsOne, IsFrontOf, Ends};
 ghost use Rattle.cise_run.specs.Answer.{EndsWith};
-ghost use Rattle.cise_run.specs.Ending.{IsOne, IsFrontOf, Ends};
 ghost use Rattle.cise_run.specs.commands.Verify.{text_said};
 ghost use Rattle.cise_run.specs.commands.Upgrade.{IsUpgraded, IsUpgradeFront};
 
 use crate::commands::verify::text_said;
-use crate::ending::{MEMORY, READ_FAULT, SECOND_INPUT, WRITE_FAULT, write_answer};
 use crate::outcome::status_of;
+use answers::{MEMORY, READ_FAULT, REFUSED, WRITE_FAULT, write_answer};
 use byte_ports::{Sink, Source};
 use report_upgrader::{UpgradeRefused, upgrade_all};
 use report_verifier::VerifyRefused;
@@ -21,7 +21,7 @@ fn refuse<K: Sink>(alloc: Global, why: VerifyRefused, out: &mut K) -> u8
     ensures no_source { result ≢ 6 }
 {
     match text_said(alloc, Err(why)) {
-        Ok(text) => write_answer(out, SECOND_INPUT, text.as_slice()),
+        Ok(text) => write_answer(out, REFUSED, text.as_slice()),
         Err(_) => MEMORY,
     }
 }

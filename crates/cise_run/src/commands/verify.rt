@@ -5,14 +5,13 @@ ghost use Rattle.report_verifier.specs.declared.refused.VerifyRefused.TheVariant
 ghost use Rattle.cise_run.specs.Answer.{EndsWith};
 ghost use Rattle.cise_run.specs.commands.Verify.{kind_word, verified_text, refused_report, status_said, text_said, IsVerdict, IsVerdictFront};
 
-use crate::ending::{MEMORY, READ_FAULT, SECOND_INPUT, write_answer};
 use crate::outcome::status_of;
+use answers::{MEMORY, READ_FAULT, REFUSED, Stopped, write_answer};
 use byte_ports::{Sink, Source};
 use proof_report::{ReportKind, write_end};
 use report_lines::head::Tally;
 use report_verifier::{VerifyRefused, verify_all};
 use spec_core::Spec;
-use spec_from_bytes::Stopped;
 use spec_from_bytes::texts::{push, push_pair};
 use std::alloc::{AllocError, Global};
 
@@ -81,7 +80,7 @@ fn status_said(said: Result<Tally, VerifyRefused>) -> u8
 {
     match said {
         Ok(tally) => status_of(tally),
-        Err(_) => SECOND_INPUT,
+        Err(_) => REFUSED,
     }
 }
 

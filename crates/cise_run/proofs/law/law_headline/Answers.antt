@@ -1,4 +1,3 @@
-use Rattle.cise_run.proofs.Laws.{TypesWell, OfChecks, OfReports}
 use Rattle.cise_run.proofs.Headline.{IsProved-zero, Refutes-answer}
 use Rattle.cise_run.proofs.Suggestions.{suggested_rightly}
 use Rattle.cise_run.proofs.law.law_headline.Goals as goal

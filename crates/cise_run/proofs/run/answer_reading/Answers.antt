@@ -1,9 +1,10 @@
 use Rattle.std.proofs.Common.{subst, inr, inl, ◌∙◌, ap, take}
+use Rattle.answers.specs.Ending.{IsOne, IsFrontOf}
+use Rattle.answers.proofs.Endings.{Ends-map}
+use Rattle.answers.proofs.Sources.{some_told}
 use Rattle.spec_reader.specs.Form.{tree_of}
 use Rattle.spec_from_bytes.specs.Reading.{IsReadingOf}
-use Rattle.cise_run.specs.Ending.{IsOne, IsFrontOf}
 use Rattle.cise_run.specs.Answer.{IsOutcome, IsOutcomeFront, IsAnswerOf, IsFrontOfAnswer}
-use Rattle.cise_run.proofs.Endings.{Ends-map, some_told}
 use Rattle.cise_run.proofs.run.answer_reading.Goals as goal
 
 pub returns-in-Specified-clause-ends : goal.returns-in-Specified-clause-ends

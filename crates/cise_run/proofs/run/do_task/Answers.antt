@@ -1,6 +1,7 @@
+use Rattle.answers.proofs.Sources.{some_told}
 use Rattle.spec_reader.specs.Form.{tree_of}
 use Rattle.cise_run.specs.declared.words.Task.TheVariants.{Check, Upgrade, Suggest, Spell}
-use Rattle.cise_run.proofs.Endings.{Ends-task, some_told}
+use Rattle.cise_run.proofs.Endings.{Ends-task}
 use Rattle.cise_run.proofs.run.do_task.Goals as goal
 
 pub returns-in-Check-clause-ends : goal.returns-in-Check-clause-ends

@@ -3,7 +3,7 @@ use Rattle.spec_reader.specs.Form.{tree_of}
 use Rattle.spec_reader.specs.Place.{IsRefusedAt, texts_of}
 use Rattle.spec_from_bytes.specs.Refusal.{no_reading}
 use Rattle.spec_from_bytes.specs.Reading.{IsTyped}
-use Rattle.spec_from_bytes.proofs.Long.{unread-syntax, faulty_refusal}
+use Rattle.spec_from_bytes.proofs.Unread.{unread-syntax, faulty_refusal}
 use Rattle.spec_from_bytes.proofs.reading.read_words.Goals as goal
 
 pub returns-in-Err-Syntax : goal.returns-in-Err-Syntax

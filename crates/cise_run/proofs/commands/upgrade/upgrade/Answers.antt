@@ -1,4 +1,3 @@
-use Rattle.report_upgrader.specs.declared.refused.UpgradeRefused.{UpgradeRefused}
 use Rattle.cise_run.proofs.Upgrades.{ok_ends, long_ends, line_ends, fault_ends, write_fault_ends, memory_ends}
 use Rattle.cise_run.proofs.commands.upgrade.upgrade.Goals as goal
 

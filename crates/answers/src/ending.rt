@@ -1,0 +1,33 @@
+// Writing the text of an answer, and the status that this ends with.
+ghost use Rattle.std.specs.Prelude.{◌≡◌, ◌≢◌, ◌<◌};
+ghost use Rattle.answers.specs.Ending.{IsOne, IsFrontOf, Ends};
+
+use byte_ports::{Sink, WriteRefused, write_all};
+
+/// The bytes of an input aren't what they have to be.
+pub const REFUSED: u8 = 4;
+/// A source has failed.
+pub const READ_FAULT: u8 = 6;
+/// The sink has failed.
+pub const WRITE_FAULT: u8 = 7;
+/// Out of memory.
+pub const MEMORY: u8 = 8;
+
+/// A status with its text.
+#[derive(Drop)]
+pub struct Answer {
+    pub status: u8,
+    pub text: Vec<u8>,
+}
+
+/// Writes the text of an answer, and ends with its status where that was done.
+pub fn write_answer<K: Sink>(out: &mut K, status: u8, text: &[u8]) -> u8
+    requires { status < 6 }
+    ensures ends { Ends (IsOne status text.now) (IsFrontOf text.now) result (K.held out.old) (K.held out.new) (K.faults out.old) (K.faults out.new) }
+    ensures no_source { result ≢ 6 }
+{
+    match write_all(out, text) {
+        Ok(()) => status,
+        Err(WriteRefused::Fault) => WRITE_FAULT,
+    }
+}
