@@ -1,4 +1,5 @@
-// The program of the bank: `replay SCHEDULE` carries a recorded schedule out, with the bank's own code, and writes what comes of it.
+// The program of the bank: `replay SCHEDULE` and `simulate SCHEDULE` carry a recorded schedule out, with the bank's own code, and write
+// what comes of it.
 //
 // The second word names the source. It isn't opened before it is read, so a word that is no path is never one.
 //

@@ -1,3 +1,3 @@
 mod Changing
 mod Guarding
-mod Ending
+mod Answering

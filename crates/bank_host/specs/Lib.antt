@@ -1,3 +1,4 @@
 pub mod Bank
 pub mod Calls
 pub mod Running
+pub mod Carried

@@ -1,59 +1,36 @@
--- Which words the program of the bank accepts, and how it ends: with which status, and with which text in its sink.
-use Rattle.std.specs.Prelude.{◌≡◌, ◌⊎◌, ℕ, ◌<◌, Bool, true, false, List, [], ◌∷◌, take, Option, None, Some, codes}
-use Rattle.std.specs.Io.KnownBytes.{Keeps, Appends}
+-- Which words the program of the bank accepts, and which status and text are the answer to them.
+use Rattle.std.specs.Prelude.{◌≡◌, ℕ, if◌then◌else◌, List, [], ◌∷◌, Option, None, Some, codes}
 use Rattle.std.specs.Str.{bytes_eq}
-use Rattle.byte_ports.specs.Faults.{IsFault}
 use Rattle.replay_text.specs.Recorded.{schedule_status, schedule_text}
+use Rattle.simulate_text.specs.Recorded.{simulated_status, simulated_text}
+use Rattle.bank_host.specs.declared.words.Command.{Command}
+use Rattle.bank_host.specs.declared.words.Command.TheVariants.{Replay, Simulate}
 use Rattle.bank_host.specs.Bank.{bank}
 
--- The accepted words are `replay SCHEDULE`; SCHEDULE is any text.
-abbrev pub asks_replay : List (List ℕ) → Bool
-asks_replay [] = false
-asks_replay (command ∷ []) = false
-asks_replay (command ∷ path ∷ []) = bytes_eq command (codes "replay")
-asks_replay (command ∷ path ∷ more ∷ words) = false
+-- the command that a word names
+abbrev pub command_named : List ℕ → Option Command
+command_named word = if bytes_eq word (codes "replay") then Some Replay else (if bytes_eq word (codes "simulate") then Some Simulate else None)
 
--- The answer to the bytes of a schedule is that of `replay` for the bank's specification. Other words are refused, with status 2.
-abbrev pub answer_status : Bool → List ℕ → ℕ
-answer_status true bytes = schedule_status bank bytes
-answer_status false bytes = 2
+-- The command that the words ask for, none where they aren't accepted. The accepted words are `replay SCHEDULE` and `simulate SCHEDULE`;
+-- SCHEDULE is any text.
+abbrev pub command_of : List (List ℕ) → Option Command
+command_of [] = None
+command_of (command ∷ []) = None
+command_of (command ∷ path ∷ []) = command_named command
+command_of (command ∷ path ∷ more ∷ words) = None
 
-abbrev pub answer_text : Bool → List ℕ → List ℕ
-answer_text true bytes = schedule_text bank bytes
-answer_text false bytes = codes "refused words\n"
+-- The answer to the bytes of a schedule is that of the command for the bank's specification. Other words are refused, with status 2.
+abbrev pub answer_status : Option Command → List ℕ → ℕ
+answer_status (Some Replay) bytes = schedule_status bank bytes
+answer_status (Some Simulate) bytes = simulated_status bank bytes
+answer_status None bytes = 2
 
--- the bytes that a source has left, where it tells them
-abbrev pub Tells : Option (List ℕ) → List ℕ → Type 0
-Tells None bytes = Unit {0}
-Tells (Some told) bytes = told ≡ bytes
+abbrev pub answer_text : Option Command → List ℕ → List ℕ
+answer_text (Some Replay) bytes = schedule_text bank bytes
+answer_text (Some Simulate) bytes = simulated_text bank bytes
+answer_text None bytes = codes "refused words\n"
 
--- this status and this text
-abbrev pub IsOne : ℕ → List ℕ → ℕ → List ℕ → Type 0
-IsOne status text s t = (s ≡ status) × (t ≡ text)
-
--- the answer to the bytes that a source tells
-pub record IsAnswer (asked : Bool) (told : Option (List ℕ)) (status : ℕ) (text : List ℕ) : Type 0 where
-  pub bytes : List ℕ
-  pub tells : Tells told bytes
+-- this status and this text are the answer to the bytes of a schedule
+pub record IsAnswer (asked : Option Command) (bytes : List ℕ) (status : ℕ) (text : List ℕ) : Type 0 where
   pub status_is : status ≡ answer_status asked bytes
   pub text_is : text ≡ answer_text asked bytes
-
--- the first bytes of a text
-abbrev pub IsFrontOf : List ℕ → List ℕ → Type 0
-IsFrontOf text front = (n : ℕ) × (front ≡ take n text)
-
--- the first bytes of an answer's text
-abbrev pub IsFrontOfOne : (ℕ → List ℕ → Type 0) → List ℕ → Type 0
-IsFrontOfOne Whole front = (status : ℕ) × (text : List ℕ) × Whole status text × IsFrontOf text front
-
--- nothing was written, or a front
-abbrev pub IsBroken : (List ℕ → Type 0) → Option (List ℕ) → Option (List ℕ) → Type 0
-IsBroken Front held_before held_after = Keeps held_before held_after ⊎ ((front : List ℕ) × Front front × Appends held_before held_after front)
-
--- How it ends where an answer is a status with a whole text, and what may be left of one is its front. With a status below 6 the whole
--- text was written. With 7 the sink has failed, and with 7 and 8 nothing or a front was written.
-pub record Ends (Whole : ℕ → List ℕ → Type 0) (Front : List ℕ → Type 0) (status : ℕ) (held_before held_after : Option (List ℕ)) (faults_before faults_after : ℕ) : Type 0 where
-  pub answered : status < 6 → (text : List ℕ) × Whole status text × Appends held_before held_after text
-  pub write_fault : status ≡ 7 → IsFault faults_before faults_after
-  pub front : 6 < status → IsBroken Front held_before held_after
-  pub known : status < 9

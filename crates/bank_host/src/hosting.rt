@@ -1,103 +1,105 @@
-// Schedules of the bank, gone through by a host with the bank's own code.
+// Schedules of the bank, carried out with the bank's own code: replayed by a host, and simulated by the nodes of a network.
 
-ghost use Rattle.std.specs.Prelude.{◌≡◌, ◌≤◌, true, length, IfOk, IsErrOf};
-ghost use Rattle.byte_ports.specs.Faults.{IsFault};
+ghost use Rattle.std.specs.Prelude.{◌≡◌, ◌≤◌, true, Some, Ok, length, IfOk};
+ghost use Rattle.spec_core.specs.Fits.{world_fits};
 ghost use Rattle.schedule_json.specs.Fitting.{IsScheduleOf};
-ghost use Rattle.schedule_json.specs.Texts.{most_schedule_bytes, long_text};
+ghost use Rattle.schedule_json.specs.Texts.{most_schedule_bytes};
 ghost use Rattle.replay_text.specs.Text.{replay_text, replay_status};
-ghost use Rattle.replay_text.specs.Recorded.{schedule_status, schedule_text};
+ghost use Rattle.simulate_text.specs.Text.{simulate_text, simulate_status};
 ghost use Rattle.bank_host.specs.Bank.{bank};
 ghost use Rattle.bank_host.specs.Running.{IsAnswer};
+ghost use Rattle.bank_host.specs.Carried.{status_read, text_read};
 
 use crate::effect::BankCode;
-use byte_ports::{ReadRefused, Source, read_up_to};
+use crate::words::Command;
+use answers::{Answer, REFUSED};
 use replay_text::{Report, replay_by};
 use replica_host::{Host, Native};
-use schedule_json::{LONG, MOST_SCHEDULE_BYTES, Schedule, read_schedule, refusal_text};
-use spec_core::Spec;
+use schedule_json::{Schedule, read_schedule, refusal_text};
+use simulate_text::simulate_by;
+use spec_core::{Spec, World};
 use std::alloc::{AllocError, Global};
 
-/// The status where some bytes are no schedule.
-const REFUSED: u8 = 4;
-
-/// Why a source gave no report.
-pub enum Stopped {
-    /// The source failed.
-    Fault,
-    Memory,
+/// The bank's own code, beside its specification in a world.
+fn native_of<'a>(alloc: Global, spec: &'a Spec, world: &'a World) -> Native<'a, BankCode, BankCode>
+    requires spec { spec.now ≡ bank }
+    requires world { world_fits spec.now world.now ≡ true }
+    ensures spec { result.spec ≡ spec.now }
+    ensures world { result.world ≡ world.now }
+{
+    let effect = BankCode { alloc };
+    let guard = BankCode { alloc };
+    Native::new(spec, world, effect, guard)
 }
 
-/// The text and the status of a schedule that a host goes through.
-fn hosted(alloc: Global, spec: &Spec, schedule: &Schedule) -> Result<Report, AllocError>
+/// The replay of a schedule, by a host.
+fn replayed(alloc: Global, spec: &Spec, schedule: &Schedule) -> Result<Report, AllocError>
     requires spec { spec.now ≡ bank }
     requires schedule { IsScheduleOf spec.now schedule.now }
     ensures text { IfOk result (λ report. report.text.items ≡ replay_text spec.now schedule.now.world schedule.now.replicas schedule.now.steps) }
     ensures status { IfOk result (λ report. report.status ≡ replay_status spec.now schedule.now.world schedule.now.replicas schedule.now.steps) }
 {
-    let effect = BankCode { alloc };
-    let guard = BankCode { alloc };
-    let native = Native::new(spec, &schedule.world, effect, guard);
+    let native = native_of(alloc, spec, &schedule.world);
     let mut host = Host::new(alloc, native, schedule.replicas)?;
-    replay_by(
-        alloc,
-        spec,
-        &mut host,
-        schedule.replicas,
-        schedule.steps.as_slice(),
-    )
+    let steps = schedule.steps.as_slice();
+    replay_by(alloc, spec, &mut host, schedule.replicas, steps)
 }
 
-/// What the bytes of a schedule come to, of which there aren't too many.
-fn hosted_bytes(alloc: Global, spec: &Spec, bytes: &[u8]) -> Result<Report, AllocError>
+/// The simulation of a schedule, by the nodes of a network.
+fn simulated(alloc: Global, spec: &Spec, schedule: &Schedule) -> Result<Report, AllocError>
+    requires spec { spec.now ≡ bank }
+    requires schedule { IsScheduleOf spec.now schedule.now }
+    ensures text { IfOk result (λ report. report.text.items ≡ simulate_text spec.now schedule.now.world schedule.now.replicas schedule.now.steps) }
+    ensures status { IfOk result (λ report. report.status ≡ simulate_status spec.now schedule.now.world schedule.now.replicas schedule.now.steps) }
+{
+    let native = native_of(alloc, spec, &schedule.world);
+    let steps = schedule.steps.as_slice();
+    simulate_by(alloc, spec, native, schedule.replicas, steps)
+}
+
+/// What a command comes to for a schedule.
+fn carried_out(
+    alloc: Global,
+    spec: &Spec,
+    command: Command,
+    schedule: &Schedule,
+) -> Result<Report, AllocError>
+    requires spec { spec.now ≡ bank }
+    requires schedule { IsScheduleOf spec.now schedule.now }
+    ensures text { IfOk result (λ report. report.text.items ≡ text_read command spec.now (Ok schedule.now)) }
+    ensures status { IfOk result (λ report. report.status ≡ status_read command spec.now (Ok schedule.now)) }
+{
+    match command {
+        Command::Replay => replayed(alloc, spec, schedule),
+        Command::Simulate => simulated(alloc, spec, schedule),
+    }
+}
+
+/// The answer to the bytes of a schedule, of which there aren't too many.
+pub fn answer_bytes(
+    alloc: Global,
+    spec: &Spec,
+    command: Command,
+    bytes: &[u8],
+) -> Result<Answer, AllocError>
     requires spec { spec.now ≡ bank }
     requires within { length bytes.now ≤ most_schedule_bytes }
-    ensures text { IfOk result (λ report. report.text.items ≡ schedule_text spec.now bytes.now) }
-    ensures status { IfOk result (λ report. report.status ≡ schedule_status spec.now bytes.now) }
+    ensures { IfOk result (λ answer. IsAnswer (Some command) bytes.now answer.status answer.text.items) }
 {
     match read_schedule(alloc, spec, bytes) {
-        Ok(schedule) => hosted(alloc, spec, &schedule),
+        Ok(schedule) => {
+            let report = carried_out(alloc, spec, command, &schedule)?;
+            Ok(Answer {
+                status: report.status,
+                text: report.text,
+            })
+        }
         Err(refused) => {
             let text = refusal_text(alloc, &refused)?;
-            Ok(Report {
+            Ok(Answer {
                 status: REFUSED,
                 text,
             })
         }
-    }
-}
-
-/// The answer to more bytes than a schedule has.
-fn too_long(alloc: Global) -> Result<Report, AllocError>
-    ensures status { IfOk result (λ report. report.status ≡ 4) }
-    ensures text { IfOk result (λ report. report.text.items ≡ long_text) }
-{
-    let text = Vec::from_slice(alloc, LONG)?;
-    Ok(Report {
-        status: REFUSED,
-        text,
-    })
-}
-
-/// What the bytes that a source gives come to. Of more bytes than the limit it reads one, and no further.
-pub fn hosted_from<S: Source>(
-    alloc: Global,
-    spec: &Spec,
-    schedule: &mut S,
-) -> Result<Report, Stopped>
-    requires { spec.now ≡ bank }
-    ensures ok { IfOk result (λ report. IsAnswer true (S.left schedule.old) report.status report.text.items) }
-    ensures fault { IsErrOf result Stopped.Fault → IsFault (S.faults schedule.old) (S.faults schedule.new) }
-{
-    match read_up_to(alloc, schedule, MOST_SCHEDULE_BYTES) {
-        Ok(bytes) => match hosted_bytes(alloc, spec, bytes.as_slice()) {
-            Ok(report) => Ok(report),
-            Err(_) => Err(Stopped::Memory),
-        },
-        Err(ReadRefused::TooLong) => match too_long(alloc) {
-            Ok(report) => Ok(report),
-            Err(_) => Err(Stopped::Memory),
-        },
-        Err(ReadRefused::Fault) => Err(Stopped::Fault),
-        Err(ReadRefused::Memory) => Err(Stopped::Memory),
     }
 }

@@ -7,3 +7,5 @@
 mod rows;
 #[cfg(test)]
 mod running;
+#[cfg(test)]
+mod simulations;

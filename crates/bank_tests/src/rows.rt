@@ -1,36 +1,38 @@
-// Schedules of the bank, with the texts that were worked out by hand.
+// Replays of schedules of the bank, with the texts that were worked out by hand.
 use crate::running::ends_with;
 
 /// Two withdrawals from one account, of which the second doesn't know the first.
-const TWO_WITHDRAWALS: &[u8] =
+pub const TWO_WITHDRAWALS: &[u8] =
     b"{\"sizes\":{\"Account\":1},\"constants\":{},\"replicas\":2,\"steps\":[
 {\"replica\":0,\"call\":\"deposit\",\"args\":[0,100]},{\"replica\":1,\"take\":0},
 {\"replica\":0,\"call\":\"withdraw\",\"args\":[0,60]},
 {\"replica\":1,\"call\":\"withdraw\",\"args\":[0,70]},{\"replica\":0,\"take\":2}]}";
 
 /// Two deposits, which two of three replicas take in different orders.
-const TWO_DEPOSITS: &[u8] = b"{\"sizes\":{\"Account\":2},\"constants\":{},\"replicas\":3,\"steps\":[
+pub const TWO_DEPOSITS: &[u8] =
+    b"{\"sizes\":{\"Account\":2},\"constants\":{},\"replicas\":3,\"steps\":[
 {\"replica\":0,\"call\":\"deposit\",\"args\":[0,5]},{\"replica\":1,\"call\":\"deposit\",\"args\":[1,7]},
 {\"replica\":0,\"take\":1},{\"replica\":1,\"take\":0}]}";
 
 /// The same, and then a withdrawal that the third replica takes before what it has seen.
-const TAKEN_TOO_EARLY: &[u8] =
+pub const TAKEN_TOO_EARLY: &[u8] =
     b"{\"sizes\":{\"Account\":2},\"constants\":{},\"replicas\":3,\"steps\":[
 {\"replica\":0,\"call\":\"deposit\",\"args\":[0,5]},{\"replica\":1,\"call\":\"deposit\",\"args\":[1,7]},
 {\"replica\":0,\"take\":1},{\"replica\":1,\"take\":0},
 {\"replica\":1,\"call\":\"withdraw\",\"args\":[0,3]},{\"replica\":2,\"take\":2}]}";
 
 /// A deposit that leaves a balance beyond 10^15.
-const OUT_OF_RANGE: &[u8] = b"{\"sizes\":{\"Account\":1},\"constants\":{},\"replicas\":1,\"steps\":[
+pub const OUT_OF_RANGE: &[u8] =
+    b"{\"sizes\":{\"Account\":1},\"constants\":{},\"replicas\":1,\"steps\":[
 {\"replica\":0,\"call\":\"deposit\",\"args\":[0,1]},
 {\"replica\":0,\"call\":\"deposit\",\"args\":[0,1000000000000000]}]}";
 
 /// A schedule with the status and the text that it comes to.
 #[derive(Clone, Copy)]
-struct Row {
-    schedule: &'static [u8],
-    status: u8,
-    text: &'static [u8],
+pub struct Row {
+    pub schedule: &'static [u8],
+    pub status: u8,
+    pub text: &'static [u8],
 }
 
 const ROWS: [Row; 4] = [
@@ -116,7 +118,14 @@ fn schedules_come_to_their_texts(rt: HostRuntime) {
 
 #[test]
 fn other_words_are_refused(rt: HostRuntime) {
-    let refused: [&[&str]; 4] = [&[], &["replay"], &["check", "s"], &["replay", "s", "t"]];
+    let refused: [&[&str]; 6] = [
+        &[],
+        &["replay"],
+        &["simulate"],
+        &["check", "s"],
+        &["replay", "s", "t"],
+        &["simulate", "s", "t"],
+    ];
     for words in &refused {
         let same = ends_with(
             rt.alloc(),

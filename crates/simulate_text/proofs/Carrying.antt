@@ -75,17 +75,17 @@ hears_more d w m n first mid new it e gone =
 -- ---- parts
 
 -- it stops, and nothing was said
-pub stopped_part : (d : Specification) (w : World) (how : Stop) (sim : Simulation) (before : List Said) → IsOf d w sim.net
+pub stopped_part : {R : Type 0} (d : Specification) (w : World) (how : Stop) (sim : Simulation R) (before : List Said) → IsOf d w sim.net
     → IsPart d w (stops how (simulated_in sim)) before before (Some how) sim
 stopped_part d w how sim before of = record { said_is = append-nil before; stop_is = refl; after_is = refl; of = of }
 
 -- a part is carried out as one that it is equal to
-pub as_part : (d : Specification) (w : World) (part other : Part) (before said : List Said) (stop : Option Stop) (after : Simulation) → other ≡ part
+pub as_part : {R : Type 0} (d : Specification) (w : World) (part other : Part) (before said : List Said) (stop : Option Stop) (after : Simulation R) → other ≡ part
     → IsPart d w part before said stop after → IsPart d w other before said stop after
 as_part d w part other before said stop after e is = subst (λ (p : Part). IsPart d w p before said stop after) (sym e) is
 
 -- A part is carried out where another was, from another simulation on, to which it is equal there.
-pub does_from : {E : Type 0} (r : Result (Option Stop) E) (part other : Specification → World → Simulated → Part) (mid old : Simulation) (before said : List Said) (new : Simulation)
+pub does_from : {E R : Type 0} (r : Result (Option Stop) E) (part other : Specification → World → Simulated → Part) (mid old : Simulation R) (before said : List Said) (new : Simulation R)
     → ((d : Specification) (w : World) → IsOf d w old.net → IsOf d w mid.net × (other d w (simulated_in old) ≡ part d w (simulated_in mid)))
     → IfOk r (λ stop. Does part mid before said stop new) → IfOk r (λ stop. Does other old before said stop new)
 does_from r part other mid old before said new e does =
@@ -93,7 +93,7 @@ does_from r part other mid old before said new e does =
     (λ stop does d w of. as_part d w (part d w (simulated_in mid)) (other d w (simulated_in old)) before said stop new (e d w of).1 (does d w (e d w of).0)) does
 
 -- something was said before a part was carried out
-pub said_first : (d : Specification) (w : World) (what : Said) (part : Part) (before mid said : List Said) (stop : Option Stop) (after : Simulation) → mid ≡ before ++ what ∷ []
+pub said_first : {R : Type 0} (d : Specification) (w : World) (what : Said) (part : Part) (before mid said : List Said) (stop : Option Stop) (after : Simulation R) → mid ≡ before ++ what ∷ []
     → IsPart d w part mid said stop after → IsPart d w (saying what part) before said stop after
 said_first d w what part before mid said stop after e is = record {
   said_is = sym (append_assoc before (what ∷ []) part.said) ∙ ap (λ (l : List Said). l ++ part.said) (sym e) ∙ is.said_is;
@@ -177,7 +177,7 @@ replica_below net s r n a b lt =
     let count = replica_count net in lt-ltb (caller s) (length (network_held net).replicas) (omega (arith, a, b, lt, count))
 
 -- a step was carried out, and its lines were added to a text
-pub step_part : (d : Specification) (w : World) (part : Part) (k r : ℕ) (s : Step) (before text : List ℕ) (start said told : List Said) (stop : Option Stop) (after : Simulation)
+pub step_part : {R : Type 0} (d : Specification) (w : World) (part : Part) (k r : ℕ) (s : Step) (before text : List ℕ) (start said told : List Said) (stop : Option Stop) (after : Simulation R)
     → start ≡ [] → IsPart d w part start said stop after → r ≡ caller s → told ≡ said → text ≡ before ++ said_lines d k r told → IsStep d w part k s before text stop after
 step_part d w part k r s before text start said told stop after none is a b e = record {
   text_is = e ∙ ap (λ n. before ++ said_lines d k n told) a

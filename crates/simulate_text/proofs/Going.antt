@@ -27,7 +27,7 @@ pub record Remaining (d : Specification) (w : World) (whole : Course) (before te
 
 module _ (d : Specification) (w : World) (whole : Course) (before : List ℕ) where
   -- behind the last step
-  pub at_last : (text : List ℕ) (k : ℕ) (now : Simulation) → Remaining d w whole before text k [] (simulated_in now) → IsOf d w now.net
+  pub at_last : {R : Type 0} (text : List ℕ) (k : ℕ) (now : Simulation R) → Remaining d w whole before text k [] (simulated_in now) → IsOf d w now.net
       → IsReached d w whole before text k stop.Done now
   at_last text k now r of = record {
     text_is = r.text_is ∙ append-nil text;
@@ -37,7 +37,7 @@ module _ (d : Specification) (w : World) (whole : Course) (before : List ℕ) wh
     of = of;
   }
 
-  module _ (text longer : List ℕ) (k : ℕ) (s : Step) (left : List Step) (now : Simulated) (after : Simulation) (o : Option Stop)
+  module _ {R : Type 0} (text longer : List ℕ) (k : ℕ) (s : Step) (left : List Step) (now : Simulated) (after : Simulation R) (o : Option Stop)
       (r : Remaining d w whole before text k (s ∷ left) now) (is : IsStep d w (part_of d w s now) k s text longer o after) where
     here : course_from d w k (s ∷ left) now ≡ unless_stopped o k (said_lines d k (replica_of s) (part_of d w s now).said) (simulated_in after) (course_from d w (suc k) left (simulated_in after))
     here =
@@ -85,7 +85,7 @@ course_is : (d : Specification) (w : World) (n : ℕ) (ss : List Step) (o : Opti
     → course d w n ss ≡ unless_broken_first o (first_simulated d w n) (course_from d w 0 ss (first_simulated d w n))
 course_is d w n ss o e = ap (λ (x : Option ℕ). unless_broken_first x (first_simulated d w n) (course_from d w 0 ss (first_simulated d w n))) (sym e)
 
-pub at_broken_start : (d : Specification) (w : World) (n : ℕ) (ss : List Step) (text : List ℕ) (sim : Simulation) (place : ℕ) → simulated_in sim ≡ first_simulated d w n
+pub at_broken_start : {R : Type 0} (d : Specification) (w : World) (n : ℕ) (ss : List Step) (text : List ℕ) (sim : Simulation R) (place : ℕ) → simulated_in sim ≡ first_simulated d w n
     → Some place ≡ broken_at d w (reads (initial d w)) → IsOf d w sim.net → IsReached d w (course d w n ss) text text 0 (stop.BrokenFirst place) sim
 at_broken_start d w n ss text sim place first e of =
     let c = course_is d w n ss (Some place) e in
@@ -97,7 +97,7 @@ at_broken_start d w n ss text sim place first e of =
       of = of;
     }
 
-pub at_start : (d : Specification) (w : World) (n : ℕ) (ss : List Step) (before text : List ℕ) (at : ℕ) (how : Stop) (sim : Simulated) (after : Simulation) → sim ≡ first_simulated d w n
+pub at_start : {R : Type 0} (d : Specification) (w : World) (n : ℕ) (ss : List Step) (before text : List ℕ) (at : ℕ) (how : Stop) (sim : Simulated) (after : Simulation R) → sim ≡ first_simulated d w n
     → None ≡ broken_at d w (reads (initial d w)) → IsReached d w (course_from d w 0 ss sim) before text at how after → IsReached d w (course d w n ss) before text at how after
 at_start d w n ss before text at how sim after first e is =
     let c : course_from d w 0 ss sim ≡ course d w n ss = ap (course_from d w 0 ss) first ∙ sym (course_is d w n ss None e) in
@@ -106,16 +106,16 @@ at_start d w n ss before text at how sim after first e is =
 -- ---- between two steps
 
 -- what holds between two steps, of the simulation as it is now
-pub record Between (d : Specification) (w : World) (whole : Course) (before text : List ℕ) (k : ℕ) (left : List Step) (now : Simulation) : Type 0 where
+pub record Between {R : Type 0} (d : Specification) (w : World) (whole : Course) (before text : List ℕ) (k : ℕ) (left : List Step) (now : Simulation R) : Type 0 where
   pub remaining : Remaining d w whole before text k left (simulated_in now)
   pub of : IsOf d w now.net
 
 -- before the first step
-pub between_first : (d : Specification) (w : World) (ss : List Step) (text : List ℕ) (sim : Simulation) → IsOf d w sim.net
+pub between_first : {R : Type 0} (d : Specification) (w : World) (ss : List Step) (text : List ℕ) (sim : Simulation R) → IsOf d w sim.net
     → Between d w (course_from d w 0 ss (simulated_in sim)) text text 0 ss sim
 between_first d w ss text sim of = record { remaining = record { text_is = refl; at_is = refl; stop_is = refl; after_is = refl }; of = of }
 
-module _ (d : Specification) (w : World) (whole : Course) (before text longer : List ℕ) (k : ℕ) (all : List Step) (now after : Simulation) (s : Step) (below : k < length all)
+module _ {R : Type 0} (d : Specification) (w : World) (whole : Course) (before text longer : List ℕ) (k : ℕ) (all : List Step) (now after : Simulation R) (s : Step) (below : k < length all)
     (here : s ≡ get_or all k s) (is : Between d w whole before text k (drop k all) now) (o : Option Stop)
     (went : IsStep d w (part_of d w s (simulated_in now)) k s text longer o after) where
   remaining_here : Remaining d w whole before text k (s ∷ drop (k + 1) all) (simulated_in now)
@@ -130,7 +130,7 @@ module _ (d : Specification) (w : World) (whole : Course) (before text longer : 
   leads_on e = record { remaining = at_next d w whole before text longer k s (drop (k + 1) all) (simulated_in now) after o remaining_here went e; of = went.of }
 
 -- behind the last step
-pub done_here : (d : Specification) (w : World) (whole : Course) (before text : List ℕ) (k : ℕ) (all : List Step) (now : Simulation) → length all ≤ k → k ≤ length all
+pub done_here : {R : Type 0} (d : Specification) (w : World) (whole : Course) (before text : List ℕ) (k : ℕ) (all : List Step) (now : Simulation R) → length all ≤ k → k ≤ length all
     → Between d w whole before text k (drop k all) now → IsReached d w whole before text (length all) stop.Done now
 done_here d w whole before text k all now past within is =
     let same : k ≡ length all = omega (arith, past, within) in

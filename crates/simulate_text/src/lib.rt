@@ -17,4 +17,4 @@ pub use law::{law_safe_simulations, law_simulations_are_executions};
 pub use recorded::simulate_bytes;
 pub use replay_text::Report;
 pub use said::{Said, SimulateRefused, Stop};
-pub use writing::simulate;
+pub use writing::{simulate, simulate_by};

@@ -1,25 +1,24 @@
 // A simulation, and the parts of its steps.
 
-ghost use Rattle.std.specs.Prelude.{◌≡◌, ◌≢◌, true, Ok, set, slice_get, IfOk, OnOk};
+ghost use Rattle.std.specs.Prelude.{◌≡◌, ◌≢◌, Ok, set, slice_get, IfOk, OnOk};
 ghost use Rattle.spec_core.specs.declared.world.World.{World as Setting};
 ghost use Rattle.spec_core.specs.Specification.{Specification};
-ghost use Rattle.spec_core.specs.Fits.{world_fits};
 ghost use Rattle.token_protocol.specs.Network.{outcome};
 ghost use Rattle.token_core.specs.HeldNet.{network_held};
 ghost use Rattle.simulate_text.specs.Course.{refusal_of, heard_by_all, broken_of, saying, asked_at, ran, void, granted, hears_grant, asks, begun, begins, is_waiting, tries_again, taken, takes, first_simulated};
 ghost use Rattle.simulate_text.specs.Reached.{simulated_in, IsOf, IsGone, Does};
 
 use crate::said::{Said, SimulateRefused, Stop};
-use spec_core::{Call, Spec, World, invariant_broken_at};
+use spec_core::{Call, invariant_broken_at};
 use std::alloc::{AllocError, Global};
-use token_core::{Net, Plain, Runner, number_of};
+use token_core::{Net, Runner, number_of};
 use token_protocol::{NetDid, NetRefused, NetStep, WhyVoid};
 
 /// A simulation: its network, and the numbers of the messages that it delivers again: for each event that of its Done, and for each
 /// replica that of the first grant of the last call that waited there.
 #[derive(Drop)]
-pub struct Simulation<'a> {
-    pub net: Net<Plain<'a>>,
+pub struct Simulation<R: Runner + Drop> {
+    pub net: Net<R>,
     pub dones: Vec<u32>,
     pub grants: Vec<u32>,
 }
@@ -73,7 +72,10 @@ fn refusal_of(why: NetRefused) -> Result<SimulateRefused, AllocError>
 }
 
 // Carries a step of the network out.
-fn go(net: &mut Net<Plain>, step: &NetStep) -> Result<Result<NetDid, SimulateRefused>, AllocError>
+fn go<R: Runner + Drop>(
+    net: &mut Net<R>,
+    step: &NetStep,
+) -> Result<Result<NetDid, SimulateRefused>, AllocError>
     ensures { IfOk result (λ it. (d : Specification) (w : Setting) → IsOf d w net.old → IsGone d w (outcome d w (network_held net.old) step.now) (network_held net.old) it net.new) }
 {
     match net.step(step) {
@@ -83,7 +85,7 @@ fn go(net: &mut Net<Plain>, step: &NetStep) -> Result<Result<NetDid, SimulateRef
 }
 
 // All replicas in turn hear a message.
-fn tell_all(net: &mut Net<Plain>, message: u32) -> Result<(), AllocError>
+fn tell_all<R: Runner + Drop>(net: &mut Net<R>, message: u32) -> Result<(), AllocError>
     ensures { OnOk result ((d : Specification) (w : Setting) → IsOf d w net.old → IsOf d w net.new × (heard_by_all d w message (network_held net.old) ≡ network_held net.new)) }
 {
     let count = as_number(net.replica_count())?;
@@ -94,7 +96,7 @@ fn tell_all(net: &mut Net<Plain>, message: u32) -> Result<(), AllocError>
 }
 
 /// The first invariant that the state of a replica breaks.
-pub fn broken_of(net: &Net<Plain>, replica: u32) -> Option<usize>
+pub fn broken_of<R: Runner + Drop>(net: &Net<R>, replica: u32) -> Option<usize>
     ensures { (d : Specification) (w : Setting) → IsOf d w net.now → result ≡ broken_of d w (slice_get (network_held net.now).replicas replica) }
 {
     if replica as usize >= net.replica_count() {
@@ -105,24 +107,18 @@ pub fn broken_of(net: &Net<Plain>, replica: u32) -> Option<usize>
 }
 
 // Whether a call of a replica waits for its grant.
-fn is_waiting(net: &Net<Plain>, replica: u32) -> bool
+fn is_waiting<R: Runner + Drop>(net: &Net<R>, replica: u32) -> bool
     ensures { result ≡ is_waiting (slice_get (network_held net.now).replicas replica) }
 {
     (replica as usize) < net.replica_count() && net.is_waiting(replica)
 }
 
-impl<'a> Simulation<'a> {
+impl<R: Runner + Drop> Simulation<R> {
     /// A simulation of so many replicas, before its first step.
-    pub fn new(
-        alloc: Global,
-        spec: &'a Spec,
-        world: &'a World,
-        replicas: u32,
-    ) -> Result<Simulation<'a>, AllocError>
-        requires { world_fits spec.now world.now ≡ true }
-        ensures { IfOk result (λ sim. IsOf spec.now world.now sim.net × (simulated_in sim ≡ first_simulated spec.now world.now replicas)) }
+    pub fn new(alloc: Global, runner: R, replicas: u32) -> Result<Simulation<R>, AllocError>
+        ensures { IfOk result (λ sim. IsOf (R.specification runner) (R.setting runner) sim.net × (simulated_in sim ≡ first_simulated (R.specification runner) (R.setting runner) replicas)) }
     {
-        let net = Net::new(alloc, Plain::new(alloc, spec, world), replicas)?;
+        let net = Net::new(alloc, runner, replicas)?;
         let mut grants = Vec::new(alloc);
         for _i in 0..replicas {
             grants.push(0)?;

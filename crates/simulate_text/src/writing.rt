@@ -30,9 +30,9 @@ fn replica_of(step: &Step) -> u32
 }
 
 // A replica calls an operation by its name.
-fn call_named(
+fn call_named<R: Runner + Drop>(
     alloc: Global,
-    sim: &mut Simulation,
+    sim: &mut Simulation<R>,
     replica: u32,
     name: &[u8],
     args: &[i64],
@@ -48,8 +48,8 @@ fn call_named(
 }
 
 // A replica takes an event by its number.
-fn take_numbered(
-    sim: &mut Simulation,
+fn take_numbered<R: Runner + Drop>(
+    sim: &mut Simulation<R>,
     replica: u32,
     event: u32,
     said: &mut Vec<Said>,
@@ -63,9 +63,9 @@ fn take_numbered(
 }
 
 /// Carries a recorded step out.
-fn carry_out(
+fn carry_out<R: Runner + Drop>(
     alloc: Global,
-    sim: &mut Simulation,
+    sim: &mut Simulation<R>,
     step: &Step,
     said: &mut Vec<Said>,
 ) -> Result<Option<Stop>, AllocError>
@@ -83,10 +83,10 @@ fn carry_out(
 }
 
 /// Carries a recorded step out, and adds its lines.
-fn write_step(
+fn write_step<R: Runner + Drop>(
     alloc: Global,
     spec: &Spec,
-    sim: &mut Simulation,
+    sim: &mut Simulation<R>,
     number: usize,
     step: &Step,
     text: &mut Vec<u8>,
@@ -107,10 +107,10 @@ struct Stopped {
 }
 
 /// Carries steps out, up to the one at which it stops, and adds their lines.
-fn write_steps(
+fn write_steps<R: Runner + Drop>(
     alloc: Global,
     spec: &Spec,
-    sim: &mut Simulation,
+    sim: &mut Simulation<R>,
     steps: &[Step],
     text: &mut Vec<u8>,
 ) -> Result<Stopped, AllocError>
@@ -129,10 +129,10 @@ fn write_steps(
 }
 
 /// Carries a whole schedule out, and adds the lines of its steps.
-fn write_course(
+fn write_course<R: Runner + Drop>(
     alloc: Global,
     spec: &Spec,
-    sim: &mut Simulation,
+    sim: &mut Simulation<R>,
     steps: &[Step],
     text: &mut Vec<u8>,
 ) -> Result<Stopped, AllocError>
@@ -148,10 +148,10 @@ fn write_course(
 }
 
 /// Adds the lines of a replica.
-fn push_replica(
+fn push_replica<R: Runner + Drop>(
     alloc: Global,
     text: &mut Vec<u8>,
-    net: &Net<Plain>,
+    net: &Net<R>,
     replica: u32,
 ) -> Result<(), AllocError>
     requires { replica < length net.now.replicas }
@@ -164,7 +164,11 @@ fn push_replica(
 }
 
 /// Adds the lines of all replicas.
-fn push_replicas(alloc: Global, text: &mut Vec<u8>, net: &Net<Plain>) -> Result<(), AllocError>
+fn push_replicas<R: Runner + Drop>(
+    alloc: Global,
+    text: &mut Vec<u8>,
+    net: &Net<R>,
+) -> Result<(), AllocError>
     ensures { OnOk result (text.new.items ≡ text.old.items ++ replica_texts net.now.spec net.now.world 0 (network_held net.now).replicas) }
 {
     let count = as_number(net.replica_count())?;
@@ -187,10 +191,10 @@ fn status_of(stop: &Stop) -> u8
 }
 
 /// Writes a course and how it stops, and answers the status.
-fn write_simulation(
+fn write_simulation<R: Runner + Drop>(
     alloc: Global,
     spec: &Spec,
-    sim: &mut Simulation,
+    sim: &mut Simulation<R>,
     steps: &[Step],
     text: &mut Vec<u8>,
 ) -> Result<u8, AllocError>
@@ -204,8 +208,29 @@ fn write_simulation(
     Ok(status_of(&stopped.stop))
 }
 
-/// Simulates the steps of a schedule, at so many replicas in a world: a text, and a status, which is 0 where all steps were carried
-/// out and no state broke, 1 where a state broke, 4 where a step was refused.
+/// Simulates the steps of a schedule, at so many replicas, with the code of a runner for the specification's preconditions and effects:
+/// a text, and a status, which is 0 where all steps were carried out and no state broke, 1 where a state broke, 4 where a step was
+/// refused.
+pub fn simulate_by<R: Runner + Drop>(
+    alloc: Global,
+    spec: &Spec,
+    runner: R,
+    replicas: u32,
+    steps: &[Step],
+) -> Result<Report, AllocError>
+    requires spec { R.specification runner ≡ spec.now }
+    requires some { 1 ≤ replicas }
+    ensures text { IfOk result (λ report. report.text.items ≡ simulate_text spec.now (R.setting runner) replicas steps.now) }
+    ensures status { IfOk result (λ report. report.status ≡ simulate_status spec.now (R.setting runner) replicas steps.now) }
+{
+    let mut text = Vec::new(alloc);
+    let mut sim = Simulation::new(alloc, runner, replicas)?;
+    let status = write_simulation(alloc, spec, &mut sim, steps, &mut text)?;
+    drop(sim);
+    Ok(Report { status, text })
+}
+
+/// Simulates the steps of a schedule, at so many replicas in a world, with the text and the status of `simulate_by`.
 pub fn simulate(
     alloc: Global,
     spec: &Spec,
@@ -218,9 +243,6 @@ pub fn simulate(
     ensures text { IfOk result (λ report. report.text.items ≡ simulate_text spec.now world.now replicas steps.now) }
     ensures status { IfOk result (λ report. report.status ≡ simulate_status spec.now world.now replicas steps.now) }
 {
-    let mut text = Vec::new(alloc);
-    let mut sim = Simulation::new(alloc, spec, world, replicas)?;
-    let status = write_simulation(alloc, spec, &mut sim, steps, &mut text)?;
-    drop(sim);
-    Ok(Report { status, text })
+    let plain = Plain::new(alloc, spec, world);
+    simulate_by(alloc, spec, plain, replicas, steps)
 }

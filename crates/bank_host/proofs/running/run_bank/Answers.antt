@@ -1,17 +1,24 @@
-use Rattle.std.proofs.Common.{◌≡◌, true, false, map, string_bytes, sym, ◌∙◌, refl}
-use Rattle.bank_host.specs.Running.{asks_replay, IsAnswer}
-use Rattle.bank_host.proofs.Ending.{Ends-one, Ends-asked, words_answer}
+use Rattle.std.proofs.Common.{◌≡◌, Option, Some, None, map, string_bytes, sym, ◌∙◌, refl}
+use Rattle.answers.proofs.Endings.{Ends-one}
+use Rattle.answers.proofs.Sources.{some_told}
+use Rattle.bank_host.specs.declared.words.Command.{Command}
+use Rattle.bank_host.specs.Running.{command_of, IsAnswer}
+use Rattle.bank_host.proofs.Answering.{EndsIn-asked}
 use Rattle.bank_host.proofs.running.run_bank.Goals as goal
 
-pub returns-then-asks_replay-clause-ends : goal.returns-then-asks_replay-clause-ends
-returns-then-asks_replay-clause-ends g c =
-    let told = g.S.Source.left c.args.schedule.now in
-    let asked : true ≡ asks_replay (map string_bytes c.args.words.now) = sym c.if-asks_replay.true ∙ c.asks_replay.ensures in
-    Ends-asked true (asks_replay (map string_bytes c.args.words.now)) told c.replay_bank.result _ _ _ _ asked c.replay_bank.ensures.ends
+pub returns-in-Some-clause-ends : goal.returns-in-Some-clause-ends
+returns-in-Some-clause-ends g c =
+    let asked : Some c.in-Some.command ≡ command_of (map string_bytes c.args.words.now) = sym c.in-Some.is ∙ c.command_of.ensures in
+    let ends = c.run_command.ensures.ends in
+    (ends.0, ends.1, EndsIn-asked (Some c.in-Some.command) (command_of (map string_bytes c.args.words.now)) ends.0 c.run_command.result _ _ _ _ asked ends.2)
 
-pub returns-else-asks_replay-clause-ends : goal.returns-else-asks_replay-clause-ends
-returns-else-asks_replay-clause-ends g c =
-    let told = g.S.Source.left c.args.schedule.now in
-    let asked : false ≡ asks_replay (map string_bytes c.args.words.now) = sym c.if-asks_replay.false ∙ c.asks_replay.ensures in
-    Ends-asked false (asks_replay (map string_bytes c.args.words.now)) told c.write_answer.result _ _ _ _ asked
-    (Ends-one (IsAnswer false told) 2 _ c.write_answer.result _ _ _ _ (words_answer told 2 _ refl refl) c.write_answer.ensures.ends)
+pub returns-in-None-clause-ends : goal.returns-in-None-clause-ends
+returns-in-None-clause-ends g c =
+    let given = some_told (g.S.Source.left c.args.schedule.now) in
+    let none : Option Command = None in
+    let asked : none ≡ command_of (map string_bytes c.args.words.now) = sym c.in-None.is ∙ c.command_of.ensures in (
+      given.0,
+      given.1,
+      EndsIn-asked none (command_of (map string_bytes c.args.words.now)) given.0 c.write_answer.result _ _ _ _ asked
+          (Ends-one (IsAnswer none given.0) 2 _ c.write_answer.result _ _ _ _ (record { status_is = refl; text_is = refl }) c.write_answer.ensures.ends),
+    )

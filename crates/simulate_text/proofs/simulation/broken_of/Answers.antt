@@ -7,7 +7,7 @@ use Rattle.simulate_text.proofs.Carrying.{broken_here}
 use Rattle.simulate_text.proofs.simulation.broken_of.Goals as goal
 
 pub returns : goal.returns
-returns c = λ d w of.
+returns g c = λ d w of.
     let net = c.args.net.now in
     let lt : c.args.replica < length net.replicas = omega (arith, c.if-replica-replica_count.false, c.replica_count.ensures) in
     let is = c.invariant_broken_at.ensures

@@ -5,7 +5,7 @@ use Rattle.simulate_text.proofs.Carrying.{hears_more, replica_count}
 use Rattle.simulate_text.proofs.simulation.tell_all.Goals as goal
 
 pub loop-replica-preserved : goal.loop-replica-preserved
-loop-replica-preserved c = λ d w of.
+loop-replica-preserved g c = λ d w of.
     let before = c.loop-replica.invariant d w of in
     let gone = c.in_ok-go.ensures d w before.0 in (
       gone.of,
@@ -13,7 +13,7 @@ loop-replica-preserved c = λ d w of.
     )
 
 pub returns : goal.returns
-returns c = λ d w of.
+returns g c = λ d w of.
     let told = c.loop-replica.invariant d w of in
     let all : length (network_held c.args.net.now).replicas ≡ c.loop-replica.replica
     = replica_count c.args.net.now ∙ omega (arith, c.loop-replica-test.false, c.loop-replica.auto.replica-end, c.in_ok-count.ensures, c.replica_count.ensures) in

@@ -7,5 +7,5 @@ use Rattle.simulate_text.specs.Reached.{IsOf}
 use Rattle.simulate_text.proofs.simulation.tell_all.Given as goal
 
 abbrev pub invariant-loop-replica : goal.invariant-loop-replica
-invariant-loop-replica l =
+invariant-loop-replica g l =
     (d : Specification) (w : World) → IsOf d w l.fn.net → IsOf d w l.net × (heard_by d w l.message l.replica (network_held l.fn.net) ≡ network_held l.net)

@@ -8,7 +8,7 @@ use Rattle.simulate_text.proofs.Carrying.{does_from, calls_part}
 use Rattle.simulate_text.proofs.writing.call_named.Goals as goal
 
 pub returns : goal.returns
-returns c =
+returns g c =
     let old = c.args.sim.now in let r = c.args.replica in
     let call : Call = record { op = c.in-Some.op; args = c.in_ok-args.args } in
     does_from c.call.result (λ d w. begins d w r call) (λ d w. calls d w r c.args.args.now (operation_named d c.args.name.now)) old old c.args.said.now.items c.call.new.said.items c.call.new.self

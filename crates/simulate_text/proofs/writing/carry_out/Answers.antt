@@ -6,7 +6,7 @@ use Rattle.simulate_text.proofs.Carrying.{does_from, replica_below, call_part, t
 use Rattle.simulate_text.proofs.writing.carry_out.Goals as goal
 
 pub returns-in-Call : goal.returns-in-Call
-returns-in-Call c =
+returns-in-Call g c =
     let old = c.args.sim.now in let s = c.args.step.now in let name = c.bytes.result.now in let args = c.as_slice.result.now in
     does_from c.call_named.result (λ d w. calls d w c.in-Call.replica args (operation_named d name)) (λ d w. part_of d w s) old old c.args.said.now.items c.call_named.new.said.items c.call_named.new.sim
     (λ d w of. (
@@ -18,7 +18,7 @@ returns-in-Call c =
     c.call_named.ensures
 
 pub returns-in-Take : goal.returns-in-Take
-returns-in-Take c =
+returns-in-Take g c =
     let old = c.args.sim.now in let s = c.args.step.now in let e = c.in-Take.event in
     does_from c.take_numbered.result (λ d w x. takes d w c.in-Take.replica e (slice_get x.dones e) x) (λ d w. part_of d w s) old old c.args.said.now.items c.take_numbered.new.said.items c.take_numbered.new.sim
     (λ d w of. (

@@ -5,7 +5,7 @@ use Rattle.simulate_text.proofs.Going.{replica_more}
 use Rattle.simulate_text.proofs.writing.push_replicas.Goals as goal
 
 pub loop-replica-preserved : goal.loop-replica-preserved
-loop-replica-preserved c =
+loop-replica-preserved g c =
     let net = c.args.net.now in let k = c.loop-replica.replica in
     let lt : k < length net.replicas = omega (arith, c.loop-replica-test.true, c.in_ok-count.ensures, c.replica_count.ensures) in
     let found = at_number net k lt in

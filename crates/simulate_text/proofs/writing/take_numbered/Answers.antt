@@ -8,7 +8,7 @@ use Rattle.simulate_text.proofs.Carrying.{does_from, as_part, stopped_part}
 use Rattle.simulate_text.proofs.writing.take_numbered.Goals as goal
 
 pub returns-in-Some : goal.returns-in-Some
-returns-in-Some c =
+returns-in-Some g c =
     let old = c.args.sim.now in let r = c.args.replica in let e = c.args.event in
     let found : slice_get old.dones.items e ≡ Some c.in-Some.done
     = sym (c.number_at.ensures ∙ ap (λ (l : List ℕ). slice_get l e) c.deref.ensures.value) ∙ c.in-Some.is in
@@ -16,7 +16,7 @@ returns-in-Some c =
     (λ d w of. (of, ap (λ (o : Option ℕ). takes d w r e o (simulated_in old)) found)) c.take.ensures
 
 pub returns-in-None : goal.returns-in-None
-returns-in-None c = λ d w of.
+returns-in-None g c = λ d w of.
     let old = c.args.sim.now in let r = c.args.replica in let e = c.args.event in let before = c.args.said.now.items in
     let none : slice_get old.dones.items e ≡ None
     = sym (c.number_at.ensures ∙ ap (λ (l : List ℕ). slice_get l e) c.deref.ensures.value) ∙ c.in-None.is in

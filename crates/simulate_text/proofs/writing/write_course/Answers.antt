@@ -7,13 +7,13 @@ use Rattle.simulate_text.proofs.Going.{first_asked, at_broken_start, at_start}
 use Rattle.simulate_text.proofs.writing.write_course.Goals as goal
 
 pub returns-in-Some : goal.returns-in-Some
-returns-in-Some c = λ w n some first of.
+returns-in-Some g c = λ w n some first of.
     let d = c.args.spec.now in let sim = c.args.sim.now in
     at_broken_start d w n c.args.steps.now c.args.text.now.items sim c.in-Some.place first
     (first_asked d w n (simulated_in sim) (Some c.in-Some.place) some first (c.in-Some.ensures d w of)) of
 
 pub returns-in-None : goal.returns-in-None
-returns-in-None c =
+returns-in-None g c =
     let d = c.args.spec.now in let sim = c.args.sim.now in let ss = c.args.steps.now in
     let before = c.args.text.now.items in let text = c.write_steps.new.text.items in let new = c.write_steps.new.sim in
     IfOk-weaker c.write_steps.result

@@ -4,7 +4,7 @@ use Rattle.simulate_text.proofs.Going.{ends_here, leads_on, done_here}
 use Rattle.simulate_text.proofs.writing.write_steps.Goals as goal
 
 pub returns-in-Some : goal.returns-in-Some
-returns-in-Some c = λ w of.
+returns-in-Some g c = λ w of.
     let d = c.args.spec.now in
     let is = c.loop-number.invariant w of in
     let whole = course_from d w 0 c.args.steps.now (simulated_in c.args.sim.now) in
@@ -12,7 +12,7 @@ returns-in-Some c = λ w of.
     c.index-steps-number.result c.loop-number-test.true c.index-steps-number.is is c.in_ok-stop.field-0 (c.in_ok-stop.ensures w is.of) c.in-Some.stop c.in-Some.is
 
 pub loop-number-preserved : goal.loop-number-preserved
-loop-number-preserved c = λ w of.
+loop-number-preserved g c = λ w of.
     let d = c.args.spec.now in
     let is = c.loop-number.invariant w of in
     let whole = course_from d w 0 c.args.steps.now (simulated_in c.args.sim.now) in
@@ -20,7 +20,7 @@ loop-number-preserved c = λ w of.
     c.index-steps-number.result c.loop-number-test.true c.index-steps-number.is is c.in_ok-stop.field-0 (c.in_ok-stop.ensures w is.of) c.in-None.is
 
 pub returns : goal.returns
-returns c = λ w of.
+returns g c = λ w of.
     let d = c.args.spec.now in
     let is = c.loop-number.invariant w of in
     let whole = course_from d w 0 c.args.steps.now (simulated_in c.args.sim.now) in

@@ -6,5 +6,5 @@ use Rattle.simulate_text.proofs.Going.{Between}
 use Rattle.simulate_text.proofs.writing.write_steps.Given as goal
 
 abbrev pub invariant-loop-number : goal.invariant-loop-number
-invariant-loop-number l =
+invariant-loop-number g l =
     (w : World) → IsOf l.spec w l.fn.sim.net → Between l.spec w (course_from l.spec w 0 l.steps (simulated_in l.fn.sim)) l.fn.text.items l.text.items l.number (drop l.number l.steps) l.sim

@@ -7,9 +7,9 @@ use Rattle.simulate_text.proofs.Carrying.{does_from, asks_part}
 use Rattle.simulate_text.proofs.simulation.Simulation.ask.Goals as goal
 
 pub returns : goal.returns
-returns c =
+returns g c =
     let old = c.args.self.now in
-    let mid : Simulation = record { net = c.go-2.new.net; dones = old.dones; grants = c.set_number.new.numbers } in
+    let mid : Simulation g.row.R.Denot = record { net = c.go-2.new.net; dones = old.dones; grants = c.set_number.new.numbers } in
     does_from c.hear_grant.result (λ d w. hears_grant d w c.args.replica c.in_ok-grant.grant true)
     (λ d w. asks d w c.args.replica c.args.request) mid old c.args.said.now.items c.hear_grant.new.said.items c.hear_grant.new.self
     (λ d w of.

@@ -7,9 +7,9 @@ use Rattle.simulate_text.proofs.Carrying.{does_from, begins_part}
 use Rattle.simulate_text.proofs.simulation.Simulation.call.Goals as goal
 
 pub returns : goal.returns
-returns c =
+returns g c =
     let old = c.args.self.now in
-    let mid : Simulation = record { net = c.go.new.net; dones = old.dones; grants = old.grants } in
+    let mid : Simulation g.row.R.Denot = record { net = c.go.new.net; dones = old.dones; grants = old.grants } in
     does_from c.begun.result (λ d w. begun d w c.args.replica c.in_ok-sent.sent c.in_ok-answer.answer)
     (λ d w. begins d w c.args.replica c.args.call) mid old c.args.said.now.items c.begun.new.said.items c.begun.new.self
     (λ d w of.

@@ -7,9 +7,9 @@ use Rattle.simulate_text.proofs.Carrying.{does_from, hears_part}
 use Rattle.simulate_text.proofs.simulation.Simulation.hear_grant.Goals as goal
 
 pub returns : goal.returns
-returns c =
+returns g c =
     let old = c.args.self.now in
-    let mid : Simulation = record { net = c.go.new.net; dones = old.dones; grants = old.grants } in
+    let mid : Simulation g.row.R.Denot = record { net = c.go.new.net; dones = old.dones; grants = old.grants } in
     does_from c.granted.result (λ d w. granted d w c.args.replica c.in_ok-sent.sent c.args.tells c.in_ok-answer.answer)
     (λ d w. hears_grant d w c.args.replica c.args.message c.args.tells) mid old c.args.said.now.items c.granted.new.said.items c.granted.new.self
     (λ d w of.

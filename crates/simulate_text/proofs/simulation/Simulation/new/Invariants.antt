@@ -3,4 +3,4 @@ use Rattle.simulate_text.proofs.simulation.Simulation.new.Given as goal
 
 -- no grant so far, for each of these replicas
 abbrev pub invariant-loop-i : goal.invariant-loop-i
-invariant-loop-i l = l.grants.items ≡ replicate l._i 0
+invariant-loop-i g l = l.grants.items ≡ replicate l._i 0

@@ -7,9 +7,9 @@ use Rattle.simulate_text.proofs.Carrying.{does_from, takes_part}
 use Rattle.simulate_text.proofs.simulation.Simulation.take.Goals as goal
 
 pub returns : goal.returns
-returns c =
+returns g c =
     let old = c.args.self.now in
-    let mid : Simulation = record { net = c.go.new.net; dones = old.dones; grants = old.grants } in
+    let mid : Simulation g.row.R.Denot = record { net = c.go.new.net; dones = old.dones; grants = old.grants } in
     does_from c.taken.result (λ d w. taken d w c.args.replica c.args.event c.in_ok-answer.answer)
     (λ d w. takes d w c.args.replica c.args.event (Some c.args.done)) mid old c.args.said.now.items c.taken.new.said.items c.taken.new.self
     (λ d w of.

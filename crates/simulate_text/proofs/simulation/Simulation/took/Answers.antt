@@ -7,7 +7,7 @@ use Rattle.simulate_text.proofs.Carrying.{as_part, said_first, asked_part}
 use Rattle.simulate_text.proofs.simulation.Simulation.took.Goals as goal
 
 pub returns-in-None : goal.returns-in-None
-returns-in-None c =
+returns-in-None g c =
     let old = c.args.self.now in let r = c.args.replica in let what = said.Take c.args.event in
     let before = c.args.said.now.items in let mid = c.push.new.self.items in let after = c.try_again.new.said.items in let new = c.try_again.new.self in
     IfOk-weaker c.try_again.result (λ stop. Does (λ d w. tries_again d w r) old mid after stop new)

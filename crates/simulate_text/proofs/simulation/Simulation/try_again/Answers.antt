@@ -8,7 +8,7 @@ use Rattle.simulate_text.proofs.Carrying.{does_from, tries_part}
 use Rattle.simulate_text.proofs.simulation.Simulation.try_again.Goals as goal
 
 pub returns : goal.returns
-returns c =
+returns g c =
     let old = c.args.self.now in let r = c.args.replica in let grant = c.unwrap_or-grant.result in
     let is : get_or old.grants.items r 0 ≡ grant
     = sym (c.unwrap_or-grant.ensures ∙ ap (λ (o : Option ℕ). unwrap_or o 0) (c.number_at.ensures ∙ ap (λ (l : List ℕ). slice_get l r) c.deref.ensures.value) ∙ unwrap_or-slice_get old.grants.items r 0) in

@@ -5,7 +5,7 @@ use Rattle.simulate_text.specs.Reached.{simulated_in}
 use Rattle.simulate_text.proofs.simulation.Simulation.void.Goals as goal
 
 pub returns : goal.returns
-returns c = λ d w of.
+returns g c = λ d w of.
     let told = c.in_ok-tell_all.ensures d w of in
     record {
       said_is = sym c.in_ok-push.ensures.items;
