@@ -1,5 +1,5 @@
 use Rattle.std.proofs.Common.{◌≡◌, ℕ, zero, suc, ◌+◌, ◌-◌, ◌<◌, ◌≤◌, ℤ, pos, ◌+ℤ◌, ◌-ℤ◌, ◌<ℤ◌, Bool, true, false, not, ◌||◌, cond, List, [], ◌∷◌, ◌++◌, length, map, refl, sym, ◌∙◌, ap, subst, arith, Some, Ok}
-use Rattle.std.specs.Prelude.{nat_eq, nat_lt, int_lt}
+use Rattle.std.specs.Prelude.{nat_eq, nat_lt, nat_le, int_lt, slice_index_or}
 use Rattle.std.specs.List.{list_all}
 use Rattle.std.proofs.lemmas.Bool.{and_from, lt-ltb}
 use Rattle.std.proofs.lemmas.Int.{ints}
@@ -21,7 +21,7 @@ use Rattle.diff_bounds.specs.declared.walks.Visit.{Visit}
 use Rattle.diff_bounds.specs.Spans.{Spans}
 use Rattle.diff_bounds.specs.Edges.{edge_at, AreEdges}
 use Rattle.diff_bounds.specs.Walks.{visit_at, back, walk_edges, AreWalks}
-use Rattle.diff_bounds.specs.Cycles.{IsCycle, left_of, step_at, first_steps}
+use Rattle.diff_bounds.specs.Cycles.{IsCycle, LeadBack, IsRowCycle, left_of, step_at, first_steps}
 use Rattle.diff_bounds.proofs.Spanning.{spans-sum, spans-contradiction}
 use Rattle.diff_bounds.proofs.Bounding.{difference-size, in_range-size}
 use Rattle.diff_bounds.proofs.Pushing.{value-low}
@@ -232,6 +232,84 @@ different-walk n E V L w (suc k) i h d s =
 
 pub cycle-different : (n : ℕ) (E : List Edge) (V : List Visit) (L : List ℕ) (used : List ℕ) → AreWalks n E V L → IsCycle V used → are_different used ≡ true
 cycle-different n E V L used w c = ap are_different c.used_is ∙ different-walk n E V L w c.edge_count c.end c.end_below c.deep c.simple
+
+-- THE ROWS LEAD BACK along the cycle
+
+-- the places of so many visits, the last one first
+abbrev walk_places : List Visit → ℕ → ℕ → List ℕ
+walk_places V zero i = []
+walk_places V (suc k) i = (visit_at V i).place ∷ walk_places V k (visit_at V i).before
+
+first-place : (V : List Visit) (k i start : ℕ) → (visit_at V (back V k i)).place ≡ start → (visit_at V i).place ≡ slice_index_or (walk_places V k i) 0 start
+first-place V zero i start e = e
+first-place V (suc k) i start e = refl
+
+lead-back : (n : ℕ) (rows : List Row) (E : List Edge) (V : List Visit) (L : List ℕ) → AreEdges n rows E → AreWalks n E V L → (k i start : ℕ) → i < length V → k ≤ (visit_at V i).depth
+    → (visit_at V (back V k i)).place ≡ start → LeadBack n rows (walk_edges V k i) (walk_places V k i) start
+lead-back n rows E V L es w zero i start h d c = cc
+lead-back n rows E V L es w (suc k) i start h d c =
+    let s = (w.each i h).step (omega arith) in
+    let b = (visit_at V i).before in (
+      (visit_at V i).value -ℤ (visit_at V b).value,
+      subst (λ (p : ℕ). Spans n (tightened (row_at rows (visit_at V i).edge)) p (visit_at V i).place ((visit_at V i).value -ℤ (visit_at V b).value)) (first-place V k b start c)
+          (row-spans n rows E V L es w i h (omega arith)),
+      lead-back n rows E V L es w k b start (omega (arith, s.earlier)) (omega (arith, s.depth_is)) c,
+    )
+
+places-within : (n : ℕ) (E : List Edge) (V : List Visit) (L : List ℕ) → AreWalks n E V L → (k i : ℕ) → i < length V → k ≤ (visit_at V i).depth → list_all (λ p. nat_le p n) (walk_places V k i) ≡ true
+places-within n E V L w zero i h d = refl
+places-within n E V L w (suc k) i h d =
+    let s = (w.each i h).step (omega arith) in
+    and_from (nat_le (visit_at V i).place n) (list_all (λ p. nat_le p n) (walk_places V k (visit_at V i).before))
+    (leb (visit_at V i).place n (w.each i h).place_below)
+    (places-within n E V L w k (visit_at V i).before (omega (arith, s.earlier)) (omega (arith, s.depth_is)))
+  where
+    leb : (a b : ℕ) → a ≤ b → nat_le a b ≡ true
+    leb a b l = grind (arith, nat_tests)
+
+place-among : (V : List Visit) (k i p : ℕ) → stands_in (walk_places V k i) p ≡ true → (m : ℕ) × (m < k) × ((visit_at V (back V m i)).place ≡ p)
+place-among V zero i p h = absurd cc
+place-among V (suc k) i p h = by_case (nat_eq (visit_at V i).place p) refl (λ l. place-among V k (visit_at V i).before p l) h
+  where
+    same : (a b : ℕ) → nat_eq a b ≡ true → a ≡ b
+    same a b h = grind (arith, nat_tests)
+
+    later : (m : ℕ) × (m < k) × ((visit_at V (back V m (visit_at V i).before)).place ≡ p) → (m : ℕ) × (m < suc k) × ((visit_at V (back V m i)).place ≡ p)
+    later (m, l, f) = (suc m, omega arith, f)
+
+    by_case : (b : Bool) → nat_eq (visit_at V i).place p ≡ b → (stands_in (walk_places V k (visit_at V i).before) p ≡ true → (m : ℕ) × (m < k) × ((visit_at V (back V m (visit_at V i).before)).place ≡ p))
+        → (b || stands_in (walk_places V k (visit_at V i).before) p) ≡ true → (m : ℕ) × (m < suc k) × ((visit_at V (back V m i)).place ≡ p)
+    by_case true f g h = (0, omega arith, same (visit_at V i).place p f)
+    by_case false f g h = later (g h)
+
+places-different : (V : List Visit) (k i : ℕ) → ((a b : ℕ) → a < b → b < k → (visit_at V (back V a i)).place ≡ (visit_at V (back V b i)).place → ⊥) → are_different (walk_places V k i) ≡ true
+places-different V zero i s = refl
+places-different V (suc k) i s =
+    and_from (not (stands_in (walk_places V k (visit_at V i).before) (visit_at V i).place)) (are_different (walk_places V k (visit_at V i).before))
+    (by_case (stands_in (walk_places V k (visit_at V i).before) (visit_at V i).place) refl)
+    (places-different V k (visit_at V i).before (λ a b l m e. s (suc a) (suc b) (omega arith) (omega arith) e))
+  where
+    apart : (m : ℕ) × (m < k) × ((visit_at V (back V m (visit_at V i).before)).place ≡ (visit_at V i).place) → ⊥
+    apart (m, l, e) = s 0 (suc m) (omega arith) (omega arith) (sym e)
+
+    by_case : (b : Bool) → stands_in (walk_places V k (visit_at V i).before) (visit_at V i).place ≡ b → not b ≡ true
+    by_case true f = absurd (apart (place-among V k (visit_at V i).before (visit_at V i).place f))
+    by_case false f = refl
+
+cycle-of-walk : (n : ℕ) (rows : List Row) (E : List Edge) (V : List Visit) (L : List ℕ) → AreEdges n rows E → AreWalks n E V L → (k i : ℕ) → i < length V → 0 < k → k ≤ (visit_at V i).depth
+    → (visit_at V (back V k i)).place ≡ (visit_at V i).place → ((a b : ℕ) → a < b → b < k → (visit_at V (back V a i)).place ≡ (visit_at V (back V b i)).place → ⊥) → IsRowCycle n rows (walk_edges V k i)
+cycle-of-walk n rows E V L es w zero i h p d c s = absurd (omega arith)
+cycle-of-walk n rows E V L es w (suc k) i h p d c s = record {
+  end = (visit_at V i).place;
+  others = walk_places V k (visit_at V i).before;
+  within = places-within n E V L w (suc k) i h d;
+  simple = places-different V (suc k) i s;
+  lead = lead-back n rows E V L es w (suc k) i (visit_at V i).place h d c;
+}
+
+pub cycle-rows : (n : ℕ) (rows : List Row) (E : List Edge) (V : List Visit) (L : List ℕ) (used : List ℕ) → AreEdges n rows E → AreWalks n E V L → IsCycle V used → IsRowCycle n rows used
+cycle-rows n rows E V L used es w c =
+    subst (IsRowCycle n rows) (sym c.used_is) (cycle-of-walk n rows E V L es w c.edge_count c.end c.end_below c.some c.deep c.closed c.simple)
 
 pub steps-added : (used : List ℕ) (count : ℕ) (steps : List RowStep) → count ≡ length used → steps ≡ first_steps count (count - 1) → steps ≡ first_steps (length used) (length used - 1)
 steps-added used count steps l e = e ∙ ap (λ k. first_steps k (k - 1)) l

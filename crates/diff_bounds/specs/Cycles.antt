@@ -1,10 +1,15 @@
 -- A walk that comes back to its place, and the steps that add up its rows.
-use Rattle.std.specs.Prelude.{◌≡◌, true, ℕ, zero, suc, ◌+◌, ◌-◌, ◌<◌, ◌≤◌, nat_eq, pos, cond, List, [], ◌∷◌, ◌++◌, length, slice_index_or, Option, Some, None, is_none}
+use Rattle.std.specs.Prelude.{◌≡◌, true, ℕ, zero, suc, ◌+◌, ◌-◌, ◌<◌, ◌≤◌, nat_eq, nat_le, ℤ, pos, cond, List, [], ◌∷◌, ◌++◌, length, slice_index_or, Option, Some, None, is_none}
+use Rattle.std.specs.List.{list_all}
+use Rattle.lin_rows.specs.Rows.{Row}
+use Rattle.lin_rows.specs.Divisors.{tightened}
 use Rattle.proof_lines.specs.declared.line.RowStep.{RowStep}
 use Rattle.proof_lines.specs.Numbers.{are_different}
+use Rattle.proof_lines.specs.Steps.{row_at}
 use Rattle.theory_api.specs.declared.answer.TheoryAnswer.{TheoryAnswer}
 use Rattle.theory_api.specs.declared.answer.TheoryAnswer.TheVariants.{Model, Conflict, Split, Rows, Range, Memory}
 use Rattle.diff_bounds.specs.declared.walks.Visit.{Visit}
+use Rattle.diff_bounds.specs.Spans.{Spans}
 use Rattle.diff_bounds.specs.Walks.{visit_at, back, walk_edges}
 
 -- the edges of a walk that comes back to its place, the last one first; on the way it comes to no place twice
@@ -34,6 +39,24 @@ pub record IsGoingBack (ints : ℕ) (visits : List Visit) (last : ℕ) (seen : L
   pub places : (p s : ℕ) → slice_index_or seen p None ≡ Some s → (s < length used) × ((visit_at visits (back visits s last)).place ≡ p)
   pub marked : (i : ℕ) → i < length used → slice_index_or seen (visit_at visits (back visits i last)).place None ≡ Some i
 
+-- ONE CYCLE OF ROWS
+
+-- Rows, by their numbers, lead back from place to place: each leads to its place from the place of the next one, and the last from `start`.
+abbrev pub LeadBack : ℕ → List Row → List ℕ → List ℕ → ℕ → Type 0
+LeadBack ints rows [] [] start = Unit {0}
+LeadBack ints rows [] (p ∷ ps) start = ⊥
+LeadBack ints rows (u ∷ us) [] start = ⊥
+LeadBack ints rows (u ∷ us) (p ∷ ps) start =
+    (bound : ℤ) × Spans ints (tightened (row_at rows u)) (slice_index_or ps 0 start) p bound × LeadBack ints rows us ps start
+
+-- They are the rows of one cycle, the last one first: it comes to no place twice, and ends where it starts.
+pub record IsRowCycle (ints : ℕ) (rows : List Row) (used : List ℕ) : Type 0 where
+  pub end : ℕ
+  pub others : List ℕ
+  pub within : list_all (λ p. nat_le p ints) (end ∷ others) ≡ true
+  pub simple : are_different (end ∷ others) ≡ true
+  pub lead : LeadBack ints rows used (end ∷ others) end
+
 -- THE STEPS: the first adds the first two of `count` rows, and each next one adds one row more
 
 abbrev pub left_of : ℕ → ℕ → ℕ
@@ -46,11 +69,11 @@ abbrev pub first_steps : ℕ → ℕ → List RowStep
 first_steps count zero = []
 first_steps count (suc n) = first_steps count n ++ step_at count (suc n) ∷ []
 
--- CONFLICTS: different rows, which the steps add up one after the other
-abbrev pub AddsUp : TheoryAnswer → Type 0
-AddsUp (Conflict used steps) = (are_different used ≡ true) × (steps ≡ first_steps (length used) (length used - 1))
-AddsUp (Model values) = Unit {0}
-AddsUp (Split place at used steps low high values) = Unit {0}
-AddsUp (Rows used steps) = Unit {0}
-AddsUp (Range used steps what) = Unit {0}
-AddsUp Memory = Unit {0}
+-- CONFLICTS: the different rows of one cycle, which the steps add up one after the other
+abbrev pub AddsUp : ℕ → List Row → TheoryAnswer → Type 0
+AddsUp ints rows (Conflict used steps) = IsRowCycle ints rows used × (are_different used ≡ true) × (steps ≡ first_steps (length used) (length used - 1))
+AddsUp ints rows (Model values) = Unit {0}
+AddsUp ints rows (Split place at used steps low high values) = Unit {0}
+AddsUp ints rows (Rows used steps) = Unit {0}
+AddsUp ints rows (Range used steps what) = Unit {0}
+AddsUp ints rows Memory = Unit {0}

@@ -41,7 +41,7 @@ fn conflict_of(
     requires kept { AreKept edges.now walks.now }
     requires long { IsLongNow walks.now }
     ensures promised { IfOk result (λ a. IsAnswer false false walks.now.ints rows.now a) }
-    ensures added { IfOk result AddsUp }
+    ensures added { IfOk result (AddsUp walks.now.ints rows.now) }
 {
     let used = cycle_of(alloc, walks, edges)?;
     if used.len() > ROW_LIMIT {
@@ -63,7 +63,7 @@ fn solve(alloc: Global, rows: &[Row], ints: u32) -> Result<TheoryAnswer, AllocEr
     requires places { all_below ints rows.now ≡ true }
     requires taken { are_taken ints rows.now ≡ true }
     ensures promised { IfOk result (λ a. IsAnswer false false ints rows.now a) }
-    ensures added { IfOk result AddsUp }
+    ensures added { IfOk result (AddsUp ints rows.now) }
 {
     if rows.len() > u32::MAX as usize {
         return Err(AllocError);
@@ -91,13 +91,13 @@ impl Theory for DiffBounds {
 
     const MAY_STOP: bool = false;
 
-    /// A conflict names each row of one cycle once, the last one first, and its steps add them up one by one; so a row that is a
-    /// contradiction by itself is a conflict without steps.
+    /// A conflict names the rows of one cycle, each of them once and the last one first, and its steps add them up one by one; a cycle of
+    /// one row is a conflict without steps. Which cycle it is, and which of the values that satisfy all rows a model has, isn't promised.
     fn check(&mut self, alloc: Global, rows: &[Row], ints: u32) -> TheoryAnswer
         requires places { all_below ints rows.now ≡ true }
         requires taken { are_taken ints rows.now ≡ true }
         ensures promised { IsAnswer false false ints rows.now result }
-        ensures added { AddsUp result }
+        ensures added { AddsUp ints rows.now result }
     {
         law_rows(rows);
         match solve(alloc, rows, ints) {

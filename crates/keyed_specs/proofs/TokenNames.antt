@@ -32,7 +32,7 @@ among n f (x ∷ xs) = ap (λ b. bytes_eq n (f x) || b) (among n f xs)
 among_more : {X : Type 0} (n : List ℕ) (f : X → List ℕ) (xs : List X) (ys : List (List ℕ)) (b : Bool) → is_in n ys ≡ b → is_in n (map f xs ++ ys) ≡ (list_any (λ x. bytes_eq n (f x)) xs || b)
 among_more n f xs ys b h = list_any-append (bytes_eq n) (map f xs) ys ∙ ap (λ c. c || is_in n ys) (among n f xs) ∙ ap (λ c. list_any (λ x. bytes_eq n (f x)) xs || c) h
 
-bare_names : (os : List Operation) → map (λ (o : Operation). o.name) (map (λ o. with_takes o []) os) ≡ map (λ (o : Operation). o.name) os
+pub bare_names : (os : List Operation) → map (λ (o : Operation). o.name) (map (λ o. with_takes o []) os) ≡ map (λ (o : Operation). o.name) os
 bare_names [] = refl
 bare_names (o ∷ os) = ap (λ ns. o.name ∷ ns) (bare_names os)
 

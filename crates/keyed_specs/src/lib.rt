@@ -20,7 +20,9 @@ macro_rules! or_drop {
 }
 
 mod in_use;
+mod laws;
 mod making;
 mod naming;
 
+pub use laws::law_made_are_well_formed;
 pub use making::{bare, keyed};

@@ -15,8 +15,8 @@ use spec_core::{Elem, Kind, Name, Operation, Pattern, Rule, Spec, Take, Token};
 use spec_draft::Draft;
 use std::alloc::{AllocError, Global};
 
-// A copy of a specification, but with these tokens, rules and operations. Parts that aren't well formed together don't come from here;
-// they would be answered as want of memory.
+// A copy of a specification, but with these tokens, rules and operations. Parts that aren't well formed together would be answered as want
+// of memory; none come, by `law_made_are_well_formed`.
 fn made(
     alloc: Global,
     spec: &Spec,

@@ -148,8 +148,8 @@ impl<'a, E: Effect, G: Guard> Host<'a, E, G> {
     }
 
     /// Carries a step out, or says why not, with the answers of a replay of the specification: the same events, the same refusals in the
-    /// same order. The guard is asked for the requires lines, and the state after an event is what the effect gave. A refusal changes
-    /// nothing.
+    /// same order. A refusal changes nothing. The guard is asked for the requires lines, and the state after an event is what the effect
+    /// gave; of this no clause speaks, since both answer as the specification does.
     pub fn step(&mut self, step: &Step) -> Result<Taken, StepRefused>
         ensures answer { (result ≡ Err StepRefused.Memory) ⊎ (result ≡ answer (outcome self.old.spec self.old.world self.old.held step.now)) }
         ensures ok { OnOk result (self.new ≡ record self.old { held = held_after self.old.held (outcome self.old.spec self.old.world self.old.held step.now) }) }

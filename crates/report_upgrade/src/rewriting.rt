@@ -103,7 +103,8 @@ fn take_lines<K: Sink>(
     write_out(text, out)
 }
 
-/// Writes the upgraded report of bytes that are those of a report. Whether its verdicts rest on what they say isn't asked.
+/// Writes the upgraded report of bytes that are those of a report. Whether its verdicts rest on what they say isn't asked. What is written
+/// for other bytes isn't promised.
 pub fn write_upgraded<K: Sink>(
     alloc: Global,
     spec: &Spec,

@@ -1,5 +1,5 @@
 // The report that a source gives, upgraded.
-ghost use Rattle.std.specs.Prelude.{◌≡◌, ℕ, ◌≤◌, List, length, IsErrOf};
+ghost use Rattle.std.specs.Prelude.{◌≡◌, ℕ, ◌+◌, ◌≤◌, List, length, IsErrOf};
 ghost use Rattle.std.specs.Io.KnownBytes.{IsAtEnd, Consumes};
 ghost use Rattle.byte_ports.specs.Faults.{IsFault};
 ghost use Rattle.report_verifier.specs.Verified.{most_report_bytes, IsVerified};
@@ -78,6 +78,7 @@ pub fn upgrade_all<E: Source, K: Sink>(
     ensures write_fault { IsErrOf result UpgradeRefused.WriteFault → IsFault (K.faults out.old) (K.faults out.new) }
     ensures end { IsOnAll result → IsAtEnd (E.left report.new) }
     ensures given_up { (given : List ℕ) × Consumes (E.left report.old) (E.left report.new) given }
+    ensures reads { E.reads report.new ≤ E.reads report.old + most_report_bytes + 1 }
     ensures never_falls { E.faults report.old ≤ E.faults report.new }
     ensures never_falls_written { K.faults out.old ≤ K.faults out.new }
 {

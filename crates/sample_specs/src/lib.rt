@@ -10,4 +10,4 @@ mod operations;
 mod parts;
 mod sample;
 
-pub use sample::sample_spec;
+pub use sample::{law_sample_is_well_formed, sample_spec};

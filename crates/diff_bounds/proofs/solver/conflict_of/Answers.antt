@@ -1,5 +1,5 @@
 use Rattle.std.proofs.Common.{arith}
-use Rattle.diff_bounds.proofs.Cycling.{cycle-some, conflict-steps, cycle-different, steps-added}
+use Rattle.diff_bounds.proofs.Cycling.{cycle-some, conflict-steps, cycle-rows, cycle-different, steps-added}
 use Rattle.diff_bounds.proofs.solver.conflict_of.Goals as goal
 
 pub steps_of-requires-clause-some : goal.steps_of-requires-clause-some
@@ -12,6 +12,7 @@ returns-clause-promised c =
 
 pub returns-clause-added : goal.returns-clause-added
 returns-clause-added c = (
+  cycle-rows c.args.walks.now.ints c.args.rows.now c.args.edges.now c.args.walks.now.visits.items c.args.walks.now.latest.items c.in_ok-used.used c.requires.edges c.requires.kept c.in_ok-used.ensures,
   cycle-different c.args.walks.now.ints c.args.edges.now c.args.walks.now.visits.items c.args.walks.now.latest.items c.in_ok-used.used c.requires.kept c.in_ok-used.ensures,
   steps-added c.in_ok-used.used c.len-2.result c.in-Ok.steps c.len-2.ensures c.in-Ok.ensures,
 )
