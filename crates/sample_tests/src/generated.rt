@@ -1,10 +1,9 @@
 // The generated specifications beside a text, and how many obligations they have.
 
+use crate::reading::spec;
 use crate::sameness::same_spec;
 use obligation_list::list;
 use sample_specs::sample_spec;
-use spec_core::Spec;
-use spec_from_bytes::{Reading, SPECIFICATION_LIMIT, read_bytes};
 use std::alloc::Global;
 use std::process::Abort;
 
@@ -34,16 +33,6 @@ operation del1 ( x : Item )
   remove r1 ( x )
   takes t ( x )
 end"
-}
-
-/// The specification that a text is.
-fn spec(rt: &impl Abort, alloc: Global, text: &[u8]) -> Spec {
-    assert!(rt; text.len() <= SPECIFICATION_LIMIT);
-    let Ok(Reading::Specified(tree, spec)) = read_bytes(alloc, text) else {
-        panic!(rt; "no specification");
-    };
-    drop(tree);
-    spec
 }
 
 #[test]

@@ -1,8 +1,8 @@
-// Whether two specifications say the same, part by part. What the generated ones don't have counts as different.
+// Whether two specifications say the same, part by part.
 
 use spec_core::{
-    Change, Elem, Formula, Invariant, Kind, Name, Operation, Param, Prefix, Prefixed, Relation,
-    Rule, Spec, Spot, Take, Thing, Token, Update,
+    Body, Change, Cmp, Const, Counter, Elem, Formula, Invariant, Kind, Name, Operation, Param,
+    Prefix, Prefixed, Relation, Rule, Spec, Spot, Summand, Take, Term, Thing, Token, Update,
 };
 
 /// Answers false for the function that it stands in where two lists differ.
@@ -47,11 +47,55 @@ fn same_elems(a: &[Elem], b: &[Elem]) -> bool {
     true
 }
 
+fn same_body(a: &Body, b: &Body) -> bool {
+    match a {
+        Body::One => matches!(b, Body::One),
+        Body::Param(n) => match b {
+            Body::Param(m) => n == m,
+            _ => false,
+        },
+        Body::Count(n, keys) => match b {
+            Body::Count(m, others) => n == m && same_elems(keys.as_slice(), others.as_slice()),
+            _ => false,
+        },
+    }
+}
+
+fn same_summand(a: &Summand, b: &Summand) -> bool {
+    a.coef == b.coef && same_body(&a.body, &b.body)
+}
+
+fn same_term(a: &Term, b: &Term) -> bool {
+    all_same!(a.summands, b.summands, same_summand);
+    true
+}
+
+fn same_cmp(a: Cmp, b: Cmp) -> bool {
+    matches!(
+        (a, b),
+        (Cmp::Less, Cmp::Less)
+            | (Cmp::AtMost, Cmp::AtMost)
+            | (Cmp::Equal, Cmp::Equal)
+            | (Cmp::Unequal, Cmp::Unequal)
+            | (Cmp::AtLeast, Cmp::AtLeast)
+            | (Cmp::Greater, Cmp::Greater)
+    )
+}
+
 fn same_formula(a: &Formula, b: &Formula) -> bool {
     match a {
         Formula::True => matches!(b, Formula::True),
+        Formula::False => matches!(b, Formula::False),
         Formula::Not(f) => match b {
             Formula::Not(g) => same_formula(f, g),
+            _ => false,
+        },
+        Formula::And(f, h) => match b {
+            Formula::And(g, k) => same_formula(f, g) && same_formula(h, k),
+            _ => false,
+        },
+        Formula::Or(f, h) => match b {
+            Formula::Or(g, k) => same_formula(f, g) && same_formula(h, k),
             _ => false,
         },
         Formula::Implies(f, h) => match b {
@@ -62,7 +106,22 @@ fn same_formula(a: &Formula, b: &Formula) -> bool {
             Formula::Has(m, g) => n == m && same_elems(f.as_slice(), g.as_slice()),
             _ => false,
         },
-        _ => false,
+        Formula::Same(x, y) => match b {
+            Formula::Same(v, w) => same_elem(x, v) && same_elem(y, w),
+            _ => false,
+        },
+        Formula::Differ(x, y) => match b {
+            Formula::Differ(v, w) => same_elem(x, v) && same_elem(y, w),
+            _ => false,
+        },
+        Formula::Compare(left, how, right) => match b {
+            Formula::Compare(other_left, other_how, other_right) => {
+                same_term(left, other_left)
+                    && same_cmp(*how, *other_how)
+                    && same_term(right, other_right)
+            }
+            _ => false,
+        },
     }
 }
 
@@ -116,7 +175,14 @@ fn same_change(a: &Change, b: &Change) -> bool {
     match a {
         Change::Insert => matches!(b, Change::Insert),
         Change::Remove => matches!(b, Change::Remove),
-        _ => false,
+        Change::Add(t) => match b {
+            Change::Add(u) => same_term(t, u),
+            _ => false,
+        },
+        Change::Set(t) => match b {
+            Change::Set(u) => same_term(t, u),
+            _ => false,
+        },
     }
 }
 
@@ -142,6 +208,14 @@ fn same_operation(a: &Operation, b: &Operation) -> bool {
 
 // ---- the other parts
 
+fn same_const(a: &Const, b: &Const) -> bool {
+    same_name(&a.name, &b.name) && a.sort == b.sort
+}
+
+fn same_counter(a: &Counter, b: &Counter) -> bool {
+    same_name(&a.name, &b.name) && a.keys.as_slice() == b.keys.as_slice() && a.initial == b.initial
+}
+
 fn same_relation(a: &Relation, b: &Relation) -> bool {
     same_name(&a.name, &b.name)
         && a.places.as_slice() == b.places.as_slice()
@@ -163,17 +237,15 @@ fn same_invariant(a: &Invariant, b: &Invariant) -> bool {
     same_name(&a.name, &b.name) && same_line(&a.line, &b.line)
 }
 
-/// Whether two specifications without constants and counters are one.
+/// Whether two specifications are one.
 pub fn same_spec(a: &Spec, b: &Spec) -> bool {
     all_same!(a.sorts, b.sorts, same_name);
+    all_same!(a.consts, b.consts, same_const);
     all_same!(a.relations, b.relations, same_relation);
+    all_same!(a.counters, b.counters, same_counter);
     all_same!(a.tokens, b.tokens, same_token);
     all_same!(a.rules, b.rules, same_rule);
     all_same!(a.invariants, b.invariants, same_invariant);
     all_same!(a.operations, b.operations, same_operation);
     a.version == b.version
-        && a.consts.len() == 0
-        && b.consts.len() == 0
-        && a.counters.len() == 0
-        && b.counters.len() == 0
 }
