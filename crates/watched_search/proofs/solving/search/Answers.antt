@@ -8,10 +8,10 @@ use Rattle.sat_core.proofs.Outcomes.{aim_of, search_begins}
 use Rattle.watched_search.proofs.solving.search.Goals as goal
 
 pub returns-then-holds_empty : goal.returns-then-holds_empty
-returns-then-holds_empty g c = at_once g.T.Theory.MAY_SPLIT c.args.problem.now c.args.budget c.new-log.result c.new-log.ensures (sym c.holds_empty.ensures ∙ c.if-holds_empty.true)
+returns-then-holds_empty g c = at_once g.T.Theory.MAY_SPLIT c.args.problem.now c.args.budget c.new.result c.new.ensures (sym c.holds_empty.ensures ∙ c.if-holds_empty.true)
 
-pub search-init : goal.search-init
-search-init g c =
+pub search_on-requires-clause-search : goal.search_on-requires-clause-search
+search_on-requires-clause-search g c =
     let p = c.args.problem.now in
     let a = aim_of p g.T.Theory.MAY_SPLIT in
     let v = c.grown.view_is ∙ c.in-Ok.ensures in
@@ -20,9 +20,7 @@ search-init g c =
     let m : c.len-else-len.result ≡ length p.atoms = c.len-else-len.ensures ∙ ap (λ (z : PlainProblem). length z.atoms) v in
     let cs : length p.clauses < 2 ^ 32 = omega (arith, n, c.if-len.false) in
     let ks : length p.atoms < 2 ^ 32 = omega (arith, m, c.if-len-2.false) in
-    let x = search_begins a c.args.budget f cs ks (sym c.holds_empty.ensures ∙ c.if-holds_empty.false) in (
-      subst (λ (z : PlainProblem). InSearch a c.args.budget z c.new-trail.result c.new-log.result) (sym c.in-Ok.ensures)
-          (subst (λ (z : List Entry). InSearch a c.args.budget p z c.new-log.result) (sym c.new-trail.ensures)
-          (subst (λ (z : List Line). InSearch a c.args.budget p [] z) (sym c.new-log.ensures) x)),
-      c.in-Ok-begin.ensures,
-    )
+    let x = search_begins a c.args.budget f cs ks (sym c.holds_empty.ensures ∙ c.if-holds_empty.false) in
+    subst (λ (z : PlainProblem). InSearch a c.args.budget z c.new-trail.result c.new-log.result) (sym c.in-Ok.ensures)
+    (subst (λ (z : List Entry). InSearch a c.args.budget p z c.new-log.result) (sym c.new-trail.ensures)
+    (subst (λ (z : List Line). InSearch a c.args.budget p [] z) (sym c.new-log.ensures) x))

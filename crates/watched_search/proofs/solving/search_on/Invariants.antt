@@ -1,7 +1,7 @@
 use Rattle.sat_core.specs.Searching.{InSearch, work}
 use Rattle.sat_core.proofs.Outcomes.{aim_of}
 use Rattle.watched_search.specs.Ready.{IsReady}
-use Rattle.watched_search.proofs.solving.search.Given as goal
+use Rattle.watched_search.proofs.solving.search_on.Given as goal
 
 abbrev pub invariant-search : goal.invariant-search
 invariant-search g l = InSearch (aim_of l.problem g.T.Theory.MAY_SPLIT) l.budget l.grown l.trail l.log × IsReady l.grown.clauses l.trail l.knowledge.index
