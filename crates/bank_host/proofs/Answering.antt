@@ -17,7 +17,7 @@ use Rattle.simulate_text.specs.declared.said.Stop.{Stop as Halt}
 use Rattle.simulate_text.specs.declared.said.Stop.TheVariants as halt
 use Rattle.simulate_text.specs.Text as simulation
 use Rattle.simulate_text.specs.Course.{course as simulated}
-use Rattle.answers.specs.Ending.{EndsIn}
+use Rattle.byte_ports.specs.Ending.{EndsIn}
 use Rattle.bank_host.specs.Bank.{bank}
 use Rattle.bank_host.specs.declared.words.Command.{Command}
 use Rattle.bank_host.specs.declared.words.Command.TheVariants.{Replay, Simulate}

@@ -12,7 +12,7 @@ ghost use Rattle.bank_host.specs.Carried.{status_read, text_read};
 
 use crate::effect::BankCode;
 use crate::words::Command;
-use answers::{Answer, REFUSED};
+use byte_ports::{Answer, REFUSED};
 use replay_text::{Report, replay_by};
 use replica_host::{Host, Native};
 use schedule_json::{Schedule, read_schedule, refusal_text};

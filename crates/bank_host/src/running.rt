@@ -3,15 +3,14 @@
 ghost use Rattle.std.specs.Prelude.{◌≡◌, ℕ, List, true, Some, map, string_bytes};
 ghost use Rattle.std.specs.Option.{is_some};
 ghost use Rattle.byte_ports.specs.Faults.{IsFault};
-ghost use Rattle.answers.specs.Ending.{EndsIn};
-ghost use Rattle.answers.specs.Told.{Tells};
+ghost use Rattle.byte_ports.specs.Ending.{EndsIn};
+ghost use Rattle.byte_ports.specs.Told.{Tells};
 ghost use Rattle.bank_host.specs.Running.{command_of as asked_of, IsAnswer};
 
 use crate::hosting::answer_bytes;
 use crate::spec::bank_spec;
 use crate::words::{Command, command_of};
-use answers::{MEMORY, write_answer, write_answer_from};
-use byte_ports::{Sink, Source};
+use byte_ports::{MEMORY, Sink, Source, write_answer, write_answer_from};
 use schedule_json::{LONG, MOST_SCHEDULE_BYTES};
 use std::alloc::Global;
 

@@ -1,1 +1,3 @@
 mod Loops
+pub mod Endings
+pub mod Sources

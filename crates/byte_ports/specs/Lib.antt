@@ -1,2 +1,4 @@
 pub mod Faults
 pub mod Memory
+pub mod Ending
+pub mod Told

@@ -1,29 +1,37 @@
-// Where bytes come from and where they go: sources and sinks that count their faults.
+// Where bytes come from and where they go: sources and sinks that count their faults, and answers, a status with a text.
 //
 // A `Source` tells contracts the bytes that it has left, and a `Sink` the bytes that it holds, where they can: those in memory
 // do, files and standard output don't. Both count their faults. So `read_up_to` and `write_all` say of every source and sink
 // which bytes were read or written, and name the outside as the cause of a failure only where its count rose.
 //
+// `write_answer` writes a text and ends with its status. `answer_source` reads a source up to a limit and answers its bytes by a job,
+// and `write_answer_from` writes that answer, so that a command whose input is one source is its job.
+//
 // It stands on std and on `thiserror`, which derives the error types. The definitions that contracts cite are in
-// specs/Faults.antt (how faults are counted, and when a failure may come) and specs/Memory.antt (the source and the sink in
-// memory, and what one call does to them).
+// specs/Faults.antt (how faults are counted, and when a failure may come), specs/Memory.antt (the source and the sink in
+// memory, and what one call does to them), specs/Ending.antt (how the writing of an answer ends) and specs/Told.antt (which bytes a
+// source tells, and what is answered to them).
 #![tactic(auto)]
 
 ghost use Rattle.std.specs.Prelude.{◌≡◌};
 ghost use Rattle.byte_ports.specs.Faults.{one_more};
 
+mod ending;
 pub mod endless;
 pub mod memory;
 pub mod outside;
 pub mod sink;
 pub mod source;
+mod told;
 
+pub use ending::{Answer, MEMORY, READ_FAULT, REFUSED, WRITE_FAULT, write_answer};
 pub use endless::EndlessSource;
 pub use memory::{MemSink, MemSource};
 pub use outside::{FileSource, StdSink};
 pub use sink::{Sink, WriteRefused, write_all};
 pub use source::{ReadRefused, Source, read_up_to};
 use thiserror::Error;
+pub use told::{Stopped, answer_source, write_answer_from};
 
 /// A read or a write that failed outside. The count of faults shows that there was a cause, and nothing says which.
 #[derive(Clone, Copy, Debug, PartialEq, Eq, Error)]

@@ -1,7 +1,7 @@
 -- Two answers to the same words and bytes agree.
 use Rattle.std.proofs.Common.{◌≡◌, ℕ, ◌≤◌, ◌<◌, true, List, Option, Some, None, refl, sym, subst, ap, ◌∙◌, inl, inr, arith}
 use Rattle.std.specs.Prelude.{Result, Ok, Err}
-use Rattle.answers.specs.Ending.{IsOne}
+use Rattle.byte_ports.specs.Ending.{IsOne}
 use Rattle.spec_core.specs.Specification.{Specification}
 use Rattle.spec_core.specs.Typed.{is_specification}
 use Rattle.spec_reader.specs.Form.{TreeForm}

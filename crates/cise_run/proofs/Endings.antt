@@ -1,8 +1,8 @@
 -- Endings of commands put together.
 use Rattle.std.proofs.Common.{◌≡◌, ℕ, List, Option, Some, sym, subst}
-use Rattle.answers.specs.Ending.{Ends}
-use Rattle.answers.proofs.Endings.{Ends-map}
-use Rattle.answers.proofs.Sources.{some_told}
+use Rattle.byte_ports.specs.Ending.{Ends}
+use Rattle.byte_ports.proofs.Endings.{Ends-map}
+use Rattle.byte_ports.proofs.Sources.{some_told}
 use Rattle.spec_core.specs.Specification.{Specification}
 use Rattle.spec_reader.specs.Form.{TreeForm}
 use Rattle.cise_run.specs.declared.words.Task.{Task}

@@ -3,9 +3,9 @@ use Rattle.std.proofs.Common.{◌≡◌, ℕ, ◌≤◌, ◌<◌, List, [], ◌�
 use Rattle.std.specs.Prelude.{Ok, Err, codes}
 use Rattle.std.specs.Io.KnownBytes.{Appends}
 use Rattle.byte_ports.specs.Faults.{IsFault}
-use Rattle.answers.specs.Told.{Tells}
-use Rattle.answers.specs.Ending.{IsOne, IsFrontOf, IsBroken, Ends}
-use Rattle.answers.proofs.Endings.{Ends-one}
+use Rattle.byte_ports.specs.Told.{Tells}
+use Rattle.byte_ports.specs.Ending.{IsOne, IsFrontOf, IsBroken, Ends}
+use Rattle.byte_ports.proofs.Endings.{Ends-one}
 use Rattle.spec_core.specs.Specification.{Specification}
 use Rattle.report_lines.specs.declared.head.Tally.{Tally}
 use Rattle.report_lines.specs.declared.head.Outcome.{Outcome}

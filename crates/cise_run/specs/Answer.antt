@@ -1,8 +1,8 @@
 -- What the program answers: which status and which text belong to its words and to the bytes of its inputs.
 use Rattle.std.specs.Prelude.{◌⊎◌, ℕ, List, [], ◌∷◌, Option, None, Some, codes}
 use Rattle.std.specs.Io.KnownBytes.{Appends}
-use Rattle.answers.specs.Told.{Tells}
-use Rattle.answers.specs.Ending.{IsOne, IsFrontOf, IsBroken, Ends}
+use Rattle.byte_ports.specs.Told.{Tells}
+use Rattle.byte_ports.specs.Ending.{IsOne, IsFrontOf, IsBroken, Ends}
 use Rattle.spec_core.specs.Specification.{Specification}
 use Rattle.spec_reader.specs.Form.{TreeForm}
 use Rattle.spec_from_bytes.specs.Lines.{line}

@@ -1,7 +1,7 @@
 // What the answers of the program say, and that two answers to the same words and bytes agree.
 ghost use Rattle.std.specs.Prelude.{◌≡◌, ℕ, true, List, Option, Some, IfSome};
 ghost use Rattle.std.specs.Io.KnownBytes.{Appends};
-ghost use Rattle.answers.specs.Ending.{IsOne};
+ghost use Rattle.byte_ports.specs.Ending.{IsOne};
 ghost use Rattle.spec_from_bytes.specs.Refusal.{Refusal, IsRefusal, refusal_text};
 ghost use Rattle.cise_run.specs.declared.words.Task.{Task};
 ghost use Rattle.cise_run.specs.Words.{job_of, reads_spec, judges, is_upgrade, is_suggestion};

@@ -1,8 +1,8 @@
 // The program but for its edge: from words, sources and a sink to a status.
 ghost use Rattle.std.specs.Prelude.{◌≡◌, ◌⊎◌, ◌<◌, true, false, List, ℕ, Option, Some, map, string_bytes, IfSome};
 ghost use Rattle.byte_ports.specs.Faults.{IsFault};
-ghost use Rattle.answers.specs.Told.{Tells};
-ghost use Rattle.answers.specs.Ending.{Ends};
+ghost use Rattle.byte_ports.specs.Told.{Tells};
+ghost use Rattle.byte_ports.specs.Ending.{Ends};
 ghost use Rattle.spec_reader.specs.Form.{tree_of};
 ghost use Rattle.spec_from_bytes.specs.Reading.{IsReadingOf};
 ghost use Rattle.cise_run.specs.declared.words.Job.TheVariants.{OfSpec};
@@ -20,8 +20,7 @@ use crate::commands::upgrade::upgrade;
 use crate::commands::verify::verify;
 use crate::law::{law_headline, law_least_fault_is_answered, law_upgrades_are_verified};
 use crate::words::{Job, Task, job_asked};
-use answers::{MEMORY, READ_FAULT, Stopped, write_answer};
-use byte_ports::{Sink, Source};
+use byte_ports::{MEMORY, READ_FAULT, Sink, Source, Stopped, write_answer};
 use spec_core::Spec;
 use spec_from_bytes::{Reading, read_specification};
 use spec_reader::Tree;

@@ -5,8 +5,8 @@ use Rattle.std.proofs.lemmas.Bool.{and_parts, true≢false, eqb-true}
 use Rattle.std.proofs.lemmas.List.{take-append-le, length-append}
 use Rattle.std.proofs.lemmas.Option.{slice_get-get_or}
 use Rattle.executions.proofs.Growth.{front_or_last}
-use Rattle.call_rivals.specs.declared.rivals.Rivalry.{Rivalry}
-use Rattle.call_rivals.specs.declared.rivals.Rivalry.TheVariants.{Never, Tied, Free}
+use Rattle.token_rules.specs.declared.rivals.Rivalry.{Rivalry}
+use Rattle.token_rules.specs.declared.rivals.Rivalry.TheVariants.{Never, Tied, Free}
 use Rattle.token_protocol.specs.declared.granted.Granted.{Granted}
 use Rattle.token_protocol.proofs.Places.{absent, one_found, get_set}
 use Rattle.grant_index.specs.declared.list.Candidates.{Candidates}

@@ -7,10 +7,10 @@ use Rattle.spec_core.specs.declared.world.World.{World}
 use Rattle.spec_core.specs.declared.world.Call.{Call}
 use Rattle.spec_core.specs.Specification.{Specification}
 use Rattle.token_rules.specs.Conflict.{conflicts}
-use Rattle.call_rivals.specs.declared.rivals.Rivalry.{Rivalry}
-use Rattle.call_rivals.specs.declared.rivals.Rivalry.TheVariants.{Never, Tied, Free}
-use Rattle.call_rivals.specs.Rivals.{rivals_of, may_conflict}
-use Rattle.call_rivals.proofs.Tokens.{no_conflict}
+use Rattle.token_rules.specs.declared.rivals.Rivalry.{Rivalry}
+use Rattle.token_rules.specs.declared.rivals.Rivalry.TheVariants.{Never, Tied, Free}
+use Rattle.token_rules.specs.Rivals.{rivals_of, may_conflict}
+use Rattle.token_rules.proofs.Tokens.{no_conflict}
 use Rattle.token_protocol.specs.declared.message.EventId.{EventId}
 use Rattle.token_protocol.specs.declared.granted.Granted.{Granted}
 use Rattle.token_protocol.specs.Manager.{conflicting}

@@ -1,7 +1,7 @@
 -- The grants that can conflict with the calls of an operation. This serves the speed of the code.
 use Rattle.std.specs.Prelude.{◌≡◌, ℕ, suc, ◌≤◌, Bool, true, false, cond, List, [], ◌∷◌, Option, None, Some, length, take, get_or, slice_get}
-use Rattle.call_rivals.specs.declared.rivals.Rivalry.{Rivalry}
-use Rattle.call_rivals.specs.declared.rivals.Rivalry.TheVariants.{Never, Tied, Free}
+use Rattle.token_rules.specs.declared.rivals.Rivalry.{Rivalry}
+use Rattle.token_rules.specs.declared.rivals.Rivalry.TheVariants.{Never, Tied, Free}
 use Rattle.token_protocol.specs.declared.granted.Granted.{Granted}
 use Rattle.grant_index.specs.declared.list.Candidates.{Candidates}
 

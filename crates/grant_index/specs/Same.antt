@@ -1,7 +1,7 @@
 -- Rivals that are compared; this mirrors src/list.rt.
 use Rattle.std.specs.Prelude.{Bool, true, false, ◌&&◌, ◌==◌, List, [], ◌∷◌}
-use Rattle.call_rivals.specs.declared.rivals.Rivalry.{Rivalry}
-use Rattle.call_rivals.specs.declared.rivals.Rivalry.TheVariants.{Never, Tied, Free}
+use Rattle.token_rules.specs.declared.rivals.Rivalry.{Rivalry}
+use Rattle.token_rules.specs.declared.rivals.Rivalry.TheVariants.{Never, Tied, Free}
 
 abbrev pub same_rivalry : Rivalry → Rivalry → Bool
 same_rivalry Never Never = true

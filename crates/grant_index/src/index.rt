@@ -5,7 +5,7 @@ ghost use Rattle.token_protocol.specs.declared.granted.Granted.{Granted as Grant
 ghost use Rattle.grant_index.specs.Index.{numbers_from, numbers_at, IsUpTo, AreUpTo};
 
 use crate::list::Candidates;
-use call_rivals::Rivalry;
+use token_rules::Rivalry;
 use std::alloc::{AllocError, Global};
 use std::marker::Model;
 use token_protocol::Granted;

@@ -5,7 +5,7 @@ ghost use Rattle.grant_index.specs.Index.{can_conflict, numbers_from, IsUpTo};
 ghost use Rattle.grant_index.specs.Same.{same_rivalry, same_rivals};
 ghost use Rattle.token_protocol.specs.declared.granted.Granted.{Granted as Grant};
 
-use call_rivals::Rivalry;
+use token_rules::Rivalry;
 use items::Items;
 use std::alloc::{AllocError, Global};
 use token_protocol::Granted;

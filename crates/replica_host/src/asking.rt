@@ -8,10 +8,10 @@ ghost use Rattle.effectors.specs.Effect.{after};
 ghost use Rattle.replica_replay.specs.Refusals.{call_asked, call_refused, taking_refused, effect_refused};
 ghost use Rattle.replica_replay.specs.Steps.{operation_named as operation_named_of};
 ghost use Rattle.replica_replay.specs.Holding.{calls_of};
-ghost use Rattle.call_rivals.specs.Rivals.{rivals_of as rivals_with};
+ghost use Rattle.token_rules.specs.Rivals.{rivals_of as rivals_with};
 ghost use Rattle.replica_host.specs.Lines.{observes_asked, lines_asked};
 
-use call_rivals::{Rivalry, rivals_of};
+use token_rules::{Rivalry, rivals_of};
 use effectors::ApplyRefused;
 use replica_replay::{Happened, Order, StepRefused, least_unseen, operation_named, taking_asked};
 use spec_core::{Call, Spec, State, World, observes_broken_at};

@@ -17,17 +17,16 @@ ghost use Rattle.token_rules.specs.Conflict.{conflicts};
 ghost use Rattle.replica_replay.specs.Held.{is_taken};
 ghost use Rattle.replica_replay.specs.Refusals.{least_unseen, call_asked, taking_asked, effect_refused};
 ghost use Rattle.replica_replay.specs.Holding.{calls_of};
-ghost use Rattle.call_rivals.specs.Rivals.{rivals_of};
+ghost use Rattle.token_rules.specs.Rivals.{rivals_of};
 ghost use Rattle.replica_replay.specs.Steps.{operation_named as operation_named_of};
 
 use crate::keeping::Happened;
 use crate::order::Order;
 use crate::step::StepRefused;
-use call_rivals::{Rivalry, may_conflict};
+use token_rules::{Rivalry, conflicts, may_conflict};
 use effectors::{ApplyRefused, apply_over};
 use spec_core::{Call, Operation, Spec, State, World, observes_broken_at, requires_broken_at};
 use std::alloc::Global;
-use token_rules::conflicts;
 
 fn named(operations: &[Operation], name: &[u8]) -> Option<u8>
     requires { length operations.now ≤ most_operations }

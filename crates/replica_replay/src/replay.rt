@@ -12,7 +12,7 @@ use crate::keeping::{
     take_spare,
 };
 use crate::step::{Step, StepRefused, Taken};
-use call_rivals::rivals_of;
+use token_rules::rivals_of;
 use items::Items;
 use spec_core::{Call, Spec, State, World};
 use std::alloc::{AllocError, Global};

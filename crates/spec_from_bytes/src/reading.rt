@@ -11,8 +11,7 @@ ghost use Rattle.spec_from_bytes.specs.Reading.{SaysFault, IsTyped, SaysRefusal,
 
 use crate::faults::{limit_text, named_text};
 use crate::texts::{push, push_placed};
-use answers::Stopped;
-use byte_ports::{ReadRefused, Source, read_up_to};
+use byte_ports::{ReadRefused, Source, Stopped, read_up_to};
 use spec_core::Spec;
 use spec_reader::{SyntaxRefused, Tree, parse};
 use spec_types::{TypeRefused, type_tree};

@@ -1,2 +1,3 @@
 pub mod Assignment
 pub mod Conflict
+pub mod Rivals

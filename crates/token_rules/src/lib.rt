@@ -2,10 +2,16 @@
 //
 // It stands on `spec_core`. The definition is in specs/Conflict, over specs/Assignment: when one assignment of elements to the
 // variables of a rule gives two lists of elements.
+//
+// Most calls can be passed over before they are compared rule by rule: where no rule matches the tokens of their operations, and where
+// each rule that does wants one element for an argument of each and they differ. `rivals_of` and `may_conflict` say which. What is passed
+// over doesn't conflict, by the lemma `no_conflict` of proofs/Tokens. `specs/Rivals.antt` mirrors this code.
 #![tactic(auto)]
 
 mod assignment;
 mod conflict;
+mod rivals;
 
 pub use assignment::law_one_assignment;
 pub use conflict::conflicts;
+pub use rivals::{Rivalry, may_conflict, rivals_of};

@@ -1,6 +1,6 @@
 -- What `sample` answers: the verdicts on a generated specification, counted.
 use Rattle.std.specs.Prelude.{◌≡◌, ℕ, List, [], ◌∷◌, ◌++◌, codes, decimal}
-use Rattle.answers.specs.Ending.{IsFrontOfOne}
+use Rattle.byte_ports.specs.Ending.{IsFrontOfOne}
 use Rattle.report_lines.specs.declared.head.Tally.{Tally}
 use Rattle.proof_report.specs.Verdicts.{obligation_count}
 use Rattle.proof_report.specs.Events.{outcome_of}

@@ -1,6 +1,6 @@
 -- What `simulate` answers for a specification and the bytes of a schedule.
 use Rattle.std.specs.Prelude.{◌≡◌, ℕ, List}
-use Rattle.answers.specs.Ending.{IsFrontOfOne}
+use Rattle.byte_ports.specs.Ending.{IsFrontOfOne}
 use Rattle.spec_core.specs.Specification.{Specification}
 use Rattle.simulate_text.specs.Recorded.{simulated_status, simulated_text}
 

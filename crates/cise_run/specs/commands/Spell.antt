@@ -1,6 +1,6 @@
 -- What `spell` answers for the tree of a specification.
 use Rattle.std.specs.Prelude.{◌≡◌, ℕ, List}
-use Rattle.answers.specs.Ending.{IsFrontOfOne}
+use Rattle.byte_ports.specs.Ending.{IsFrontOfOne}
 use Rattle.spec_reader.specs.Form.{TreeForm}
 use Rattle.spec_reader.specs.Layout.{text_of_tree}
 

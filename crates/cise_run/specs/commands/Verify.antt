@@ -1,6 +1,6 @@
 -- What `verify` answers for a specification and the bytes of a report.
 use Rattle.std.specs.Prelude.{◌≡◌, ℕ, List, [], ◌∷◌, ◌++◌, Option, None, Some, Result, Ok, Err, codes, decimal}
-use Rattle.answers.specs.Ending.{IsFrontOfOne}
+use Rattle.byte_ports.specs.Ending.{IsFrontOfOne}
 use Rattle.spec_core.specs.Specification.{Specification}
 use Rattle.report_lines.specs.declared.head.Tally.{Tally}
 use Rattle.proof_report.specs.declared.kind.ReportKind.{ReportKind}

@@ -1,13 +1,12 @@
 // The command `check`: the report of a specification's obligations.
 ghost use Rattle.std.specs.Prelude.{◌≡◌, ◌≢◌, true};
-ghost use Rattle.answers.specs.Ending.{Ends};
+ghost use Rattle.byte_ports.specs.Ending.{Ends};
 ghost use Rattle.report_lines.specs.Heads.{most_budget};
 ghost use Rattle.cise_run.specs.Words.{is_within};
 ghost use Rattle.cise_run.specs.commands.Check.{IsReport, IsReportFront};
 
 use crate::outcome::status_of;
-use answers::{MEMORY, WRITE_FAULT};
-use byte_ports::Sink;
+use byte_ports::{MEMORY, WRITE_FAULT, Sink};
 use check_run::{WriteOut, check_all};
 use spec_core::Spec;
 use std::alloc::Global;

@@ -5,8 +5,7 @@ ghost use Rattle.schedule_json.specs.Texts.{most_schedule_bytes};
 ghost use Rattle.cise_run.specs.Answer.{EndsWith};
 ghost use Rattle.cise_run.specs.commands.Replay.{IsReplayed, IsReplayFront};
 
-use answers::{Answer, write_answer_from};
-use byte_ports::{Sink, Source};
+use byte_ports::{Answer, Sink, Source, write_answer_from};
 use replay_text::replay_bytes;
 use schedule_json::{LONG, MOST_SCHEDULE_BYTES};
 use spec_core::Spec;

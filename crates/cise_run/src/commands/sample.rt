@@ -1,6 +1,6 @@
 // The command `sample`: the verdicts on a generated specification, counted.
 ghost use Rattle.std.specs.Prelude.{◌≡◌, ◌≢◌, ◌++◌, [], ◌∷◌, true, IfOk, codes, decimal};
-ghost use Rattle.answers.specs.Ending.{Ends};
+ghost use Rattle.byte_ports.specs.Ending.{Ends};
 ghost use Rattle.proof_report.specs.Verdicts.{obligation_count};
 ghost use Rattle.proof_report.specs.Texts.{end_text};
 ghost use Rattle.spec_from_bytes.specs.Lines.{line};
@@ -10,8 +10,7 @@ ghost use Rattle.cise_run.specs.commands.Sample.{IsSampled, IsSampleFront};
 
 use crate::outcome::status_of;
 use crate::words::DEFAULT_BUDGET;
-use answers::{Answer, MEMORY, write_answer};
-use byte_ports::Sink;
+use byte_ports::{MEMORY, Answer, Sink, write_answer};
 use check_run::decide_all;
 use obligation_list::list;
 use proof_report::write_end;

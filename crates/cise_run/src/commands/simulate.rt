@@ -5,8 +5,7 @@ ghost use Rattle.schedule_json.specs.Texts.{most_schedule_bytes};
 ghost use Rattle.cise_run.specs.Answer.{EndsWith};
 ghost use Rattle.cise_run.specs.commands.Simulate.{IsSimulated, IsSimulationFront};
 
-use answers::{Answer, write_answer_from};
-use byte_ports::{Sink, Source};
+use byte_ports::{Answer, Sink, Source, write_answer_from};
 use schedule_json::{LONG, MOST_SCHEDULE_BYTES};
 use simulate_text::simulate_bytes;
 use spec_core::Spec;

@@ -1,11 +1,10 @@
 // The command `spell`: a specification's words in the layout of the language.
 ghost use Rattle.std.specs.Prelude.{◌≢◌};
-ghost use Rattle.answers.specs.Ending.{Ends};
+ghost use Rattle.byte_ports.specs.Ending.{Ends};
 ghost use Rattle.spec_reader.specs.Form.{tree_of};
 ghost use Rattle.cise_run.specs.commands.Spell.{IsSpelled, IsSpellFront};
 
-use answers::{MEMORY, write_answer};
-use byte_ports::Sink;
+use byte_ports::{MEMORY, Sink, write_answer};
 use spec_reader::{Tree, spell};
 use std::alloc::Global;
 

@@ -1,11 +1,10 @@
 // The command `suggest`: the least set of pairs of operations that have to conflict.
 ghost use Rattle.std.specs.Prelude.{◌≡◌, ◌≢◌};
-ghost use Rattle.answers.specs.Ending.{Ends};
+ghost use Rattle.byte_ports.specs.Ending.{Ends};
 ghost use Rattle.cise_run.specs.commands.Suggest.{IsSuggested, IsSuggestionFront, status_by as status_by_of};
 
 use crate::words::DEFAULT_BUDGET;
-use answers::{MEMORY, WRITE_FAULT};
-use byte_ports::Sink;
+use byte_ports::{MEMORY, WRITE_FAULT, Sink};
 use check_run::WriteOut;
 use spec_core::Spec;
 use std::alloc::Global;

@@ -1,15 +1,14 @@
 // The command `upgrade`: a report that stands, in version 2 of the format.
 ghost use Rattle.std.specs.Prelude.{◌≡◌, ◌≢◌, List, ℕ, Some, Err};
 ghost use Rattle.byte_ports.specs.Faults.{IsFault};
-ghost use Rattle.answers.specs.Ending.{IsOne, IsFrontOf, Ends};
+ghost use Rattle.byte_ports.specs.Ending.{IsOne, IsFrontOf, Ends};
 ghost use Rattle.cise_run.specs.Answer.{EndsWith};
 ghost use Rattle.cise_run.specs.commands.Verify.{text_said};
 ghost use Rattle.cise_run.specs.commands.Upgrade.{IsUpgraded, IsUpgradeFront};
 
 use crate::commands::verify::text_said;
 use crate::outcome::status_of;
-use answers::{MEMORY, READ_FAULT, REFUSED, WRITE_FAULT, write_answer};
-use byte_ports::{Sink, Source};
+use byte_ports::{MEMORY, READ_FAULT, REFUSED, WRITE_FAULT, Sink, Source, write_answer};
 use report_upgrader::{UpgradeRefused, upgrade_all};
 use report_verifier::VerifyRefused;
 use spec_core::Spec;

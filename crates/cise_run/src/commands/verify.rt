@@ -6,8 +6,7 @@ ghost use Rattle.cise_run.specs.Answer.{EndsWith};
 ghost use Rattle.cise_run.specs.commands.Verify.{kind_word, verified_text, refused_report, status_said, text_said, IsVerdict, IsVerdictFront};
 
 use crate::outcome::status_of;
-use answers::{MEMORY, READ_FAULT, REFUSED, Stopped, write_answer};
-use byte_ports::{Sink, Source};
+use byte_ports::{MEMORY, READ_FAULT, REFUSED, Sink, Source, Stopped, write_answer};
 use proof_report::{ReportKind, write_end};
 use report_lines::head::Tally;
 use report_verifier::{VerifyRefused, verify_all};

@@ -1,6 +1,6 @@
 use Rattle.std.proofs.Common.{◌≡◌, Option, Some, None, map, string_bytes, sym, ◌∙◌, refl}
-use Rattle.answers.proofs.Endings.{Ends-one}
-use Rattle.answers.proofs.Sources.{some_told}
+use Rattle.byte_ports.proofs.Endings.{Ends-one}
+use Rattle.byte_ports.proofs.Sources.{some_told}
 use Rattle.bank_host.specs.declared.words.Command.{Command}
 use Rattle.bank_host.specs.Running.{command_of, IsAnswer}
 use Rattle.bank_host.proofs.Answering.{EndsIn-asked}

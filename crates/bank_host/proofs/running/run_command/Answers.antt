@@ -1,7 +1,7 @@
 use Rattle.std.proofs.Common.{Some, rules, arith}
-use Rattle.answers.specs.Ending.{IsFrontOfOne}
-use Rattle.answers.proofs.Endings.{Ends-stopped}
-use Rattle.answers.proofs.Sources.{some_told, said_from}
+use Rattle.byte_ports.specs.Ending.{IsFrontOfOne}
+use Rattle.byte_ports.proofs.Endings.{Ends-stopped}
+use Rattle.byte_ports.proofs.Sources.{some_told, said_from}
 use Rattle.schedule_json.specs.Texts.{most_schedule_bytes, long_text}
 use Rattle.bank_host.specs.Running.{IsAnswer}
 use Rattle.bank_host.proofs.Answering.{long_answer, low_answer}

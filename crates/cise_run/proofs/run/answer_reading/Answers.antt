@@ -1,7 +1,7 @@
 use Rattle.std.proofs.Common.{subst, inr, inl, ◌∙◌, ap, take}
-use Rattle.answers.specs.Ending.{IsOne, IsFrontOf}
-use Rattle.answers.proofs.Endings.{Ends-map}
-use Rattle.answers.proofs.Sources.{some_told}
+use Rattle.byte_ports.specs.Ending.{IsOne, IsFrontOf}
+use Rattle.byte_ports.proofs.Endings.{Ends-map}
+use Rattle.byte_ports.proofs.Sources.{some_told}
 use Rattle.spec_reader.specs.Form.{tree_of}
 use Rattle.spec_from_bytes.specs.Reading.{IsReadingOf}
 use Rattle.cise_run.specs.Answer.{IsOutcome, IsOutcomeFront, IsAnswerOf, IsFrontOfAnswer}

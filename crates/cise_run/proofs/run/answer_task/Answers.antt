@@ -1,5 +1,5 @@
 use Rattle.std.proofs.Common.{Some}
-use Rattle.answers.proofs.Endings.{Ends-map}
+use Rattle.byte_ports.proofs.Endings.{Ends-map}
 use Rattle.cise_run.specs.declared.words.Job.TheVariants.{OfSpec}
 use Rattle.cise_run.specs.Answer.{IsAnswerOf, IsFrontOfAnswer, IsAnswerTo, IsFrontTo}
 use Rattle.cise_run.proofs.run.answer_task.Goals as goal

@@ -1,4 +1,4 @@
-use Rattle.answers.proofs.Sources.{some_told}
+use Rattle.byte_ports.proofs.Sources.{some_told}
 use Rattle.spec_reader.specs.Form.{tree_of}
 use Rattle.cise_run.specs.declared.words.Task.TheVariants.{Check, Upgrade, Suggest, Spell}
 use Rattle.cise_run.proofs.Endings.{Ends-task}

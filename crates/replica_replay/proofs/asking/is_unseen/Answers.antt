@@ -1,6 +1,6 @@
 use Rattle.std.proofs.Common.{Bool, not, ◌&&◌, sym, ◌∙◌, ap}
 use Rattle.replica_replay.specs.Held.{is_taken}
-use Rattle.call_rivals.proofs.Tokens.{no_conflict}
+use Rattle.token_rules.proofs.Tokens.{no_conflict}
 use Rattle.replica_replay.proofs.asking.is_unseen.Goals as goal
 
 pub returns-then-not-may_conflict : goal.returns-then-not-may_conflict

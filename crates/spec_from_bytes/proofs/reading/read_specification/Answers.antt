@@ -1,6 +1,6 @@
 use Rattle.std.proofs.Common.{ap, subst}
 use Rattle.std.specs.Prelude.{Err}
-use Rattle.answers.proofs.Sources.{long_told, read_told}
+use Rattle.byte_ports.proofs.Sources.{long_told, read_told}
 use Rattle.spec_from_bytes.specs.Reading.{SaysRefusal, IsReadingOf}
 use Rattle.spec_from_bytes.proofs.reading.read_specification.Goals as goal
 

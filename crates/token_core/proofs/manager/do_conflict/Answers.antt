@@ -1,5 +1,5 @@
 use Rattle.std.proofs.Common.{sym, ◌∙◌}
-use Rattle.call_rivals.proofs.Tokens.{no_conflict}
+use Rattle.token_rules.proofs.Tokens.{no_conflict}
 use Rattle.token_core.proofs.manager.do_conflict.Goals as goal
 
 pub returns-then-not-may_conflict : goal.returns-then-not-may_conflict

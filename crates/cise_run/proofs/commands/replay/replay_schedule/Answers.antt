@@ -1,5 +1,5 @@
 use Rattle.std.proofs.Common.{rules, arith}
-use Rattle.answers.proofs.Sources.{said_from}
+use Rattle.byte_ports.proofs.Sources.{said_from}
 use Rattle.schedule_json.specs.Texts.{most_schedule_bytes, long_text}
 use Rattle.cise_run.specs.commands.Replay.{IsReplayed}
 use Rattle.cise_run.proofs.Replays.{long_replayed, low_replayed}

@@ -1,6 +1,6 @@
 use Rattle.std.proofs.Common.{Err, arith}
-use Rattle.answers.specs.Ending.{IsOne, IsFrontOf}
-use Rattle.answers.proofs.Endings.{Ends-stopped}
+use Rattle.byte_ports.specs.Ending.{IsOne, IsFrontOf}
+use Rattle.byte_ports.proofs.Endings.{Ends-stopped}
 use Rattle.cise_run.specs.commands.Verify.{text_said}
 use Rattle.cise_run.proofs.Upgrades.{said_ends}
 use Rattle.cise_run.proofs.commands.upgrade.refuse.Goals as goal

@@ -1,6 +1,6 @@
 use Rattle.std.proofs.Common.{◌∙◌, ap, refl, List, [], ◌∷◌, ◌++◌, cond}
 use Rattle.std.specs.Prelude.{take}
-use Rattle.call_rivals.specs.declared.rivals.Rivalry.{Rivalry}
+use Rattle.token_rules.specs.declared.rivals.Rivalry.{Rivalry}
 use Rattle.grant_index.specs.Index.{can_conflict, numbers_from}
 use Rattle.grant_index.proofs.Counted.{upto_next, read_at}
 use Rattle.grant_index.proofs.list.Candidates.catch_up.Goals as goal

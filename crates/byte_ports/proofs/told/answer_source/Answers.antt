@@ -1,9 +1,9 @@
 use Rattle.std.proofs.Common.{ap, refl, subst, length, ◌≤◌, Ok, arith, rules}
 use Rattle.std.specs.Prelude.{Err}
 use Rattle.std.specs.Fn.{FnReturnsAt}
-use Rattle.answers.specs.Told.{IsAnswerWithin}
-use Rattle.answers.proofs.Sources.{long_told, read_told}
-use Rattle.answers.proofs.told.answer_source.Goals as goal
+use Rattle.byte_ports.specs.Told.{IsAnswerWithin}
+use Rattle.byte_ports.proofs.Sources.{long_told, read_told}
+use Rattle.byte_ports.proofs.told.answer_source.Goals as goal
 
 pub returns-in-Ok-too_long-clause-ok : goal.returns-in-Ok-too_long-clause-ok
 returns-in-Ok-too_long-clause-ok g c =

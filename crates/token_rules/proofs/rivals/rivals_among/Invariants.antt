@@ -1,6 +1,6 @@
 use Rattle.std.proofs.Common.{◌≡◌, map, take}
-use Rattle.call_rivals.specs.Rivals.{rivalry}
-use Rattle.call_rivals.proofs.rivals.rivals_among.Given as goal
+use Rattle.token_rules.specs.Rivals.{rivalry}
+use Rattle.token_rules.proofs.rivals.rivals_among.Given as goal
 
 -- those of the operations so far
 abbrev pub invariant-loop-operation : goal.invariant-loop-operation

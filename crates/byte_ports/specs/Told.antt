@@ -1,8 +1,8 @@
 -- Which bytes a source tells, and what is answered to them.
 use Rattle.std.specs.Prelude.{◌≡◌, ℕ, ◌≤◌, ◌<◌, List, length, Option, None, Some, Result, Ok}
 use Rattle.std.specs.declared.alloc.AllocError.{AllocError}
-use Rattle.answers.specs.declared.ending.Answer.{Answer}
-use Rattle.answers.specs.Ending.{IsOne}
+use Rattle.byte_ports.specs.declared.ending.Answer.{Answer}
+use Rattle.byte_ports.specs.Ending.{IsOne}
 
 -- the bytes that a source had left, where it tells them
 abbrev pub Tells : Option (List ℕ) → List ℕ → Type 0

@@ -1,8 +1,8 @@
 // Writing the text of an answer, and the status that this ends with.
 ghost use Rattle.std.specs.Prelude.{◌≡◌, ◌≢◌, ◌<◌};
-ghost use Rattle.answers.specs.Ending.{IsOne, IsFrontOf, Ends};
+ghost use Rattle.byte_ports.specs.Ending.{IsOne, IsFrontOf, Ends};
 
-use byte_ports::{Sink, WriteRefused, write_all};
+use crate::sink::{Sink, WriteRefused, write_all};
 
 /// The bytes of an input aren't what they have to be.
 pub const REFUSED: u8 = 4;

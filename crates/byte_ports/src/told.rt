@@ -2,12 +2,13 @@
 ghost use Rattle.std.specs.Prelude.{◌≡◌, ℕ, List, ◌<◌, ◌≤◌, length, Ok, IfOk, IsErrOf};
 ghost use Rattle.std.specs.Fn.{FnReturnsAt};
 ghost use Rattle.byte_ports.specs.Faults.{IsFault};
-ghost use Rattle.answers.specs.declared.ending.Answer.{Answer};
-ghost use Rattle.answers.specs.Ending.{EndsIn};
-ghost use Rattle.answers.specs.Told.{Tells, IsAnswerWithin, IsAnswerFrom};
+ghost use Rattle.byte_ports.specs.declared.ending.Answer.{Answer};
+ghost use Rattle.byte_ports.specs.Ending.{EndsIn};
+ghost use Rattle.byte_ports.specs.Told.{Tells, IsAnswerWithin, IsAnswerFrom};
 
 use crate::ending::{Answer, MEMORY, READ_FAULT, REFUSED, write_answer};
-use byte_ports::{ReadRefused, Sink, Source, read_up_to};
+use crate::sink::Sink;
+use crate::source::{ReadRefused, Source, read_up_to};
 use std::alloc::{AllocError, Global};
 
 /// Why a source gave nothing to answer.

@@ -3,10 +3,10 @@ use Rattle.std.proofs.Common.{◌≡◌, ℕ, zero, suc, ◌<◌, List, [], ◌�
 use Rattle.std.specs.Prelude.{nat_le}
 use Rattle.std.proofs.lemmas.Bool.Decides.{nat_tests}
 use Rattle.std.specs.declared.alloc.AllocError.{AllocError}
-use Rattle.answers.specs.declared.ending.Answer.{Answer}
-use Rattle.answers.specs.Ending.{EndsIn}
-use Rattle.answers.specs.Told.{Tells, IsAnswerWithin}
-use Rattle.answers.proofs.Endings.{EndsIn-map}
+use Rattle.byte_ports.specs.declared.ending.Answer.{Answer}
+use Rattle.byte_ports.specs.Ending.{EndsIn}
+use Rattle.byte_ports.specs.Told.{Tells, IsAnswerWithin}
+use Rattle.byte_ports.proofs.Endings.{EndsIn-map}
 
 -- some bytes that are more than so many
 more_than : (n : ℕ) → (bytes : List ℕ) × (n < length bytes)

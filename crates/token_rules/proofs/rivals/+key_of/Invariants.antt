@@ -1,5 +1,5 @@
 use Rattle.std.proofs.Common.{length}
-use Rattle.call_rivals.proofs.rivals.+key_of.Given as goal
+use Rattle.token_rules.proofs.rivals.+key_of.Given as goal
 
 abbrev pub decreases-key_of : goal.decreases-key_of
 decreases-key_of l = length l.takes.now

@@ -1,10 +1,10 @@
 use Rattle.std.proofs.Common.{arith}
 use Rattle.std.specs.Fn.{FnReturnsAt}
-use Rattle.answers.specs.Ending.{IsFrontOfOne}
-use Rattle.answers.specs.Told.{IsAnswerWithin}
-use Rattle.answers.proofs.Endings.{Ends-one, Ends-stopped}
-use Rattle.answers.proofs.Sources.{low_within, some_told}
-use Rattle.answers.proofs.told.write_answer_from.Goals as goal
+use Rattle.byte_ports.specs.Ending.{IsFrontOfOne}
+use Rattle.byte_ports.specs.Told.{IsAnswerWithin}
+use Rattle.byte_ports.proofs.Endings.{Ends-one, Ends-stopped}
+use Rattle.byte_ports.proofs.Sources.{low_within, some_told}
+use Rattle.byte_ports.proofs.told.write_answer_from.Goals as goal
 
 pub write_answer-requires : goal.write_answer-requires
 write_answer-requires g c =

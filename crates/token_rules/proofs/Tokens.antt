@@ -13,9 +13,9 @@ use Rattle.spec_core.specs.Specification.{Specification, op_of, no_operation}
 use Rattle.spec_core.specs.Truth.{elems_of}
 use Rattle.token_rules.specs.Assignment.{stands_for, one_assignment}
 use Rattle.token_rules.specs.Conflict.{lines_match, matched, conflicts}
-use Rattle.call_rivals.specs.Rivals.{tokens_match, some_rule_may, are_rivals, starts_with, same_first, tied_by, all_tied, are_tied, key_of, rivalry, rivals_of, element_at, may_conflict}
-use Rattle.call_rivals.specs.declared.rivals.Rivalry.{Rivalry}
-use Rattle.call_rivals.specs.declared.rivals.Rivalry.TheVariants.{Never, Tied, Free}
+use Rattle.token_rules.specs.Rivals.{tokens_match, some_rule_may, are_rivals, starts_with, same_first, tied_by, all_tied, are_tied, key_of, rivalry, rivals_of, element_at, may_conflict}
+use Rattle.token_rules.specs.declared.rivals.Rivalry.{Rivalry}
+use Rattle.token_rules.specs.declared.rivals.Rivalry.TheVariants.{Never, Tied, Free}
 
 either : (a b c : Bool) → (a ≡ true → c ≡ true) → (b ≡ true → c ≡ true) → (a || b) ≡ true → c ≡ true
 either true b c f g h = f refl

@@ -6,8 +6,8 @@ use Rattle.spec_core.specs.declared.formula.Elem.TheVariants.{Const, Param, Var}
 use Rattle.spec_core.specs.declared.operation.Take.{Take}
 use Rattle.spec_core.specs.declared.spec.Rule.{Rule}
 use Rattle.spec_core.specs.Specification.{Specification, op_of}
-use Rattle.call_rivals.specs.declared.rivals.Rivalry.{Rivalry}
-use Rattle.call_rivals.specs.declared.rivals.Rivalry.TheVariants.{Never, Tied, Free}
+use Rattle.token_rules.specs.declared.rivals.Rivalry.{Rivalry}
+use Rattle.token_rules.specs.declared.rivals.Rivalry.TheVariants.{Never, Tied, Free}
 
 -- a rule matches the tokens of two takes lines that aren't both shared, its left pattern at the first
 abbrev pub tokens_match : Rule → Take → Take → Bool

@@ -1,7 +1,7 @@
 -- Endings put together.
 use Rattle.std.proofs.Common.{◌≡◌, ℕ, ◌<◌, List, Option, inl, inr, arith}
 use Rattle.std.proofs.KnownBytes.{Keeps-refl}
-use Rattle.answers.specs.Ending.{IsOne, IsFrontOf, IsFrontOfOne, IsBroken, Ends, EndsIn}
+use Rattle.byte_ports.specs.Ending.{IsOne, IsFrontOf, IsFrontOfOne, IsBroken, Ends, EndsIn}
 
 pub broken_map : (Front Rest : List ℕ → Type 0) (before after : Option (List ℕ)) → ((t : List ℕ) → Front t → Rest t)
     → IsBroken Front before after → IsBroken Rest before after
