@@ -13,7 +13,7 @@ ghost use Rattle.bank_host.specs.Carried.{status_read, text_read};
 use crate::effect::BankCode;
 use crate::words::Command;
 use byte_ports::{Answer, REFUSED};
-use replay_text::{Report, replay_by};
+use replay_text::replay_by;
 use replica_host::{Host, Native};
 use schedule_json::{Schedule, read_schedule, refusal_text};
 use simulate_text::simulate_by;
@@ -33,7 +33,7 @@ fn native_of<'a>(alloc: Global, spec: &'a Spec, world: &'a World) -> Native<'a, 
 }
 
 /// The replay of a schedule, by a host.
-fn replayed(alloc: Global, spec: &Spec, schedule: &Schedule) -> Result<Report, AllocError>
+fn replayed(alloc: Global, spec: &Spec, schedule: &Schedule) -> Result<Answer, AllocError>
     requires spec { spec.now ≡ bank }
     requires schedule { IsScheduleOf spec.now schedule.now }
     ensures text { IfOk result (λ report. report.text.items ≡ replay_text spec.now schedule.now.world schedule.now.replicas schedule.now.steps) }
@@ -46,7 +46,7 @@ fn replayed(alloc: Global, spec: &Spec, schedule: &Schedule) -> Result<Report, A
 }
 
 /// The simulation of a schedule, by the nodes of a network.
-fn simulated(alloc: Global, spec: &Spec, schedule: &Schedule) -> Result<Report, AllocError>
+fn simulated(alloc: Global, spec: &Spec, schedule: &Schedule) -> Result<Answer, AllocError>
     requires spec { spec.now ≡ bank }
     requires schedule { IsScheduleOf spec.now schedule.now }
     ensures text { IfOk result (λ report. report.text.items ≡ simulate_text spec.now schedule.now.world schedule.now.replicas schedule.now.steps) }
@@ -63,7 +63,7 @@ fn carried_out(
     spec: &Spec,
     command: Command,
     schedule: &Schedule,
-) -> Result<Report, AllocError>
+) -> Result<Answer, AllocError>
     requires spec { spec.now ≡ bank }
     requires schedule { IsScheduleOf spec.now schedule.now }
     ensures text { IfOk result (λ report. report.text.items ≡ text_read command spec.now (Ok schedule.now)) }
@@ -87,13 +87,7 @@ pub fn answer_bytes(
     ensures { IfOk result (λ answer. IsAnswer (Some command) bytes.now answer.status answer.text.items) }
 {
     match read_schedule(alloc, spec, bytes) {
-        Ok(schedule) => {
-            let report = carried_out(alloc, spec, command, &schedule)?;
-            Ok(Answer {
-                status: report.status,
-                text: report.text,
-            })
-        }
+        Ok(schedule) => carried_out(alloc, spec, command, &schedule),
         Err(refused) => {
             let text = refusal_text(alloc, &refused)?;
             Ok(Answer {

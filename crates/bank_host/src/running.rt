@@ -10,12 +10,9 @@ ghost use Rattle.bank_host.specs.Running.{command_of as asked_of, IsAnswer};
 use crate::hosting::answer_bytes;
 use crate::spec::bank_spec;
 use crate::words::{Command, command_of};
-use byte_ports::{MEMORY, Sink, Source, write_answer, write_answer_from};
+use byte_ports::{MEMORY, Sink, Source, WORDS, write_answer, write_answer_from};
 use schedule_json::{LONG, MOST_SCHEDULE_BYTES};
 use std::alloc::Global;
-
-/// The words aren't accepted.
-const WORDS: u8 = 2;
 
 /// Carries a command out on a schedule of the bank, and writes the text.
 fn run_command<S: Source, K: Sink>(

@@ -3,15 +3,7 @@ ghost use Rattle.std.specs.Prelude.{◌≡◌, ◌≢◌, ◌<◌};
 ghost use Rattle.byte_ports.specs.Ending.{IsOne, IsFrontOf, Ends};
 
 use crate::sink::{Sink, WriteRefused, write_all};
-
-/// The bytes of an input aren't what they have to be.
-pub const REFUSED: u8 = 4;
-/// A source has failed.
-pub const READ_FAULT: u8 = 6;
-/// The sink has failed.
-pub const WRITE_FAULT: u8 = 7;
-/// Out of memory.
-pub const MEMORY: u8 = 8;
+use crate::status::WRITE_FAULT;
 
 /// A status with its text.
 #[derive(Drop)]

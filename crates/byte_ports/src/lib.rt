@@ -1,4 +1,5 @@
 // Where bytes come from and where they go: sources and sinks that count their faults, and answers, a status with a text.
+// `status` names the statuses.
 //
 // A `Source` tells contracts the bytes that it has left, and a `Sink` the bytes that it holds, where they can: those in memory
 // do, files and standard output don't. Both count their faults. So `read_up_to` and `write_all` say of every source and sink
@@ -22,14 +23,19 @@ pub mod memory;
 pub mod outside;
 pub mod sink;
 pub mod source;
+mod status;
 mod told;
 
-pub use ending::{Answer, MEMORY, READ_FAULT, REFUSED, WRITE_FAULT, write_answer};
+pub use ending::{Answer, write_answer};
 pub use endless::EndlessSource;
 pub use memory::{MemSink, MemSource};
 pub use outside::{FileSource, StdSink};
 pub use sink::{Sink, WriteRefused, write_all};
 pub use source::{ReadRefused, Source, read_up_to};
+pub use status::{
+    ACCEPTED, MEMORY, NO_WORDS, READ_FAULT, REFUSED, REJECTED, SPECIFICATION, UNDECIDED, WORDS,
+    WRITE_FAULT,
+};
 use thiserror::Error;
 pub use told::{Stopped, answer_source, write_answer_from};
 

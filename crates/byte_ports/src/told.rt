@@ -6,9 +6,10 @@ ghost use Rattle.byte_ports.specs.declared.ending.Answer.{Answer};
 ghost use Rattle.byte_ports.specs.Ending.{EndsIn};
 ghost use Rattle.byte_ports.specs.Told.{Tells, IsAnswerWithin, IsAnswerFrom};
 
-use crate::ending::{Answer, MEMORY, READ_FAULT, REFUSED, write_answer};
+use crate::ending::{Answer, write_answer};
 use crate::sink::Sink;
 use crate::source::{ReadRefused, Source, read_up_to};
+use crate::status::{MEMORY, READ_FAULT, REFUSED};
 use std::alloc::{AllocError, Global};
 
 /// Why a source gave nothing to answer.

@@ -10,15 +10,12 @@
 // of `cise_run`, for any sources and any sink, whose clauses say what each status means.
 #![tactic(auto)]
 
-use byte_ports::{FileSource, StdSink};
+use byte_ports::{FileSource, NO_WORDS, StdSink};
 use cise_run::run::run;
 use std::alloc::{AllocError, Global};
 use std::env::Env;
 use std::process::ExitCode;
 use std::{env, io};
-
-/// The status where the words can't be had from the system.
-const NO_WORDS: u8 = 9;
 
 /// The words behind the program's name.
 fn words_of(rt: &(impl Env + AllocGlobal)) -> io::Result<Vec<String>> {

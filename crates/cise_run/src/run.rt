@@ -20,16 +20,11 @@ use crate::commands::upgrade::upgrade;
 use crate::commands::verify::verify;
 use crate::law::{law_headline, law_least_fault_is_answered, law_upgrades_are_verified};
 use crate::words::{Job, Task, job_asked};
-use byte_ports::{MEMORY, READ_FAULT, Sink, Source, Stopped, write_answer};
+use byte_ports::{MEMORY, READ_FAULT, SPECIFICATION, Sink, Source, Stopped, WORDS, write_answer};
 use spec_core::Spec;
 use spec_from_bytes::{Reading, read_specification};
 use spec_reader::Tree;
 use std::alloc::Global;
-
-/// The words aren't accepted.
-const WORDS: u8 = 2;
-/// The bytes are no specification.
-const SPECIFICATION: u8 = 3;
 
 /// Does a task for a specification and its tree.
 fn do_task<E: Source, K: Sink>(

@@ -5,7 +5,8 @@ ghost use Rattle.spec_core.specs.Fits.{world_fits};
 
 use crate::bank::BANK;
 use crate::evaluated::Evaluated;
-use replay_text::{Report, replay_by};
+use byte_ports::Answer;
+use replay_text::replay_by;
 use replica_host::{Effect, Guard, Host, Native};
 use schedule_json::{Schedule, read_schedule};
 use spec_core::{Spec, World};
@@ -30,7 +31,7 @@ fn report_of<'a, E: Effect, G: Guard>(
     spec: &Spec,
     native: Native<'a, E, G>,
     schedule: &Schedule,
-) -> Report
+) -> Answer
     requires spec { native.spec ≡ spec.now }
     requires some { 1 ≤ schedule.now.replicas }
 {
@@ -60,7 +61,7 @@ pub fn evaluating<'a>(
 }
 
 /// The text and the status of a schedule of the bank, by a host whose code evaluates its lines and updates.
-pub fn hosted(rt: &impl Abort, alloc: Global, text: &[u8]) -> Report {
+pub fn hosted(rt: &impl Abort, alloc: Global, text: &[u8]) -> Answer {
     let spec = bank(rt, alloc);
     let Ok(schedule) = read_schedule(alloc, &spec, text) else {
         panic!(rt; "no schedule");

@@ -15,4 +15,4 @@ pub use law::law_safe_replays;
 pub use lines::{counter_name, invariant_name, push, push_number, push_range};
 pub use recorded::replay_bytes;
 pub use stop::Stop;
-pub use writing::{Report, replay, replay_by};
+pub use writing::{replay, replay_by};

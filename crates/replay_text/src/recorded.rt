@@ -6,16 +6,14 @@ ghost use Rattle.schedule_json.specs.Texts.{most_schedule_bytes};
 ghost use Rattle.replay_text.specs.Text.{replay_text, replay_status};
 ghost use Rattle.replay_text.specs.Recorded.{schedule_status, schedule_text};
 
-use crate::writing::{Report, replay};
+use crate::writing::replay;
+use byte_ports::{Answer, REFUSED};
 use schedule_json::{Schedule, read_schedule, refusal_text};
 use spec_core::Spec;
 use std::alloc::{AllocError, Global};
 
-/// The status where some bytes are no schedule.
-const REFUSED: u8 = 4;
-
 /// Replays a schedule.
-fn replay_read(alloc: Global, spec: &Spec, schedule: Schedule) -> Result<Report, AllocError>
+fn replay_read(alloc: Global, spec: &Spec, schedule: Schedule) -> Result<Answer, AllocError>
     requires { IsScheduleOf spec.now schedule }
     ensures text { IfOk result (λ report. report.text.items ≡ replay_text spec.now schedule.world schedule.replicas schedule.steps) }
     ensures status { IfOk result (λ report. report.status ≡ replay_status spec.now schedule.world schedule.replicas schedule.steps) }
@@ -30,7 +28,7 @@ fn replay_read(alloc: Global, spec: &Spec, schedule: Schedule) -> Result<Report,
 }
 
 /// Replays the schedule that some bytes are, of which there aren't too many, or says why they are none.
-pub fn replay_bytes(alloc: Global, spec: &Spec, bytes: &[u8]) -> Result<Report, AllocError>
+pub fn replay_bytes(alloc: Global, spec: &Spec, bytes: &[u8]) -> Result<Answer, AllocError>
     requires { length bytes.now ≤ most_schedule_bytes }
     ensures text { IfOk result (λ report. report.text.items ≡ schedule_text spec.now bytes.now) }
     ensures status { IfOk result (λ report. report.status ≡ schedule_status spec.now bytes.now) }
@@ -39,7 +37,7 @@ pub fn replay_bytes(alloc: Global, spec: &Spec, bytes: &[u8]) -> Result<Report, 
         Ok(schedule) => replay_read(alloc, spec, schedule),
         Err(refused) => {
             let text = refusal_text(alloc, &refused)?;
-            Ok(Report {
+            Ok(Answer {
                 status: REFUSED,
                 text,
             })

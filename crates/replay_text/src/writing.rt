@@ -12,6 +12,7 @@ ghost use Rattle.replay_text.specs.Asked.{AllHeld, OthersHeld, IsFrontElsewhere}
 
 use crate::lines::{push, push_number, push_step, push_stop};
 use crate::stop::Stop;
+use byte_ports::{ACCEPTED, Answer, REFUSED, REJECTED};
 use replica_replay::{Replay, Step, StepRefused, Steps};
 use spec_core::{Spec, World, invariant_broken_at, write_state};
 use std::alloc::{AllocError, Global};
@@ -231,17 +232,10 @@ fn status_of(stop: &Stop) -> u8
     ensures { result ≡ status_of stop.now }
 {
     match stop {
-        Stop::Done => 0,
-        Stop::Broken(_) => 1,
-        Stop::Refused(_) => 4,
+        Stop::Done => ACCEPTED,
+        Stop::Broken(_) => REJECTED,
+        Stop::Refused(_) => REFUSED,
     }
-}
-
-/// A replay that has ended: its text, and the status that it comes to.
-#[derive(Drop)]
-pub struct Report {
-    pub status: u8,
-    pub text: Vec<u8>,
 }
 
 /// Writes a course and how it stops, and answers the status.
@@ -274,7 +268,7 @@ pub fn replay_by<R: Steps>(
     replay: &mut R,
     replicas: u32,
     steps: &[Step],
-) -> Result<Report, AllocError>
+) -> Result<Answer, AllocError>
     requires spec { (R.replayed replay.old).spec ≡ spec.now }
     requires held { (R.replayed replay.old).held ≡ none_held replicas }
     requires some { 1 ≤ replicas }
@@ -283,7 +277,7 @@ pub fn replay_by<R: Steps>(
 {
     let mut text = Vec::new(alloc);
     let status = write_replay(alloc, spec, replay, replicas, steps, &mut text)?;
-    Ok(Report { status, text })
+    Ok(Answer { status, text })
 }
 
 /// Replays the steps of a schedule, at so many replicas in a world, with the text and the status of `replay_by`.
@@ -293,7 +287,7 @@ pub fn replay(
     world: World,
     replicas: u32,
     steps: &[Step],
-) -> Result<Report, AllocError>
+) -> Result<Answer, AllocError>
     requires world { world_fits spec.now world ≡ true }
     requires some { 1 ≤ replicas }
     ensures text { IfOk result (λ report. report.text.items ≡ replay_text spec.now world replicas steps.now) }

@@ -1,8 +1,9 @@
 // Schedules, with the status and the text that each comes to.
 
 use crate::examples::{no_flag, purses, withdrawals};
+use byte_ports::Answer;
 use schedule_json::MOST_SCHEDULE_BYTES;
-use simulate_text::{Report, simulate_bytes};
+use simulate_text::simulate_bytes;
 use spec_core::Spec;
 use spec_from_bytes::{Reading, SPECIFICATION_LIMIT, read_bytes};
 use std::alloc::Global;
@@ -196,7 +197,7 @@ fn spec(rt: &impl Abort, alloc: Global, text: &[u8]) -> Spec {
     spec
 }
 
-fn comes_to(report: &Report, row: &Row) -> bool {
+fn comes_to(report: &Answer, row: &Row) -> bool {
     report.status == row.status && report.text.as_slice() == row.text
 }
 

@@ -15,6 +15,5 @@ mod writing;
 
 pub use law::{law_safe_simulations, law_simulations_are_executions};
 pub use recorded::simulate_bytes;
-pub use replay_text::Report;
 pub use said::{Said, SimulateRefused, Stop};
 pub use writing::{simulate, simulate_by};

@@ -7,16 +7,13 @@ ghost use Rattle.simulate_text.specs.Text.{simulate_text, simulate_status};
 ghost use Rattle.simulate_text.specs.Recorded.{simulated_status, simulated_text};
 
 use crate::writing::simulate;
-use replay_text::Report;
+use byte_ports::{Answer, REFUSED};
 use schedule_json::{Schedule, read_schedule, refusal_text};
 use spec_core::Spec;
 use std::alloc::{AllocError, Global};
 
-/// The status where some bytes are no schedule.
-const REFUSED: u8 = 4;
-
 /// Simulates a schedule.
-fn simulate_read(alloc: Global, spec: &Spec, schedule: &Schedule) -> Result<Report, AllocError>
+fn simulate_read(alloc: Global, spec: &Spec, schedule: &Schedule) -> Result<Answer, AllocError>
     requires { IsScheduleOf spec.now schedule.now }
     ensures text { IfOk result (λ report. report.text.items ≡ simulate_text spec.now schedule.now.world schedule.now.replicas schedule.now.steps) }
     ensures status { IfOk result (λ report. report.status ≡ simulate_status spec.now schedule.now.world schedule.now.replicas schedule.now.steps) }
@@ -31,7 +28,7 @@ fn simulate_read(alloc: Global, spec: &Spec, schedule: &Schedule) -> Result<Repo
 }
 
 /// Simulates the schedule that some bytes are, of which there aren't too many, or says why they are none.
-pub fn simulate_bytes(alloc: Global, spec: &Spec, bytes: &[u8]) -> Result<Report, AllocError>
+pub fn simulate_bytes(alloc: Global, spec: &Spec, bytes: &[u8]) -> Result<Answer, AllocError>
     requires { length bytes.now ≤ most_schedule_bytes }
     ensures text { IfOk result (λ report. report.text.items ≡ simulated_text spec.now bytes.now) }
     ensures status { IfOk result (λ report. report.status ≡ simulated_status spec.now bytes.now) }
@@ -40,7 +37,7 @@ pub fn simulate_bytes(alloc: Global, spec: &Spec, bytes: &[u8]) -> Result<Report
         Ok(schedule) => simulate_read(alloc, spec, &schedule),
         Err(refused) => {
             let text = refusal_text(alloc, &refused)?;
-            Ok(Report {
+            Ok(Answer {
                 status: REFUSED,
                 text,
             })

@@ -12,8 +12,9 @@ ghost use Rattle.simulate_text.specs.Reached.{simulated_in, IsOf, Does, IsStep, 
 use crate::lines::{push_lines, push_stop};
 use crate::said::{Said, SimulateRefused, Stop};
 use crate::simulation::{Simulation, as_number, broken_of, number_at};
+use byte_ports::{ACCEPTED, Answer, REFUSED, REJECTED};
 use items::Items;
-use replay_text::{Report, push, push_number};
+use replay_text::{push, push_number};
 use replica_replay::{Step, operation_named};
 use spec_core::{Call, Spec, World, write_state};
 use std::alloc::{AllocError, Global};
@@ -183,10 +184,10 @@ fn status_of(stop: &Stop) -> u8
     ensures { result ≡ status_of stop.now }
 {
     match stop {
-        Stop::Done => 0,
-        Stop::BrokenFirst(_) => 1,
-        Stop::Broken(_) => 1,
-        Stop::Refused(_) => 4,
+        Stop::Done => ACCEPTED,
+        Stop::BrokenFirst(_) => REJECTED,
+        Stop::Broken(_) => REJECTED,
+        Stop::Refused(_) => REFUSED,
     }
 }
 
@@ -217,7 +218,7 @@ pub fn simulate_by<R: Runner + Drop>(
     runner: R,
     replicas: u32,
     steps: &[Step],
-) -> Result<Report, AllocError>
+) -> Result<Answer, AllocError>
     requires spec { R.specification runner ≡ spec.now }
     requires some { 1 ≤ replicas }
     ensures text { IfOk result (λ report. report.text.items ≡ simulate_text spec.now (R.setting runner) replicas steps.now) }
@@ -227,7 +228,7 @@ pub fn simulate_by<R: Runner + Drop>(
     let mut sim = Simulation::new(alloc, runner, replicas)?;
     let status = write_simulation(alloc, spec, &mut sim, steps, &mut text)?;
     drop(sim);
-    Ok(Report { status, text })
+    Ok(Answer { status, text })
 }
 
 /// Simulates the steps of a schedule, at so many replicas in a world, with the text and the status of `simulate_by`.
@@ -237,7 +238,7 @@ pub fn simulate(
     world: &World,
     replicas: u32,
     steps: &[Step],
-) -> Result<Report, AllocError>
+) -> Result<Answer, AllocError>
     requires world { world_fits spec.now world.now ≡ true }
     requires some { 1 ≤ replicas }
     ensures text { IfOk result (λ report. report.text.items ≡ simulate_text spec.now world.now replicas steps.now) }

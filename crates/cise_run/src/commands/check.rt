@@ -6,7 +6,7 @@ ghost use Rattle.cise_run.specs.Words.{is_within};
 ghost use Rattle.cise_run.specs.commands.Check.{IsReport, IsReportFront};
 
 use crate::outcome::status_of;
-use byte_ports::{MEMORY, WRITE_FAULT, Sink};
+use byte_ports::{MEMORY, Sink, WRITE_FAULT};
 use check_run::{WriteOut, check_all};
 use spec_core::Spec;
 use std::alloc::Global;

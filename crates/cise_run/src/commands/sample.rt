@@ -10,7 +10,7 @@ ghost use Rattle.cise_run.specs.commands.Sample.{IsSampled, IsSampleFront};
 
 use crate::outcome::status_of;
 use crate::words::DEFAULT_BUDGET;
-use byte_ports::{MEMORY, Answer, Sink, write_answer};
+use byte_ports::{Answer, MEMORY, Sink, write_answer};
 use check_run::decide_all;
 use obligation_list::list;
 use proof_report::write_end;

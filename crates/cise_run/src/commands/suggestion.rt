@@ -4,7 +4,7 @@ ghost use Rattle.byte_ports.specs.Ending.{Ends};
 ghost use Rattle.cise_run.specs.commands.Suggest.{IsSuggested, IsSuggestionFront, status_by as status_by_of};
 
 use crate::words::DEFAULT_BUDGET;
-use byte_ports::{MEMORY, WRITE_FAULT, Sink};
+use byte_ports::{MEMORY, Sink, WRITE_FAULT};
 use check_run::WriteOut;
 use spec_core::Spec;
 use std::alloc::Global;

@@ -8,7 +8,7 @@ ghost use Rattle.cise_run.specs.commands.Upgrade.{IsUpgraded, IsUpgradeFront};
 
 use crate::commands::verify::text_said;
 use crate::outcome::status_of;
-use byte_ports::{MEMORY, READ_FAULT, REFUSED, WRITE_FAULT, Sink, Source, write_answer};
+use byte_ports::{MEMORY, READ_FAULT, REFUSED, Sink, Source, WRITE_FAULT, write_answer};
 use report_upgrader::{UpgradeRefused, upgrade_all};
 use report_verifier::VerifyRefused;
 use spec_core::Spec;
