@@ -6,7 +6,7 @@
 // again with tests of its own.
 //
 // `examples` has the specifications as texts, and `setting` makes worlds, states and calls that fit one. `states`, `lines`,
-// `effects`, `conflicts`, `obligations` and `orders` have the tests.
+// `effects`, `conflicts`, `obligations` and `orders` have the tests. `language` has words, trees and spellings.
 #![tactic(auto)]
 
 #[cfg(test)]
@@ -15,6 +15,8 @@ mod conflicts;
 mod effects;
 #[cfg(test)]
 mod examples;
+#[cfg(test)]
+mod language;
 #[cfg(test)]
 mod lines;
 #[cfg(test)]

@@ -3,7 +3,8 @@
 // The contract of the search says what each answer promises; here it is run on small problems, and its logs are given to the proof
 // kernel. They stand in a crate of their own so that the search stays small. `clauses` has problems over plain atoms alone, `rows`
 // problems over rows, with the solver in `known`, which refutes, splits, stops and finds numbers; `summaries` says in short what was
-// answered; `refuting` asks solvers alone, one of them the solver in `constants`.
+// answered; `refuting` asks solvers alone, one of them the solver in `constants`. `watched` has the search on watched literals beside the plain one, and
+// `solvers` the solvers of rows.
 #![tactic(auto)]
 
 #[cfg(test)]
@@ -14,5 +15,7 @@ pub mod known;
 mod refuting;
 #[cfg(test)]
 mod rows;
+pub mod solvers;
 #[cfg(test)]
 mod summaries;
+pub mod watched;

@@ -1,0 +1,56 @@
+// A host asks the application's code: where that lacks memory, so does a step that fits.
+
+use crate::hosts::bank::TWO_DEPOSITS;
+use crate::hosts::evaluated::Evaluated;
+use crate::hosts::memory::NoMemory;
+use crate::hosts::running::bank;
+use replica_host::{Effect, Guard, Host, Native};
+use replica_replay::{Step, StepRefused};
+use schedule_json::{Schedule, read_schedule};
+use std::alloc::Global;
+use std::process::Abort;
+
+/// Whether a host refuses the first step of a schedule for want of memory.
+fn lacks_memory<'a, E: Effect, G: Guard>(
+    rt: &impl Abort,
+    alloc: Global,
+    native: Native<'a, E, G>,
+    schedule: &Schedule,
+) -> bool {
+    let mut host = Host::new(alloc, native, schedule.replicas).expect(rt, "memory");
+    let Some(step) = schedule.steps.as_slice().first() else {
+        panic!(rt; "no step");
+    };
+    match host.step(step) {
+        Err(StepRefused::Memory) => true,
+        _ => false,
+    }
+}
+
+#[test]
+fn the_effect_is_called(rt: HostRuntime) {
+    let alloc = rt.alloc();
+    let spec = bank(&rt, alloc);
+    let Ok(schedule) = read_schedule(alloc, &spec, TWO_DEPOSITS) else {
+        panic!(&rt; "no schedule");
+    };
+    let spec = &spec;
+    let world = &schedule.world;
+    let guard = Evaluated { alloc, spec, world };
+    let native = Native::new(spec, world, NoMemory {}, guard);
+    assert!(&rt; lacks_memory(&rt, alloc, native, &schedule));
+}
+
+#[test]
+fn the_guard_is_asked(rt: HostRuntime) {
+    let alloc = rt.alloc();
+    let spec = bank(&rt, alloc);
+    let Ok(schedule) = read_schedule(alloc, &spec, TWO_DEPOSITS) else {
+        panic!(&rt; "no schedule");
+    };
+    let spec = &spec;
+    let world = &schedule.world;
+    let effect = Evaluated { alloc, spec, world };
+    let native = Native::new(spec, world, effect, NoMemory {});
+    assert!(&rt; lacks_memory(&rt, alloc, native, &schedule));
+}

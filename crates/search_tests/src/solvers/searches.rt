@@ -1,0 +1,67 @@
+// Systems as the rows of a problem, each a clause of its own, given to the search.
+use crate::solvers::asked::{Line, row};
+use items::Items;
+use linear_ints::Eliminator;
+use proof_lines::{AtomKind, Clause, Lit, Problem};
+use sat_core::{Answer, solve_plain};
+use std::alloc::{AllocError, Global};
+
+/// What the search found.
+#[derive(Clone, Copy, Debug, PartialEq)]
+pub enum Found {
+    Unsat,
+    Sat,
+    /// No decision, or want of memory.
+    Nothing,
+}
+
+fn only(alloc: Global, atom: u32) -> Result<Clause, AllocError> {
+    Clause::of(
+        alloc,
+        &[Lit {
+            atom,
+            positive: true,
+        }],
+    )
+}
+
+fn clauses_of(alloc: Global, lines: &[Line]) -> Result<Items<Clause>, AllocError> {
+    let mut clauses = Items::new(alloc);
+    let mut atom = 0u32;
+    for _ in lines {
+        clauses.push(only(alloc, atom)?)?;
+        atom = atom.saturating_add(1);
+    }
+    Ok(clauses)
+}
+
+fn atoms_of(alloc: Global, lines: &[Line]) -> Result<Items<AtomKind>, AllocError> {
+    let mut atoms = Items::new(alloc);
+    for line in lines {
+        atoms.push(AtomKind::Row(row(alloc, line)?))?;
+    }
+    Ok(atoms)
+}
+
+fn problem_of(alloc: Global, lines: &[Line], ints: u32) -> Result<Option<Problem>, AllocError> {
+    match (atoms_of(alloc, lines), clauses_of(alloc, lines)) {
+        (Ok(atoms), Ok(clauses)) => Ok(Problem::new(atoms, ints, clauses)),
+        _ => Err(AllocError),
+    }
+}
+
+fn search(alloc: Global, problem: &Problem) -> Found {
+    match solve_plain(alloc, problem, &mut Eliminator::new(), 1000) {
+        Answer::Unsat(_) => Found::Unsat,
+        Answer::Sat(_) => Found::Sat,
+        _ => Found::Nothing,
+    }
+}
+
+/// What the search, with the elimination solver, says of the rows of lines.
+pub fn find(alloc: Global, lines: &[Line], ints: u32) -> Found {
+    match problem_of(alloc, lines, ints) {
+        Ok(Some(problem)) => search(alloc, &problem),
+        _ => Found::Nothing,
+    }
+}

@@ -1,8 +1,0 @@
-// Worked examples of upgraded logs: where the clauses of a log are dropped, that an upgraded log is upgraded already, and that the
-// kernel accepts it.
-#![tactic(auto)]
-
-#[cfg(test)]
-mod logs;
-#[cfg(test)]
-mod making;
