@@ -1,7 +1,7 @@
 // The bank as a host: how an engineer embeds the checker's host, with the bank's specification built in.
 //
 // It stands on `replica_host`, which keeps an application's own code beside the facts about it, on `replay_text` and `simulate_text`, which
-// write what comes of a schedule, and on `answers`, which has how the writing ends. `spec` makes the specification as a record. `effect` has
+// write what comes of a schedule, and on `byte_ports`, which has how the writing ends. `spec` makes the specification as a record. `effect` has
 // the bank's own code for a call, which changes one balance of a copy, and `guard` that for its requires lines. `hosting` carries a schedule
 // out with this code, in a host or in the nodes of a network, `words` tells what is asked for, and `running` is the program but for its
 // edge: what it writes is what `replay` and `simulate` of the bank's specification write.

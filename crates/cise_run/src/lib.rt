@@ -4,7 +4,7 @@
 // command, which writes its text to the sink and answers the status, `outcome` the status that verdicts come to. `law` says what the
 // answers say of a specification, and that two answers to the same words and bytes agree.
 //
-// It stands on `answers`, which says how the writing of a text ends and answers the bytes of a source, on `spec_from_bytes`, which reads the
+// It stands on `byte_ports`, which says how the writing of a text ends and answers the bytes of a source, on `spec_from_bytes`, which reads the
 // specification, on `check_run`, which decides its obligations and writes the report, on `report_verifier`, which verifies one, on
 // `report_upgrader`, which upgrades one, on `replay_text` and `simulate_text`, which carry a schedule out, on `suggest`, which finds the
 // pairs that must conflict, and on `executions`, whose theorem makes a check that ends with status 0 a proof of convergence. The definitions

@@ -5,7 +5,7 @@
 // and a call that asks meets the grants on its list alone. A list rests on the rules: where it is asked for with others than before, it
 // is begun anew.
 //
-// It stands on `call_rivals` and `token_protocol`. `specs/Index.antt` says what a list and an index are, `specs/Named.antt` which calls
+// It stands on `token_rules` and `token_protocol`. `specs/Index.antt` says what a list and an index are, `specs/Named.antt` which calls
 // the grants on a list name; that these are all that conflict is the lemma `conflicts_listed` of proofs/Listed.
 #![tactic(auto)]
 
