@@ -1,8 +1,9 @@
 // The reports of `check`, and their verification.
-use crate::examples::{
-    DEPOSITS, FLAG, MANY, NO_FLAG, ODD, PURSES, RAISED, SETS, SHOP, TOURNAMENTS, VAST, WITHDRAWALS,
-};
+use crate::examples::ODD;
 use crate::running::{ends_with, has_lines, replaced, run_on};
+use example_specs::{
+    DEPOSITS, FLAG, MANY, NO_FLAG, PURSES, RAISED, SETS, SHOP, TOURNAMENTS, VAST, WITHDRAWALS,
+};
 use std::alloc::{AllocError, Global};
 
 const CHECK: &[&str] = &["check", "s.cise"];

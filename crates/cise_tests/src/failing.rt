@@ -1,10 +1,11 @@
 // What stops each command: a source or a sink that fails at a call, and a source without end. Ports that move few bytes at a call stop none.
-use crate::examples::{FLAG, NO_FLAG, ODD, PURSES, RAISED, RAISED_REPORT, WITHDRAWALS};
+use crate::examples::{ODD, RAISED_REPORT};
 use crate::replay::{REPLAY, TWO_WITHDRAWALS};
 use crate::running::{Pieces, Port, ends_from, run_failing, run_on, stopped_runs};
 use crate::simulate::{GRANTED, SIMULATE};
 use crate::suggestions::SUGGEST;
 use byte_ports::{EndlessSource, MemSource};
+use example_specs::{FLAG, NO_FLAG, PURSES, RAISED, WITHDRAWALS};
 use std::alloc::{AllocError, Global};
 
 const CHECK: &[&str] = &["check", "s.cise"];

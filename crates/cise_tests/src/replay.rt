@@ -1,6 +1,6 @@
 // Replays of recorded schedules: what they print, and what is no schedule.
-use crate::examples::{DEPOSITS, FLAG, PURSES, ROOMS, SHOP, TOURNAMENTS, WITHDRAWALS};
 use crate::running::ends_with;
+use example_specs::{DEPOSITS, FLAG, NO_FLAG, PURSES, ROOMS, SHOP, TOURNAMENTS, WITHDRAWALS};
 use std::alloc::{AllocError, Global};
 
 /// A schedule of a specification, with the status and the text that its replay comes to.
@@ -11,13 +11,6 @@ struct Row {
     status: u8,
     text: &'static [u8],
 }
-
-/// A flag that isn't there.
-const NO_FLAG: &[u8] = b"cise 1
-relation up
-initially up false
-invariant alive up
-";
 
 /// One replica that does nothing.
 pub const NOTHING: &[u8] = b"{\"sizes\":{},\"constants\":{},\"replicas\":1,\"steps\":[]}";

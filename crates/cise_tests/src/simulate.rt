@@ -1,7 +1,7 @@
 // Simulations of recorded schedules under the token protocol: what they print, and what is no schedule.
-use crate::examples::{FLAG, NO_FLAG, PURSES, WITHDRAWALS};
 use crate::replay::{NOTHING, TWO_WITHDRAWALS};
 use crate::running::ends_with;
+use example_specs::{FLAG, NO_FLAG, PURSES, WITHDRAWALS};
 
 /// A schedule of a specification, with the status and the text that its simulation comes to.
 #[derive(Clone, Copy)]

@@ -1,6 +1,7 @@
 // The layout that `spell` writes.
-use crate::examples::{DEPOSITS, FLAG, ODD, PURSES, ROOMS, SETS, SHOP, TOURNAMENTS, WITHDRAWALS};
+use crate::examples::ODD;
 use crate::printing::{Case, is_printed, prints};
+use example_specs::{DEPOSITS, FLAG, PURSES, ROOMS, SETS, SHOP, TOURNAMENTS, WITHDRAWALS};
 
 /// Texts that are in the layout already.
 const LAID_OUT: [&[u8]; 9] = [

@@ -1,7 +1,6 @@
 // What stops a run: words that aren't accepted, and a source or a sink that fails.
 use crate::printing::prints_despite;
-
-const FLAG: &[u8] = b"cise 1 relation up initially up true invariant alive up";
+use example_specs::FLAG;
 
 /// A command for a specification of one flag, at a source and a sink that fail at these calls.
 #[derive(Clone, Copy)]

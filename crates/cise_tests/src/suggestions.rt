@@ -1,6 +1,7 @@
 // Suggestions: which pairs of operations must conflict.
-use crate::examples::{FLAG, ODD, PURSES, WITHDRAWALS};
+use crate::examples::ODD;
 use crate::running::{ends_with, run_on};
+use example_specs::{FLAG, PURSES, WITHDRAWALS};
 
 /// A specification, with the status and the text of the suggestion for it.
 #[derive(Clone, Copy)]

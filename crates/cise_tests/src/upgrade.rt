@@ -1,6 +1,7 @@
 // Reports that are upgraded, and what their verification comes to.
-use crate::examples::{MANY, PURSES, RAISED, RAISED_REPORT, SETS, TOURNAMENTS, VAST, WITHDRAWALS};
+use crate::examples::RAISED_REPORT;
 use crate::running::{ends_with, replaced, run_on};
+use example_specs::{MANY, PURSES, RAISED, SETS, TOURNAMENTS, VAST, WITHDRAWALS};
 use std::alloc::{AllocError, Global};
 
 const CHECK: &[&str] = &["check", "s.cise"];

@@ -1,6 +1,7 @@
 // Reports that are refused: the line, and what is wrong with it.
-use crate::examples::{FLAG, NO_FLAG, RAISED, RAISED_REPORT};
+use crate::examples::RAISED_REPORT;
 use crate::running::{ends_with, replaced, run_on};
+use example_specs::{FLAG, NO_FLAG, RAISED};
 use std::alloc::{AllocError, Global};
 
 const VERIFY: &[&str] = &["verify", "s.cise", "s.report"];

@@ -1,6 +1,6 @@
 // Which words are accepted.
-use crate::examples::{FLAG, NO_FLAG};
 use crate::running::{ends_with, run_on};
+use example_specs::{FLAG, NO_FLAG};
 use std::alloc::{AllocError, Global};
 
 /// Words that ask for nothing.

@@ -1,23 +1,5 @@
 // The bank, in which withdrawals from one account conflict, and schedules of it.
 
-pub const BANK: &[u8] = b"cise 1
-sort Account
-counter balance ( Account )
-token purse ( Account )
-conflict purse ( x ) purse ( x )
-invariant solvent forall a : Account . ( balance ( a ) >= 0 )
-operation deposit ( a : Account , n : int )
-  requires ( n >= 0 )
-  add balance ( a ) n
-end
-operation withdraw ( a : Account , n : int )
-  requires ( n >= 0 )
-  requires ( balance ( a ) >= n )
-  add balance ( a ) - n
-  takes purse ( a )
-end
-";
-
 /// Two withdrawals from one account, of which the second doesn't know the first.
 pub const TWO_WITHDRAWALS: &[u8] =
     b"{\"sizes\":{\"Account\":1},\"constants\":{},\"replicas\":2,\"steps\":[

@@ -3,9 +3,9 @@
 ghost use Rattle.std.specs.Prelude.{◌≡◌, ◌≤◌, true};
 ghost use Rattle.spec_core.specs.Fits.{world_fits};
 
-use crate::hosts::bank::BANK;
 use crate::hosts::evaluated::Evaluated;
 use byte_ports::Answer;
+use example_specs::PURSES;
 use replay_text::replay_by;
 use replica_host::{Effect, Guard, Host, Native};
 use schedule_json::{Schedule, read_schedule};
@@ -16,8 +16,8 @@ use std::process::Abort;
 
 /// The bank.
 pub fn bank(rt: &impl Abort, alloc: Global) -> Spec {
-    assert!(rt; BANK.len() <= SPECIFICATION_LIMIT);
-    let Ok(Reading::Specified(tree, spec)) = read_bytes(alloc, BANK) else {
+    assert!(rt; PURSES.len() <= SPECIFICATION_LIMIT);
+    let Ok(Reading::Specified(tree, spec)) = read_bytes(alloc, PURSES) else {
         panic!(rt; "no specification");
     };
     drop(tree);
