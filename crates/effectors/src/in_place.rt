@@ -1,10 +1,10 @@
-// A state that a call changes in place.
+// The state after a call, written over a second one.
 //
 // A second state that reads alike is kept beside it. A call is written over the second one, so that a refusal in the midst of
 // writing leaves the first one as it was. Once all is written the two change places, and what the call reached is copied into
 // the one that was left behind. Where memory fails for that, the second state is given up, and the next call copies the first.
 
-ghost use Rattle.std.specs.Prelude.{◌≡◌, true, Err, IfOk, OnOk, OnErr};
+ghost use Rattle.std.specs.Prelude.{◌≡◌, true, Err, IfOk, OnOk};
 ghost use Rattle.spec_core.specs.State.{reads};
 ghost use Rattle.spec_core.specs.Fits.{world_fits, call_fits, is_state};
 ghost use Rattle.effectors.specs.Effect.{after_call, after};
@@ -16,7 +16,6 @@ use crate::applying::{ApplyRefused, why_refused};
 use crate::writing::write_updates;
 use spec_core::{Call, Spec, State, World};
 use std::alloc::{AllocError, Global};
-use std::mem;
 
 // A state to write over: the spare one, else a copy.
 fn room(
@@ -106,31 +105,4 @@ pub fn caught_up(
         Ok(true) => Some(state),
         _ => None,
     }
-}
-
-/// Changes a state to the one after a call, with the answers of `apply`. A refusal leaves it as it was.
-pub fn apply_in_place(
-    alloc: Global,
-    spec: &Spec,
-    world: &World,
-    state: &mut State,
-    spare: &mut Option<State>,
-    call: &Call,
-) -> Result<(), ApplyRefused>
-    requires world { world_fits spec.now world.now ≡ true }
-    requires state { is_state spec.now world.now state.old ≡ true }
-    requires call { call_fits spec.now world.now call.now ≡ true }
-    requires spare { IsSpare spec.now world.now state.old spare.old }
-    ensures reads { OnOk result (reads state.new ≡ after spec.now world.now call.now (reads state.old)) }
-    ensures fits { OnOk result (is_state spec.now world.now state.new ≡ true) }
-    ensures err { OnErr result (state.new ≡ state.old) }
-    ensures spare { IsSpare spec.now world.now state.new spare.new }
-    ensures in_range { OnOk result (AllInRange (after_call spec.now world.now call.now (reads state.old))) }
-    ensures range { (b : Beyond) → result ≡ Err (ApplyRefused.Range b.counter b.key b.value) → IsFirstBeyond (after_call spec.now world.now call.now (reads state.old)) b }
-{
-    let twin = spare.take();
-    let next = apply_over(alloc, spec, world, state, twin, call)?;
-    let before = mem::replace(state, next);
-    *spare = caught_up(alloc, spec, world, call, state, before);
-    Ok(())
 }

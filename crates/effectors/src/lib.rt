@@ -2,7 +2,8 @@
 //
 // It stands on `spec_core`. The definition is in specs/Effect: for each tuple or key, the updates of its thing in written order,
 // whose guards and amounts read the old state. specs/Beyond says which value a refusal names. `Places`, `Reaching`, `Outside` and
-// `Refusal` serve the proofs of the code alone. `Spare` is the second state that `apply_in_place` keeps beside one.
+// `Refusal` serve the proofs of the code alone. `Spare` is the second state
+// that is kept beside one, over which `apply_over` writes.
 #![tactic(auto)]
 
 mod after;
@@ -17,7 +18,7 @@ mod writing;
 
 pub use after::{After, post_count, post_has, post2_count, post2_has};
 pub use applying::{ApplyRefused, apply};
-pub use in_place::{apply_in_place, apply_over, caught_up};
+pub use in_place::{apply_over, caught_up};
 pub use law::{law_effects_that_agree, law_first_beyond};
 pub use readings::{count_after_call, has_after_call};
 pub use updates::{is_thing, spots_match};
