@@ -32,9 +32,7 @@ use Rattle.effectors.proofs.Written.{written}
 use Rattle.replica_host.specs.Native.{IsEffect}
 use Rattle.bank_host.specs.Bank.{bank, the_counter, add_to_balance}
 use Rattle.bank_host.specs.Calls.{account_of, amount_of, change_of, FitIn}
-
-pub well : is_specification bank ≡ true
-well = refl
+use Rattle.bank_host.proofs.WellFormed.{well}
 
 -- ---- the operations
 
