@@ -1,4 +1,5 @@
--- Bytes are read as one tree.
+-- Bytes are read as one tree at most: each place that a tree has is claimed by a word of its spelling, so where all claims are right, the
+-- spelling tells every place.
 use Rattle.std.proofs.Common.{◌≡◌, ℕ, List, sym, ap, ◌∙◌}
 use Rattle.word_cut.specs.declared.word.Word.{Word}
 use Rattle.word_cut.specs.Words.{IsCut}
@@ -8,7 +9,7 @@ use Rattle.spec_reader.specs.Spelling.{tree, spelling}
 use Rattle.spec_reader.specs.Trees.{IsTree}
 use Rattle.spec_reader.specs.Place.{texts_of, IsPlaced, IsRead}
 use Rattle.spec_reader.proofs.Bytes.{one_spelling}
-use Rattle.one_reading.proofs.Parts.{tree_told}
+use Rattle.spec_from_bytes.proofs.PartsTold.{tree_told}
 
 -- trees with one spelling, each with the places of its words, are equal
 pub one_spelled : (t u : TreeForm) → IsTree t → IsTree u → spelling t ≡ spelling u → IsPlaced 0 (tree t) → IsPlaced 0 (tree u) → t ≡ u

@@ -14,7 +14,7 @@ use Rattle.spec_reader.specs.declared.tree.Spot.TheVariants as spots
 use Rattle.spec_reader.specs.Form.{Form, true_form, false_form, not_form, connect_form, has_form, compare_form, requires_form, insert_form, remove_form, add_form, set_form, takes_form, observes_form, sort_form, const_form, relation_form, counter_form, initially_form, token_form, conflict_form, invariant_form, operation_form}
 use Rattle.spec_reader.specs.Spelling.{figure, one, reading, product, summand, signed, minus, term, comparison_key, connective_key, form, variable, prefix, sentence, value, param_kind, param, spot, mode, guard, line, item, tree}
 use Rattle.spec_reader.specs.Trees.{SameMark, SameFigure, SameReading, SameProduct, SameSummand, SameSigned, SameTerm, SameForm, SameVariable, SamePrefix, SameSentence, SameValue, SameKind, SameParam, SameSpot, SameGuard, SameLine, SameItem, SameTree}
-use Rattle.one_reading.proofs.Told.{Told, AllTold, front, first_place, both, both_told, between_told, each_told, listed_told, group_told}
+use Rattle.spec_from_bytes.proofs.Told.{Told, AllTold, front, first_place, both, both_told, between_told, each_told, listed_told, group_told}
 
 -- ---- words
 
