@@ -14,7 +14,6 @@ use Rattle.spec_core.specs.Specification.{Specification, op_of, counter_keys}
 use Rattle.spec_core.specs.World.{tuples}
 use Rattle.spec_core.specs.State.{Listing, Reads, reads, is_in, with_count}
 use Rattle.spec_core.specs.Fits.{fits_places, values_fit, update_fits, is_state, in_state_range}
-use Rattle.spec_core.specs.Typed.{is_specification}
 use Rattle.spec_core.proofs.Places.{small-fits_places}
 use Rattle.spec_core.proofs.Operations.{fitting_call}
 use Rattle.spec_core.proofs.Members.{is_in-tuples}
@@ -32,9 +31,7 @@ use Rattle.effectors.proofs.Written.{written}
 use Rattle.replica_host.specs.Native.{IsEffect}
 use Rattle.bank_host.specs.Bank.{bank, the_counter, add_to_balance}
 use Rattle.bank_host.specs.Calls.{account_of, amount_of, change_of, FitIn}
-
-pub well : is_specification bank ≡ true
-well = refl
+use Rattle.bank_host.proofs.WellFormed.{well}
 
 -- ---- the operations
 

@@ -1,3 +1,4 @@
+mod WellFormed
 mod Changing
 mod Guarding
 mod Answering

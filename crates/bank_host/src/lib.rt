@@ -10,6 +10,20 @@
 // (which words are accepted, and which status and text belong to them). Carried serves the code and its proofs.
 #![tactic(auto)]
 
+/// What a call returns, or its error, before which the values named are dropped: a `?` while they are alive would be
+/// dear to prove.
+macro_rules! or_drop {
+    ($call:expr; $($value:ident),*) => {
+        match $call {
+            Ok(value) => value,
+            Err(error) => {
+                $(drop($value);)*
+                return Err(error);
+            }
+        }
+    };
+}
+
 mod effect;
 mod guard;
 mod hosting;

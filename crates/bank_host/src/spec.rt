@@ -11,7 +11,6 @@ use spec_core::{
     Body, Change, Cmp, Counter, Elem, Formula, Invariant, Kind, Name, Operation, Param, Pattern,
     Prefix, Prefixed, Rule, Spec, Spot, Summand, Take, Term, Thing, Token, Update,
 };
-use spec_draft::Draft;
 use std::alloc::{AllocError, Global};
 
 /// A list of one member.
@@ -246,17 +245,55 @@ fn withdraw(alloc: Global) -> Result<Operation, AllocError>
 
 // ---- the whole
 
-/// The parts of the bank's specification.
-fn bank_draft(alloc: Global) -> Result<Draft, AllocError>
-    ensures { IfOk result (λ draft. draft ≡ bank) }
+fn sorts(alloc: Global) -> Result<Items<Name>, AllocError>
+    ensures { IfOk result (λ sorts. sorts ≡ codes "Account" ∷ []) }
 {
-    let sorts = one(alloc, Name::new(alloc, b"Account")?)?;
-    let counters = one(alloc, counter(alloc)?)?;
-    let tokens = one(alloc, token(alloc)?)?;
-    let rules = one(alloc, rule(alloc)?)?;
-    let invariants = one(alloc, solvent(alloc)?)?;
-    let operations = two(alloc, deposit(alloc)?, withdraw(alloc)?)?;
-    Ok(Draft {
+    one(alloc, Name::new(alloc, b"Account")?)
+}
+
+fn counters(alloc: Global) -> Result<Items<Counter>, AllocError>
+    ensures { IfOk result (λ counters. counters ≡ the_counter ∷ []) }
+{
+    one(alloc, counter(alloc)?)
+}
+
+fn tokens(alloc: Global) -> Result<Items<Token>, AllocError>
+    ensures { IfOk result (λ tokens. tokens ≡ the_token ∷ []) }
+{
+    one(alloc, token(alloc)?)
+}
+
+fn rules(alloc: Global) -> Result<Items<Rule>, AllocError>
+    ensures { IfOk result (λ rules. rules ≡ the_rule ∷ []) }
+{
+    one(alloc, rule(alloc)?)
+}
+
+fn invariants(alloc: Global) -> Result<Items<Invariant>, AllocError>
+    ensures { IfOk result (λ invariants. invariants ≡ solvent_of ∷ []) }
+{
+    one(alloc, solvent(alloc)?)
+}
+
+fn operations(alloc: Global) -> Result<Items<Operation>, AllocError>
+    ensures { IfOk result (λ operations. operations ≡ deposit_of ∷ withdraw_of ∷ []) }
+{
+    let deposit = deposit(alloc)?;
+    let withdraw = or_drop!(withdraw(alloc); deposit);
+    two(alloc, deposit, withdraw)
+}
+
+/// The specification of the bank.
+pub fn bank_spec(alloc: Global) -> Result<Spec, AllocError>
+    ensures { IfOk result (λ spec. spec ≡ bank) }
+{
+    let sorts = sorts(alloc)?;
+    let counters = or_drop!(counters(alloc); sorts);
+    let tokens = or_drop!(tokens(alloc); sorts, counters);
+    let rules = or_drop!(rules(alloc); sorts, counters, tokens);
+    let invariants = or_drop!(invariants(alloc); sorts, counters, tokens, rules);
+    let operations = or_drop!(operations(alloc); sorts, counters, tokens, rules, invariants);
+    let spec = Spec {
         version: 1,
         sorts,
         consts: Items::new(alloc),
@@ -266,16 +303,6 @@ fn bank_draft(alloc: Global) -> Result<Draft, AllocError>
         rules,
         invariants,
         operations,
-    })
-}
-
-/// The specification of the bank.
-#[tactic(auto, using(crate::proofs::Changing::well))]
-pub fn bank_spec(alloc: Global) -> Result<Spec, AllocError>
-    ensures { IfOk result (λ spec. spec ≡ bank) }
-{
-    match bank_draft(alloc)?.into_spec() {
-        Some(spec) => Ok(spec),
-        None => unreachable!(),
-    }
+    };
+    Ok(spec)
 }

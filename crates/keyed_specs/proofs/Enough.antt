@@ -23,7 +23,7 @@ use Rattle.spec_core.specs.State.{is_in}
 use Rattle.spec_core.specs.World.{below}
 use Rattle.spec_core.specs.Typed.{parameter_names, all_distinct, is_operation, is_specification}
 use Rattle.spec_core.proofs.Parts.{parts_of, operation_parts}
-use Rattle.spec_copy.specs.Takes.{with_takes}
+use Rattle.keyed_specs.specs.Takes.{with_takes}
 use Rattle.keyed_specs.specs.Keyed.{names_in_use, token_name, unused_below, first_name, second_name}
 use Rattle.keyed_specs.proofs.TokenNames.{all_unused}
 use Rattle.keyed_specs.proofs.Distinct.{passing, passing-none, passing-all, passing-or, few_in, passed, passed_too, distinct_fewer, neither, not_false}

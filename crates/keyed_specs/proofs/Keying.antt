@@ -1,7 +1,7 @@
 -- Operations with keyed takes lines, one by one.
 use Rattle.std.proofs.Common.{◌≡◌, ℕ, zero, suc, ◌+◌, ◌<◌, List, [], ◌∷◌, ◌++◌, length, get_or, take, sym, ◌∙◌, ap, subst, arith}
 use Rattle.spec_core.specs.declared.operation.Operation.{Operation}
-use Rattle.spec_copy.specs.Takes.{with_takes}
+use Rattle.keyed_specs.specs.Takes.{with_takes}
 use Rattle.spec_core.specs.declared.spec.Token.{Token}
 use Rattle.spec_core.specs.declared.spec.Rule.{Rule}
 use Rattle.spec_core.specs.Specification.{Specification}

@@ -31,7 +31,7 @@ use Rattle.spec_core.specs.Truth.{is_exists}
 use Rattle.spec_core.specs.Fits.{in_literal_range, is_plain}
 use Rattle.spec_core.specs.Typed.{sort_of, is_sort, same_sort, elems_typed, body_typed, summand_typed, term_typed, form_typed, nodes, depth, are_sorts, is_line, is_kind, is_parameter, spot_typed, spots_typed, change_typed, is_update, is_take, is_operation, is_invariant}
 use Rattle.spec_core.proofs.Parts.{operation_parts}
-use Rattle.spec_copy.specs.Takes.{with_takes}
+use Rattle.keyed_specs.specs.Takes.{with_takes}
 use Rattle.keyed_specs.specs.Bare.{with_tokens}
 
 -- two tests that agree

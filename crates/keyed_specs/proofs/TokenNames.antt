@@ -17,7 +17,7 @@ use Rattle.spec_core.specs.Specification.{Specification}
 use Rattle.spec_core.specs.State.{is_in}
 use Rattle.spec_core.specs.World.{below}
 use Rattle.spec_core.specs.Typed.{parameter_names}
-use Rattle.spec_copy.specs.Takes.{with_takes}
+use Rattle.keyed_specs.specs.Takes.{with_takes}
 use Rattle.keyed_specs.specs.Keyed.{names_in_use, token_name, unused_below, unused_names}
 
 -- the decimal of a byte has at most 3 digits

@@ -22,7 +22,7 @@ use Rattle.spec_core.specs.State.{is_in}
 use Rattle.spec_core.specs.Typed.{parameter_names, sort_of_kind, sort_of_param, is_sort, same_sort, is_kind, is_parameter, is_take, is_operation, global_names, names_from_invariants, all_distinct, is_specification}
 use Rattle.spec_core.proofs.Lists.{list_all-within}
 use Rattle.spec_core.proofs.Parts.{parts_of, operation_parts}
-use Rattle.spec_copy.specs.Takes.{with_takes}
+use Rattle.keyed_specs.specs.Takes.{with_takes}
 use Rattle.keyed_specs.specs.Bare.{with_tokens, bare}
 use Rattle.keyed_specs.specs.Keyed.{names_in_use, first_name, second_name, sort_of_parameter, CanBeKeyed, keyed_token, keyed_rule, keyed_take, keyed_takes, keyed_from, key_sort, keyed}
 use Rattle.keyed_specs.proofs.TokenNames.{bare_names}
@@ -233,3 +233,9 @@ module _ (d : Specification) (a p b q : ℕ) (h : is_specification d ≡ true) (
       && true && ((is i && true) && ((is i && true) && true))
       && true && (((same i && (same i && true)) && ((same i && (same i && true)) && true)) && true)
       && w.few_invariants i && invariants i && count i && operations i && words i && distinct i
+
+-- ---- of their parts
+
+pub bare_made_well_formed : (d : Specification) (ts : List Token) (rs : List Rule) (os : List Operation) → is_specification d ≡ true → ts ≡ [] → rs ≡ [] → os ≡ map (λ o. with_takes o []) d.operations
+    → is_specification (with_tokens d ts rs os) ≡ true
+bare_made_well_formed d ts rs os h e f g = ap is_specification (λ i. with_tokens d (e i) (f i) (g i)) ∙ bare_well_formed d h

@@ -4,7 +4,7 @@ use Rattle.spec_core.specs.declared.spec.Token.{Token}
 use Rattle.spec_core.specs.declared.spec.Rule.{Rule}
 use Rattle.spec_core.specs.declared.operation.Operation.{Operation}
 use Rattle.spec_core.specs.Specification.{Specification}
-use Rattle.spec_copy.specs.Takes.{with_takes}
+use Rattle.keyed_specs.specs.Takes.{with_takes}
 
 -- a specification, but with these tokens, rules and operations
 abbrev pub with_tokens : Specification → List Token → List Rule → List Operation → Specification

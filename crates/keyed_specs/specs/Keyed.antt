@@ -12,7 +12,7 @@ use Rattle.spec_core.specs.Specification.{Specification, op_of}
 use Rattle.spec_core.specs.State.{is_in}
 use Rattle.spec_core.specs.World.{below}
 use Rattle.spec_core.specs.Typed.{sort_of_param, same_sort, parameter_names, global_names}
-use Rattle.spec_copy.specs.Takes.{with_takes}
+use Rattle.keyed_specs.specs.Takes.{with_takes}
 use Rattle.keyed_specs.specs.Bare.{with_tokens, bare}
 
 -- ---- the names of the two tokens

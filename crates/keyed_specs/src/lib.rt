@@ -1,8 +1,7 @@
 // Specifications with the fewest tokens: the bare one, and those keyed on a parameter of two operations.
 //
-// It stands on `spec_core`, on the copies of `spec_copy`, and on `spec_draft`, which makes a specification of its parts. specs/Bare.antt
-// and specs/Keyed.antt have the definitions. `in_use` and `naming` look for the names of the two tokens, `making` makes the
-// specifications.
+// It stands on `spec_core`. specs/Takes.antt, specs/Bare.antt and specs/Keyed.antt have the definitions. `copies` copies the parts of a
+// specification, `in_use` and `naming` look for the names of the two tokens, and `making` makes the specifications.
 #![tactic(auto)]
 
 /// What a call returns, or its error, before which the values named are dropped: a `?` while they are alive would be
@@ -19,6 +18,7 @@ macro_rules! or_drop {
     };
 }
 
+mod copies;
 mod in_use;
 mod laws;
 mod making;

@@ -1,22 +1,21 @@
 // Making the bare specification and the keyed ones.
 
-ghost use Rattle.std.specs.Prelude.{◌≡◌, [], ◌∷◌, map, get_or, IfOk};
-ghost use Rattle.spec_copy.specs.Takes.{with_takes};
+ghost use Rattle.std.specs.Prelude.{◌≡◌, [], ◌∷◌, map, get_or, IfOk, true};
+ghost use Rattle.spec_core.specs.Typed.{is_specification};
+ghost use Rattle.keyed_specs.specs.Takes.{with_takes};
 ghost use Rattle.keyed_specs.specs.Bare.{with_tokens, bare as bare_of};
 ghost use Rattle.keyed_specs.specs.Keyed.{CanBeKeyed, first_name, second_name, keyed_token as token_of, keyed_pattern as pattern_of, keyed_rule as rule_of, keyed_take as take_of, keyed_takes as takes_of, keyed_from, key_sort as key_sort_of, keyed as keyed_of};
 
+use crate::copies::declarations::{
+    copy_consts, copy_counters, copy_invariants, copy_name, copy_names, copy_relations,
+};
+use crate::copies::operations::copy_with_takes;
 use crate::naming::unused_names;
 use items::Items;
-use spec_copy::{
-    copy_consts, copy_counters, copy_invariants, copy_name, copy_names, copy_relations,
-    copy_with_takes,
-};
 use spec_core::{Elem, Kind, Name, Operation, Pattern, Rule, Spec, Take, Token};
-use spec_draft::Draft;
 use std::alloc::{AllocError, Global};
 
-// A copy of a specification, but with these tokens, rules and operations. Parts that aren't well formed together would be answered as want
-// of memory; none come, by `law_made_are_well_formed`.
+// A copy of a specification, but with these tokens, rules and operations.
 fn made(
     alloc: Global,
     spec: &Spec,
@@ -24,6 +23,7 @@ fn made(
     rules: Items<Rule>,
     operations: Items<Operation>,
 ) -> Result<Spec, AllocError>
+    requires { is_specification (with_tokens spec.now tokens rules operations) ≡ true }
     ensures { IfOk result (λ made. made ≡ with_tokens spec.now tokens rules operations) }
 {
     let sorts = or_drop!(copy_names(alloc, spec.sorts.as_slice()); tokens, rules, operations);
@@ -35,7 +35,7 @@ fn made(
         or_drop!(copy_counters(alloc, spec.counters.as_slice()); tokens, rules, operations, sorts, consts, relations);
     let invariants =
         or_drop!(copy_invariants(alloc, spec.invariants.as_slice()); tokens, rules, operations, sorts, consts, relations, counters);
-    let draft = Draft {
+    Ok(Spec {
         version: spec.version,
         sorts,
         consts,
@@ -45,11 +45,7 @@ fn made(
         rules,
         invariants,
         operations,
-    };
-    match draft.into_spec() {
-        Some(made) => Ok(made),
-        None => Err(AllocError),
-    }
+    })
 }
 
 fn bare_operations(alloc: Global, operations: &[Operation]) -> Result<Items<Operation>, AllocError>
@@ -226,6 +222,7 @@ pub fn keyed(
         second,
         q,
     };
+    spec.well_formed();
     let sort = key_sort(spec, first, p);
     let tokens = keyed_tokens(alloc, spec, sort)?;
     let rules = or_drop!(keyed_rules(alloc); tokens);

@@ -1,6 +1,7 @@
 // The sort, the relations, the token, the conflict rule and the invariants of a generated specification.
 
 ghost use Rattle.std.specs.Prelude.{◌≡◌, ◌≤◌, ◌+◌, [], ◌∷◌, IfOk, map, codes};
+ghost use Rattle.spec_core.specs.Form.{form_of, implies_form};
 ghost use Rattle.spec_core.specs.World.{below};
 ghost use Rattle.sample_specs.specs.Sample.{relation_at as relation_of, the_token, pattern as pattern_of, the_rule, needs as needs_of, from_one};
 
@@ -23,7 +24,7 @@ fn relation_at(alloc: Global, i: u8) -> Result<Relation, AllocError>
     ensures { IfOk result (λ relation. relation ≡ relation_of i) }
 {
     let name = numbered(alloc, b"r", i)?;
-    let places = one(alloc, 0)?;
+    let places = or_drop!(one(alloc, 0); name);
     Ok(Relation {
         name,
         places,
@@ -49,7 +50,7 @@ pub fn tokens(alloc: Global) -> Result<Items<Token>, AllocError>
     ensures { IfOk result (λ tokens. tokens ≡ the_token ∷ []) }
 {
     let name = Name::new(alloc, b"t")?;
-    let places = one(alloc, 0)?;
+    let places = or_drop!(one(alloc, 0); name);
     one(alloc, Token { name, places })
 }
 
@@ -66,24 +67,33 @@ pub fn rules(alloc: Global) -> Result<Items<Rule>, AllocError>
     ensures { IfOk result (λ rules. rules ≡ the_rule ∷ []) }
 {
     let left = pattern(alloc)?;
-    let right = pattern(alloc)?;
+    let right = or_drop!(pattern(alloc); left);
     one(alloc, Rule { left, right })
 }
 
 // ---- invariants
+
+fn implies(alloc: Global, left: Formula, right: Formula) -> Result<Formula, AllocError>
+    ensures { IfOk result (λ made. form_of made ≡ implies_form (form_of left) (form_of right)) }
+{
+    let left = Box::new(alloc, left)?;
+    let right = Box::new(alloc, right)?;
+    Ok(Formula::Implies(left, right))
+}
 
 /// `forall x : Item . ( r(i+1) ( x ) implies r(i) ( x ) )`.
 fn needs_line(alloc: Global, i: u8) -> Result<Prefixed, AllocError>
     requires small { i ≤ 12 }
     ensures { IfOk result (λ line. line ≡ (needs_of (i + 1)).line) }
 {
-    let later = Box::new(alloc, relation_holds(alloc, i + 1, Elem::Var(0))?)?;
-    let earlier = Box::new(alloc, relation_holds(alloc, i, Elem::Var(0))?)?;
-    let vars = one(alloc, 0)?;
+    let later = relation_holds(alloc, i + 1, Elem::Var(0))?;
+    let earlier = or_drop!(relation_holds(alloc, i, Elem::Var(0)); later);
+    let body = implies(alloc, later, earlier)?;
+    let vars = or_drop!(one(alloc, 0); body);
     Ok(Prefixed {
         prefix: Prefix::Forall,
         vars,
-        body: Formula::Implies(later, earlier),
+        body,
     })
 }
 
@@ -93,7 +103,7 @@ fn needs(alloc: Global, i: u8) -> Result<Invariant, AllocError>
     ensures { IfOk result (λ invariant. invariant ≡ needs_of (i + 1)) }
 {
     let name = numbered(alloc, b"needs", i + 1)?;
-    let line = needs_line(alloc, i)?;
+    let line = or_drop!(needs_line(alloc, i); name);
     Ok(Invariant { name, line })
 }
 

@@ -119,9 +119,9 @@ fn on_item(
 ) -> Result<Operation, AllocError>
     ensures { IfOk result (λ operation. operation ≡ on_item_of name requires_ update) }
 {
-    let updates = one(alloc, update)?;
-    let params = an_item(alloc)?;
-    let takes = takes_item(alloc)?;
+    let updates = or_drop!(one(alloc, update); name, requires_);
+    let params = or_drop!(an_item(alloc); name, requires_, updates);
+    let takes = or_drop!(takes_item(alloc); name, requires_, updates, params);
     Ok(Operation {
         name,
         params,
@@ -137,8 +137,8 @@ fn adding(alloc: Global, i: u8) -> Result<Operation, AllocError>
     ensures { IfOk result (λ operation. operation ≡ adding_of i) }
 {
     let name = numbered(alloc, b"add", i)?;
-    let requires_ = adding_requires(alloc, i)?;
-    let update = update(alloc, Change::Insert, i)?;
+    let requires_ = or_drop!(adding_requires(alloc, i); name);
+    let update = or_drop!(update(alloc, Change::Insert, i); name, requires_);
     on_item(alloc, name, requires_, update)
 }
 
@@ -148,8 +148,8 @@ fn deleting(alloc: Global, n: u8, i: u8) -> Result<Operation, AllocError>
     ensures { IfOk result (λ operation. operation ≡ deleting_of n i) }
 {
     let name = numbered(alloc, b"del", i)?;
-    let requires_ = deleting_requires(alloc, n, i)?;
-    let update = update(alloc, Change::Remove, i)?;
+    let requires_ = or_drop!(deleting_requires(alloc, n, i); name);
+    let update = or_drop!(update(alloc, Change::Remove, i); name, requires_);
     on_item(alloc, name, requires_, update)
 }
 

@@ -8,22 +8,21 @@ use crate::declarations::{invariants, relations, rules, sorts, tokens};
 use crate::operations::operations;
 use items::Items;
 use spec_core::Spec;
-use spec_draft::Draft;
 use std::alloc::{AllocError, Global};
 
-/// The parts of a generated specification.
-fn sample_draft(alloc: Global, n: u8) -> Result<Draft, AllocError>
+/// The specification `sample n`, for an n from 1 to 12.
+pub fn sample_spec(alloc: Global, n: u8) -> Result<Spec, AllocError>
     requires some { 1 ≤ n }
     requires few { n ≤ 12 }
-    ensures { IfOk result (λ draft. draft ≡ sample n) }
+    ensures { IfOk result (λ spec. spec ≡ sample n) }
 {
     let sorts = sorts(alloc)?;
-    let relations = relations(alloc, n)?;
-    let tokens = tokens(alloc)?;
-    let rules = rules(alloc)?;
-    let invariants = invariants(alloc, n)?;
-    let operations = operations(alloc, n)?;
-    Ok(Draft {
+    let relations = or_drop!(relations(alloc, n); sorts);
+    let tokens = or_drop!(tokens(alloc); sorts, relations);
+    let rules = or_drop!(rules(alloc); sorts, relations, tokens);
+    let invariants = or_drop!(invariants(alloc, n); sorts, relations, tokens, rules);
+    let operations = or_drop!(operations(alloc, n); sorts, relations, tokens, rules, invariants);
+    let spec = Spec {
         version: 1,
         sorts,
         consts: Items::new(alloc),
@@ -33,20 +32,8 @@ fn sample_draft(alloc: Global, n: u8) -> Result<Draft, AllocError>
         rules,
         invariants,
         operations,
-    })
-}
-
-/// The specification `sample n`, for an n from 1 to 12.
-#[tactic(auto, using(crate::proofs::WellFormed::well_formed))]
-pub fn sample_spec(alloc: Global, n: u8) -> Result<Spec, AllocError>
-    requires some { 1 ≤ n }
-    requires few { n ≤ 12 }
-    ensures { IfOk result (λ spec. spec ≡ sample n) }
-{
-    match sample_draft(alloc, n)?.into_spec() {
-        Some(spec) => Ok(spec),
-        None => unreachable!(),
-    }
+    };
+    Ok(spec)
 }
 
 /// The generated specifications are well formed.

@@ -14,7 +14,7 @@ use Rattle.spec_reader.specs.Form.{TreeForm}
 use Rattle.spec_reader.specs.Place.{IsRead, IsPlace, texts_of}
 use Rattle.typing_rules.specs.Fault.{Fault}
 use Rattle.typing_rules.specs.Items.{typing}
-use Rattle.one_reading.proofs.Reading.{one_tree}
+use Rattle.spec_from_bytes.proofs.OneTree.{one_tree}
 use Rattle.spec_from_bytes.specs.Refusal.{IsTreeOf, IsSpecificationOf, Refusal, too_long, strange_letter, long_name, long_number, no_reading, faulty, IsRefusal}
 
 -- ---- trees and specifications

@@ -1,13 +1,21 @@
-// That some bytes are one specification, or are refused for one reason, and never both.
+// That some bytes are read as one tree, are one specification, or are refused for one reason, and never both.
 ghost use Rattle.std.specs.Prelude.{◌≡◌, ◌↔◌, ℕ, List};
+ghost use Rattle.word_cut.specs.declared.word.Word.{Word};
+ghost use Rattle.word_cut.specs.Words.{IsCut};
 ghost use Rattle.spec_core.specs.Specification.{Specification};
 ghost use Rattle.spec_reader.specs.Form.{TreeForm};
+ghost use Rattle.spec_reader.specs.Place.{IsRead};
 ghost use Rattle.typing_rules.specs.Fault.{Fault};
 ghost use Rattle.typing_faults.specs.Sites.{specification_of};
 ghost use Rattle.typing_faults.specs.Faults.{IsLeastFault, HasNoFault};
 ghost use Rattle.spec_from_bytes.specs.Refusal.{IsTreeOf, IsReadAs, IsSpecificationOf, Refusal, faulty, IsRefusal};
 
 use typing_faults::{law_least_fault, law_read_is_written};
+
+/// Some bytes are read as one tree at most, with the places of all its words.
+pub fn law_one_tree()
+    ensures { (bytes : List ℕ) (words others : List Word) (t u : TreeForm) → IsCut bytes words → IsCut bytes others → IsRead bytes words t → IsRead bytes others u → t ≡ u }
+{}
 
 /// Some bytes are one specification at most.
 pub fn law_one_specification()

@@ -13,10 +13,9 @@ use spec_core::limits::{
     MOST_CONSTANTS, MOST_COUNTERS, MOST_KEYS, MOST_PLACES, MOST_RELATIONS, MOST_SORTS, MOST_TOKENS,
 };
 use spec_core::{Const, Counter, Name, Relation, Token};
-use spec_draft::Draft;
 use spec_reader::Mark;
 use std::alloc::{AllocError, Global};
-use type_faults::{Fault, declared_fault, limit_at, sort_fault, sort_number};
+use type_faults::{Draft, Fault, declared_fault, limit_at, sort_fault, sort_number};
 use typing_rules::{Meaning, Which};
 
 // ---- sorts

@@ -13,11 +13,10 @@ use crate::making::literal_of;
 use crate::refusal::Stop;
 use items::Items;
 use spec_core::{Counter, Relation};
-use spec_draft::Draft;
 use spec_reader::{Mark, Value};
 use std::alloc::{AllocError, Global};
 use std::mem;
-use type_faults::{Fault, literal_fault};
+use type_faults::{Draft, Fault, literal_fault};
 use typing_rules::Meaning;
 
 /// A relation is initially true or false, a counter has a number.

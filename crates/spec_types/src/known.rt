@@ -7,10 +7,9 @@ ghost use Rattle.type_faults.specs.Views.{faulted, scope_of};
 ghost use Rattle.spec_types.specs.Views.{known_of};
 
 use items::Items;
-use spec_draft::Draft;
 use spec_reader::{Mark, Version};
 use std::alloc::{AllocError, Global};
-use type_faults::{Fault, Names, Scope, declared_fault, limit_at, sort_fault, sort_number};
+use type_faults::{Draft, Fault, Names, Scope, declared_fault, limit_at, sort_fault, sort_number};
 use typing_rules::Which;
 
 /// The specification that some items are, what their names mean, and the names whose initial value was stated.

@@ -1,6 +1,6 @@
 // The typing of a whole tree.
 
-ghost use Rattle.std.specs.Prelude.{◌≡◌, map, false, Ok, IfOk, IfErr, MatchOption};
+ghost use Rattle.std.specs.Prelude.{◌≡◌, map, true, Ok, IfOk, IfErr};
 ghost use Rattle.spec_core.specs.Typed.{is_specification};
 ghost use Rattle.spec_reader.specs.Form.{item_of, tree_of};
 ghost use Rattle.spec_reader.specs.Trees.{IsTree};
@@ -55,9 +55,10 @@ fn type_items<'t>(alloc: Global, known: &mut Known, items: &'t [Item]) -> Result
     Ok(())
 }
 
-/// The specification that is known; none where it isn't well formed.
-fn finished(known: Known) -> Option<Spec>
-    ensures { MatchOption result (is_specification known.draft ≡ false) (λ spec. spec ≡ known.draft) }
+/// The specification that is known.
+fn finished(known: Known) -> Spec
+    requires { is_specification known.draft ≡ true }
+    ensures { result ≡ known.draft }
 {
     known.draft.into_spec()
 }
@@ -81,10 +82,7 @@ fn typed(alloc: Global, tree: &Tree) -> Result<Spec, TypeRefused>
         }
     }
     law_typed_is_well_formed();
-    match finished(known) {
-        Some(spec) => Ok(spec),
-        None => unreachable!(),
-    }
+    Ok(finished(known))
 }
 
 /// The specification that a tree of the grammar is, or what is wrong with it; `TypeRefused` says which that is.

@@ -1,10 +1,10 @@
 // What is wrong with the parts of a tree, found without memory.
 //
-// It stands on `typing_rules`, whose definitions say what is wrong, and on `spec_draft`, whose drafts hold what is declared so
-// far. `names` is the map of what names mean, `fault` what is wrong at a word, and `scope` what is in scope at a place. Each
-// function of `elements`, `terms`, `formulas`, `sentences` and `lines` gives the first fault of a part, exactly.
+// It stands on `typing_rules`, whose definitions say what is wrong. `draft` is what is declared so far, `names` the map of what
+// names mean, `fault` what is wrong at a word, and `scope` what is in scope at a place. Each function of `elements`, `terms`, `formulas`, `sentences` and `lines` gives the first fault of a part, exactly.
 #![tactic(auto)]
 
+mod draft;
 mod elements;
 mod fault;
 mod formulas;
@@ -14,6 +14,7 @@ mod scope;
 mod sentences;
 mod terms;
 
+pub use draft::Draft;
 pub use elements::{elem_of, is_of_sort, places_fault, small};
 pub use fault::{Fault, limit_at};
 pub use formulas::side_element;

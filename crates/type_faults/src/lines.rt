@@ -10,6 +10,7 @@ ghost use Rattle.typing_rules.specs.Terms.{term_fault as term_fault_of};
 ghost use Rattle.typing_rules.specs.Lines.{spot_fault as spot_fault_of, spots_fault as spots_fault_of, target_fault_at, relation_target_fault as relation_target_fault_of, counter_target_fault as counter_target_fault_of, guard_fault as guard_fault_of, taking_fault as taking_fault_of, most_observed as most_observed_of, line_fault as line_fault_of};
 ghost use Rattle.type_faults.specs.Views.{faulted, scope_of};
 
+use crate::draft::Draft;
 use crate::elements::{args_fault, elem_fault, places_fault};
 use crate::fault::{Fault, limit_at};
 use crate::formulas::{formula_fault, relation_places};
@@ -18,7 +19,6 @@ use crate::sentences::sentence_fault;
 use crate::terms::{counter_keys, term_fault};
 use spec_core::Operation;
 use spec_core::limits::{MOST_OBSERVES, MOST_REQUIRES, MOST_TAKES, MOST_UPDATES};
-use spec_draft::Draft;
 use spec_reader::{Formula, Line, Mark, Reading, Spot, Term};
 use typing_rules::Which;
 

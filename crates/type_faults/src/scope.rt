@@ -5,9 +5,9 @@ ghost use Rattle.typing_rules.specs.Scope.{is_param as is_param_of, is_var as is
 ghost use Rattle.type_faults.specs.Names.{meaning_in};
 ghost use Rattle.type_faults.specs.Views.{faulted, scope_of};
 
+use crate::draft::Draft;
 use crate::fault::Fault;
 use crate::names::Names;
-use spec_draft::Draft;
 use spec_reader::{Mark, Param, Variable};
 
 /// What is in scope at a place: what is declared for the whole specification, and the parameters and variables.

@@ -1,5 +1,5 @@
 use Rattle.std.proofs.Common.{◌≡◌, take, map, []}
-use Rattle.spec_copy.specs.Takes.{with_takes}
+use Rattle.keyed_specs.specs.Takes.{with_takes}
 use Rattle.keyed_specs.proofs.making.bare_operations.Given as goal
 
 abbrev pub invariant-loop-operation : goal.invariant-loop-operation
