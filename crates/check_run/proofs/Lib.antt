@@ -1,4 +1,3 @@
-mod Rows
 mod Verdicts
 mod Shown
 mod Refutations

@@ -17,3 +17,4 @@ mod Moderate
 mod Groups
 mod Small
 mod Arguments
+pub mod GoodRows

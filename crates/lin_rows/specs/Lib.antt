@@ -4,3 +4,4 @@ pub mod Rows
 pub mod Divisors
 pub mod Sums
 pub mod Cancelling
+pub mod Multiples

@@ -3,12 +3,14 @@
 // The layer is the arithmetic that the proof kernel and the theory solvers stand on: to make, tighten, add, combine and
 // negate rows, and to test a point. All of it is exact: numbers lie in -(2^127 - 1) to 2^127 - 1, and a call whose
 // products or sums leave that range says so. It stands on `items` alone. Definitions: specs/Rows (rows, points, negation,
-// truth), specs/Divisors (tightening), specs/Sums (sums), specs/Cancelling (the least multipliers that cancel a place).
+// truth), specs/Divisors (tightening), specs/Sums (sums), specs/Multiples (sums where the multipliers are tested), specs/Cancelling (the
+// least multipliers that cancel a place).
 #![tactic(auto)]
 
 pub mod adding;
 pub mod combining;
 pub mod making;
+pub mod multiples;
 pub mod negation;
 pub mod number;
 pub mod refused;
@@ -21,6 +23,7 @@ pub mod truth;
 pub use adding::sum;
 pub use combining::{Combined, combine, law_least_multipliers, least_factors};
 pub use making::row_of;
+pub use multiples::{MultiplesRefused, sum_of_multiples};
 pub use negation::negate;
 pub use number::{add_product, plus, times};
 pub use refused::RowRefused;

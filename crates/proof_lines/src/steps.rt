@@ -11,7 +11,7 @@ ghost use Rattle.proof_lines.specs.Refusals.{or_broken, IsTold};
 use crate::clause::Lit;
 use crate::line::{LineRefused, RowStep, Why};
 use crate::problem::AtomKind;
-use lin_rows::{Row, RowRefused, negate, sum, tighten};
+use lin_rows::{MultiplesRefused, Row, RowRefused, negate, sum_of_multiples, tighten};
 use std::alloc::{AllocError, Global};
 
 // The row of an atom, if it is there and has one.
@@ -95,13 +95,11 @@ pub fn sum_of_step(
 ) -> Result<Row, LineRefused>
     ensures { MatchResult result (λ row. step_sum (Some left.now) (Some right.now) step.now ≡ Ok row) (λ e. IsTold e (step_sum (Some left.now) (Some right.now) step.now)) }
 {
-    if step.first < 0 || step.second < 0 {
-        return Err(LineRefused::Bad(Why::Multiplier));
-    }
-    match sum(alloc, left, step.first, right, step.second) {
+    match sum_of_multiples(alloc, left, step.first, right, step.second) {
         Ok(row) => Ok(row),
-        Err(RowRefused::Range) => Err(LineRefused::Bad(Why::Range)),
-        Err(RowRefused::Memory) => Err(LineRefused::Memory),
+        Err(MultiplesRefused::Negative) => Err(LineRefused::Bad(Why::Multiplier)),
+        Err(MultiplesRefused::Range) => Err(LineRefused::Bad(Why::Range)),
+        Err(MultiplesRefused::Memory) => Err(LineRefused::Memory),
     }
 }
 

@@ -1,4 +1,3 @@
-pub mod Rows
 mod Listed
 mod Same
 mod Valid

@@ -146,12 +146,15 @@ pub fn ask<T: Theory>(
     let lits = drawn.lits.as_slice();
     match theory.check(alloc, drawn.rows.as_slice(), grown.ints) {
         TheoryAnswer::Model(ints) => {
-            let truths = truths(alloc, trail, problem.atoms.len())?;
+            drop(drawn);
+            let truths = or_drop!(truths(alloc, trail, problem.atoms.len()); ints);
             Ok(Outcome::Found(Interpretation { truths, ints }))
         }
         TheoryAnswer::Conflict { used, steps } => {
-            let used = pick(alloc, lits, used.as_slice())?;
-            Ok(refute(alloc, grown, trail, log, used, steps, budget).outcome())
+            let picked = or_drop!(pick(alloc, lits, used.as_slice()); used, steps, drawn);
+            drop(used);
+            drop(drawn);
+            Ok(refute(alloc, grown, trail, log, picked, steps, budget).outcome())
         }
         TheoryAnswer::Split {
             place,
@@ -162,29 +165,46 @@ pub fn ask<T: Theory>(
             high,
             values,
         } => {
-            let used = pick(alloc, lits, used.as_slice())?;
-            if log.len() >= budget as usize {
-                return Ok(Outcome::Spent);
-            }
+            let picked = or_drop!(pick(alloc, lits, used.as_slice()); used, steps, values, drawn);
+            drop(used);
+            drawn.law_rows();
+            drop(drawn);
             let cause = Cause {
-                used,
+                used: picked,
                 steps,
                 low,
                 high,
                 values,
             };
-            drawn.law_rows();
+            if log.len() >= budget as usize {
+                drop(cause);
+                return Ok(Outcome::Spent);
+            }
             split(alloc, grown, log, place, &at, cause)?;
             Ok(Outcome::Goes)
         }
         TheoryAnswer::Rows { used, steps } => {
-            let used = pick(alloc, lits, used.as_slice())?;
-            Ok(Outcome::Rows { used, steps })
+            let picked = or_drop!(pick(alloc, lits, used.as_slice()); used, steps, drawn);
+            drop(used);
+            drop(drawn);
+            Ok(Outcome::Rows {
+                used: picked,
+                steps,
+            })
         }
         TheoryAnswer::Range { used, steps, what } => {
-            let used = pick(alloc, lits, used.as_slice())?;
-            Ok(Outcome::Range { used, steps, what })
+            let picked = or_drop!(pick(alloc, lits, used.as_slice()); used, steps, what, drawn);
+            drop(used);
+            drop(drawn);
+            Ok(Outcome::Range {
+                used: picked,
+                steps,
+                what,
+            })
         }
-        TheoryAnswer::Memory => Err(AllocError),
+        TheoryAnswer::Memory => {
+            drop(drawn);
+            Err(AllocError)
+        }
     }
 }

@@ -15,7 +15,7 @@ use search_logs::Trail;
 use std::alloc::{AllocError, Global};
 
 /// How the resolving of a chain ended, with the number of the clause reached.
-#[derive(Clone, Copy, PartialEq, Eq, Debug)]
+#[derive(Clone, Copy)]
 pub enum Chained {
     /// The chain is done.
     Done(u32),
@@ -25,7 +25,7 @@ pub enum Chained {
 }
 
 /// How a conflict ended.
-#[derive(Clone, Copy, PartialEq, Eq, Debug)]
+#[derive(Clone, Copy)]
 pub enum Explained {
     /// The empty clause was reached.
     Empty,
@@ -207,9 +207,8 @@ pub fn learn(
     requires { atoms_below (length problem.old.atoms) (negations used) ≡ true }
     ensures { IfOk result (λ n. (n ≡ length problem.old.clauses) × (problem.new ≡ with_clause problem.old (negations used)) × (log.new ≡ log.old ++ Farkas used steps ∷ []) × (length problem.new.clauses < 2 ^ 32) × IsLevel trail.old trail.new (negations used)) }
 {
-    let clause = Clause::of_opposites(alloc, used.as_slice())?;
+    let clause = or_drop!(Clause::of_opposites(alloc, used.as_slice()); used, steps);
     cut_levels(trail, clause.lits());
-    log.push(Line::Farkas { used, steps })?;
-    let number = add_clause(problem, clause)?;
-    Ok(number)
+    or_drop!(log.push(Line::Farkas { used, steps }); clause);
+    add_clause(problem, clause)
 }

@@ -9,7 +9,7 @@ use proof_lines::{Lit, Problem};
 use search_logs::Trail;
 
 /// What stands in the way of a decision.
-#[derive(Clone, Copy, PartialEq, Eq, Debug)]
+#[derive(Clone, Copy)]
 pub enum Found {
     /// The clause with this number is false.
     Conflict(u32),

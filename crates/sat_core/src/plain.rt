@@ -70,26 +70,23 @@ fn holds_empty(problem: &Problem) -> bool
     problem.clauses.iter().any(|clause| clause.is_empty())
 }
 
-// The search, without the fact that its Unsat means that there is no interpretation.
-fn search<T: Theory>(alloc: Global, problem: &Problem, theory: &mut T, budget: u32) -> Answer
+// Goes on with a search until there is an answer.
+fn search_on<T: Theory>(
+    alloc: Global,
+    problem: &Problem,
+    theory: &mut T,
+    grown: &mut Problem,
+    trail: &mut Trail,
+    log: Items<Line>,
+    budget: u32,
+) -> Answer
+    requires search { InSearch (record { problem = problem.now; split = T.MAY_SPLIT }) budget grown.old trail.old log }
     requires taken { T.MAY_SPLIT ≡ false → (lits : List PlainLit) (rows : List PlainRow) → AreRowsOf problem.now.atoms lits rows → T.takes rows problem.now.ints }
     ensures { IsAnswer T.MAY_SPLIT T.MAY_STOP problem.now budget result }
 {
-    let Ok(mut grown) = problem.copy(alloc) else {
-        return Answer::Memory;
-    };
-    if grown.clauses.len() > u32::MAX as usize || grown.atoms.len() > u32::MAX as usize {
-        return Answer::Memory;
-    }
-    let mut log = Items::new(alloc);
-    if holds_empty(problem) {
-        return Answer::Unsat(log);
-    }
-    let mut trail = Trail::new(alloc);
+    let mut log = log;
     'search: loop {
-        match advance(
-            alloc, theory, problem, &mut grown, &mut trail, &mut log, budget,
-        ) {
+        match advance(alloc, theory, problem, grown, trail, &mut log, budget) {
             Outcome::Goes => {}
             Outcome::Refuted => return Answer::Unsat(log),
             Outcome::Found(interpretation) => return Answer::Sat(interpretation),
@@ -108,6 +105,25 @@ fn search<T: Theory>(alloc: Global, problem: &Problem, theory: &mut T, budget: u
             Outcome::Memory => return Answer::Memory,
         }
     }
+}
+
+// The search, without the fact that its Unsat means that there is no interpretation.
+fn search<T: Theory>(alloc: Global, problem: &Problem, theory: &mut T, budget: u32) -> Answer
+    requires taken { T.MAY_SPLIT ≡ false → (lits : List PlainLit) (rows : List PlainRow) → AreRowsOf problem.now.atoms lits rows → T.takes rows problem.now.ints }
+    ensures { IsAnswer T.MAY_SPLIT T.MAY_STOP problem.now budget result }
+{
+    if holds_empty(problem) {
+        return Answer::Unsat(Items::new(alloc));
+    }
+    let Ok(mut grown) = problem.copy(alloc) else {
+        return Answer::Memory;
+    };
+    if grown.clauses.len() > u32::MAX as usize || grown.atoms.len() > u32::MAX as usize {
+        return Answer::Memory;
+    }
+    let mut trail = Trail::new(alloc);
+    let log = Items::new(alloc);
+    search_on(alloc, problem, theory, &mut grown, &mut trail, log, budget)
 }
 
 /// Searches for an interpretation that makes all clauses of a problem true, or for a log of at most `budget` lines that shows

@@ -1,4 +1,4 @@
-use Rattle.check_run.proofs.Rows.{problem-good}
+use Rattle.ground_numbers.proofs.GoodRows.{problem-good}
 use Rattle.check_run.proofs.Verdicts.{Refutes-none}
 use Rattle.check_run.proofs.laws.law_good_verdicts.Goals as goal
 

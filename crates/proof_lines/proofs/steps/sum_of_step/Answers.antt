@@ -2,8 +2,8 @@ use Rattle.std.proofs.Common.{arith}
 use Rattle.std.proofs.lemmas.Grind.{common_steps}
 use Rattle.proof_lines.proofs.steps.sum_of_step.Goals as goal
 
-pub returns-then-step-lt0 : goal.returns-then-step-lt0
-returns-then-step-lt0 c = grind (arith, common_steps)
+pub returns-in-Err-Negative : goal.returns-in-Err-Negative
+returns-in-Err-Negative c = grind (arith, common_steps)
 
 pub returns-in-Ok : goal.returns-in-Ok
 returns-in-Ok c = grind (arith, common_steps)

@@ -1,6 +1,6 @@
 use Rattle.ground_numbers.specs.Problem.{problem_of}
 use Rattle.proof_kernel.proofs.Runs.{run-refutes}
-use Rattle.report_verifier.proofs.Rows.{problem-good}
+use Rattle.ground_numbers.proofs.GoodRows.{problem-good}
 use Rattle.report_verifier.proofs.laws.law_proved_holds.Goals as goal
 
 pub returns : goal.returns

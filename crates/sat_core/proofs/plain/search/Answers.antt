@@ -10,10 +10,10 @@ use Rattle.sat_core.proofs.Outcomes.{aim_of, search_begins}
 use Rattle.sat_core.proofs.plain.search.Goals as goal
 
 pub returns-then-holds_empty : goal.returns-then-holds_empty
-returns-then-holds_empty g c = at_once g.T.Theory.MAY_SPLIT c.args.problem.now c.args.budget c.new-log.result c.new-log.ensures (sym c.holds_empty.ensures ∙ c.if-holds_empty.true)
+returns-then-holds_empty g c = at_once g.T.Theory.MAY_SPLIT c.args.problem.now c.args.budget c.new.result c.new.ensures (sym c.holds_empty.ensures ∙ c.if-holds_empty.true)
 
-pub search-init : goal.search-init
-search-init g c =
+pub search_on-requires-clause-search : goal.search_on-requires-clause-search
+search_on-requires-clause-search g c =
     let p = c.args.problem.now in
     let a = aim_of p g.T.Theory.MAY_SPLIT in
     let v = c.grown.view_is ∙ c.in-Ok.ensures in

@@ -1,6 +1,6 @@
 use Rattle.sat_core.specs.Searching.{InSearch, work}
 use Rattle.sat_core.proofs.Outcomes.{aim_of}
-use Rattle.sat_core.proofs.plain.search.Given as goal
+use Rattle.sat_core.proofs.plain.search_on.Given as goal
 
 abbrev pub invariant-search : goal.invariant-search
 invariant-search g l = InSearch (aim_of l.problem g.T.Theory.MAY_SPLIT) l.budget l.grown l.trail l.log
