@@ -5,8 +5,8 @@
 // which bytes were read or written, and name the outside as the cause of a failure only where its count rose.
 //
 // It stands on std and on `thiserror`, which derives the error types. The definitions that contracts cite are in
-// specs/Faults.antt (how faults are counted, and when a failure may come) and specs/Memory.antt (the source and the sink in
-// memory, and what one call does to them).
+// specs/Faults.antt (how faults are counted, and when a failure may come), specs/Written.antt (what a sink holds behind the writing of a
+// text) and specs/Memory.antt (the source and the sink in memory, and what one call does to them).
 #![tactic(auto)]
 
 ghost use Rattle.std.specs.Prelude.{◌≡◌};
@@ -17,12 +17,14 @@ pub mod memory;
 pub mod outside;
 pub mod sink;
 pub mod source;
+pub mod text;
 
 pub use endless::EndlessSource;
 pub use memory::{MemSink, MemSource};
 pub use outside::{FileSource, StdSink};
 pub use sink::{Sink, WriteRefused, write_all};
 pub use source::{ReadRefused, Source, read_up_to};
+pub use text::{WriteOut, write_text};
 use thiserror::Error;
 
 /// A read or a write that failed outside. The count of faults shows that there was a cause, and nothing says which.
