@@ -1,5 +1,5 @@
 use Rattle.report_text.proofs.Cutting.{line_none, line_more, fewer}
-use Rattle.report_text.proofs.reading.next_line.Goals as goal
+use Rattle.report_text.proofs.lines.next_line.Goals as goal
 
 pub returns-then-len-bytes-clause-none : goal.returns-then-len-bytes-clause-none
 returns-then-len-bytes-clause-none c = line_none c.args.bytes.now _ c.line_len-len.ensures.len c.if-len-bytes.true
