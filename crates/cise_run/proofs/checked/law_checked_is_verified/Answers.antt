@@ -7,9 +7,9 @@ use Rattle.report_text.specs.Showing.{report_on, shown_verdict}
 use Rattle.check_run.specs.Good.{IsGood}
 use Rattle.check_run.specs.Reports.{forms_of, written_version}
 use Rattle.report_verifier.specs.Rules.{rule_fault}
-use Rattle.verified_checks.proofs.Good.{good_valid}
-use Rattle.verified_checks.proofs.Written.{same_count, no_fault}
-use Rattle.verified_checks.proofs.law_checked_is_verified.Goals as goal
+use Rattle.cise_run.proofs.CheckedVerdicts.{good_valid}
+use Rattle.cise_run.proofs.CheckedReports.{same_count, no_fault}
+use Rattle.cise_run.proofs.checked.law_checked_is_verified.Goals as goal
 
 pub returns : goal.returns
 returns c = λ d budget tally text typed least most checked short.

@@ -18,7 +18,7 @@ use Rattle.report_text.specs.Showing.{shown_cause, shown_verdict, shown_by}
 use Rattle.check_run.specs.Shown.{listing_of}
 use Rattle.check_run.specs.Good.{IsGood}
 use Rattle.report_verifier.specs.Valid.{IsValid}
-use Rattle.verified_checks.proofs.Shown.{shown_reads}
+use Rattle.cise_run.proofs.CheckedStates.{shown_reads}
 
 -- a log with the evidence of a test leads to a state in which the test holds
 record Tested (test : State → Bool) (given : Result State (ℕ × Why)) : Type 0 where

@@ -2,8 +2,7 @@
 //
 // The two stand apart: `check_run` says which verdicts are good, and `report_verifier` which verdicts have no fault. Here each good
 // verdict is shown to have none: the logs are those that the kernel accepts, with the same evidence, and the state that a verifier
-// reads from a witness is the one in which the witness breaks its obligation. The crate runs nothing; it stands on both.
-#![tactic(auto)]
+// reads from a witness is the one in which the witness breaks its obligation.
 
 ghost use Rattle.std.specs.Prelude.{◌≡◌, ◌≤◌, ℕ, true, List, length, Result, Ok};
 ghost use Rattle.spec_core.specs.Specification.{Specification};

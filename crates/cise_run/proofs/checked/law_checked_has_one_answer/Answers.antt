@@ -1,5 +1,5 @@
 use Rattle.std.specs.Prelude.{Ok}
-use Rattle.verified_checks.proofs.law_checked_has_one_answer.Goals as goal
+use Rattle.cise_run.proofs.checked.law_checked_has_one_answer.Goals as goal
 
 pub returns : goal.returns
 returns c = λ d budget tally text x typed least most checked short verified all.
