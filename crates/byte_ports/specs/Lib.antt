@@ -1,4 +1,5 @@
 pub mod Faults
+pub mod Written
 pub mod Memory
 pub mod Ending
 pub mod Told

@@ -9,9 +9,9 @@
 // and `write_answer_from` writes that answer, so that a command whose input is one source is its job.
 //
 // It stands on std and on `thiserror`, which derives the error types. The definitions that contracts cite are in
-// specs/Faults.antt (how faults are counted, and when a failure may come), specs/Memory.antt (the source and the sink in
-// memory, and what one call does to them), specs/Ending.antt (how the writing of an answer ends) and specs/Told.antt (which bytes a
-// source tells, and what is answered to them).
+// specs/Faults.antt (how faults are counted, and when a failure may come), specs/Written.antt (what a sink holds behind the writing of a
+// text), specs/Memory.antt (the source and the sink in memory, and what one call does to them), specs/Ending.antt (how the writing of an
+// answer ends) and specs/Told.antt (which bytes a source tells, and what is answered to them).
 #![tactic(auto)]
 
 ghost use Rattle.std.specs.Prelude.{◌≡◌};
@@ -24,6 +24,7 @@ pub mod outside;
 pub mod sink;
 pub mod source;
 mod status;
+pub mod text;
 mod told;
 
 pub use ending::{Answer, write_answer};
@@ -36,6 +37,7 @@ pub use status::{
     ACCEPTED, MEMORY, NO_WORDS, READ_FAULT, REFUSED, REJECTED, SPECIFICATION, UNDECIDED, WORDS,
     WRITE_FAULT,
 };
+pub use text::{WriteOut, write_text};
 use thiserror::Error;
 pub use told::{Stopped, answer_source, write_answer_from};
 

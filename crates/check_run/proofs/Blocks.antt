@@ -14,8 +14,8 @@ use Rattle.proof_report.specs.Verdicts.{VerdictForm, proved, refuted, instances,
 use Rattle.proof_report.specs.Events.{told, no_verdicts, with_verdict}
 use Rattle.proof_report.specs.Texts.{block_text}
 use Rattle.report_text.specs.Showing.{shown_verdict, counted, blocks_text, IsFit}
-use Rattle.check_run.specs.declared.checking.WriteOut.{WriteOut}
-use Rattle.check_run.specs.declared.checking.WriteOut.TheVariants.{Fault, Memory}
+use Rattle.byte_ports.specs.declared.text.WriteOut.{WriteOut}
+use Rattle.byte_ports.specs.declared.text.WriteOut.TheVariants.{Fault, Memory}
 use Rattle.check_run.specs.Good.{IsGood, AreGood, AreGoodSoFar}
 use Rattle.check_run.specs.Reports.{tally_of, forms_of, AreDecided, written_version}
 use Rattle.check_run.specs.Checking.{IsCounted, IsBlock, AreFit, AreWritten, AreBlocks}

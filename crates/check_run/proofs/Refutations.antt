@@ -1,5 +1,5 @@
 -- What refutes an obligation fits.
-use Rattle.std.proofs.Common.{◌≡◌, ℕ, suc, ◌<◌, ◌≤◌, ℤ, true, ◌&&◌, List, [], ◌∷◌, length, refl, ap, subst, arith}
+use Rattle.std.proofs.Common.{◌≡◌, ℕ, suc, ◌≤◌, true, ◌&&◌, List, [], ◌∷◌, length, refl, ap, arith}
 use Rattle.std.specs.Prelude.{nat_le, nat_lt, unsigned_abs}
 use Rattle.std.specs.List.{list_all}
 use Rattle.std.proofs.lemmas.Bool.{and_parts, and_from, eq-eqb, ltb-true}
@@ -7,13 +7,11 @@ use Rattle.std.proofs.Common.{le-leb}
 use Rattle.spec_core.specs.declared.world.World.{World}
 use Rattle.spec_core.specs.declared.world.Call.{Call}
 use Rattle.spec_core.specs.Specification.{Specification}
-use Rattle.spec_core.specs.declared.spec.Relation.{Relation}
-use Rattle.spec_core.specs.declared.spec.Counter.{Counter}
-use Rattle.spec_core.specs.State.{Listing, Reads, reads}
+use Rattle.spec_core.specs.State.{Reads, reads}
 use Rattle.spec_core.specs.Limits.{greatest_value}
 use Rattle.spec_core.specs.World.{size_of}
 use Rattle.spec_core.proofs.Places.{size_at_most}
-use Rattle.spec_core.specs.Fits.{world_fits, fits_places, lists_fit, values_fit, is_state, is_world, is_call, call_fits, in_state_range}
+use Rattle.spec_core.specs.Fits.{world_fits, fits_places, is_world, is_call, call_fits, in_state_range}
 use Rattle.obligation_list.specs.declared.obligation.Obligation.{Obligation}
 use Rattle.obligation_list.specs.declared.obligation.Obligation.TheVariants.{Init, Safety, Commute, Stable}
 use Rattle.obligation_list.specs.declared.witness.Witness.{Witness}
@@ -118,27 +116,3 @@ pub can_stand : (d : Specification) (ob : Obligation) (v : Verdict) → IsFit d 
 can_stand d ob (verdicts.Proved log) f = tt
 can_stand d ob (verdicts.Refuted w) f = f.fits
 can_stand d ob (verdicts.Undecided cause) f = tt
-
--- ---- states
-
--- a state that fits has a list for each counter
-values_many : (w : World) (cs : List Counter) (ls : List (List (List ℕ × ℤ))) → values_fit w cs ls ≡ true → length cs ≡ length ls
-values_many w [] [] h = refl
-values_many w [] (l ∷ ls) h = absurd cc
-values_many w (c ∷ cs) [] h = absurd cc
-values_many w (c ∷ cs) (l ∷ ls) h = ap (λ n. suc n) (values_many w cs ls (and_parts (list_all (λ (e : List ℕ × ℤ). fits_places w c.keys e.0) l) (values_fit w cs ls) h).1)
-
-pub counters_many : (d : Specification) (w : World) (s : Listing) → is_state d w s ≡ true → length d.counters ≡ length s.counters
-counters_many d w s h = values_many w d.counters s.counters (and_parts (lists_fit w d.relations s.relations) (values_fit w d.counters s.counters) h).1
-
-lists_many : (w : World) (rs : List Relation) (ls : List (List (List ℕ))) → lists_fit w rs ls ≡ true → length rs ≡ length ls
-lists_many w [] [] h = refl
-lists_many w [] (l ∷ ls) h = absurd cc
-lists_many w (r ∷ rs) [] h = absurd cc
-lists_many w (r ∷ rs) (l ∷ ls) h = ap (λ n. suc n) (lists_many w rs ls (and_parts (list_all (λ t. fits_places w r.places t) l) (lists_fit w rs ls) h).1)
-
-pub relations_many : (d : Specification) (w : World) (s : Listing) → is_state d w s ≡ true → length d.relations ≡ length s.relations
-relations_many d w s h = lists_many w d.relations s.relations (and_parts (lists_fit w d.relations s.relations) (values_fit w d.counters s.counters) h).0
-
-pub counter_within : (d : Specification) (w : World) (s : Listing) (k : ℕ) → is_state d w s ≡ true → k < length d.counters → k < length s.counters
-counter_within d w s k h below = subst (λ n. k < n) (values_many w d.counters s.counters (and_parts (lists_fit w d.relations s.relations) (values_fit w d.counters s.counters) h).1) below

@@ -11,10 +11,11 @@ use Rattle.proof_report.specs.Verdicts.{obligation_count}
 use Rattle.proof_report.specs.Texts.{head_text, end_text}
 use Rattle.report_text.specs.Showing.{blocks_text, written_text, AllFit}
 use Rattle.check_run.proofs.Blocks.{from_first}
-use Rattle.check_run.specs.declared.checking.WriteOut.{WriteOut}
+use Rattle.byte_ports.specs.declared.text.WriteOut.{WriteOut}
 use Rattle.check_run.specs.Good.{AreGood}
 use Rattle.check_run.specs.Reports.{tally_of, forms_of, written_version, opening_text, IsChecked}
-use Rattle.check_run.specs.Checking.{IsText, AreFit, AreWritten, AreBlocks, IsReport}
+use Rattle.byte_ports.specs.Written.{IsText}
+use Rattle.check_run.specs.Checking.{AreFit, AreWritten, AreBlocks, IsReport}
 
 module _ (d : Specification) (budget : ℕ) where
   all_fit : (k : ℕ) (vs : List Verdict) → AreFit d k vs → k + length vs ≡ obligation_count d → AllFit d written_version k vs

@@ -10,19 +10,14 @@ use Rattle.proof_report.specs.Verdicts.{VerdictForm, obligation_at}
 use Rattle.proof_report.specs.Events.{with_verdict}
 use Rattle.proof_report.specs.Texts.{block_text}
 use Rattle.report_text.specs.Showing.{shown_verdict, blocks_text, IsFit}
-use Rattle.check_run.specs.declared.checking.WriteOut.{WriteOut}
-use Rattle.check_run.specs.declared.checking.WriteOut.TheVariants.{Fault, Memory}
+use Rattle.byte_ports.specs.declared.text.WriteOut.{WriteOut}
+use Rattle.byte_ports.specs.declared.text.WriteOut.TheVariants.{Fault, Memory}
 use Rattle.check_run.specs.Good.{IsGood, AreGood, AreGoodSoFar}
 use Rattle.check_run.specs.Reports.{tally_of, forms_of, written_version, IsChecked, IsFront}
 
 -- a good verdict was counted
 abbrev pub IsCounted : Specification → ℕ → Obligation → Tally → Tally → Type 0
 IsCounted d budget ob told counted = (v : VerdictForm) × IsGood d budget ob v × (counted ≡ with_verdict v told)
-
--- a text was written, or a front of it
-abbrev pub IsText : {A : Type 0} → List ℕ → Option (List ℕ) → Option (List ℕ) → Result A WriteOut → Type 0
-IsText text before after (Ok x) = Appends before after text
-IsText text before after (Err why) = (n : ℕ) × Appends before after (take n text)
 
 -- a verdict on an obligation is good, and can stand in a report
 pub record IsWritable (d : Specification) (budget : ℕ) (ob : Obligation) (v : Verdict) : Type 0 where

@@ -2,7 +2,6 @@
 use Rattle.std.specs.Prelude.{◌≡◌, ℕ, ◌≤◌, ◌<◌, true, Ok, List, [], ◌∷◌, length}
 use Rattle.spec_core.specs.Specification.{Specification}
 use Rattle.obligation_list.specs.declared.obligation.Obligation.{Obligation}
-use Rattle.obligation_list.specs.declared.witness.Witness.{Witness}
 use Rattle.obligation_list.specs.Refuting.{IsRefutation}
 use Rattle.proof_lines.specs.declared.line.Line.{Line}
 use Rattle.proof_lines.specs.Problems.{PlainProblem}
@@ -32,10 +31,6 @@ pub record IsProof (d : Specification) (budget : ℕ) (ob : Obligation) (log : L
   pub few : HasFew d ob
   pub refutes : Refutes (problem_of d ob) log
   pub within : length log ≤ budget
-
--- A witness refutes an obligation.
-abbrev pub IsRefutedBy : Specification → Obligation → Witness → Type 0
-IsRefutedBy d ob w = IsRefutation d ob w.world w.state w.calls w.elements
 
 -- A verdict on an obligation is good, where logs may have so many lines. The search may have split.
 abbrev pub IsGood : Specification → ℕ → Obligation → VerdictForm → Type 0

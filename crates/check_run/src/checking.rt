@@ -1,47 +1,26 @@
 // The report of a specification, written block by block.
-ghost use Rattle.std.specs.Prelude.{◌≡◌, ◌<◌, ◌≤◌, ◌+◌, ◌^◌, ℕ, List, true, length, IfOk, IfErr, OnOk, OnErr};
+ghost use Rattle.std.specs.Prelude.{◌≡◌, ◌<◌, ◌≤◌, ◌+◌, ◌^◌, ℕ, List, true, length, IfOk, IfErr};
 ghost use Rattle.std.specs.Io.KnownBytes.{Appends};
 ghost use Rattle.byte_ports.specs.Faults.{IsFault};
+ghost use Rattle.byte_ports.specs.Written.{IsText};
+ghost use Rattle.byte_ports.specs.declared.text.WriteOut.TheVariants.{Fault};
 ghost use Rattle.obligation_list.specs.Obligations.{IsObligation, obligations_of};
 ghost use Rattle.obligation_list.specs.declared.obligation.Obligation.{Obligation};
 ghost use Rattle.std.specs.List.{Contains};
 ghost use Rattle.proof_report.specs.Verdicts.{obligation_count};
 ghost use Rattle.proof_report.specs.Texts.{head_text, end_text};
 ghost use Rattle.proof_report.specs.Events.{told};
-ghost use Rattle.check_run.specs.declared.checking.WriteOut.TheVariants.{Fault};
 ghost use Rattle.check_run.specs.Reports.{written_version};
-ghost use Rattle.check_run.specs.Checking.{IsText, IsBlock, AreBlocks, IsReport};
+ghost use Rattle.check_run.specs.Checking.{IsBlock, AreBlocks, IsReport};
 
 use crate::counting::counted;
 use crate::deciding::decide;
-use byte_ports::{Sink, WriteRefused, write_all};
+use byte_ports::{Sink, WriteOut, write_text};
 use obligation_list::{Obligation, list};
 use proof_report::{write_end, write_head, write_verdict};
 use report_lines::head::Tally;
 use spec_core::Spec;
 use std::alloc::Global;
-use thiserror::Error;
-
-/// Why a report wasn't written whole.
-#[derive(Clone, Copy, Debug, Error)]
-pub enum WriteOut {
-    #[error("a write failed")]
-    Fault,
-    #[error("out of memory")]
-    Memory,
-}
-
-fn write_text<K: Sink>(out: &mut K, text: &[u8]) -> Result<(), WriteOut>
-    ensures text { IsText text.now (K.held out.old) (K.held out.new) result }
-    ensures fault { OnErr result (IsFault (K.faults out.old) (K.faults out.new)) }
-    ensures kind { IfErr result (λ why. why ≡ Fault) }
-    ensures never_falls { K.faults out.old ≤ K.faults out.new }
-{
-    match write_all(out, text) {
-        Ok(()) => Ok(()),
-        Err(WriteRefused::Fault) => Err(WriteOut::Fault),
-    }
-}
 
 // Decides an obligation, and writes its block.
 fn check_one<K: Sink>(
@@ -63,12 +42,16 @@ fn check_one<K: Sink>(
         return Err(WriteOut::Memory);
     };
     let mut text = Vec::new(alloc);
-    let Ok(()) = write_verdict(alloc, spec, *ob, &verdict, &mut text) else {
-        return Err(WriteOut::Memory);
-    };
+    let made = write_verdict(alloc, spec, *ob, &verdict, &mut text);
     let counted = counted(*tally, &verdict);
     drop(verdict);
-    match write_text(out, text.as_slice()) {
+    let Ok(()) = made else {
+        drop(text);
+        return Err(WriteOut::Memory);
+    };
+    let written = write_text(out, text.as_slice());
+    drop(text);
+    match written {
         Ok(()) => {
             *tally = counted;
             Ok(())

@@ -13,7 +13,6 @@ ghost use Rattle.check_run.specs.Reports.{written_version};
 ghost use Rattle.instances.specs.Ground.{IsGrounded};
 
 use crate::fitting::numbered;
-use crate::shrinking::shrink;
 use clausify::problem_of;
 use ground_numbers::{law_clauses_make_formulas_true, law_obligation_fits};
 use instances::{GroundRefused, Grounded, ground};
@@ -25,6 +24,7 @@ use proof_report::{Cause, Verdict};
 use sat_core::Answer;
 use spec_core::Spec;
 use std::alloc::{AllocError, Global};
+use witness_shrinking::shrink;
 
 // The problem of an obligation.
 fn pose(
@@ -127,7 +127,11 @@ pub fn decide(
     ensures decided { HasFew spec.now ob.now → problem_fits (problem_of spec.now ob.now) ≡ true → IfOk result (λ v. IsDecided (length (problem_of spec.now ob.now).atoms) budget v) }
 {
     match ground(alloc, spec, ob) {
-        Ok(ground) => decide_grounded(alloc, spec, ob, budget, &ground),
+        Ok(ground) => {
+            let verdict = decide_grounded(alloc, spec, ob, budget, &ground);
+            drop(ground);
+            verdict
+        }
         Err(GroundRefused::TooMany) => Ok(Verdict::Undecided(Cause::Instances)),
         Err(GroundRefused::Memory) => Err(AllocError),
     }

@@ -13,3 +13,6 @@ mod Suggestions
 mod Headline
 mod Complete
 mod Refusals
+mod CheckedStates
+mod CheckedVerdicts
+mod CheckedReports

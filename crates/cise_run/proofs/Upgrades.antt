@@ -15,7 +15,6 @@ use Rattle.proof_report.specs.Events.{outcome_of}
 use Rattle.check_run.specs.Reports.{status_of}
 use Rattle.report_verifier.specs.declared.refused.VerifyRefused.{VerifyRefused}
 use Rattle.report_verifier.specs.declared.refused.VerifyRefused.TheVariants as verifying
-use Rattle.report_verifier.specs.Verified as verified
 use Rattle.report_verifier.specs.Verified.{most_report_bytes, IsVerified, IsAccepted}
 use Rattle.report_upgrader.specs.declared.refused.UpgradeRefused.{UpgradeRefused}
 use Rattle.report_upgrader.specs.declared.refused.UpgradeRefused.TheVariants as upgrading
@@ -78,15 +77,10 @@ stopped_upgrade_ends d bytes status before after m n high low fault front = reco
 
 -- ---- what stopped an upgrade
 
--- the bytes that a source tells are the same to both
-tells_as : (told : Option (List ℕ)) (bytes : List ℕ) → verified.Tells told bytes → Tells told bytes
-tells_as None bytes h = tt
-tells_as (Some told) bytes h = h
-
 -- the ending of what was answered to the bytes that a source tells
-pub ends_told : (d : Specification) (told : Option (List ℕ)) (bytes : List ℕ) (status : ℕ) (before after : Option (List ℕ)) (m n : ℕ) → verified.Tells told bytes
+pub ends_told : (d : Specification) (told : Option (List ℕ)) (bytes : List ℕ) (status : ℕ) (before after : Option (List ℕ)) (m n : ℕ) → Tells told bytes
     → Ends (IsUpgraded d bytes) (IsUpgradeFront d bytes) status before after m n → EndsWith told (IsUpgraded d) (IsUpgradeFront d) status before after m n
-ends_told d told bytes status before after m n t e = (bytes, tells_as told bytes t, e)
+ends_told d told bytes status before after m n t e = (bytes, t, e)
 
 -- a report that stands
 pub ok_ends : (d : Specification) (told : Option (List ℕ)) (tally : Tally) (status : ℕ) (before after : Option (List ℕ)) (m n : ℕ) → status ≡ status_of (outcome_of tally) → IsUpgradedFrom d told before after (Ok tally)
@@ -94,7 +88,7 @@ pub ok_ends : (d : Specification) (told : Option (List ℕ)) (tally : Tally) (st
 ok_ends d told tally status before after m n is (bytes, t, u) = ends_told d told bytes status before after m n t (upgraded_report_ends d bytes tally status before after m n is u)
 
 -- one that is refused, behind which its refusal was written: nothing was written before
-refused_ends : {K : Type 0} (held : K → Option (List ℕ)) (faults : K → ℕ) (old mid new : K) (d : Specification) (told : Option (List ℕ)) (bytes text : List ℕ) (why : VerifyRefused) (status : ℕ) → mid ≡ old → verified.Tells told bytes
+refused_ends : {K : Type 0} (held : K → Option (List ℕ)) (faults : K → ℕ) (old mid new : K) (d : Specification) (told : Option (List ℕ)) (bytes text : List ℕ) (why : VerifyRefused) (status : ℕ) → mid ≡ old → Tells told bytes
     → IsVerified d bytes (Err why) → text_said (Err why) ≡ Some text → Ends (IsOne 4 text) (IsFrontOf text) status (held mid) (held new) (faults mid) (faults new)
     → EndsWith told (IsUpgraded d) (IsUpgradeFront d) status (held old) (held new) (faults old) (faults new)
 refused_ends {K} held faults old mid new d told bytes text why status same t said is e =

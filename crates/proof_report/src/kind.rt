@@ -24,14 +24,14 @@ pub enum ReportKind {
 }
 
 /// The first line that is wrong, and what is wrong with it.
-#[derive(Clone, Copy, PartialEq, Eq, Debug)]
+#[derive(Clone, Copy)]
 pub struct Fault {
     pub number: u32,
     pub kind: ReportKind,
 }
 
 /// Why a report isn't taken.
-#[derive(Clone, Copy, PartialEq, Eq, Debug)]
+#[derive(Clone, Copy, Debug)]
 pub enum ReportRefused {
     /// The number of the first line that is wrong, counted from 1, and what is wrong with it. A missing line has the number after
     /// the last.

@@ -15,7 +15,7 @@ pub struct PartialWitness {
 }
 
 /// What a log belongs to.
-#[derive(Clone, Copy, PartialEq, Eq, Debug)]
+#[derive(Clone, Copy)]
 pub enum LogOf {
     Proved,
     Lines,
@@ -25,7 +25,7 @@ pub enum LogOf {
 
 /// What a witness may show next: facts, and what stands behind them; readings, and what stands behind them; or the next call, and
 /// the elements behind all calls.
-#[derive(Clone, Copy, PartialEq, Eq, Debug)]
+#[derive(Clone, Copy)]
 pub enum Stage {
     Facts,
     Readings,

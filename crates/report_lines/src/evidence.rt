@@ -53,7 +53,7 @@ fn product(alloc: Global, words: Words<'_>) -> Result<(RangeLine, Words<'_>), Re
     ensures { Gives (λ x. (x.0, left x.1)) result (mapped (λ x. to_range (inl x)) (product_words.get (left words.entry))) }
 {
     let (rows, rest) = used(alloc, words)?;
-    let (what, rest) = place(rest)?;
+    let (what, rest) = or_drop!(place(rest); rows);
     Ok((
         RangeLine {
             used: rows.used,
@@ -68,7 +68,7 @@ fn value(alloc: Global, words: Words<'_>) -> Result<(RangeLine, Words<'_>), Read
     ensures { Gives (λ x. (x.0, left x.1)) result (mapped (λ x. to_range (inr (inl x))) (values_words.get (left words.entry))) }
 {
     let (rows, rest) = used(alloc, words)?;
-    let (decision, rest) = decided(alloc, rest)?;
+    let (decision, rest) = or_drop!(decided(alloc, rest); rows);
     Ok((
         RangeLine {
             used: rows.used,
@@ -87,7 +87,7 @@ fn sum(alloc: Global, words: Words<'_>) -> Result<(RangeLine, Words<'_>), ReadEr
     ensures { Gives (λ x. (x.0, left x.1)) result (mapped (λ x. to_range (inr (inr x))) (values_words.get (left words.entry))) }
 {
     let (rows, rest) = used(alloc, words)?;
-    let (decision, rest) = decided(alloc, rest)?;
+    let (decision, rest) = or_drop!(decided(alloc, rest); rows);
     Ok((
         RangeLine {
             used: rows.used,

@@ -11,7 +11,7 @@ use itoa::Buffer;
 use std::alloc::AllocError;
 
 /// How many verdicts of each kind there are.
-#[derive(Clone, Copy, PartialEq, Eq, Debug)]
+#[derive(Clone, Copy)]
 pub struct Tally {
     pub proved: u32,
     pub refuted: u32,
@@ -19,7 +19,7 @@ pub struct Tally {
 }
 
 /// The last word of a report.
-#[derive(Clone, Copy, PartialEq, Eq, Debug)]
+#[derive(Clone, Copy)]
 pub enum Outcome {
     Accepted,
     Rejected,

@@ -10,6 +10,20 @@
 // lines of a witness).
 #![tactic(auto)]
 
+/// What a call returns, or its error, before which the values named are dropped: a `?` while they are alive would be
+/// dear to prove.
+macro_rules! or_drop {
+    ($call:expr; $($value:ident),*) => {
+        match $call {
+            Ok(value) => value,
+            Err(error) => {
+                $(drop($value);)*
+                return Err(error);
+            }
+        }
+    };
+}
+
 mod digits;
 pub mod evidence;
 pub mod fields;
@@ -21,6 +35,6 @@ mod names;
 pub mod verdict;
 pub mod witness;
 pub mod words;
-mod writing;
+pub mod writing;
 
 pub use laws::{law_blocks, law_heads, law_logs, law_states, law_witnesses};

@@ -117,7 +117,7 @@ pub fn used(alloc: Global, words: Words<'_>) -> Result<(RowsLine, Words<'_>), Re
     ensures { Gives (λ x. ((x.0.used, x.0.steps), left x.1)) result (used_words.get (left words.entry)) }
 {
     let (used, rest) = list(alloc, words)?;
-    let (steps, rest) = list(alloc, rest)?;
+    let (steps, rest) = or_drop!(list(alloc, rest); used);
     Ok((RowsLine { used, steps }, rest))
 }
 
@@ -173,7 +173,7 @@ fn split(alloc: Global, words: Words<'_>) -> Result<(Line, Words<'_>), ReadError
 {
     let ((place, at), rest) = pair(words)?;
     let (rows, rest) = used(alloc, rest)?;
-    let (decision, rest) = decided(alloc, rest)?;
+    let (decision, rest) = or_drop!(decided(alloc, rest); rows);
     Ok((
         Line::Split {
             place,

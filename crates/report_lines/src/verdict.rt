@@ -15,7 +15,7 @@ use spec_core::{Spec, Thing};
 use std::alloc::AllocError;
 
 /// The first line of a verdict, with the number of log lines that follow.
-#[derive(Clone, Copy, PartialEq, Eq, Debug)]
+#[derive(Clone, Copy)]
 pub enum VerdictWord {
     Proved(u32),
     Refuted,

@@ -134,7 +134,7 @@ fn read_reading<'a>(
     spec.well_formed();
     let (counter, rest) = name_among(words, spec.counters.as_slice(), from)?;
     let (key, rest) = tuple(alloc, world, spec.counter_keys(counter), rest)?;
-    let (value, rest) = other(rest)?;
+    let (value, rest) = or_drop!(other(rest); key);
     let reading = Reading {
         counter,
         key,

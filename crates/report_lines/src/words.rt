@@ -9,7 +9,7 @@ ghost use Rattle.report_lines.specs.declared.words.ReadError.TheVariants.{Memory
 use std::alloc::{AllocError, AllocFailed};
 
 /// Why words are not read.
-#[derive(Debug, Drop)]
+#[derive(Clone, Copy, Debug)]
 pub enum ReadError {
     Memory,
     /// The words aren't those of such a line.

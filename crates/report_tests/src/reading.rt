@@ -1,56 +1,101 @@
-// Reports that are read line by line.
+// Reports that are read: line by line, and whole.
 
-use crate::building::flag;
-use proof_report::{ReportKind, ReportReader, ReportRefused};
+use crate::examples::{FLAG, RAISING};
+use crate::reports::{RAISED, RAISED_DROPPING, REFUTED, UP};
+use crate::running::{Answer, read_by_lines, spec};
+use proof_report::{Block, ReportKind, ReportRefused};
+use report_text::read_report;
 use spec_core::Spec;
 use std::alloc::Global;
-use std::process::Abort;
 
-/// The report of a flag that is true.
-pub const FLAG: &[u8] =
-    b"cise report 1\nbudget 10000\nobligations 1\ninit alive\nproved 0\nsummary proved 1 refuted 0 undecided 0\naccepted\n";
+/// A specification, a text, how many of its last bytes are left out, and what is answered to its lines.
+type Case = (&'static [u8], &'static [u8], usize, Answer);
 
-/// The report of the flag that an operation raises, written by hand.
-pub const RAISED: &[u8] =
-    b"cise report 1\nbudget 10000\nobligations 3\ninit alive\nproved 0\nsafety raise alive\nproved 1\nr 2 1 1\ncommute raise raise up\nproved 4\nr 7 3 2\nr 6 4 1\nr 1 10 5\nr 12 11 6\nsummary proved 3 refuted 0 undecided 0\naccepted\n";
-
-/// The same in version 2, where clauses are dropped.
-pub const DROPPED: &[u8] =
-    b"cise report 2\nbudget 10000\nobligations 3\ninit alive\nproved 0\nsafety raise alive\nproved 2\nr 2 1 1\nd 2 1 2\ncommute raise raise up\nproved 8\nr 7 3 2\nd 2 3 7\nr 6 4 1\nd 2 4 6\nr 1 10 5\nd 2 1 10\nr 12 11 6\nd 2 11 12\nsummary proved 3 refuted 0 undecided 0\naccepted\n";
-
-/// A witness of the flag.
-const REFUTED: &[u8] =
-    b"cise report 1\nbudget 10000\nobligations 1\ninit alive\nrefuted\ntrue up\nat\nsummary proved 0 refuted 1 undecided 0\nrejected\n";
-
-// The fault of a text's lines, as a number and a kind.
-fn fault(rt: &impl Abort, alloc: Global, spec: &Spec, text: &[u8]) -> Option<(u32, ReportKind)> {
-    let mut reader = ReportReader::new(alloc, spec).expect(rt, "memory");
-    for line in text.split(|byte| *byte == b'\n') {
-        if !line.is_empty() {
-            if let Err(ReportRefused::Line { number, kind }) = reader.feed(line) {
-                return Some((number, kind));
-            }
-        }
-    }
-    match reader.finish() {
-        Ok(()) => None,
-        Err(ReportRefused::Line { number, kind }) => Some((number, kind)),
-        Err(ReportRefused::Memory) => Some((0, ReportKind::Form)),
-    }
-}
+static CASES: [Case; 7] = [
+    (FLAG, UP, 0, Answer::Accepted(0, 0, 0)),
+    (FLAG, REFUTED, 0, Answer::Accepted(0, 0, 0)),
+    (RAISING, RAISED, 0, Answer::Accepted(0, 0, 0)),
+    (RAISING, RAISED_DROPPING, 0, Answer::Accepted(0, 0, 0)),
+    (FLAG, b"", 0, Answer::Line(1, ReportKind::Form)),
+    (FLAG, UP, 9, Answer::Line(7, ReportKind::Form)),
+    (FLAG, RAISED, 0, Answer::Line(3, ReportKind::Obligation)),
+];
 
 #[test]
 fn reports_are_read(rt: HostRuntime) {
     let alloc = rt.alloc();
-    let plain = flag(&rt, alloc, false);
-    let raised = flag(&rt, alloc, true);
-    assert!(&rt; fault(&rt, alloc, &plain, FLAG).is_none());
-    assert!(&rt; fault(&rt, alloc, &plain, REFUTED).is_none());
-    assert!(&rt; fault(&rt, alloc, &raised, RAISED).is_none());
-    assert!(&rt; fault(&rt, alloc, &raised, DROPPED).is_none());
-    assert!(&rt; fault(&rt, alloc, &plain, b"") == Some((1, ReportKind::Form)));
-    assert!(&rt; fault(&rt, alloc, &plain, &FLAG[..FLAG.len() - 9]) == Some((7, ReportKind::Form)));
-    assert!(&rt; fault(&rt, alloc, &plain, RAISED) == Some((3, ReportKind::Obligation)));
-    drop(plain);
-    drop(raised);
+    for (text, report, cut, want) in &CASES {
+        let spec = spec(&rt, alloc, text);
+        let len = report.len().saturating_sub(*cut);
+        let found = read_by_lines(&rt, alloc, &spec, &report[..len]);
+        drop(spec);
+        assert!(&rt; found == *want);
+    }
+}
+
+// What is answered to a whole text. Verdicts aren't counted.
+fn read(alloc: Global, spec: &Spec, text: &[u8]) -> Answer {
+    match read_report(alloc, spec, text) {
+        Ok(report) => {
+            drop(report);
+            Answer::Accepted(0, 0, 0)
+        }
+        Err(ReportRefused::Line { number, kind }) => Answer::Line(number, kind),
+        Err(ReportRefused::Memory) => Answer::Memory,
+    }
+}
+
+#[test]
+fn a_cut_report_is_refused(rt: HostRuntime) {
+    let alloc = rt.alloc();
+    let spec = spec(&rt, alloc, FLAG);
+    assert!(&rt; read(alloc, &spec, UP) == Answer::Accepted(0, 0, 0));
+    assert!(&rt; read(alloc, &spec, b"") == Answer::Line(1, ReportKind::Form));
+    for len in 1..UP.len() {
+        let refused = matches!(read(alloc, &spec, &UP[..len]), Answer::Line(_, _));
+        assert!(&rt; refused);
+    }
+    drop(spec);
+}
+
+fn begin_at(blocks: &[Block], lines: &[u32]) -> bool {
+    blocks.len() == lines.len()
+        && blocks
+            .iter()
+            .zip(lines)
+            .all(|(block, line)| block.line == *line)
+}
+
+// Whether a text is a report of this version and budget, whose verdicts begin at these lines.
+fn is_read(
+    alloc: Global,
+    spec: &Spec,
+    text: &[u8],
+    version: u8,
+    budget: u32,
+    lines: &[u32],
+) -> bool {
+    match read_report(alloc, spec, text) {
+        Ok(report) => {
+            let same = report.version == version
+                && report.budget == budget
+                && begin_at(report.blocks.as_slice(), lines);
+            drop(report);
+            same
+        }
+        Err(_) => false,
+    }
+}
+
+#[test]
+fn lines_are_counted(rt: HostRuntime) {
+    let alloc = rt.alloc();
+    let flag = spec(&rt, alloc, FLAG);
+    let first = is_read(alloc, &flag, UP, 1, 10_000, &[5]);
+    drop(flag);
+    let raising = spec(&rt, alloc, RAISING);
+    let second = is_read(alloc, &raising, RAISED, 1, 10_000, &[5, 7, 10]);
+    let third = is_read(alloc, &raising, RAISED_DROPPING, 2, 10_000, &[5, 7, 11]);
+    drop(raising);
+    assert!(&rt; first && second && third);
 }

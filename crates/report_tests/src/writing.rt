@@ -1,27 +1,93 @@
-// Blocks that are written.
+// Reports that are written: a block, and whole ones as they were read.
 
-use crate::building::flag;
+use crate::examples::FLAG;
+use crate::reports::VERDICTS;
+use crate::running::spec;
 use items::Items;
-use obligation_list::Obligation;
-use proof_report::{Verdict, write_verdict};
+use obligation_list::{Obligation, list};
+use proof_report::{Report, Verdict, write_end, write_head, write_verdict};
+use report_lines::head::Tally;
+use report_text::read_report;
+use spec_core::Spec;
+use std::alloc::Global;
+use std::process::Abort;
+
+fn write_block(rt: &impl Abort, alloc: Global, spec: &Spec, verdict: &Verdict, out: &mut Vec<u8>) {
+    if let Verdict::Refuted(witness) = verdict {
+        assert!(rt; witness.world.fits(spec) && witness.state.fits(spec, &witness.world));
+        assert!(rt; witness.calls.is_empty());
+    }
+    assert!(rt; spec.invariants.len() > 0);
+    write_verdict(alloc, spec, Obligation::Init { inv: 0 }, verdict, out).expect(rt, "memory");
+}
 
 #[test]
 fn a_block_is_written(rt: HostRuntime) {
     let alloc = rt.alloc();
-    let plain = flag(&rt, alloc, false);
-    assert!(&rt; plain.invariants.len() > 0);
+    let spec = spec(&rt, alloc, FLAG);
     let verdict = Verdict::Proved(Items::new(alloc));
     let mut out = Vec::new(alloc);
-    write_verdict(
-        alloc,
-        &plain,
-        Obligation::Init { inv: 0 },
-        &verdict,
-        &mut out,
-    )
-    .expect(&rt, "memory");
-    assert!(&rt; out.as_slice() == b"init alive\nproved 0\n".as_slice());
+    write_block(&rt, alloc, &spec, &verdict, &mut out);
     drop(verdict);
-    drop(out);
-    drop(plain);
+    drop(spec);
+    assert!(&rt; out.as_slice() == b"init alive\nproved 0\n".as_slice());
+}
+
+fn tally_of(verdict: &Verdict) -> Tally {
+    let mut tally = Tally {
+        proved: 0,
+        refuted: 0,
+        undecided: 0,
+    };
+    match verdict {
+        Verdict::Proved(_) => tally.proved = 1,
+        Verdict::Refuted(_) => tally.refuted = 1,
+        Verdict::Undecided(_) => tally.undecided = 1,
+    }
+    tally
+}
+
+fn write_front(rt: &impl Abort, alloc: Global, spec: &Spec, report: &Report, out: &mut Vec<u8>) {
+    let obligations = list(alloc, spec).expect(rt, "memory");
+    assert!(rt; obligations.len() == 1);
+    write_head(
+        spec,
+        report.version,
+        report.budget,
+        obligations.len() as u32,
+        out,
+    )
+    .expect(rt, "memory");
+    drop(obligations);
+}
+
+// The text of a report with one verdict.
+fn write_again(rt: &impl Abort, alloc: Global, spec: &Spec, report: &Report) -> Vec<u8> {
+    let mut out = Vec::new(alloc);
+    write_front(rt, alloc, spec, report, &mut out);
+    for block in report.blocks.as_slice() {
+        write_block(rt, alloc, spec, &block.verdict, &mut out);
+        write_end(tally_of(&block.verdict), &mut out).expect(rt, "memory");
+    }
+    out
+}
+
+// Whether a text is a report that is written so again.
+fn is_written_again(rt: &impl Abort, alloc: Global, spec: &Spec, text: &[u8]) -> bool {
+    let report = read_report(alloc, spec, text).expect(rt, "a report");
+    let written = write_again(rt, alloc, spec, &report);
+    drop(report);
+    let same = written.as_slice() == text;
+    drop(written);
+    same
+}
+
+#[test]
+fn what_is_read_is_written_so(rt: HostRuntime) {
+    let alloc = rt.alloc();
+    let spec = spec(&rt, alloc, FLAG);
+    for text in VERDICTS {
+        assert!(&rt; is_written_again(&rt, alloc, &spec, text));
+    }
+    drop(spec);
 }

@@ -9,10 +9,12 @@
 #![tactic(auto)]
 
 mod laws;
+mod lines;
 mod reading;
 
 pub use laws::{
     law_bytes_are_text, law_one_report_of_bytes, law_report_has_no_fault, law_text_bytes_are_fed,
     law_witness_is_shown, law_written_is_read, law_written_is_report,
 };
+pub use lines::next_line;
 pub use reading::read_report;

@@ -1,12 +1,11 @@
 // Reading a whole report.
 
-ghost use Rattle.std.specs.Prelude.{◌≡◌, ◌≤◌, ◌<◌, ◌∷◌, [], length, OnOk, IfNone, IfSome, IfOk, IfErr, ◌==◌, Some};
-ghost use Rattle.std.specs.List.{position_or_len};
+ghost use Rattle.std.specs.Prelude.{◌≡◌, OnOk, IfOk, IfErr, Some};
 ghost use Rattle.proof_report.specs.Reader.{first_reader};
-ghost use Rattle.report_text.specs.Bytes.{pieces};
 ghost use Rattle.report_text.specs.Collecting.{verdict_of, with_line, with_end, collect, IsTaken, AreTaken, IsRefused, IsEnded, AreRead, IsFaulty, Holds, nothing_kept, budget_in};
 ghost use Rattle.report_text.specs.Reading.{IsRead};
 
+use crate::lines::next_line;
 use items::Items;
 use proof_lines::{Line, RangeEvidence, RowsEvidence};
 use proof_report::{
@@ -102,32 +101,6 @@ fn take_line(
     }
 }
 
-// The number of bytes before the first line feed, or of all bytes.
-fn line_len(bytes: &[u8]) -> usize
-    ensures len { result ≡ position_or_len (λ b. b == 10) bytes.now }
-    ensures within { result ≤ length bytes.now }
-{
-    for (place, byte) in bytes.iter().enumerate() {
-        if *byte == b'\n' {
-            return place;
-        }
-    }
-    bytes.len()
-}
-
-// The first line, and the bytes behind its line feed.
-fn next_line(bytes: &[u8]) -> Option<(&[u8], &[u8])>
-    ensures some { IfSome result (λ x. pieces bytes.now ≡ x.0.now ∷ pieces x.1.now) }
-    ensures fewer { IfSome result (λ x. length x.1.now < length bytes.now) }
-    ensures none { IfNone result (pieces bytes.now ≡ bytes.now ∷ []) }
-{
-    let len = line_len(bytes);
-    if len == bytes.len() {
-        return None;
-    }
-    Some((&bytes[..len], &bytes[len + 1..]))
-}
-
 // Takes all lines, and answers what stands behind the last line feed.
 fn take_lines<'b>(
     alloc: Global,
@@ -214,15 +187,23 @@ pub fn read_report(alloc: Global, spec: &Spec, bytes: &[u8]) -> Result<Report, R
         log: Items::new(alloc),
         blocks: Items::new(alloc),
     };
-    match read_blocks(alloc, &mut reader, &mut collected, bytes) {
-        Ok((version, budget)) => {
-            drop(reader);
-            Ok(Report {
-                version,
-                budget,
-                blocks: collected.blocks,
-            })
+    let read = read_blocks(alloc, &mut reader, &mut collected, bytes);
+    drop(reader);
+    let Collected {
+        line: _,
+        log,
+        blocks,
+    } = collected;
+    drop(log);
+    match read {
+        Ok((version, budget)) => Ok(Report {
+            version,
+            budget,
+            blocks,
+        }),
+        Err(error) => {
+            drop(blocks);
+            Err(error)
         }
-        Err(error) => Err(error),
     }
 }

@@ -24,7 +24,7 @@ use Rattle.report_verifier.specs.Valid.{IsProof, IsValid}
 use Rattle.report_verifier.specs.Verified.{most_report_bytes, IsAccepted}
 use Rattle.log_upgrade.specs.Upgraded.{upgraded}
 use Rattle.log_upgrade.specs.Agreement.{IsAccepted as IsTaken}
-use Rattle.report_upgrade.specs.Reports.{upgraded_verdict, upgraded_report, upgraded_version, has_room}
+use Rattle.report_upgrader.specs.Reports.{upgraded_verdict, upgraded_report, upgraded_version, has_room}
 use Rattle.report_upgrader.specs.Upgrading.{IsUpgradedText}
 use Rattle.report_upgrader.proofs.Room.{report_room}
 

@@ -4,14 +4,15 @@ use Rattle.std.specs.Prelude.{IfSome, IsErrOf}
 use Rattle.std.specs.Io.KnownBytes.{Appends}
 use Rattle.std.proofs.KnownBytes.{Keeps-refl}
 use Rattle.byte_ports.specs.Faults.{IsFault}
+use Rattle.byte_ports.specs.Written.{IsFrontWritten}
+use Rattle.answers.proofs.Sources.{long_told, some_told}
 use Rattle.spec_core.specs.Specification.{Specification}
 use Rattle.report_lines.specs.declared.head.Tally.{Tally}
 use Rattle.report_text.specs.Bytes.{report_bytes}
-use Rattle.report_upgrade.specs.Reports.{upgraded_report}
-use Rattle.report_upgrade.specs.Passing.{IsFrontOf}
+use Rattle.report_upgrader.specs.Reports.{upgraded_report}
 use Rattle.report_verifier.specs.declared.refused.VerifyRefused.{VerifyRefused}
 use Rattle.report_verifier.specs.declared.refused.VerifyRefused.TheVariants as verifying
-use Rattle.report_verifier.specs.Verified.{most_report_bytes, Tells, IsAccepted, IsVerified, IsVerifiedFrom}
+use Rattle.report_verifier.specs.Verified.{most_report_bytes, IsAccepted, IsVerified, IsVerifiedFrom}
 use Rattle.report_upgrader.specs.declared.refused.UpgradeRefused.{UpgradeRefused}
 use Rattle.report_upgrader.specs.declared.refused.UpgradeRefused.TheVariants as refused
 use Rattle.report_upgrader.specs.Upgrading.{refused_as, IsFront, IsUpgraded, IsUpgradedFrom}
@@ -40,7 +41,7 @@ pub written_so : (d : Specification) (bytes : List ℕ) (tally : Tally) (before 
 written_so d bytes tally before after accepted short written = (short, report_bytes d (upgraded_report accepted.report), record { accepted = accepted; text_is = refl }, written)
 
 -- a front of it
-pub stopped_so : (d : Specification) (bytes : List ℕ) (tally : Tally) (before after : Option (List ℕ)) (accepted : IsAccepted d bytes tally) → length bytes ≤ most_report_bytes → IsFrontOf (report_bytes d (upgraded_report accepted.report)) before after
+pub stopped_so : (d : Specification) (bytes : List ℕ) (tally : Tally) (before after : Option (List ℕ)) (accepted : IsAccepted d bytes tally) → length bytes ≤ most_report_bytes → IsFrontWritten (report_bytes d (upgraded_report accepted.report)) before after
     → IsFront d bytes before after
 stopped_so d bytes tally before after accepted short (n, written) =
     inr (tally, report_bytes d (upgraded_report accepted.report), n, short, record { accepted = accepted; text_is = refl }, written)
@@ -81,21 +82,8 @@ pub read_as : (left : Option (List ℕ)) (items bytes : List ℕ) → bytes ≡ 
 read_as None items bytes e h = tt
 read_as (Some told) items bytes e h = e ∙ h
 
--- bytes that are more than so many
-more_than : (n : ℕ) → (bytes : List ℕ) × (n < length bytes)
-more_than zero = (0 ∷ [], omega arith)
-more_than (suc n) = let more = more_than n in (0 ∷ more.0, omega (arith, more.1))
-
-long_told : (n : ℕ) (P : List ℕ → Type 0) (left : Option (List ℕ)) → IfSome left (λ told. n < length told) → ((bytes : List ℕ) → n < length bytes → P bytes) → (bytes : List ℕ) × Tells left bytes × P bytes
-long_told n P None h f = let more = more_than n in (more.0, tt, f more.0 more.1)
-long_told n P (Some told) h f = (told, refl, f told h)
-
 pub too_long : (d : Specification) (left held : Option (List ℕ)) → IfSome left (λ told. most_report_bytes < length told) → IsUpgradedFrom d left held held (Err refused.Long)
 too_long d left held h = long_told most_report_bytes (λ bytes. IsUpgraded d bytes held held (Err refused.Long)) left h (λ bytes long. (long, Keeps-refl held))
 
-some_bytes : (left : Option (List ℕ)) → (bytes : List ℕ) × Tells left bytes
-some_bytes None = ([], tt)
-some_bytes (Some told) = (told, refl)
-
 pub not_told : (d : Specification) (left held : Option (List ℕ)) → IsUpgradedFrom d left held held (Err refused.Fault) × IsUpgradedFrom d left held held (Err refused.Memory)
-not_told d left held = let b = some_bytes left in ((b.0, b.1, Keeps-refl held), (b.0, b.1, inl (Keeps-refl held)))
+not_told d left held = let b = some_told left in ((b.0, b.1, Keeps-refl held), (b.0, b.1, inl (Keeps-refl held)))

@@ -23,8 +23,8 @@ use Rattle.proof_report.specs.Events.{with_verdict, no_verdicts, log_lines, size
 use Rattle.report_text.specs.Bytes.{report_bytes}
 use Rattle.report_verifier.specs.Verified.{most_report_bytes}
 use Rattle.log_upgrade.specs.Upgraded.{last_named, drop_line, upgraded}
-use Rattle.report_upgrade.specs.Reports.{has_room}
-use Rattle.report_upgrade.specs.Passing.{text_of}
+use Rattle.report_upgrader.specs.Reports.{has_room}
+use Rattle.report_upgrader.specs.Passing.{text_of}
 
 -- ---- an upgraded log has at most twice as many lines
 

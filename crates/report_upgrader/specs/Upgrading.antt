@@ -1,13 +1,14 @@
 -- What is answered to the bytes of a report that is to be upgraded, and what is written for them.
 use Rattle.std.specs.Prelude.{◌≡◌, ◌⊎◌, ℕ, ◌≤◌, List, take, length, Option, Result, Ok, Err}
 use Rattle.std.specs.Io.KnownBytes.{Keeps, Appends}
+use Rattle.answers.specs.Told.{Tells}
 use Rattle.spec_core.specs.Specification.{Specification}
 use Rattle.report_lines.specs.declared.head.Tally.{Tally}
 use Rattle.report_text.specs.Bytes.{report_bytes}
 use Rattle.report_verifier.specs.declared.refused.VerifyRefused.{VerifyRefused}
 use Rattle.report_verifier.specs.declared.refused.VerifyRefused.TheVariants as verifying
-use Rattle.report_verifier.specs.Verified.{most_report_bytes, IsAccepted, IsVerified, Tells}
-use Rattle.report_upgrade.specs.Reports.{upgraded_report}
+use Rattle.report_verifier.specs.Verified.{most_report_bytes, IsAccepted, IsVerified}
+use Rattle.report_upgrader.specs.Reports.{upgraded_report}
 use Rattle.report_upgrader.specs.declared.refused.UpgradeRefused.{UpgradeRefused}
 use Rattle.report_upgrader.specs.declared.refused.UpgradeRefused.TheVariants as refused
 

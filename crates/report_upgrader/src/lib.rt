@@ -1,15 +1,20 @@
-// Upgrading reports: a report that stands is written in version 2 of the format, where each log that proves drops its clauses behind the
-// lines that name them last.
+// Upgrading reports: a report that stands is written in version 2 of the format, with the same budget and verdicts, where each log that
+// proves drops its clauses behind the lines that name them last.
 //
-// It stands on `report_verifier`, which says whether a report stands, and on `report_upgrade`, which defines the upgraded one and writes
-// it. A source is read once, and nothing may be written of a report that is refused; so the bytes are held, of which there are at most
-// 64 MiB, and gone through twice: they are verified, and then written line by line.
+// It stands on `report_verifier`, which says whether a report stands, and on `log_upgrade`, which says what is left of a log. A source is
+// read once, and nothing may be written of a report that is refused; so the bytes are held, of which there are at most 64 MiB, and gone
+// through twice: they are verified, and then written line by line. Each line is passed on as it is but for the first one and those of
+// proved verdicts. Their logs are held one at a time until they are whole, since what a later line names isn't known before.
 //
-// Definitions: specs/Upgrading (what is answered, and what is written).
+// Definitions, in the order in which a reader needs them: specs/Reports (the upgraded report), specs/Upgrading (what is answered, and what
+// is written). specs/Passing mirrors the code.
 #![tactic(auto)]
 
 mod laws;
+mod passing;
 mod refused;
+mod report_laws;
+mod rewriting;
 mod source;
 mod upgrading;
 
@@ -18,4 +23,8 @@ pub use laws::{
     law_upgraded_text_is_upgraded,
 };
 pub use refused::UpgradeRefused;
+pub use report_laws::{
+    law_report_upgraded_twice, law_upgraded_report_has_the_same_summary,
+    law_upgraded_report_is_a_report,
+};
 pub use upgrading::upgrade_all;

@@ -6,10 +6,10 @@ ghost use Rattle.report_verifier.specs.Verified.{most_report_bytes, IsVerified};
 ghost use Rattle.report_upgrader.specs.Upgrading.{refused_as, IsUpgraded, IsUpgradedFrom, IsOnAll, IsUnwritten};
 
 use crate::refused::UpgradeRefused;
+use crate::rewriting::write_upgraded;
 use crate::source::HeldBytes;
-use byte_ports::{ReadRefused, Sink, Source, read_up_to};
+use byte_ports::{ReadRefused, Sink, Source, WriteOut, read_up_to};
 use report_lines::head::Tally;
-use report_upgrade::{Unwritten, write_upgraded};
 use report_verifier::{VerifyRefused, verify_all};
 use spec_core::Spec;
 use std::alloc::Global;
@@ -58,8 +58,8 @@ fn upgrade_held<K: Sink>(
     };
     match write_upgraded(alloc, spec, bytes, out) {
         Ok(()) => Ok(tally),
-        Err(Unwritten::Fault) => Err(UpgradeRefused::WriteFault),
-        Err(Unwritten::Memory) => Err(UpgradeRefused::Memory),
+        Err(WriteOut::Fault) => Err(UpgradeRefused::WriteFault),
+        Err(WriteOut::Memory) => Err(UpgradeRefused::Memory),
     }
 }
 

@@ -1,9 +1,10 @@
 -- A verifier that is fed the lines of bytes.
 use Rattle.std.proofs.Common.{◌≡◌, ℕ, ◌+◌, ◌<◌, ◌≤◌, true, List, [], ◌∷◌, ◌++◌, length, take, Option, Some, None, Result, Ok, Err, refl, sym, ap, subst, ◌∙◌, arith, append-nil}
-use Rattle.std.specs.Prelude.{IfSome, OnOk, is_ok, if◌then◌else◌, replicate}
+use Rattle.std.specs.Prelude.{IfSome, OnOk, is_ok, if◌then◌else◌}
 use Rattle.std.specs.Io.KnownBytes.{Consumes, IsAtEnd}
 use Rattle.std.proofs.KnownBytes.{Consumes-nil, Consumes-trans, Consumes-whole}
-use Rattle.std.proofs.lemmas.List.{length-replicate, length-append, nil_from_length}
+use Rattle.std.proofs.lemmas.List.{length-append, nil_from_length}
+use Rattle.answers.proofs.Sources.{long_told, some_told}
 use Rattle.spec_core.specs.Specification.{Specification}
 use Rattle.spec_core.specs.Typed.{is_specification}
 use Rattle.report_lines.specs.declared.head.Tally.{Tally}
@@ -11,7 +12,7 @@ use Rattle.report_text.specs.Bytes.{pieces, before_last, last_of, lines_of, unen
 use Rattle.report_text.proofs.Cutting.{front_more, pieces_some, no_bytes}
 use Rattle.report_verifier.specs.declared.refused.VerifyRefused.{VerifyRefused}
 use Rattle.report_verifier.specs.declared.refused.VerifyRefused.TheVariants as refused
-use Rattle.report_verifier.specs.Verified.{most_report_bytes, Tells, IsVerified, IsVerifiedFrom}
+use Rattle.report_verifier.specs.Verified.{most_report_bytes, IsVerified, IsVerifiedFrom}
 use Rattle.report_verifier.specs.Pieces.{IsUnended, AreTaken}
 use Rattle.report_verifier.specs.Verifier.{VerifierForm, first_verifier, next_verifier, verifier_after, IsFinished, IsCutOff, IsEnded, AreFed}
 use Rattle.report_verifier.proofs.Lines.{finished, cut_off}
@@ -97,20 +98,11 @@ told_bytes : (d : Specification) (left : Option (List ℕ)) (bytes : List ℕ) (
 told_bytes d None bytes result h v = (bytes, tt, v)
 told_bytes d (Some told) bytes result h v = (bytes, sym h, v)
 
--- so many bytes, and one more
-too_many : (n : ℕ) → n < length (replicate {A = ℕ} (n + 1) 0)
-too_many n = let l = length-replicate {A = ℕ} (n + 1) 0 in omega (arith, l)
-
 pub too_long : (d : Specification) (left : Option (List ℕ)) → IfSome left (λ told. most_report_bytes < length told) → IsVerifiedFrom d left (Err refused.Long)
-too_long d None h = (replicate {A = ℕ} (most_report_bytes + 1) 0, tt, too_many most_report_bytes)
-too_long d (Some told) h = (told, refl, h)
-
-some_bytes : (left : Option (List ℕ)) → (bytes : List ℕ) × Tells left bytes
-some_bytes None = ([], tt)
-some_bytes (Some told) = (told, refl)
+too_long d left h = long_told most_report_bytes (λ bytes. most_report_bytes < length bytes) left h (λ bytes long. long)
 
 pub not_told : (d : Specification) (left : Option (List ℕ)) → IsVerifiedFrom d left (Err refused.Memory) × IsVerifiedFrom d left (Err refused.Fault)
-not_told d left = let b = some_bytes left in ((b.0, b.1, tt), (b.0, b.1, tt))
+not_told d left = let b = some_told left in ((b.0, b.1, tt), (b.0, b.1, tt))
 
 -- ---- piece by piece from a source
 

@@ -1,6 +1,7 @@
 -- What is answered to the bytes of a report.
 use Rattle.std.specs.Prelude.{◌≡◌, ◌⊎◌, ℕ, ◌<◌, ◌≤◌, true, List, length, Option, Some, None, Result, Ok, Err}
 use Rattle.std.specs.List.{fold}
+use Rattle.answers.specs.Told.{Tells}
 use Rattle.spec_core.specs.Specification.{Specification}
 use Rattle.report_lines.specs.declared.head.Tally.{Tally}
 use Rattle.proof_report.specs.declared.kind.Fault.{Fault}
@@ -43,11 +44,6 @@ IsVerified d bytes (Err (refused.Line n k)) = (length bytes ≤ most_report_byte
 IsVerified d bytes (Err refused.Long) = most_report_bytes < length bytes
 IsVerified d bytes (Err refused.Fault) = Unit {0}
 IsVerified d bytes (Err refused.Memory) = Unit {0}
-
--- the bytes that a source had left, where it tells them
-abbrev pub Tells : Option (List ℕ) → List ℕ → Type 0
-Tells None bytes = Unit {0}
-Tells (Some told) bytes = told ≡ bytes
 
 -- What is answered to the bytes that a source gives.
 abbrev pub IsVerifiedFrom : Specification → Option (List ℕ) → Result Tally VerifyRefused → Type 0

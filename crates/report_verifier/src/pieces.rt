@@ -1,15 +1,14 @@
 // The lines of a report that comes in pieces. A line that no line feed has ended yet is kept until a later piece ends it.
-ghost use Rattle.std.specs.Prelude.{◌≡◌, ℕ, ◌≤◌, ◌<◌, ◌∷◌, ◌++◌, [], List, length, IfSome, IfNone, OnOk, IsErrOf, ◌==◌};
-ghost use Rattle.std.specs.List.{position_or_len};
+ghost use Rattle.std.specs.Prelude.{◌≡◌, ℕ, ◌≤◌, ◌<◌, ◌++◌, [], List, length, IfSome, OnOk, IsErrOf};
 ghost use Rattle.std.specs.Io.KnownBytes.{IsAtEnd, Consumes};
 ghost use Rattle.byte_ports.specs.Faults.{IsFault};
-ghost use Rattle.report_text.specs.Bytes.{pieces};
 ghost use Rattle.report_verifier.specs.Verifier.{next_verifier, AreFed};
 ghost use Rattle.report_verifier.specs.Pieces.{IsUnended, AreTaken};
 ghost use Rattle.report_verifier.specs.Verified.{most_report_bytes};
 
 use crate::verifier::Verifier;
 use byte_ports::{ReadRefused, Source};
+use report_text::next_line;
 use std::alloc::AllocError;
 
 /// The most bytes of a report: 64 MiB.
@@ -17,32 +16,6 @@ pub const MOST_REPORT_BYTES: usize = 67_108_864;
 
 /// The most bytes that one read asks for.
 const PIECE: usize = 4096;
-
-// The number of bytes before the first line feed, or of all bytes.
-fn line_len(bytes: &[u8]) -> usize
-    ensures len { result ≡ position_or_len (λ b. b == 10) bytes.now }
-    ensures within { result ≤ length bytes.now }
-{
-    for (place, byte) in bytes.iter().enumerate() {
-        if *byte == b'\n' {
-            return place;
-        }
-    }
-    bytes.len()
-}
-
-// The first line, and the bytes behind its line feed.
-fn next_line(bytes: &[u8]) -> Option<(&[u8], &[u8])>
-    ensures some { IfSome result (λ x. pieces bytes.now ≡ x.0.now ∷ pieces x.1.now) }
-    ensures fewer { IfSome result (λ x. length x.1.now < length bytes.now) }
-    ensures none { IfNone result (pieces bytes.now ≡ bytes.now ∷ []) }
-{
-    let len = line_len(bytes);
-    if len == bytes.len() {
-        return None;
-    }
-    Some((&bytes[..len], &bytes[len + 1..]))
-}
 
 // Feeds the line that was begun, with these bytes behind it, and begins the next one.
 fn end_line(verifier: &mut Verifier<'_>, line: &mut Vec<u8>, bytes: &[u8]) -> Result<(), AllocError>

@@ -165,10 +165,9 @@ impl<'a> Verifier<'a> {
         })
     }
 
-    /// Whether the lines were a report whose verdicts rest on what they say: how many there are of each kind; or the first line that
-    /// breaks a rule, where what is wrong with the text comes before what is wrong with a verdict.
-    pub fn finish(self) -> Result<Tally, VerifyRefused>
-        ensures { IsFinished self.entry result }
+    // What is answered behind the last line.
+    pub(crate) fn answer(&self) -> Result<Tally, VerifyRefused>
+        ensures { IsFinished self.now result }
     {
         if self.failed {
             return Err(VerifyRefused::Memory);
@@ -180,9 +179,19 @@ impl<'a> Verifier<'a> {
         }
     }
 
-    /// The same where bytes without a line feed stand behind the last line, which are of no form.
-    pub(crate) fn cut_off(self) -> Result<Tally, VerifyRefused>
-        ensures { IsCutOff self.entry result }
+    /// Whether the lines were a report whose verdicts rest on what they say: how many there are of each kind; or the first line that
+    /// breaks a rule, where what is wrong with the text comes before what is wrong with a verdict.
+    pub fn finish(self) -> Result<Tally, VerifyRefused>
+        ensures { IsFinished self.entry result }
+    {
+        let answer = self.answer();
+        drop(self);
+        answer
+    }
+
+    // The same where bytes without a line feed stand behind the last line, which are of no form.
+    pub(crate) fn cut_off(&self) -> Result<Tally, VerifyRefused>
+        ensures { IsCutOff self.now result }
     {
         if self.failed {
             return Err(VerifyRefused::Memory);

@@ -4,8 +4,8 @@ use Rattle.std.specs.Io.KnownBytes.{Appends}
 use Rattle.std.proofs.KnownBytes.{Appends-nil, Appends-trans}
 use Rattle.std.proofs.Math.Seq.{take-append-add, take-length}
 use Rattle.spec_core.specs.Specification.{Specification}
-use Rattle.check_run.specs.declared.checking.WriteOut.{WriteOut}
-use Rattle.check_run.specs.Checking.{IsText}
+use Rattle.byte_ports.specs.declared.text.WriteOut.{WriteOut}
+use Rattle.byte_ports.specs.Written.{IsText}
 use Rattle.suggest.specs.Pairs.{pairs_of}
 use Rattle.suggest.specs.Answers.{AreAnswers, counted}
 use Rattle.suggest.specs.Texts.{head_text, end_text, pairs_text, opening_text, suggest_text, IsSuggestion}

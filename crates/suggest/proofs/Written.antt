@@ -6,9 +6,9 @@ use Rattle.std.specs.Io.KnownBytes.{Appends}
 use Rattle.std.proofs.KnownBytes.{Appends-nil, Appends-trans}
 use Rattle.std.proofs.Math.Seq.{take-append-add, take-append_seam, take-suc, take-length}
 use Rattle.spec_core.specs.Specification.{Specification}
-use Rattle.check_run.specs.declared.checking.WriteOut.{WriteOut}
-use Rattle.check_run.specs.declared.checking.WriteOut.TheVariants.{Fault, Memory}
-use Rattle.check_run.specs.Checking.{IsText}
+use Rattle.byte_ports.specs.declared.text.WriteOut.{WriteOut}
+use Rattle.byte_ports.specs.declared.text.WriteOut.TheVariants.{Fault, Memory}
+use Rattle.byte_ports.specs.Written.{IsText}
 use Rattle.suggest.specs.Pairs.{pairs_of}
 use Rattle.suggest.specs.Answers.{IsAnswer, AreAnswers, AreAnswersSoFar, no_answers, with_answer, counted_from}
 use Rattle.suggest.specs.Texts.{pair_text, pairs_text}

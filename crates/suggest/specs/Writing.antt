@@ -5,8 +5,8 @@ use Rattle.std.specs.Io.KnownBytes.{Appends}
 use Rattle.spec_core.specs.Specification.{Specification}
 use Rattle.obligation_list.specs.Obligations.{IsObligation}
 use Rattle.proof_report.specs.Texts.{WitnessFits}
-use Rattle.check_run.specs.declared.checking.WriteOut.{WriteOut}
-use Rattle.check_run.specs.declared.checking.WriteOut.TheVariants.{Fault, Memory}
+use Rattle.byte_ports.specs.declared.text.WriteOut.{WriteOut}
+use Rattle.byte_ports.specs.declared.text.WriteOut.TheVariants.{Fault, Memory}
 use Rattle.keyed_specs.specs.Bare.{bare}
 use Rattle.keyed_specs.specs.Keyed.{keyed}
 use Rattle.suggest.specs.Pairs.{pairs_of}

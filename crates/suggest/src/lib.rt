@@ -26,7 +26,6 @@ mod answer;
 mod answering;
 mod finding;
 mod law;
-mod lines;
 mod listing;
 mod suggesting;
 mod writing;

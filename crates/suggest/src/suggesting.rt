@@ -1,10 +1,10 @@
 // The text of a suggestion, written pair by pair.
 
-ghost use Rattle.std.specs.Prelude.{◌≡◌, ◌≤◌, length, IfErr, OnErr};
+ghost use Rattle.std.specs.Prelude.{◌≡◌, ◌≤◌, length, IfErr};
 ghost use Rattle.std.specs.List.{Contains};
 ghost use Rattle.byte_ports.specs.Faults.{IsFault};
-ghost use Rattle.check_run.specs.declared.checking.WriteOut.TheVariants.{Fault};
-ghost use Rattle.check_run.specs.Checking.{IsText};
+ghost use Rattle.byte_ports.specs.declared.text.WriteOut.TheVariants.{Fault};
+ghost use Rattle.byte_ports.specs.Written.{IsText};
 ghost use Rattle.keyed_specs.specs.Bare.{bare as bare_of};
 ghost use Rattle.suggest.specs.Pairs.{IsPair, pairs_of};
 ghost use Rattle.suggest.specs.Texts.{head_text, end_text};
@@ -14,23 +14,10 @@ ghost use Rattle.suggest.specs.declared.answer.Pair.{Pair};
 use crate::answer::{Pair, SuggestTally};
 use crate::listing::list_pairs;
 use crate::writing::{write_end, write_head, write_pair};
-use byte_ports::{Sink, WriteRefused, write_all};
-use check_run::WriteOut;
+use byte_ports::{Sink, WriteOut, write_text};
 use keyed_specs::bare;
 use spec_core::Spec;
 use std::alloc::Global;
-
-fn write_text<K: Sink>(out: &mut K, text: &[u8]) -> Result<(), WriteOut>
-    ensures text { IsText text.now (K.held out.old) (K.held out.new) result }
-    ensures fault { OnErr result (IsFault (K.faults out.old) (K.faults out.new)) }
-    ensures kind { IfErr result (λ why. why ≡ Fault) }
-    ensures never_falls { K.faults out.old ≤ K.faults out.new }
-{
-    match write_all(out, text) {
-        Ok(()) => Ok(()),
-        Err(WriteRefused::Fault) => Err(WriteOut::Fault),
-    }
-}
 
 // Decides a pair, and writes its answer. Answers the tally with it.
 fn suggest_one<K: Sink>(

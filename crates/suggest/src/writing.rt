@@ -3,7 +3,6 @@
 ghost use Rattle.std.specs.Prelude.{◌≡◌, ◌≤◌, ◌++◌, ◌∷◌, [], suc, length, codes, OnOk, IfOk};
 ghost use Rattle.std.specs.List.{Contains};
 ghost use Rattle.obligation_list.specs.Obligations.{IsObligation};
-ghost use Rattle.report_lines.specs.Blocks.{operation_name as operation_name_of};
 ghost use Rattle.proof_report.specs.Texts.{block_text, CanStand};
 ghost use Rattle.keyed_specs.specs.Bare.{bare as bare_of};
 ghost use Rattle.keyed_specs.specs.Keyed.{CanBeKeyed};
@@ -17,12 +16,13 @@ ghost use Rattle.suggest.specs.declared.answer.Found.{Found};
 
 use crate::answer::{Found, Key, Pair, SuggestTally};
 use crate::finding::find_in;
-use crate::lines::write_line;
 use crate::listing::list_keys;
 use itoa::Buffer;
 use keyed_specs::keyed;
 use obligation_list::Obligation;
 use proof_report::{Verdict, write_verdict};
+use report_lines::verdict::operation_name;
+use report_lines::writing::write_words;
 use spec_core::Spec;
 use std::alloc::{AllocError, Global};
 
@@ -86,15 +86,6 @@ fn key_word(found: &Found) -> &'static [u8]
     }
 }
 
-fn operation_name<'a>(spec: &'a Spec, op: u8) -> &'a [u8]
-    ensures { result.now ≡ operation_name_of spec.now op }
-{
-    match spec.operations.as_slice().get(op as usize) {
-        Some(operation) => operation.name.bytes(),
-        None => &[],
-    }
-}
-
 fn param_name<'a>(spec: &'a Spec, op: u8, param: u8) -> &'a [u8]
     ensures { result.now ≡ param_name_of spec.now op param }
 {
@@ -126,7 +117,7 @@ fn write_key(
     let found = or_drop!(find_in(alloc, &keyed, budget, pair); keyed);
     let first = param_name(spec, pair.first, key.p);
     let second = param_name(spec, pair.second, key.q);
-    or_drop!(write_line(text, key_word(&found), &[first, second]); keyed, found);
+    or_drop!(write_words(text, key_word(&found), &[first, second]); keyed, found);
     or_drop!(write_found(alloc, &keyed, found, text); keyed);
     drop(keyed);
     Ok(())
@@ -226,7 +217,7 @@ fn write_bare(
     let now = or_drop!(with_found(tally, &found); found);
     let first = operation_name(spec, pair.first);
     let second = operation_name(spec, pair.second);
-    or_drop!(write_line(text, pair_word(&found), &[first, second]); found);
+    or_drop!(write_words(text, pair_word(&found), &[first, second]); found);
     write_found(alloc, bare, found, text)?;
     Ok((needed, now))
 }
@@ -260,8 +251,8 @@ pub fn write_head(spec: &Spec, pairs: usize, text: &mut Vec<u8>) -> Result<(), A
 {
     let mut buffer = Buffer::new();
     let count = buffer.format(pairs).as_bytes();
-    write_line(text, b"cise", &[b"suggest", b"1"])?;
-    write_line(text, b"pairs", &[count])
+    write_words(text, b"cise", &[b"suggest", b"1"])?;
+    write_words(text, b"pairs", &[count])
 }
 
 fn last_word(unknown: u32) -> &'static [u8]
@@ -282,7 +273,7 @@ fn write_counts(
 ) -> Result<(), AllocError>
     ensures { OnOk result (text.new.items ≡ text.old.items ++ line_text (codes "summary" ∷ codes "needed" ∷ needed.now ∷ codes "free" ∷ free.now ∷ codes "unknown" ∷ unknown.now ∷ [])) }
 {
-    write_line(
+    write_words(
         text,
         b"summary",
         &[b"needed", needed, b"free", free, b"unknown", unknown],
@@ -300,5 +291,5 @@ pub fn write_end(tally: SuggestTally, text: &mut Vec<u8>) -> Result<(), AllocErr
     let free = second.format(tally.free).as_bytes();
     let unknown = third.format(tally.unknown).as_bytes();
     write_counts(needed, free, unknown, text)?;
-    write_line(text, last_word(tally.unknown), &[])
+    write_words(text, last_word(tally.unknown), &[])
 }

@@ -1,4 +1,4 @@
-use Rattle.check_run.specs.declared.checking.WriteOut.TheVariants.{Memory}
+use Rattle.byte_ports.specs.declared.text.WriteOut.TheVariants.{Memory}
 use Rattle.check_run.proofs.Whole.{nothing_left}
 use Rattle.check_run.proofs.checking.check_all.Goals as goal
 

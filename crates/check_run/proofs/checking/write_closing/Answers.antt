@@ -1,7 +1,7 @@
 use Rattle.std.proofs.Common.{◌≡◌, subst, arith}
 use Rattle.std.proofs.lemmas.Grind.{common_steps}
 use Rattle.proof_report.specs.Texts.{end_text}
-use Rattle.check_run.specs.Checking.{IsText}
+use Rattle.byte_ports.specs.Written.{IsText}
 use Rattle.check_run.proofs.checking.write_closing.Goals as goal
 
 pub returns-clause-text : goal.returns-clause-text

@@ -2,7 +2,7 @@ use Rattle.std.proofs.Common.{◌≡◌, subst, arith}
 use Rattle.std.proofs.lemmas.Grind.{common_steps}
 use Rattle.proof_report.specs.Texts.{head_text}
 use Rattle.check_run.specs.Reports.{written_version}
-use Rattle.check_run.specs.Checking.{IsText}
+use Rattle.byte_ports.specs.Written.{IsText}
 use Rattle.check_run.proofs.checking.write_opening.Goals as goal
 
 pub returns-clause-text : goal.returns-clause-text

@@ -1,6 +1,6 @@
 use Rattle.std.proofs.Common.{List, subst, sym, ◌∙◌}
 use Rattle.std.specs.List.{Contains}
-use Rattle.check_run.specs.declared.checking.WriteOut.TheVariants.{Memory}
+use Rattle.byte_ports.specs.declared.text.WriteOut.TheVariants.{Memory}
 use Rattle.suggest.specs.Pairs.{IsPair}
 use Rattle.suggest.specs.declared.answer.Pair.{Pair}
 use Rattle.suggest.proofs.Whole.{nothing_left}

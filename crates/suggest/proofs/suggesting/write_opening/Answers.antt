@@ -1,6 +1,6 @@
 use Rattle.std.proofs.Common.{◌≡◌, subst, arith}
 use Rattle.std.proofs.lemmas.Grind.{common_steps}
-use Rattle.check_run.specs.Checking.{IsText}
+use Rattle.byte_ports.specs.Written.{IsText}
 use Rattle.suggest.specs.Texts.{head_text}
 use Rattle.suggest.proofs.suggesting.write_opening.Goals as goal
 

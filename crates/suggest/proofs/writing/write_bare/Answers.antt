@@ -8,8 +8,8 @@ returns c =
     let d = c.args.spec.now in
     let f = c.in_ok-found.found in
     let line =
-    line_written c.args.text.now.items c.write_line.new.out.items c.pair_word.result.now c.operation_name-first.result.now c.operation_name-second.result.now
+    line_written c.args.text.now.items c.write_words.new.out.items c.pair_word.result.now c.operation_name-first.result.now c.operation_name-second.result.now
     (pair_word f) (operation_name d c.args.pair.first) (operation_name d c.args.pair.second)
-    c.in-Ok-write_line.ensures c.pair_word.ensures c.operation_name-first.ensures c.operation_name-second.ensures in
-    bare_written d c.args.budget c.args.pair c.args.bare.now f c.args.tally c.in-Ok.value c.is_refuted-needed.result c.args.text.now.items c.write_line.new.out.items c.write_found.new.text.items
+    c.in-Ok-write_words.ensures c.pair_word.ensures c.operation_name-first.ensures c.operation_name-second.ensures in
+    bare_written d c.args.budget c.args.pair c.args.bare.now f c.args.tally c.in-Ok.value c.is_refuted-needed.result c.args.text.now.items c.write_words.new.out.items c.write_found.new.text.items
     c.requires.bare c.in_ok-found.ensures.found c.is_refuted-needed.ensures c.in-Ok.ensures line c.in_ok-write_found.ensures

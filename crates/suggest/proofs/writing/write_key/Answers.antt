@@ -7,8 +7,8 @@ returns c =
     let d = c.args.spec.now in
     let f = c.in-Ok.value in
     let line =
-    line_written c.args.text.now.items c.write_line.new.out.items c.key_word.result.now c.param_name-first.result.now c.param_name-second.result.now
+    line_written c.args.text.now.items c.write_words.new.out.items c.key_word.result.now c.param_name-first.result.now c.param_name-second.result.now
     (key_word f) (param_name d c.args.pair.first c.args.key.p) (param_name d c.args.pair.second c.args.key.q)
-    c.in-Ok-write_line.ensures c.key_word.ensures c.param_name-first.ensures c.param_name-second.ensures in
-    key_written d c.args.budget c.args.pair c.args.key c.in_ok-keyed.keyed f c.args.text.now.items c.write_line.new.out.items c.write_found.new.text.items
+    c.in-Ok-write_words.ensures c.key_word.ensures c.param_name-first.ensures c.param_name-second.ensures in
+    key_written d c.args.budget c.args.pair c.args.key c.in_ok-keyed.keyed f c.args.text.now.items c.write_words.new.out.items c.write_found.new.text.items
     c.in_ok-keyed.ensures c.in-Ok.ensures.found line c.in-Ok-write_found.ensures

@@ -1,5 +1,0 @@
-use Rattle.check_run.specs.Good.{IsRefutedBy}
-use Rattle.check_run.proofs.shrinking.with_less_at.Given as goal
-
-abbrev pub invariant-loop-key : goal.invariant-loop-key
-invariant-loop-key l = IsRefutedBy l.spec l.ob l.witness

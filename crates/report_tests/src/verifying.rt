@@ -1,0 +1,88 @@
+// Reports that are verified: accepted ones, and what is wrong with those that were changed.
+
+use crate::examples::{FLAG, LOWERED, ODD, RAISING};
+use crate::reports::{
+    COMBINED, DOWN, FEW, NAMES_DROPPED, NEGATIVE, NOT_SPENT, OTHER_PIVOT, OTHER_PIVOT_CUT,
+    OVER_BUDGET, RAISED, RAISED_DROPPING, SHORT_LOG, SPENT, UNCOMBINED, UP, UP_CUT, UP_UNENDED,
+};
+use crate::running::{Answer, spec, verified};
+use proof_report::ReportKind;
+
+/// A report, and what is answered to it.
+type Case = (&'static [u8], Answer);
+
+static OF_FLAG: [Case; 6] = [
+    (UP, Answer::Accepted(1, 0, 0)),
+    (DOWN, Answer::Line(5, ReportKind::Witness)),
+    (UP_CUT, Answer::Line(7, ReportKind::Form)),
+    (UP_UNENDED, Answer::Line(7, ReportKind::Form)),
+    (b"", Answer::Line(1, ReportKind::Form)),
+    (b"\n", Answer::Line(1, ReportKind::Form)),
+];
+
+static OF_LOWERED: [Case; 2] = [
+    (UP, Answer::Line(5, ReportKind::NoEmpty)),
+    (DOWN, Answer::Accepted(0, 1, 0)),
+];
+
+static OF_RAISING: [Case; 11] = [
+    (RAISED, Answer::Accepted(3, 0, 0)),
+    (OTHER_PIVOT, Answer::Line(11, ReportKind::Pivot)),
+    (OTHER_PIVOT_CUT, Answer::Line(16, ReportKind::Form)),
+    (SHORT_LOG, Answer::Line(10, ReportKind::NoEmpty)),
+    (OVER_BUDGET, Answer::Accepted(3, 0, 0)),
+    (SPENT, Answer::Accepted(2, 0, 1)),
+    (NOT_SPENT, Answer::Line(10, ReportKind::Evidence)),
+    (FEW, Answer::Line(5, ReportKind::Evidence)),
+    (UP, Answer::Line(3, ReportKind::Obligation)),
+    (RAISED_DROPPING, Answer::Accepted(3, 0, 0)),
+    (NAMES_DROPPED, Answer::Line(14, ReportKind::Dropped)),
+];
+
+static OF_ODD: [Case; 3] = [
+    (COMBINED, Answer::Line(7, ReportKind::NoEmpty)),
+    (NEGATIVE, Answer::Line(8, ReportKind::Multiplier)),
+    (UNCOMBINED, Answer::Line(8, ReportKind::Contradiction)),
+];
+
+/// A specification, and its reports.
+static CASES: [(&'static [u8], &'static [Case]); 4] = [
+    (FLAG, &OF_FLAG),
+    (LOWERED, &OF_LOWERED),
+    (RAISING, &OF_RAISING),
+    (ODD, &OF_ODD),
+];
+
+#[test]
+fn reports_are_verified(rt: HostRuntime) {
+    let alloc = rt.alloc();
+    for (text, cases) in &CASES {
+        let spec = spec(&rt, alloc, text);
+        for (report, want) in *cases {
+            let found = verified(&rt, alloc, &spec, report, 4096, &[]);
+            assert!(&rt; found == *want);
+        }
+        drop(spec);
+    }
+}
+
+/// The most bytes that a source gives at a call, the calls at which it fails, and what is answered to the report of the flag.
+static SOURCES: [(usize, &'static [u32], Answer); 6] = [
+    (1, &[], Answer::Accepted(1, 0, 0)),
+    (7, &[], Answer::Accepted(1, 0, 0)),
+    (4096, &[], Answer::Accepted(1, 0, 0)),
+    (8, &[0], Answer::Fault),
+    (8, &[3], Answer::Fault),
+    (8, &[12], Answer::Fault),
+];
+
+#[test]
+fn reports_come_in_pieces_and_reads_fail(rt: HostRuntime) {
+    let alloc = rt.alloc();
+    let spec = spec(&rt, alloc, FLAG);
+    for (piece, fail_at, want) in &SOURCES {
+        let found = verified(&rt, alloc, &spec, UP, *piece, fail_at);
+        assert!(&rt; found == *want);
+    }
+    drop(spec);
+}

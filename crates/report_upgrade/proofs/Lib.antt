@@ -1,4 +1,0 @@
-mod Reports
-mod Passes
-mod Texts
-mod Steps

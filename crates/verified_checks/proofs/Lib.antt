@@ -1,3 +1,0 @@
-mod Shown
-mod Good
-mod Written
