@@ -5,7 +5,7 @@ use Rattle.std.specs.Io.KnownBytes.{Appends}
 use Rattle.std.proofs.KnownBytes.{Keeps-refl}
 use Rattle.byte_ports.specs.Faults.{IsFault}
 use Rattle.byte_ports.specs.Written.{IsFrontWritten}
-use Rattle.answers.proofs.Sources.{long_told, some_told}
+use Rattle.byte_ports.proofs.Sources.{long_told, some_told}
 use Rattle.spec_core.specs.Specification.{Specification}
 use Rattle.report_lines.specs.declared.head.Tally.{Tally}
 use Rattle.report_text.specs.Bytes.{report_bytes}

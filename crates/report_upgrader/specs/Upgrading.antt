@@ -1,7 +1,7 @@
 -- What is answered to the bytes of a report that is to be upgraded, and what is written for them.
 use Rattle.std.specs.Prelude.{◌≡◌, ◌⊎◌, ℕ, ◌≤◌, List, take, length, Option, Result, Ok, Err}
 use Rattle.std.specs.Io.KnownBytes.{Keeps, Appends}
-use Rattle.answers.specs.Told.{Tells}
+use Rattle.byte_ports.specs.Told.{Tells}
 use Rattle.spec_core.specs.Specification.{Specification}
 use Rattle.report_lines.specs.declared.head.Tally.{Tally}
 use Rattle.report_text.specs.Bytes.{report_bytes}

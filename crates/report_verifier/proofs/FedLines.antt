@@ -4,7 +4,7 @@ use Rattle.std.specs.Prelude.{IfSome, OnOk, is_ok, if◌then◌else◌}
 use Rattle.std.specs.Io.KnownBytes.{Consumes, IsAtEnd}
 use Rattle.std.proofs.KnownBytes.{Consumes-nil, Consumes-trans, Consumes-whole}
 use Rattle.std.proofs.lemmas.List.{length-append, nil_from_length}
-use Rattle.answers.proofs.Sources.{long_told, some_told}
+use Rattle.byte_ports.proofs.Sources.{long_told, some_told}
 use Rattle.spec_core.specs.Specification.{Specification}
 use Rattle.spec_core.specs.Typed.{is_specification}
 use Rattle.report_lines.specs.declared.head.Tally.{Tally}

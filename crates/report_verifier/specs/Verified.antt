@@ -1,7 +1,7 @@
 -- What is answered to the bytes of a report.
 use Rattle.std.specs.Prelude.{◌≡◌, ◌⊎◌, ℕ, ◌<◌, ◌≤◌, true, List, length, Option, Some, None, Result, Ok, Err}
 use Rattle.std.specs.List.{fold}
-use Rattle.answers.specs.Told.{Tells}
+use Rattle.byte_ports.specs.Told.{Tells}
 use Rattle.spec_core.specs.Specification.{Specification}
 use Rattle.report_lines.specs.declared.head.Tally.{Tally}
 use Rattle.proof_report.specs.declared.kind.Fault.{Fault}
