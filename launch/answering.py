@@ -1,7 +1,9 @@
 """Answers a call of `./cise`: finds the program, runs it on the words, and says on standard error what people should know of its status."""
 import os
-import signal
 import sys
+
+# (the module `signal` is made over this one, and takes longer to import than all else that a call needs)
+import _signal as signal
 
 from launch import seen
 from launch.paths import BAD_WORDS, HOME_PROGRAM, KEPT_PROGRAM, NO_PROGRAM, TOP, at, say

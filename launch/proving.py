@@ -78,7 +78,8 @@ def prove():
         say("a source was changed meanwhile, so the program that was built is of no use: call ./cise prove again")
         return NO_PROGRAM
     record.Record(kit_line, PROVED_BY, sources.rows, looks.sum_of(HOME_PROGRAM), sources.sums).write(HOME_RECORD, HOME_PROGRAM)
-    say(f"the program is proved and built, in {int(time.monotonic() - start) // 60 + 1} minutes at most; from now on it answers")
+    minutes, seconds = divmod(int(time.monotonic() - start), 60)
+    say(f"the program is proved and built, after {minutes} minutes and {seconds} seconds; from now on it answers")
     return compare(sources, looks)
 
 

@@ -1,7 +1,7 @@
 """What was looked at when a program was last chosen, so that a call needs no sums of files that haven't changed since.
 
-The file has a line for what was chosen, and one for each file and folder that had a part in it: its mark, its sum (`-` for a folder, and for
-what isn't there) and its path. A mark is of the size, the time of the last change of the content, that of the last change of any kind, and
+The file's first line says what was chosen, and how many lines follow. There is one for each file and folder that had a part in it: its mark, its
+sum (`-` for a folder, and for what isn't there) and its path. A mark is of the size, the time of the last change of the content, that of the last change of any kind, and
 the number of the file in its file system. A folder's mark changes with the names in it. What changed less than a quarter of a second before
 it was looked at gets no mark, since a further change could leave its times as they are; so its sum is taken again at the next call.
 """
@@ -30,31 +30,44 @@ def settled_mark_of(path):
     return NO_MARK if any(it > now - SETTLED_NANOSECONDS for it in times) else mark
 
 
-def lines():
+def read():
+    """What was chosen last, and the lines; None and nothing where the file isn't there, or not whole."""
     try:
         with open(at(SEEN), encoding="utf-8", errors="surrogateescape") as file:
-            return file.read().splitlines()
-    except OSError:
-        return []
+            first, *lines = file.read().splitlines()
+        choice, count = first.split(" ")
+        return (choice, lines) if int(count) == len(lines) else (None, [])
+    except (OSError, ValueError):
+        return None, []
+
+
+def parts_of(line):
+    mark, total, path = line.split(" ", 2)
+    return mark, total, path
 
 
 def chosen():
     """What was chosen last, where all that had a part in it is as it was, else None."""
-    found = lines()
-    for line in found[1:]:
-        mark, _, path = line.split(" ", 2)
-        if mark != mark_of(path):
-            return None
-    return found[0] if found else None
+    choice, lines = read()
+    try:
+        for line in lines:
+            mark, _, path = parts_of(line)
+            if mark != mark_of(path):
+                return None
+    except ValueError:
+        return None
+    return choice
 
 
 class Looks:
     """Looks at files and folders, and takes the sums of files: from the last time, where their marks are the same."""
 
     def __init__(self):
-        found = lines()
-        self.last_choice = found[0] if found else None
-        self.known = {path: (mark, total) for mark, total, path in (it.split(" ", 2) for it in found[1:])}
+        self.last_choice, lines = read()
+        try:
+            self.known = {path: (mark, total) for mark, total, path in map(parts_of, lines)}
+        except ValueError:
+            self.known = {}
         self.seen = {}
 
     def sum_of(self, path):
@@ -76,7 +89,7 @@ class Looks:
         try:
             os.makedirs(os.path.dirname(new), exist_ok=True)
             with open(new, "w", encoding="utf-8", errors="surrogateescape") as file:
-                file.write(f"{choice}\n{text}")
+                file.write(f"{choice} {len(self.seen)}\n{text}")
             os.replace(new, at(SEEN))
         except OSError:
             pass

@@ -21,12 +21,15 @@ PROVE = "./cise prove proves the program and builds it"
 def answer(words, reasons, list_commands):
     """Answers, and returns the program's status, or the script's where there is no answer."""
     say("; ".join(reasons))
-    if not words or words[0] in VIEWS:
+    needs_proof = not words or words[0] in VIEWS
+    if needs_proof:
         list_commands()
-        say(f"no program was run, since these words need a proved one: {PROVE}")
-        return NO_PROGRAM
+        say("no program was run, since these words need a proved one")
     if not kit.is_here():
         say(f"{PROVE}; {kit.LACKING}")
+        return NO_PROGRAM
+    if needs_proof:
+        say(PROVE)
         return NO_PROGRAM
     say(f"so an unproved program answers, by rt try, which takes some minutes and 3 GB of memory; {PROVE}")
     with tempfile.TemporaryDirectory(prefix="cise-") as room:
