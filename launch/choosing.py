@@ -43,7 +43,7 @@ def why_not(choice, sources, looks):
         return f"{program} isn't the program that its record names"
     changed = sources.changed_since(found)
     if changed:
-        return f"{program} is of other sources than those of {named(changed)}"
+        return f"{program} is of other sources: there are changes in {named(changed)}"
     return why_it_does_not_run(program)
 
 

@@ -95,7 +95,7 @@ def compare(sources, looks):
         return 0
     changed = sources.changed_since(kept)
     if changed:
-        say(f"{KEPT_PROGRAM} is of other sources than those of {named(changed)}, so the two weren't compared")
+        say(f"{KEPT_PROGRAM} is of other sources, so the two weren't compared: there are changes in {named(changed)}")
     elif home.kit != kept.kit:
         say(f"{KEPT_PROGRAM} is of another kit ({kept.kit}, and here {home.kit}), so the two weren't compared")
     elif looks.sum_of(KEPT_PROGRAM) != home.program_sum:
