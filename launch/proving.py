@@ -1,7 +1,6 @@
 """`./cise prove`: proves and builds the program on this machine, each crate once its libraries are, side by side. What is proved stays: a call that
 was interrupted is gone on with by the next one. At the end the program is compared with the one that is kept."""
 import os
-import signal
 import subprocess
 import time
 
@@ -10,13 +9,10 @@ from launch.choosing import HOME, named, why_not
 from launch.paths import BAD_WORDS, HOME_PROGRAM, HOME_RECORD, INTERRUPTED, KEPT_PROGRAM, KEPT_RECORD, NO_PROGRAM, OTHER_THAN_KEPT, OUT, at, say
 from launch.seen import Looks
 from launch.sources import PROGRAM_CRATE, Sources, below
+from launch.stopping import Stopped, end_all, stop_by_signals
 from launch.times import Plan
 
 PROVED_BY = "./cise prove"
-
-
-class Stopped(Exception):
-    """A signal came that ends the script."""
 
 
 def main(words):
@@ -26,22 +22,16 @@ def main(words):
     if not kit.is_here():
         say(kit.LACKING)
         return NO_PROGRAM
-
-    def stop(*_):
-        raise Stopped
-
-    for it in (signal.SIGINT, signal.SIGTERM, signal.SIGHUP):
-        if signal.getsignal(it) != signal.SIG_IGN:
-            signal.signal(it, stop)
+    stop_by_signals()
     try:
-        with alone():
+        with Alone():
             return prove()
     except Stopped:
         say("stopped; what is proved stays, and ./cise prove goes on from there")
         return INTERRUPTED
 
 
-class alone:
+class Alone:
     """Waits until no other call proves here, and keeps others waiting."""
 
     def __enter__(self):
@@ -161,11 +151,9 @@ class Proofs:
             while len(self.done) < len(self.rows) and (self.running or not self.failed):
                 self.begin_more()
                 self.take_one()
-        finally:
-            for it in self.running.values():
-                it.terminate()
-            for it in self.running.values():
-                it.wait()
+        except Stopped:
+            end_all(self.running.values())
+            raise
         self.plan.keep(self.done)
         return self.failed
 

@@ -2,8 +2,10 @@
 import os
 import sys
 
+NO_PROGRAM = 10
 if sys.version_info < (3, 8):
-    sys.exit("cise: this needs Python 3.8, and %s is older" % sys.executable)
+    sys.stderr.write("cise: this needs Python 3.8, and %s is older\n" % sys.executable)
+    sys.exit(NO_PROGRAM)
 TOP = os.path.dirname(os.path.dirname(os.path.realpath(__file__)))
 sys.path.insert(0, TOP)
 # What Python keeps of the files that it has read goes where all that is made goes, which git passes over.

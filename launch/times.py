@@ -7,7 +7,7 @@ from launch.paths import KEPT_TIMES, OUT, at
 from launch.sources import below, files_of
 
 # Where no time of any crate is recorded.
-SECONDS_A_LINE = 0.15
+SECONDS_A_LINE = 0.04
 HOME_TIMES = f"{OUT}/times"
 
 

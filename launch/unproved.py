@@ -9,6 +9,7 @@ import tempfile
 from launch import kit
 from launch.paths import INTERRUPTED, NO_PROGRAM, at, say
 from launch.answering import VIEWS
+from launch.stopping import Stopped, end_all, stop_by_signals
 
 # How many of the words behind a command are paths.
 PATHS = {"check": 1, "suggest": 1, "spell": 1, "verify": 2, "upgrade": 2, "replay": 2, "simulate": 2}
@@ -35,7 +36,7 @@ def answer(words, reasons, list_commands):
     with tempfile.TemporaryDirectory(prefix="cise-") as room:
         try:
             status = tried(words, room)
-        except KeyboardInterrupt:
+        except Stopped:
             return INTERRUPTED
         if status is not None:
             say(f"an unproved program gives this answer, with status {status}")
@@ -62,7 +63,13 @@ def tried(words, room):
     words, given = with_copies(words, room)
     command = ["rt", "try", "--seconds", str(SECONDS), *given, "--", *words]
     with open(f"{room}/stdout", "wb") as out, open(f"{room}/stderr", "wb") as err:
-        subprocess.run(command, cwd=at("crates/cise_cli"), stdin=subprocess.DEVNULL, stdout=out, stderr=err)
+        stop_by_signals()
+        running = subprocess.Popen(command, cwd=at("crates/cise_cli"), stdin=subprocess.DEVNULL, stdout=out, stderr=err)
+        try:
+            running.wait()
+        except Stopped:
+            end_all([running])
+            raise
     with open(f"{room}/stderr", encoding="utf-8", errors="replace") as text:
         lines = text.read().strip().split("\n")
     ended = ENDED.fullmatch(lines[-1])
