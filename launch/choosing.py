@@ -1,0 +1,68 @@
+"""Chooses the program that answers: the one that was proved on this machine, else the one that is kept in the repository, where its record names
+exactly the sources that stand here. Where there is neither, it says why."""
+import os
+import subprocess
+
+from launch import record
+from launch.paths import HOME_PROGRAM, HOME_RECORD, KEPT_PROGRAM, KEPT_RECORD, at, say
+from launch.seen import Looks
+from launch.sources import Sources
+
+HOME, KEPT = "home", "kept"
+PROGRAMS = {HOME: HOME_PROGRAM, KEPT: KEPT_PROGRAM}
+RECORDS = {HOME: HOME_RECORD, KEPT: KEPT_RECORD}
+SECONDS = 20
+
+
+def choose():
+    """What is chosen, of HOME and KEPT, or None; and why not the one, and not the other."""
+    looks, reasons = Looks(), []
+    sources = Sources(looks)
+    for choice in (HOME, KEPT):
+        reason = why_not(choice, sources, looks)
+        if not reason:
+            if choice == KEPT and looks.last_choice != KEPT:
+                say(f"{KEPT_PROGRAM} answers, the program that the gate built of these very sources; ./cise prove proves and builds it here")
+            looks.keep(choice)
+            return choice, reasons
+        reasons.append(reason)
+    return None, reasons
+
+
+def why_not(choice, sources, looks):
+    """Why a program isn't one of these sources, or None where it is."""
+    program = PROGRAMS[choice]
+    is_recorded = looks.sum_of(RECORDS[choice])
+    if not is_recorded:
+        return "nothing of these sources is proved here" if choice == HOME else f"no program is kept, since there is no {KEPT_RECORD}"
+    try:
+        found = record.read(RECORDS[choice], program)
+    except record.Damaged as damage:
+        return str(damage)
+    if looks.sum_of(program) != found.program_sum:
+        return f"{program} isn't the program that its record names"
+    changed = sources.changed_since(found)
+    if changed:
+        return f"{program} is of other sources: there are changes in {named(changed)}"
+    return why_it_does_not_run(program)
+
+
+def named(crates, most=4):
+    more = f" and {len(crates) - most} more crates" if len(crates) > most else ""
+    return ", ".join(crates[:most]) + more
+
+
+def why_it_does_not_run(program):
+    """Why the machine can't run a program, or None. Without words it refuses them with status 2."""
+    try:
+        ran = subprocess.run([at(program)], stdin=subprocess.DEVNULL, capture_output=True, timeout=SECONDS)
+    except (OSError, subprocess.TimeoutExpired) as error:
+        return f"{program} doesn't run on this machine ({getattr(error, 'strerror', None) or error}); {needs()}"
+    if ran.returncode != 2 or ran.stdout != b"refused words\n":
+        said = ran.stderr.decode(errors="replace").strip().split("\n")[0] or f"it ended with status {ran.returncode}"
+        return f"{program} doesn't run on this machine ({said}); {needs()}"
+    return None
+
+
+def needs():
+    return f"what it needs stands in {os.path.dirname(KEPT_PROGRAM)}/README.md"
