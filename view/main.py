@@ -1,0 +1,86 @@
+"""The words of the script's own commands, and where each is answered. `./cise` calls `main` for these, and `places` behind the program's own commands.
+
+A command's module has `answer(path, ..)`, which takes the paths of the command's words and gives a status and the whole text for standard
+output. Where the program refuses an input, `program.answer` or `program.replayed` raises `program.Stopped` there, and nothing catches it but
+`main`: it writes the program's own text and ends with the program's status. So a text is written whole or not at all.
+"""
+import importlib
+import os
+import sys
+import tempfile
+
+from view import program
+from view.words import encoded
+
+# For each command the module that answers it, and how many paths it takes at least and at most.
+COMMANDS = {"explain": ("explain", 1, 2), "mend": ("mend", 1, 1), "order": ("order", 1, 1), "page": ("page", 1, 2), "json": ("facts", 1, 1)}
+USAGE = "explain SPEC [REPORT], mend SPEC, order SPEC, page SPEC [SCHEDULE], json REPORT|REPLAY|SUGGESTION"
+# The program reads no more of any input than a little over this; more is copied of none that is no file.
+MOST_BYTES = 1 << 26
+BAD_WORDS, NOT_READ, NOT_WRITTEN = 2, 6, 7
+
+
+def say(text):
+    """Writes on standard error; that it can't is no reason to end."""
+    try:
+        sys.stderr.flush()
+        sys.stderr.buffer.write(encoded(text))
+        sys.stderr.buffer.flush()
+    except (OSError, ValueError):
+        pass
+
+
+def main(program_path, words):
+    """Answers a command of the script, and returns its status."""
+    program.use(program_path)
+    try:
+        status, text = answer(words)
+    except program.Stopped as stopped:
+        status, text = stopped.status, stopped.text
+        if status in (3, 4):
+            places(program_path, stopped.words, status)
+    except OSError:
+        # A file went away between the program's reading and ours.
+        status, text = NOT_READ, ""
+    return status if written(text) else NOT_WRITTEN
+
+
+def answer(words):
+    """The status and the text of a command's words."""
+    command = COMMANDS.get(words[0]) if words else None
+    if not command or not command[1] <= len(words) - 1 <= command[2] or any(it.startswith("-") for it in words[1:]):
+        status, text = program.run(*words)
+        if status == BAD_WORDS:
+            say(f"cise: the script's own commands are: {USAGE}\n")
+        return status, text
+    module = importlib.import_module(f"view.{command[0]}")
+    with tempfile.TemporaryDirectory() as folder:
+        return module.answer(*[as_file(it, folder, place) for place, it in enumerate(words[1:])])
+
+
+def as_file(path, folder, place):
+    """A path that can be read more than once: itself, or a copy of what a pipe gives."""
+    if os.path.isfile(path) or os.path.isdir(path) or not os.path.exists(path):
+        return path
+    copy = os.path.join(folder, f"{place}-{os.path.basename(path)}")
+    with open(path, "rb") as source, open(copy, "wb") as target:
+        target.write(source.read(MOST_BYTES + 1))
+    return copy
+
+
+def written(text):
+    """Writes on standard output, and says whether it could."""
+    try:
+        sys.stdout.flush()
+        sys.stdout.buffer.write(encoded(text))
+        sys.stdout.buffer.flush()
+        return True
+    except (OSError, ValueError):
+        # What is left in a buffer must not fail once more when the interpreter ends.
+        os.dup2(os.open(os.devnull, os.O_WRONLY), 1)
+        return False
+
+
+def places(program_path, words, status):
+    """Behind a command of the program that ended with status 3 or 4: says on standard error where its input is wrong, and what could have
+    stood there. It never raises, and says nothing where it knows nothing."""
