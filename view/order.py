@@ -1,0 +1,164 @@
+"""On what two operations are ordered: read off the tokens, the rules and the takes lines of a specification. Two calls conflict where a rule matches
+a token that the one takes and a token that the other takes. A rule matches where one choice of elements for its variables gives the elements of both
+tokens: so where all arguments that stand at the places of one variable are equal. These equalities are a condition; two calls are ordered where one
+of the conditions of their operations holds. Two takings that are both shared never conflict."""
+
+
+class Condition:
+    """Two calls are ordered where all `equalities` hold, so always where there is none. An equality is a pair of arguments. An argument is
+    ("f", parameter) of the first call, ("g", parameter) of the second, or (None, constant). `rules` has the numbers of the lines with the rules
+    that say so."""
+
+    def __init__(self, equalities, rule):
+        self.equalities, self.rules = equalities, [rule]
+
+    def implies(self, other, swapped=False):
+        """Whether the equalities of another condition, or of that with the two calls exchanged, follow from these."""
+        group = {}
+
+        def of(argument):
+            while argument in group:
+                argument = group[argument]
+            return argument
+
+        for a, b in self.equalities:
+            if of(a) != of(b):
+                group[of(a)] = of(b)
+        turned = {"f": "g", "g": "f"} if swapped else {}
+        return all(len({of((turned.get(side, side), name)) for side, name in it}) == 1 for it in other.equalities)
+
+    def short(self):
+        """As `same a, b`, `p = q`, `p = root`; of two parameters of one call `p = q in one`."""
+        alike = [a[1] for a, b in self.equalities if is_same(a, b)]
+        other = [f"{a[1]} = {b[1]}" + (" in one" if a[0] == b[0] is not None else "") for a, b in self.equalities if not is_same(a, b)]
+        return ", ".join((["same " + ", ".join(alike)] if alike else []) + other)
+
+    def sentence(self, f, g):
+        """As `both have the same a` and `p of move = c of delete`; `the one` and `the other` where both calls are of one operation."""
+        calls = {"f": "the one", "g": "the other"} if f == g else {"f": f, "g": g}
+
+        def name(argument):
+            return argument[1] if argument[0] is None else f"{argument[1]} of {calls[argument[0]]}"
+
+        alike = [a[1] for a, b in self.equalities if is_same(a, b)]
+        said = [f"both have the same {' and the same '.join(alike)}"] if alike else []
+        return " and ".join(said + [f"{name(a)} = {name(b)}" for a, b in self.equalities if not is_same(a, b)])
+
+
+def is_same(a, b):
+    """Whether two arguments are one parameter's, of the one call and of the other."""
+    return a[1] == b[1] and {a[0], b[0]} == {"f", "g"}
+
+
+def conditions(spec, f, g):
+    """The conditions on which a call of f and a call of g are ordered, without those that follow from others; none where they never are."""
+    found = []
+    f_takings, g_takings = [[(spec.operations[it], line) for line in spec.operations[it].of("takes")] for it in (f, g)]
+    for left, right, number in spec.rules:
+        for rule in ((left, right, number), (right, left, number)):
+            for condition in (matched(spec, rule, a, b) for a in f_takings for b in g_takings):
+                if condition:
+                    add(found, condition, f == g)
+    return found
+
+
+def matched(spec, rule, f_taking, g_taking):
+    """The condition on which a rule's patterns match two takings, or None where they never do. A rule is here its two patterns and its number, a
+    taking an operation and its takes line. Parameters of the first call stand first, each in the order of its operation, and constants last."""
+    first, second, number = rule
+    (f_operation, f_line), (g_operation, g_line) = f_taking, g_taking
+    (f_token, f_args), (g_token, g_args) = f_line.thing(), g_line.thing()
+    if (f_token, g_token) != (first[0], second[0]) or (f_line.is_shared() and g_line.is_shared()):
+        return None
+    condition, bound = Condition([], number), {}
+    places = {"f": [it for it, _ in f_operation.params], "g": [it for it, _ in g_operation.params]}
+
+    def rank(argument):
+        side, name = argument
+        return ("f", "g", None).index(side), places[side].index(name) if side else 0
+
+    for side, variables, args in (("f", first[1], f_args), ("g", second[1], g_args)):
+        for variable, arg in zip(variables, args):
+            argument = (None, str(arg)) if arg in spec.consts else (side, str(arg))
+            equality = tuple(sorted((bound.setdefault(variable, argument), argument), key=rank))
+            if not condition.implies(Condition([equality], number)):
+                condition.equalities.append(equality)
+    condition.equalities.sort(key=lambda it: (rank(it[0]), rank(it[1])))
+    return condition
+
+
+def add(found, condition, is_own):
+    """Adds a condition, unless it follows from one that is there already; those that follow from it go. Those of two calls of one operation say the
+    same with the two exchanged."""
+
+    def follows(one, other):
+        return one.implies(other) or (is_own and one.implies(other, swapped=True))
+
+    for known in found:
+        if follows(condition, known):
+            if follows(known, condition) and condition.rules[0] not in known.rules:
+                known.rules += condition.rules
+            return
+    found[:] = [it for it in found if not follows(it, condition)] + [condition]
+
+
+def short(found):
+    """Conditions in a few words, a row for each: `same p, q`, `or p = q`; `at once` where there is none, `always` where one asks nothing."""
+    if not found:
+        return ["at once"]
+    if not found[0].equalities:
+        return ["always"]
+    return [("or " if at else "") + it.short() for at, it in enumerate(found)]
+
+
+def sentence(found, f, g):
+    """Conditions as a sentence without its full stop."""
+    if not found:
+        return "never ordered: both may run at once"
+    if not found[0].equalities:
+        return "always ordered"
+    return "ordered where " + ", or where ".join(it.sentence(f, g) for it in found)
+
+
+class Pair:
+    """Two operations, `f` no later than `g`: the `blocks` that are about both, and the `conditions` on which their calls are ordered."""
+
+    def __init__(self, spec, f, g):
+        self.f, self.g, self.blocks, self.conditions = f, g, [], conditions(spec, f, g)
+
+    def name(self):
+        return f"{self.f} || {self.g}"
+
+    def id(self):
+        return f"pair-{self.f}-{self.g}"
+
+    def state(self):
+        """refuted, undecided, ordered or proved: the first that fits."""
+        verdicts = {it.verdict for it in self.blocks}
+        for it in ("refuted", "undecided"):
+            if it in verdicts:
+                return it
+        return "ordered" if self.conditions else "proved"
+
+    def short(self):
+        return short(self.conditions)
+
+    def says(self):
+        """The state in a sentence: how many obligations are refuted or undecided, and on what the two are ordered."""
+        ordered = sentence(self.conditions, self.f, self.g)
+        if self.state() not in ("refuted", "undecided"):
+            return "proved; " + ordered
+        count = sum(it.verdict == self.state() for it in self.blocks)
+        return f"{self.state()}, {count} of {len(self.blocks)}" + (", though " + ordered if self.conditions else "")
+
+
+def pairs(spec, blocks=()):
+    """For each two operations, in both orders, their one `Pair`. Blocks of a report are handed to their pairs."""
+    found, operations = {}, list(spec.operations)
+    for at, f in enumerate(operations):
+        for g in operations[at:]:
+            found[f, g] = found[g, f] = Pair(spec, f, g)
+    for it in blocks:
+        if it.pair():
+            found[it.pair()].blocks.append(it)
+    return found
