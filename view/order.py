@@ -1,7 +1,19 @@
 """On what two operations are ordered: read off the tokens, the rules and the takes lines of a specification. Two calls conflict where a rule matches
 a token that the one takes and a token that the other takes. A rule matches where one choice of elements for its variables gives the elements of both
 tokens: so where all arguments that stand at the places of one variable are equal. These equalities are a condition; two calls are ordered where one
-of the conditions of their operations holds. Two takings that are both shared never conflict."""
+of the conditions of their operations holds. Two takings that are both shared never conflict.
+
+`./cise order SPEC` compares what is ordered with what has to be, which the program's suggestion says."""
+from view import program
+from view.columns import table, wrapped
+from view.report import Suggestion
+from view.tree import Spec
+from view.words import text_of
+
+ORIGIN = (
+    "Which pairs have to be ordered, and which equalities are enough, is what the program's suggestion says. On what they are ordered is read off "
+    "the rules and the takes lines, and isn't proved."
+)
 
 
 class Condition:
@@ -143,6 +155,18 @@ class Pair:
     def short(self):
         return short(self.conditions)
 
+    def follows(self, one, other):
+        """Whether one condition on this pair's calls implies another. Two calls of one operation may be exchanged."""
+        return one.implies(other) or (self.f == self.g and one.implies(other, swapped=True))
+
+    def within(self, condition):
+        """Whether calls that are ordered always meet a condition."""
+        return all(self.follows(it, condition) for it in self.conditions)
+
+    def covers(self, condition):
+        """Whether calls that meet a condition are always ordered."""
+        return any(self.follows(condition, it) for it in self.conditions)
+
     def says(self):
         """The state in a sentence: how many obligations are refuted or undecided, and on what the two are ordered."""
         ordered = sentence(self.conditions, self.f, self.g)
@@ -162,3 +186,80 @@ def pairs(spec, blocks=()):
         if it.pair():
             found[it.pair()].blocks.append(it)
     return found
+
+
+class Advice:
+    """What a suggestion says of a pair. `word` is needed, free or unknown; `enough` are the conditions of its lines `by`, `little` those of its lines
+    `notby`."""
+
+    def __init__(self, suggested):
+        self.word = suggested.word
+        self.enough, self.little = [
+            [Condition([(("f", it.left), ("g", it.right))], None) for it in suggested.answers if it.word == word] for word in ("by", "notby")
+        ]
+
+    def group(self, pair):
+        """The group of `GROUPS` in which a pair stands, or None for one that is free and isn't ordered."""
+        if self.word != "needed":
+            return f"{self.word}, ordered" if pair.conditions else "unknown" if self.word == "unknown" else None
+        if not pair.conditions:
+            return "missing"
+        if any(pair.within(it) for it in self.little):
+            return "little"
+        return "more" if self.least(pair) and not any(pair.within(it) for it in self.enough) else "needed"
+
+    def least(self, pair):
+        """The equalities that are enough and that the pair is ordered on already."""
+        return [it for it in self.enough if pair.covers(it)]
+
+    def words(self, pair):
+        """What there is to say of a pair, behind its name."""
+        group, on = self.group(pair), " ".join(pair.short())
+        said = [on] if pair.conditions else []
+        if group == "missing":
+            said.append(f"{either(self.enough)} is enough" if self.enough else "no single equality is known to be enough")
+        elif group == "more":
+            said.append(f"{either(self.least(pair))} is enough")
+        elif group == "needed" and not self.least(pair):
+            said.append("check says whether that is enough")
+        rules = sorted({it for condition in pair.conditions for it in condition.rules})
+        if rules:
+            said.append(f"{'rule' if len(rules) == 1 else 'rules'} at line {', '.join(map(str, rules))}")
+        return "; ".join(said)
+
+
+def either(found):
+    return " or ".join(it.short() for it in found)
+
+
+# The groups of pairs, in the order in which they stand in the text.
+GROUPS = {
+    "missing": "Have to be ordered, and aren't:",
+    "little": "Are ordered, on too little:",
+    "needed": "Are ordered, and have to be:",
+    "more": "Are ordered, on more than they have to be:",
+    "free, ordered": "Are ordered needlessly, since they may run at once:",
+    "unknown, ordered": "Are ordered; whether they have to be is undecided:",
+    "unknown": "Aren't ordered; whether they have to be is undecided:",
+}
+
+
+def answer(path):
+    """The status of the program's suggestion, and a text that compares it with the order that the specification has."""
+    status, text = program.answer("suggest", path)
+    return status, compared(Spec(text_of(path)), Suggestion(text))
+
+
+def compared(spec, suggestion):
+    """Each pair of operations with its order, in groups, and how many there are."""
+    found = [(Pair(spec, it.left, it.right), Advice(it)) for it in suggestion.pairs]
+    lines = []
+    for group, head in GROUPS.items():
+        rows = [(pair.name(), advice.words(pair)) for pair, advice in found if advice.group(pair) == group]
+        if rows:
+            lines += [head, *table(rows, 2), ""]
+    groups = [advice.group(pair) for pair, advice in found]
+    ordered, missing = sum(bool(pair.conditions) for pair, _ in found), groups.count("missing")
+    count = f"{len(found)} {'pair' if len(found) == 1 else 'pairs'}: {ordered} ordered, {groups.count('free, ordered')} of them needlessly"
+    lines += wrapped(ORIGIN) + ["", f"{count}; {missing} not ordered that {'has' if missing == 1 else 'have'} to be"]
+    return "\n".join(lines) + "\n"

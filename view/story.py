@@ -1,5 +1,6 @@
 """A refuted or undecided obligation as people would tell it. The terminal's text and the page are both made from these stories, so that they can't
 differ. Names are never capitalised, since `a` and `A` are two names."""
+from view.columns import joined
 from view.formulas import readings_of
 from view.outcome import failing_line, outcome
 from view.tree import UPDATES
@@ -219,10 +220,6 @@ def writing_lines(spec, block):
     for name in dict.fromkeys(block.names[:2]):
         found += [it for it in spec.operations[name].of(*UPDATES) if it.body[0] == block.names[2]]
     return found
-
-
-def joined(names):
-    return " and ".join([", ".join(names[:-1]), names[-1]] if len(names) > 1 else names)
 
 
 def stories(spec, report):
