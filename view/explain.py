@@ -125,7 +125,7 @@ def ended(story):
     lines = ["  Each then takes the other's call. At the end:"]
     for who, text in zip("AB", texts):
         lines += wrapped(f"{who}  {story.names.thing(*story.differs)} is {text}", 4, 9)
-    return lines + ["  and nothing will make them equal again."]
+    return lines + ["  though both have taken the same calls."]
 
 
 def values(story):

@@ -200,7 +200,7 @@ class Story:
         if self.kind == "commute":
             thing, texts = self.names.thing(*self.differs), self.end_texts()
             values = f": {texts[0]} at A, {texts[1]} at B" if texts else ""
-            return f"Each replica has taken both calls, and {thing} differs for ever{values}."
+            return f"Each replica has taken both calls, and {thing} differs{values}."
         there = "A's call reaches B after B's own call. There a line that A's call requires is false"
         if self.line.prefix == "exists":
             return f"{there}: no {', '.join(f'{v} : {s}' for v, s in self.line.vars)} is left for which it holds."
