@@ -10,7 +10,7 @@ import sys
 import tempfile
 
 from view import program
-from view.words import encoded
+from view.words import encoded, text_of
 
 # For each command the module that answers it, and how many paths it takes at least and at most.
 COMMANDS = {"explain": ("explain", 1, 2), "mend": ("mend", 1, 1), "order": ("order", 1, 1), "page": ("page", 1, 2), "json": ("facts", 1, 1)}
@@ -83,4 +83,38 @@ def written(text):
 
 def places(program_path, words, status):
     """Behind a command of the program that ended with status 3 or 4: says on standard error where its input is wrong, and what could have
-    stood there. It never raises, and says nothing where it knows nothing."""
+    stood there. It never raises, changes nothing, and says nothing where it knows nothing, as of an input that can't be read twice."""
+    try:
+        program.use(program_path)
+        say(REFUSED[status](list(words)))
+    except Exception:  # The program has refused its input, and nothing here may hide that.
+        pass
+
+
+def refused_specification(words):
+    """What is said of a specification that a command refused. Each command refuses it alike."""
+    from view import slips
+
+    path = words[1]
+    return slips.tell(path, text_of(path), program.run("spell", path)[1]) if os.path.isfile(path) else ""
+
+
+def refused_input(words):
+    """What is said of a report, a schedule or a step of a schedule that a command refused."""
+    from view import refused_report, schedule, slips
+    from view.tree import Spec
+
+    command, spec_path, path = words[:3]
+    if not (os.path.isfile(spec_path) and os.path.isfile(path)):
+        return ""
+    answer, text = program.run(command, spec_path, path)[1], text_of(path)
+    if answer.startswith(refused_report.BEGIN):
+        slip = refused_report.slip_of(text, answer[len(refused_report.BEGIN) :].strip())
+    elif answer.startswith(schedule.BEGIN):
+        slip = schedule.slip_of(Spec(text_of(spec_path)), text, answer[len(schedule.BEGIN) :].strip())
+    else:
+        slip = schedule.refused_step(Spec(text_of(spec_path)), text, answer)
+    return slips.shown(path, text, slip)
+
+
+REFUSED = {3: refused_specification, 4: refused_input}
