@@ -16,6 +16,10 @@ NEEDS = {
 }
 
 
+# What other languages call whole numbers.
+WHOLE_NUMBERS = ("int", "integer", "number", "nat", "natural", "num", "long", "amount")
+
+
 class Declared:
     """A name that is declared: its word, what it is, of a constant, parameter or variable its sort (or int), of a thing those of its places."""
 
@@ -158,7 +162,7 @@ def unknown(spec, word):
     said = f"Nothing of this name is declared before; here {needed(spec, site)} is needed." if site else "Nothing of this name is declared before."
     fits = [it for it in scope if fit(spec, site, it)] if site else scope
     near = difflib.get_close_matches(word, [it.word for it in fits], 1, 0.6) or [it.word for it in fits if it.word.lower() == word.lower()]
-    if word.lower() == "int" and site and site.needs == "kind":
+    if word.lower() in WHOLE_NUMBERS and site and site.needs == "kind":
         return f"unknown name {word}", "The kind of whole numbers is written int."
     if near:
         said += f" A name like it is {near[0]} (line {near[0].line})."

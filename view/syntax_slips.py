@@ -279,16 +279,26 @@ def places_of_things(place):
     """Slips in the lists of places of relations, counters and tokens, and right behind their names."""
     if place.line is not None or place.head not in ("relation", "counter", "token", "sort", "initially"):
         return None
-    word, after, name = place.word, place.near(1), place.words[place.item + 1] if place.item + 1 < len(place.words) else "r"
+    word, name = place.word, place.words[place.item + 1] if place.item + 1 < len(place.words) else "r"
     if place.head == "sort" and place.at == place.item + 2 and (word == "," or place.is_name(word) and not other_word(word)):
         return "each sort has an item of its own: sort A sort B"
     if place.head == "initially":
         return first_value(place)
     if place.head != "sort" and word == ":" and place.brackets:
-        return f"places are sorts alone, without names: {place.head} {name} ( {after or 'A'} )"
+        return f"places are sorts alone, without names: {place.head} {name} ( {' , '.join(kinds_in_brackets(place)) or 'A'} )"
     if place.head != "sort" and place.at == place.item + 2 and (word == ":" or place.is_name(word) and not other_word(word)):
         row = place.named_row(place.at + (word == ":"))
         return f"places stand in brackets: {place.head} {name} ( {' , '.join(row)} )" if row and place.is_name(row[0]) else None
+
+
+def kinds_in_brackets(place):
+    """The words behind colons, up to the next closing bracket."""
+    found, at = [], place.at
+    while at < len(place.words) and place.words[at] != ")":
+        if place.words[at - 1] == ":" and place.is_name(place.words[at]):
+            found.append(place.words[at])
+        at += 1
+    return found
 
 
 def first_value(place):
@@ -336,8 +346,19 @@ def chain(place):
                 right = ["(", *right, ")"] if right else place.longest("formula", place.at + 1)
                 return "each comparison has brackets of its own" + place.sample("formula", ["(", "(", *left, ")", word, *right, ")"], f"( ( a > 0 ) {word} ( b > 0 ) )")
         right = place.longest("formula", place.at + 1)
-        whole = ["(", "(", *left, ")", word, *right, ")"]
-        return "a pair of brackets joins two parts; with a third one it wants brackets again" + place.sample("formula", whole, f"( ( a {word} b ) {word} c )")
+        return "a pair of brackets joins two parts; with a third one it wants brackets again" + place.sample("formula", grouped(left, word, right), f"( ( a {word} b ) {word} c )")
+
+
+def grouped(left, word, right):
+    """Two joined parts and a third one, with the brackets that most people mean: 'and' binds closer than 'or', and that than 'implies'."""
+    depth, first = 0, None
+    for at, it in enumerate(left):
+        depth += (it == "(") - (it == ")")
+        if depth == 0 and it in CONNECTIVES:
+            first = at
+    if first is not None and (CONNECTIVES.index(word) < CONNECTIVES.index(left[first]) or word == left[first] == "implies"):
+        return ["(", *left[: first + 1], "(", *left[first + 1 :], word, *right, ")", ")"]
+    return ["(", "(", *left, ")", word, *right, ")"]
 
 
 def one_part(place):
