@@ -145,17 +145,17 @@ SETTLED = """cise 1
 sort P
 relation on ( P , P )
 counter sum ( P )
-token both ( P , P )
-conflict both ( x , y ) both ( x , y )
+token link ( P , P )
+conflict link ( x , y ) link ( x , y )
 operation join ( a : P , b : P )
   insert on ( a , b )
   set sum ( a ) 2
-  takes both ( a , b )
+  takes link ( a , b )
 end
 operation leave ( a : P , b : P )
   remove on ( a , * ) when on ( b , a )
   set sum ( * ) 3
-  takes both ( a , b )
+  takes link ( a , b )
 end
 """
 

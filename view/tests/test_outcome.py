@@ -1,5 +1,6 @@
 """The states at the end of refutations: each refutation is confirmed by the program's replay, and what isn't one is not."""
 import copy
+import functools
 import glob
 import random
 import unittest
@@ -12,12 +13,18 @@ from view.tree import Spec
 from view.words import text_of
 
 
+@functools.lru_cache(maxsize=None)
+def report_on(text, *words):
+    """The program's report on a specification, as text."""
+    return program.run_on(text, "check", *words)[1]
+
+
 def checked(text, *words):
     """A specification and its report."""
-    _, report = program.run_on(text, "check", *words)
-    return Spec(text), Report(report)
+    return Spec(text), Report(report_on(text, *words))
 
 
+@functools.lru_cache(maxsize=None)
 def gallery():
     """The specifications of the examples and those of `kinds`, by name."""
     return {**{it: text_of(it) for it in sorted(glob.glob("examples/*/*.cise"))}, **KINDS}
