@@ -6,11 +6,11 @@ output. Where the program refuses an input, `program.answer` or `program.replaye
 """
 import importlib
 import os
-import sys
 import tempfile
 
 from view import program
-from view.words import encoded, text_of
+from view.output import say, written
+from view.words import text_of
 
 # For each command the module that answers it, and how many paths it takes at least and at most.
 COMMANDS = {"explain": ("explain", 1, 2), "mend": ("mend", 1, 1), "order": ("order", 1, 1), "page": ("page", 1, 2), "json": ("facts", 1, 1)}
@@ -18,16 +18,6 @@ USAGE = "explain SPEC [REPORT], mend SPEC, order SPEC, page SPEC [SCHEDULE], jso
 # The program reads no more of any input than a little over this; more is copied of none that is no file.
 MOST_BYTES = 1 << 26
 BAD_WORDS, NOT_READ, NOT_WRITTEN = 2, 6, 7
-
-
-def say(text):
-    """Writes on standard error; that it can't is no reason to end."""
-    try:
-        sys.stderr.flush()
-        sys.stderr.buffer.write(encoded(text))
-        sys.stderr.buffer.flush()
-    except (OSError, ValueError):
-        pass
 
 
 def main(program_path, words):
@@ -66,19 +56,6 @@ def as_file(path, folder, place):
     with open(path, "rb") as source, open(copy, "wb") as target:
         target.write(source.read(MOST_BYTES + 1))
     return copy
-
-
-def written(text):
-    """Writes on standard output, and says whether it could."""
-    try:
-        sys.stdout.flush()
-        sys.stdout.buffer.write(encoded(text))
-        sys.stdout.buffer.flush()
-        return True
-    except (OSError, ValueError):
-        # What is left in a buffer must not fail once more when the interpreter ends.
-        os.dup2(os.open(os.devnull, os.O_WRONLY), 1)
-        return False
 
 
 def places(program_path, words, status):
