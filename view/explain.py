@@ -91,9 +91,7 @@ def notes(story, pair):
     if pair and pair.conditions:
         both = f"Two calls of {pair.f}" if pair.f == pair.g else f"{pair.f} and {pair.g}"
         found.append(f"{both} are {order.sentence(pair.conditions, pair.f, pair.g)}. These two calls aren't.")
-    if story.untold:
-        found.append(f"The values at the end aren't shown. {story.untold}")
-    return found + ([story.observed()] if story.observed() else [])
+    return found + [it for it in (story.untold, story.observed()) if it]
 
 
 def called(story):

@@ -103,7 +103,7 @@ class Story:
     facts     what that state holds, as texts, and `also` which constants are one element
     sizes     how many elements each sort has
     calls     none, one or two `Call`s
-    ends      the states at the end, as `outcome.Outcome` has them, or None; then `untold` is a sentence that says why
+    ends      the states at the end, as `outcome.Outcome` has them, or None; then `untold` are sentences that say why
     where     pairs of a variable and its element, at which the line is false
     differs   of commute the place (thing, elements) that reads differently
     readings  what the line reads where it is false: (reading, value, place or None for a parameter that is a number)
@@ -124,7 +124,7 @@ class Story:
         self.before, self.sizes, self.also = witness.state, witness.sizes, self.names.also
         self.calls = [Call(self.spec, self.names, *it) for it in witness.calls]
         found = outcome(self.spec, self.block)
-        self.ends, self.untold = found.states, found.why
+        self.ends, self.untold = found.states, f"The values at the end aren't shown. {found.why}" if found.why else None
         self.where = [(v, self.names.element(s, it)) for (v, s), it in zip(self.line.vars, witness.at)] if self.line else []
         self.differs = (self.block.names[2], tuple(witness.at)) if self.kind == "commute" else None
         self.readings = self.readings_there(witness) if self.line and self.line.prefix != "exists" else []
