@@ -12,7 +12,7 @@ from view.edits import with_tokens
 from view.report import Report
 from view.tokens import MOST_PLACES, Order, Tokens
 
-MOST_ALTERNATIVES, MOST_TRIALS = 4, 40
+MOST_ALTERNATIVES, MOST_TRIALS, MOST_FOR_UNDECIDED = 4, 40, 8
 
 
 class Search:
@@ -56,6 +56,12 @@ class Search:
                 self.learn(it)
         return all(it.verdict == "proved" for it in blocks)
 
+    def found_for_undecided(self):
+        """The same for a pair of which nothing is refuted: one equality, else always, else None where even that isn't enough."""
+        if not self.is_enough([[]]):
+            return None
+        return next(([[it]] for it in self.equalities[:MOST_FOR_UNDECIDED] if self.is_enough([[it]])), [[]])
+
     def found(self):
         """The alternatives on which the pair is to be ordered: one of several equalities where such are enough, else always."""
         for count in range(1, MOST_ALTERNATIVES + 1):
@@ -92,12 +98,15 @@ def by_lines(pair):
 
 
 def order_of(spec, pair):
-    """The order that a pair of a suggestion needs, as the program's answers have it. For a pair of `by` lines no run is needed: what they say
-    together is proved, and `mend` has the whole text checked anyhow."""
+    """The order that a pair of a suggestion needs, as the program's answers have it, or None where no order is enough. For a pair of `by` lines
+    no run is needed: what they say together is proved, and `mend` has the whole text checked anyhow."""
     together = by_lines(pair)
     if together and pair.left != pair.right:
         return Order(pair.left, pair.right, [together])
     search = Search(spec, pair.left, pair.right)
+    if pair.word == "unknown":
+        found = search.found_for_undecided()
+        return Order(pair.left, pair.right, found) if found else None
     if together:
         # Of two calls of one operation p = q may hold with the calls exchanged, so that two such lines needn't hold the same way round.
         alike = [it for it in together if it[0] == it[1]]
@@ -106,6 +115,6 @@ def order_of(spec, pair):
                 return Order(pair.left, pair.right, [alternative])
     if not spec.tokens:
         for block in [pair.block] + [it.block for it in pair.answers]:
-            if block:
+            if block and block.verdict == "refuted":
                 search.learn(block)
     return Order(pair.left, pair.right, search.found())

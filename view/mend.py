@@ -19,12 +19,14 @@ def answer(path):
     spec, before = Spec(text_of(path)), Report(text)
     broken = broken_pairs(before)
     if not broken:
-        say(summary(spec, spec, before, []))
+        say(summary(spec, before, [], set()))
         return status, spec.text
     suggestion = Suggestion(program.answer("suggest", path)[1])
-    orders = [order_of(spec, it) for it in suggestion.pairs if frozenset((it.left, it.right)) in broken]
-    mended, status, after = settled(spec, orders)
-    say(summary(spec, mended, after, orders))
+    pairs = [it for it in suggestion.pairs if frozenset((it.left, it.right)) in broken]
+    orders = [it for it in (order_of(spec, it) for it in pairs) if it]
+    mended, status, after, kept = settled(spec, orders)
+    unknown = {frozenset((it.left, it.right)) for it in pairs if it.word == "unknown"}
+    say(no_room(orders, kept) + summary(mended, after, kept, unknown))
     return status, mended.text
 
 
@@ -34,33 +36,44 @@ def broken_pairs(report):
 
 
 def settled(spec, orders):
-    """The mended specification with the status and the report of its check. An order that isn't enough in the whole text is made to hold always;
-    where the language's limits are met, the last orders are left out."""
+    """The mended specification with the status and the report of its check, and the orders that it keeps. An order that isn't enough in the whole
+    text is made to hold always; where the language's limits are met, the last orders are left out."""
     tried = list(orders)
     while True:
         text = with_tokens(spec, Tokens(spec, tried))
         status, said = program.run_on(text, "check")
         if status in (0, 1, 5):
             report = Report(said)
-            left = [it for it in tried if frozenset((it.f, it.g)) in broken_pairs(report) and it.alternatives != [[]]]
+            left = [it for it in tried if frozenset((it.f, it.g)) in broken_pairs(report)]
             if not left:
-                orders[:] = tried
-                return Spec(text), status, report
-            tried = [Order(it.f, it.g, [[]]) if it in left else it for it in tried]
+                return Spec(text), status, report, tried
+            tried = [Order(it.f, it.g, [[]]) if it in left else it for it in tried if it not in left or it.alternatives != [[]]]
         elif status == 3 and tried:
             tried.pop()
         else:
             raise program.Stopped(["check"], status, said)
 
 
-def summary(spec, mended, report, orders):
-    """What standard error says: each new order, what isn't mended, and the counts."""
-    lines = [f"mend: {it.f} || {it.g}: {order.sentence(order.conditions(mended, it.f, it.g), it.f, it.g)}" for it in orders]
+def no_room(orders, kept):
+    """Which orders were left out since there was no room for them."""
+    pairs = [(it.f, it.g) for it in kept]
+    left = [it for it in orders if (it.f, it.g) not in pairs]
+    why = "isn't ordered: a text has no room for more tokens, rules or takes lines, or no order is enough"
+    return "".join(f"mend: {it.f} || {it.g} {why}\n" for it in left)
+
+
+def summary(mended, report, orders, unknown):
+    """What standard error says: each new order, what isn't mended, and the counts. Of the pairs in `unknown` nothing was refuted."""
+    lines = []
+    for it in orders:
+        doubt = "; undecided before, so it may need no order" if frozenset((it.f, it.g)) in unknown else ""
+        lines.append(f"mend: {it.f} || {it.g}: {order.sentence(order.conditions(mended, it.f, it.g), it.f, it.g)}{doubt}")
     left = stories(mended, report)
     if not orders and not left:
         lines.append("mend: there is nothing to be mended")
     if left:
-        lines.append(f"mend: {len(left)} {'obligation is' if len(left) == 1 else 'obligations are'} left that no token mends")
+        count = "1 obligation is" if len(left) == 1 else f"{len(left)} obligations are"
+        lines.append(f"mend: {count} left that no token mends; lines are those of the text that is written")
         for number, it in enumerate(left, 1):
             lines += ["", *tell(it, number, None)]
         lines.append("")

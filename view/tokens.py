@@ -52,6 +52,8 @@ class Tokens:
                 self.rule(it.f, it.g, alternative)
         while self.share():
             pass
+        place = {it: at for at, it in enumerate(spec.operations)}
+        self.tokens.sort(key=lambda it: place[it.takers[0][0]])
         self.name()
 
     def params(self, operation):
@@ -100,7 +102,8 @@ class Tokens:
         for at, one in enumerate(self.tokens):
             for other in self.tokens[at + 1 :]:
                 if one.sorts == other.sorts and self.are_alike(one, other):
-                    one.takers += other.takers
+                    place = {it: number for number, it in enumerate(self.spec.operations)}
+                    one.takers = sorted(one.takers + other.takers, key=lambda it: place[it[0]])
                     self.tokens.remove(other)
                     rules, self.rules = self.rules, []
                     for it in rules:
@@ -126,10 +129,12 @@ class Tokens:
         for token in self.tokens:
             calls = "_or_".join(str(operation) for operation, _ in token.takers)
             places = "_".join(self.place_name(token, at) for at in range(len(token.sorts)))
-            whole = f"{calls}_{places}" if places else f"any_{calls}"
+            told = {self.place_name(token, at) for at in range(len(token.sorts))} <= set(calls.split("_"))
+            whole = f"any_{calls}" if not places else f"{calls}_token" if told else f"{calls}_{places}"
             first = token.takers[0][0]
-            shorter = [whole, f"{calls}_calls", f"{first}_and_others", f"{first}_calls", "order"]
-            token.name = next(it for it in numbered(shorter) if it not in taken and len(it) <= MOST_LETTERS)
+            others = [f"{first}_and_others"] if len(token.takers) > 1 else []
+            names = [whole, f"{calls}_calls", *others, f"{first[: MOST_LETTERS - len('_calls')]}_calls"]
+            token.name = next(it for it in numbered(names) if it not in taken and len(it) <= MOST_LETTERS)
             taken.add(token.name)
 
     def place_name(self, token, at):
