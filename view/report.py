@@ -3,17 +3,22 @@ docs/SUGGEST.md tell them."""
 
 
 class State:
-    """`true` holds (relation, elements) for what is true, `count` has (counter, elements): value for what isn't 0. All else is false or 0."""
+    """`true` holds (relation, elements) for what is true, `count` has (counter, elements): value for what isn't 0. All else is false or 0.
+    `listed` has the same in the order of the text: (relation or counter, elements, value or None)."""
 
     def __init__(self):
-        self.true, self.count = set(), {}
+        self.true, self.count, self.listed = set(), {}, []
 
     def line(self, parts):
         """Takes a line `true` or `count` of a text, cut into its parts."""
         if parts[0] == "true":
-            self.true.add((parts[1], tuple(map(int, parts[2:]))))
+            place = parts[1], tuple(map(int, parts[2:]))
+            self.true.add(place)
+            self.listed.append((*place, None))
         else:
-            self.count[parts[1], tuple(map(int, parts[2:-1]))] = int(parts[-1])
+            place = parts[1], tuple(map(int, parts[2:-1]))
+            self.count[place] = int(parts[-1])
+            self.listed.append((*place, self.count[place]))
 
 
 class Witness:
@@ -116,6 +121,21 @@ class Replay:
                 self.states.append(State())
             else:
                 self.states[-1].line(parts)
+
+
+class Simulation:
+    """A simulation: `steps` are (step, replica, the parts of what is said of it); `stop`, `taken` and `states` are those of a replay."""
+
+    def __init__(self, text):
+        self.steps, rest = [], []
+        for line in text.splitlines()[1:]:
+            parts = line.split()
+            if parts[0] == "step":
+                self.steps.append((int(parts[1]), int(parts[3]), parts[4:]))
+            else:
+                rest.append(line)
+        end = Replay("\n".join(["", *rest]))
+        self.stop, self.taken, self.states = end.stop, end.taken, end.states
 
 
 class Answer:
