@@ -2,6 +2,7 @@
 its sign, its colour and its words whether the two may run at once. It leads to its first story, else to its obligations."""
 from html import escape
 
+from view import order
 from view.parts import chip, scrolling, shown, sign
 
 # Of more operations the cells have signs alone, and the names above them stand upright.
@@ -30,12 +31,13 @@ def alone_id(operation):
     return f"alone-{operation}"
 
 
-def pair_words(pair):
-    """The words of a cell, row by row: the state where it isn't free or ordered, and on what the two are ordered."""
-    state = pair.state()
+def pair_words(spec, pair, f, g):
+    """The words of a cell, row by row: the state where it isn't free or ordered, and on what the two are ordered. In `a = b` the first is an argument
+    of the row's operation."""
+    state, on = pair.state(), order.short(order.conditions(spec, f, g))
     if state not in ("refuted", "undecided"):
-        return pair.short()
-    return [state] + (["ordered: " + " ".join(pair.short())] if pair.conditions else [])
+        return on
+    return [state] + (["ordered: " + " ".join(on)] if pair.conditions else [])
 
 
 def cell(classes, target, label, words):
@@ -56,7 +58,7 @@ def row(design, f):
     for g in design.spec.operations:
         pair = design.pairs[f, g]
         classes = pair.state() + (" own" if f == g else "")
-        cells.append(cell(classes, design.target(pair.blocks, pair.id()), f"{f} with {g}: {pair.says()}", pair_words(pair)))
+        cells.append(cell(classes, design.target(pair.blocks, pair.id()), f"{f} with {g}: {pair.says()}", pair_words(design.spec, pair, f, g)))
     return f'<tr><th scope="row"><span>{f}</span></th>{"".join(cells)}</tr>'
 
 

@@ -1,5 +1,6 @@
 """A page on a design, `page SPEC`, or on a replay, `page SPEC SCHEDULE`. It stands alone: one file of HTML without a script."""
 from view import drawn, order, program
+from view.explain import notes
 from view.matrix import alone_id, matrix, worst
 from view.parts import banner, chip, code, foot, head, listed, sheet, shown, sign, title_of, user_lines, whole_text, with_code
 from view.picture import pictures, short_names
@@ -15,7 +16,7 @@ FACTS_IN_PICTURE = 5
 SAYS = {
     "accepted": "Every obligation is proved. As long as what is ordered below is kept in order, replicas that have taken the same calls are equal, "
     "and no invariant is ever false.",
-    "rejected": "Some obligations are refuted: each story below is a case in which the design goes wrong.",
+    "rejected": "Some obligations are refuted. Each story below has a state and calls with which one of them fails.",
     "undecided": "Nothing is refuted, but not everything is proved.",
 }
 STATES = {"accepted": "proved", "rejected": "refuted", "undecided": "undecided"}
@@ -83,10 +84,10 @@ def summary(report):
 def card(design, story):
     """A story with its picture, or an undecided obligation with its limit."""
     number, block = design.numbers[story.block], story.block
-    lines = user_lines(story.lines, design.spec.version)
+    lines = user_lines(story.lines, design.spec.version, story.verdict)
     out = (
         f'<article class="story {story.verdict}" id="story-{number}"><header><p class="kind">{chip(story.verdict, story.verdict)}'
-        f'<a class="where" href="#{home(block)}">{block.words()}</a></p><h3>{with_code(story.title(), design.names)}</h3></header>'
+        f'<a class="where" href="#{home(block)}">{block.words()}</a></p><h3><span class="count">{number}.</span> {with_code(story.title(), design.names)}</h3></header>'
     )
     if story.verdict == "undecided":
         return out + f"<p>{shown(story.limit)} {shown(story.todo)}</p>{lines}</article>"
@@ -108,7 +109,7 @@ def told(design, story, lines):
     out.append(f'<p class="end">{with_code(story.ending(), design.names)}</p>{lines}')
     if story.readings:
         out.append(f'<p>There {", ".join(f"{code(thing)} is <strong>{value}</strong>" for thing, value, _ in story.readings)}.</p>')
-    out += [f'<p class="note">{with_code(it, design.names)}</p>' for it in (story.untold, story.observed()) if it]
+    out += [f'<p class="note">{with_code(it, design.names)}</p>' for it in notes(story, design.pairs.get(story.block.pair()))]
     return "".join(out)
 
 

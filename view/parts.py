@@ -59,14 +59,14 @@ def painted(text, version):
     return out + (f"<i>{shown(hash_sign + comment)}</i>" if hash_sign else "")
 
 
-def user_lines(lines, version):
-    """Lines as the user wrote them, each in one or more rows; each number leads to the row in the whole text."""
+def user_lines(lines, version, state="refuted"):
+    """Lines as the user wrote them, each in one or more rows; each number leads to the row in the whole text. The state gives the colour."""
     rows = []
     for line in lines:
         for number, row in enumerate(line.text.split("\n"), line.number):
             link = f'<a class="number" href="#line-{number}">{number}</a>'
             rows.append(f'<span class="row">{link}<span>{painted(row.rstrip(), version)}</span></span>')
-    return f'<pre class="line">{"".join(rows)}</pre>' if rows else ""
+    return f'<pre class="line {state}">{"".join(rows)}</pre>' if rows else ""
 
 
 def whole_text(spec):

@@ -134,13 +134,13 @@ def pair_wide(story, boxes):
     call_end = call_at + w
     taken_at = call_end + 132
     right_at = taken_at + 30
-    out = [lane_wide(start.w + 1, middle, call_at, y, right_at if y == lower or right.upper else taken_at) for y in (upper, lower)]
+    stable = story.kind == "stable"
+    out = [lane_wide(start.w + 1, middle, call_at, y, taken_at if stable else right_at) for y in (upper, lower)]
     out.append(text(1, middle - start.h / 2 - ABOVE_BOX, "both replicas hold", "cap") + start.draw(1, middle - start.h / 2))
     for who, y, box in zip("AB", (upper, lower), calls):
         out.append(text(call_at, y - box.h / 2 - ABOVE_BOX, f"replica {who} calls", "cap") + box.draw(call_at, y - box.h / 2, w))
     between = (upper + calls[0].h / 2 + lower - calls[1].h / 2 - HEAD) / 2
     out += neither_knows(call_at + w / 2, between - 2)
-    stable = story.kind == "stable"
     out.append(arrow([(call_end + 2, upper + 4), (taken_at - 4, lower - (10 if stable else 6))], "bad" if stable else ""))
     out.append(arrow([(call_end + 2, lower - 4), (taken_at - 4, upper + 6)]))
     out.append(dot(taken_at, upper) + (cross if stable else dot)(taken_at, lower))
@@ -187,7 +187,7 @@ class Right:
             for who, y, box in zip("AB", (upper, lower), self.ends):
                 out.append(text(x, y - box.h / 2 - ABOVE_BOX, f"{who} ends with", "cap") + box.draw(x, y - box.h / 2, self.w))
             y = (upper + self.upper / 2 + lower - self.lower / 2 - HEAD) / 2
-            return out + [unequal(x + 12, y), text(x + 30, y + 4, "for ever", "cap capbad")]
+            return out + [unequal(x + 12, y), text(x + 30, y + 4, "different", "cap capbad")]
         y = lower - self.lower / 2
         if self.held:
             out.append(text(x, y - ABOVE_BOX, "B holds, after its own call", "cap") + self.held.draw(x, y, self.w))
@@ -208,7 +208,7 @@ def pair_narrow(story, boxes):
     out.append(text(1, HEAD - 6, "both replicas hold", "cap") + start.draw(1, HEAD, total - 2))
     out += beside(lanes, call_y, "replica {} calls")
     out += [box.draw(x, call_y, w) for x, box in zip(lefts, calls)]
-    stable = story.kind == "stable"
+    stable = not ends
     out.append(arrow([(lefts[0] + w / 2, call_y + calls[0].h + 2), (lanes[1] - (11 if stable else 8), taken_y - 4)], "bad" if stable else ""))
     out.append(arrow([(lefts[1] + w / 2, call_y + calls[1].h + 2), (lanes[0] + 8, taken_y - 4)]))
     out.append(dot(lanes[0], taken_y) + (cross if stable else dot)(lanes[1], taken_y))

@@ -71,16 +71,18 @@ class Box:
     most     the letters of a row, where the facts can be cut so
     least    the least width
     at_most  of more facts than this the last ones are only counted
+    corner   a text at the right end of the first row
     """
 
     RULE = ("", "rule")
 
-    def __init__(self, rows, kind="box", most=26, least=90, at_most=9):
+    def __init__(self, rows, kind="box", most=26, least=90, at_most=9, corner=""):
         if len(rows) > at_most:
             rows = rows[: at_most - 1] + [(f"\u2026 and {len(rows) - at_most + 1} more", "soft")]
         self.rows = [(piece, kind_of_row) for text, kind_of_row in rows for piece in rows_of(text, most)]
-        self.kind = kind
-        self.w = max([least] + [text_width(text) + 2 * PAD for text, _ in self.rows])
+        self.kind, self.corner = kind, corner
+        first = text_width(f"{self.rows[0][0]}  {corner}")
+        self.w = max([least, first + 2 * PAD] + [text_width(text) + 2 * PAD for text, _ in self.rows])
         self.h = sum(LINE_ROW if it == self.RULE else ROW for it in self.rows) + 2 * PAD - 4
 
     def draw(self, x, y, w=None):
@@ -88,6 +90,8 @@ class Box:
         w = w or self.w
         out = [f'<rect class="{self.kind}" x="{x:.1f}" y="{y:.1f}" width="{w:.1f}" height="{self.h:.1f}" rx="6"/>']
         y += PAD + 10
+        if self.corner:
+            out.append(text(x + w - PAD, y, self.corner, "soft", "end"))
         for row in self.rows:
             if row == self.RULE:
                 out.append(f'<path class="rule" d="M{x + PAD:.1f} {y - 8:.1f} H{x + w - PAD:.1f}"/>')
@@ -146,10 +150,10 @@ def unequal(x, y):
     return f'<path class="waybad" d="M{x - 9:.1f} {y - 4:.1f} h18 m-18 8 h18 m-14 6 l10 -20"/>'
 
 
-def svg(w, h, parts, kind, title):
-    """A picture. It shrinks with its frame down to three quarters; where that isn't enough its frame scrolls."""
+def svg(w, h, parts, kind, title, least=0.6):
+    """A picture. It shrinks with its frame, but no further than to the part `least`; where that isn't enough its frame scrolls."""
     label = escape(title, True)
     return (
-        f'<svg class="pic {kind}" viewBox="0 0 {w:.0f} {h:.0f}" width="{w:.0f}" height="{h:.0f}" style="min-width:{0.75 * w:.0f}px" '
+        f'<svg class="pic {kind}" viewBox="0 0 {w:.0f} {h:.0f}" width="{w:.0f}" height="{h:.0f}" style="min-width:{least * w:.0f}px" '
         f'role="img" aria-label="{label}"><title>{label}</title>{"".join(parts)}</svg>'
     )
