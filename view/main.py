@@ -6,6 +6,7 @@ output. Where the program refuses an input, `program.answer` or `program.replaye
 """
 import importlib
 import os
+import signal
 import tempfile
 
 from view import program
@@ -17,22 +18,47 @@ COMMANDS = {"explain": ("explain", 1, 2), "mend": ("mend", 1, 1), "order": ("ord
 USAGE = "explain SPEC [REPORT], mend SPEC, order SPEC, page SPEC [SCHEDULE], json REPORT|REPLAY|SUGGESTION"
 # The program reads no more of any input than a little over this; more is copied of none that is no file.
 MOST_BYTES = 1 << 26
-BAD_WORDS, NOT_READ, NOT_WRITTEN = 2, 6, 7
+BAD_WORDS, NOT_READ, NOT_WRITTEN, NO_MEMORY = 2, 6, 7, 8
+# What these statuses mean, which the program doesn't say itself.
+MEANINGS = {6: "an input couldn't be read", 8: "memory ran out", 9: "the words couldn't be had from the system, or one of them isn't UTF-8"}
+
+
+class Ended(BaseException):
+    """A signal that ends the command; a run of the program is ended with it."""
 
 
 def main(program_path, words):
     """Answers a command of the script, and returns its status."""
     program.use(program_path)
+    for number in (signal.SIGINT, signal.SIGTERM, signal.SIGHUP):
+        if signal.getsignal(number) != signal.SIG_IGN:
+            signal.signal(number, end)
     try:
-        status, text = answer(words)
+        status, text = answered(list(words))
+        if status in MEANINGS:
+            say(f"cise: {MEANINGS[status]}\n")
+        return status if written(text) else NOT_WRITTEN
+    except Ended as ended:
+        return 128 + ended.args[0]
+
+
+def end(number, _):
+    raise Ended(number)
+
+
+def answered(words):
+    """The status and the text of a command; where the program refused an input, its own."""
+    try:
+        return answer(words)
     except program.Stopped as stopped:
-        status, text = stopped.status, stopped.text
-        if status in (3, 4):
-            places(program_path, stopped.words, status)
+        if stopped.status in (3, 4):
+            places(program.path, stopped.words, stopped.status)
+        return stopped.status, stopped.text
     except OSError:
-        # A file went away between the program's reading and ours.
-        status, text = NOT_READ, ""
-    return status if written(text) else NOT_WRITTEN
+        # A file that can't be read, or that went away behind the program's reading.
+        return NOT_READ, ""
+    except MemoryError:
+        return NO_MEMORY, ""
 
 
 def answer(words):
@@ -49,8 +75,9 @@ def answer(words):
 
 
 def as_file(path, folder, place):
-    """A path that can be read more than once: itself, or a copy of what a pipe gives."""
-    if os.path.isfile(path) or os.path.isdir(path) or not os.path.exists(path):
+    """A path that can be read more than once and by any process: itself, or a copy of what a pipe or standard input gives."""
+    is_own = path.startswith(("/dev/", "/proc/"))
+    if not os.path.exists(path) or os.path.isdir(path) or os.path.isfile(path) and not is_own:
         return path
     copy = os.path.join(folder, f"{place}-{os.path.basename(path)}")
     with open(path, "rb") as source, open(copy, "wb") as target:

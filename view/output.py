@@ -8,6 +8,8 @@ from view.words import encoded
 def say(text):
     """Writes on standard error; that it can't is no reason to end."""
     try:
+        if sys.stderr is None:
+            return
         sys.stderr.flush()
         sys.stderr.buffer.write(encoded(text))
         sys.stderr.buffer.flush()
@@ -17,6 +19,8 @@ def say(text):
 
 def written(text):
     """Writes on standard output, and says whether it could."""
+    if sys.stdout is None:
+        return False
     try:
         sys.stdout.flush()
         sys.stdout.buffer.write(encoded(text))
