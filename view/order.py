@@ -15,29 +15,42 @@ ORIGIN = (
     "the rules and the takes lines, and isn't proved."
 )
 
+# The other call, and the order in which arguments stand in an equality.
+OTHER = {"f": "g", "g": "f", None: None}
+RANKS = {"f": 0, "g": 1, None: 2}
+# The most conditions of a pair that are compared with each other, and that are told.
+MOST_COMPARED, MOST_TOLD = 32, 8
+
 
 class Condition:
     """Two calls are ordered where all `equalities` hold, so always where there is none. An equality is a pair of arguments. An argument is
-    ("f", parameter) of the first call, ("g", parameter) of the second, or (None, constant). `rules` has the numbers of the lines with the rules
-    that say so."""
+    ("f", parameter) of the first call, ("g", parameter) of the second, or (None, constant). No equality follows from the others. `rules` has the
+    numbers of the lines with the rules that say so."""
 
-    def __init__(self, equalities, rule):
-        self.equalities, self.rules = equalities, [rule]
+    def __init__(self, equalities=(), rules=()):
+        self.equalities, self.rules = [], list(rules)
+        # For each argument of an equality one that stands for all that are equal to it.
+        self.leaders = {}
+        for a, b in equalities:
+            self.join(a, b)
+
+    def join(self, a, b):
+        """Adds an equality, unless it follows from those that are there."""
+        if self.joins(a, b):
+            return
+        self.equalities.append((a, b))
+        kept, old = self.leaders.get(a, a), self.leaders.get(b, b)
+        self.leaders.update({it: kept for it in [a, b, old, *(it for it, leader in self.leaders.items() if leader == old)]})
+
+    def joins(self, a, b):
+        """Whether two arguments are equal by these equalities."""
+        return self.leaders.get(a, a) == self.leaders.get(b, b)
 
     def implies(self, other, swapped=False):
         """Whether the equalities of another condition, or of that with the two calls exchanged, follow from these."""
-        group = {}
-
-        def of(argument):
-            while argument in group:
-                argument = group[argument]
-            return argument
-
-        for a, b in self.equalities:
-            if of(a) != of(b):
-                group[of(a)] = of(b)
-        turned = {"f": "g", "g": "f"} if swapped else {}
-        return all(len({of((turned.get(side, side), name)) for side, name in it}) == 1 for it in other.equalities)
+        if swapped:
+            return all(self.joins((OTHER[a[0]], a[1]), (OTHER[b[0]], b[1])) for a, b in other.equalities)
+        return all(self.joins(a, b) for a, b in other.equalities)
 
     def short(self):
         """As `same a, b`, `p = q`, `p = root`; of two parameters of one call `p = q in one`."""
@@ -62,56 +75,81 @@ def is_same(a, b):
     return a[1] == b[1] and {a[0], b[0]} == {"f", "g"}
 
 
-def conditions(spec, f, g):
-    """The conditions on which a call of f and a call of g are ordered, without those that follow from others; none where they never are."""
-    found = []
-    f_takings, g_takings = [[(spec.operations[it], line) for line in spec.operations[it].of("takes")] for it in (f, g)]
-    for left, right, number in spec.rules:
-        for rule in ((left, right, number), (right, left, number)):
-            for condition in (matched(spec, rule, a, b) for a in f_takings for b in g_takings):
-                if condition:
-                    add(found, condition, f == g)
+class Taking:
+    """A takes line as a call of the first operation, where `side` is f, or of the second, where it is g, takes it: its `token`, the `arguments`, and
+    whether it `is_shared`."""
+
+    def __init__(self, spec, line, side):
+        self.token, args = line.thing()
+        self.is_shared = line.is_shared()
+        self.arguments = [(None if it in spec.consts else side, str(it)) for it in args]
+
+
+def takings(spec, operation, side):
+    """What a call of an operation takes, by token."""
+    found = {}
+    for line in spec.operations[operation].of("takes"):
+        found.setdefault(line.body[0], []).append(Taking(spec, line, side))
     return found
 
 
-def matched(spec, rule, f_taking, g_taking):
-    """The condition on which a rule's patterns match two takings, or None where they never do. A rule is here its two patterns and its number, a
-    taking an operation and its takes line. Parameters of the first call stand first, each in the order of its operation, and constants last."""
-    first, second, number = rule
-    (f_operation, f_line), (g_operation, g_line) = f_taking, g_taking
-    (f_token, f_args), (g_token, g_args) = f_line.thing(), g_line.thing()
-    if (f_token, g_token) != (first[0], second[0]) or (f_line.is_shared() and g_line.is_shared()):
-        return None
-    condition, bound = Condition([], number), {}
-    places = {"f": [it for it, _ in f_operation.params], "g": [it for it, _ in g_operation.params]}
+def conditions(spec, f, g):
+    """The conditions on which a call of f and a call of g are ordered, without those that follow from others; none where they never are."""
+    found, known = [], {}
+    f_takings, g_takings = takings(spec, f, "f"), takings(spec, g, "g")
+    places = {side: {it: at for at, (it, _) in enumerate(spec.operations[name].params)} for side, name in (("f", f), ("g", g))}
+    for left, right, number in spec.rules:
+        for first, second in ((left, right), (right, left)):
+            for a in f_takings.get(first[0], ()):
+                for b in g_takings.get(second[0], ()):
+                    if not (a.is_shared and b.is_shared):
+                        condition = matched(places, [*first[1], *second[1]], a.arguments + b.arguments)
+                        key = tuple(condition.equalities)
+                        if key not in known:
+                            known[key] = condition
+                            add(found, condition, f == g)
+                        add_rule(known[key], number)
+    return found
+
+
+def matched(places, variables, arguments):
+    """The condition on which one choice of elements for the variables gives the elements of the arguments. Parameters of the first call stand first
+    in it, each in the order of its operation, and constants last."""
 
     def rank(argument):
         side, name = argument
-        return ("f", "g", None).index(side), places[side].index(name) if side else 0
+        return RANKS[side], places[side][name] if side else 0
 
-    for side, variables, args in (("f", first[1], f_args), ("g", second[1], g_args)):
-        for variable, arg in zip(variables, args):
-            argument = (None, str(arg)) if arg in spec.consts else (side, str(arg))
-            equality = tuple(sorted((bound.setdefault(variable, argument), argument), key=rank))
-            if not condition.implies(Condition([equality], number)):
-                condition.equalities.append(equality)
+    bound, condition = {}, Condition()
+    for variable, argument in zip(variables, arguments):
+        condition.join(*sorted((bound.setdefault(variable, argument), argument), key=rank))
     condition.equalities.sort(key=lambda it: (rank(it[0]), rank(it[1])))
     return condition
 
 
 def add(found, condition, is_own):
     """Adds a condition, unless it follows from one that is there already; those that follow from it go. Those of two calls of one operation say the
-    same with the two exchanged."""
+    same with the two exchanged. Where one is there that says the same, this one has the same list of rules. Beyond `MOST_COMPARED` conditions, of
+    which no design has that many, none is compared but with the one that always holds."""
 
     def follows(one, other):
         return one.implies(other) or (is_own and one.implies(other, swapped=True))
 
-    for known in found:
+    if not condition.equalities:
+        found[:] = [condition]
+    for known in found[:MOST_COMPARED]:
         if follows(condition, known):
-            if follows(known, condition) and condition.rules[0] not in known.rules:
-                known.rules += condition.rules
+            if follows(known, condition):
+                condition.rules = known.rules
             return
-    found[:] = [it for it in found if not follows(it, condition)] + [condition]
+    if len(found) < MOST_COMPARED:
+        found[:] = [it for it in found if not follows(it, condition)]
+    found.append(condition)
+
+
+def add_rule(condition, number):
+    if number not in condition.rules:
+        condition.rules.append(number)
 
 
 def short(found):
@@ -120,7 +158,8 @@ def short(found):
         return ["at once"]
     if not found[0].equalities:
         return ["always"]
-    return [("or " if at else "") + it.short() for at, it in enumerate(found)]
+    rows = [("or " if at else "") + it.short() for at, it in enumerate(found)]
+    return rows if len(rows) <= MOST_TOLD else rows[: MOST_TOLD - 1] + [f"or {len(rows) - MOST_TOLD + 1} more"]
 
 
 def sentence(found, f, g):
@@ -129,7 +168,8 @@ def sentence(found, f, g):
         return "never ordered: both may run at once"
     if not found[0].equalities:
         return "always ordered"
-    return "ordered where " + ", or where ".join(it.sentence(f, g) for it in found)
+    told = [it.sentence(f, g) for it in (found if len(found) <= MOST_TOLD else found[: MOST_TOLD - 1])]
+    return "ordered where " + ", or where ".join(told) + (f", or in {len(found) - len(told)} more cases" if len(told) < len(found) else "")
 
 
 class Pair:
@@ -195,7 +235,7 @@ class Advice:
     def __init__(self, suggested):
         self.word = suggested.word
         self.enough, self.little = [
-            [Condition([(("f", it.left), ("g", it.right))], None) for it in suggested.answers if it.word == word] for word in ("by", "notby")
+            [Condition([(("f", it.left), ("g", it.right))]) for it in suggested.answers if it.word == word] for word in ("by", "notby")
         ]
 
     def group(self, pair):

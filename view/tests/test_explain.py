@@ -179,6 +179,7 @@ delete || delete  ordered: same c
 0 pairs may run at once
 """,
     "examples/flags/refuted.cise": "at the start  refuted, see 1\nthere are no operations\n",
+    "examples/undecided/vast.cise": "cash_in alone  undecided, see 1\n1 pair may run at once\n",
     "examples/undecided/meals.cise": "cook || cook  undecided, see 1\n0 pairs may run at once\n",
     "SETTLED": """join || join    ordered: same a, b
 join || leave   refuted, see 1, 2, though ordered: same a, b

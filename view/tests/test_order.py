@@ -10,7 +10,7 @@ from view.tree import Spec
 
 HEAD = "cise 2 sort S sort T const c : S const d : S token t ( S ) token u ( S ) token two ( S , S ) token all\n"
 F = "operation f ( p : S , q : S , r : T ) {} end "
-G = "operation g ( p : S , v : S ) {} end\n"
+G = "operation g ( p : S , v : S , q : S ) {} end\n"
 
 # Rules, takes lines of f, takes lines of g; then on what f and g, and f and f, are ordered.
 TABLE = [
@@ -23,6 +23,7 @@ TABLE = [
     ("conflict t ( x ) u ( x )", "takes t ( p )", "takes u ( p )", ["same p"], ["at once"]),
     ("conflict u ( x ) t ( x )", "takes t ( p )", "takes u ( p )", ["same p"], ["at once"]),
     ("conflict t ( x ) u ( x )", "takes t ( p ) takes u ( q )", "takes u ( p )", ["same p"], ["p = q"]),
+    ("conflict t ( x ) u ( x )", "takes t ( p ) takes u ( q )", "takes t ( p ) takes u ( q )", ["p = q", "or q = p"], ["p = q"]),
     ("conflict two ( x , y ) two ( x , y )", "takes two ( p , q )", "takes two ( p , v )", ["same p, q = v"], ["same p, q"]),
     ("conflict two ( x , y ) two ( y , x )", "takes two ( p , q )", "takes two ( p , v )", ["p = v, q = p"], ["p = q, q = p"]),
     ("conflict two ( x , x ) t ( x )", "takes two ( p , q )", "takes t ( v )", ["p = q in one, p = v"], ["at once"]),
@@ -37,6 +38,10 @@ TABLE = [
     ("conflict t ( x ) t ( x )", "takes t ( p ) shared", "takes t ( p ) exclusive", ["same p"], ["at once"]),
     ("conflict t ( x ) t ( x )", "takes t ( p ) shared takes t ( q )", "takes t ( p ) shared", ["q = p"], ["p = q", "or same q"]),
 ]
+
+
+# Rules that name one another's places in many ways.
+MANY = ["xyxxyz", "xyzxzx", "xyyzyx", "xyzyzx", "xyzzyx", "xyzyxz", "xyzxzy", "xyzzxy", "xyxzxz", "xyzxyz"]
 
 
 def text_with(rules, f_lines, g_lines):
@@ -69,6 +74,18 @@ class Read(unittest.TestCase):
             "ordered where both have the same p and the same q, or where both have the same q and q of the one = p of the other",
         )
         self.assertEqual(order.sentence([], "f", "g"), "never ordered: both may run at once")
+
+    def test_many_conditions(self):
+        """So many conditions that the last are counted alone."""
+        rules = " ".join(f"conflict three ( {a} , {b} , {c} ) three ( {d} , {e} , {f} )" for a, b, c, d, e, f in MANY)
+        takes = " ".join(f"takes three ( p{a} , p{b} , p{c} )" for a, b, c in ((0, 1, 2), (3, 4, 5), (0, 2, 4), (1, 3, 5)))
+        params = " , ".join(f"p{at} : S" for at in range(6))
+        spec = Spec(f"cise 1 sort S token three ( S , S , S ) {rules} operation f ( {params} ) {takes} end operation g ( {params} ) {takes} end")
+        found = order.conditions(spec, "f", "g")
+        self.assertGreater(len(found), 40)
+        self.assertEqual(len(order.short(found)), 8)
+        self.assertEqual(order.short(found)[-1], f"or {len(found) - 7} more")
+        self.assertTrue(order.sentence(found, "f", "g").endswith(f", or in {len(found) - 7} more cases"))
 
     def test_rules_by_line(self):
         spec = Spec(HEAD + "conflict t ( x ) t ( x )\nconflict u ( x ) u ( x )\n" + F.format("takes t ( p ) takes u ( p )") + G.format("takes u ( p ) takes t ( p )"))

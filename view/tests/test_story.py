@@ -193,6 +193,9 @@ class Worded(unittest.TestCase):
         told = told_of(gallery()["examples/folders/refuted.cise"])[2]
         pairs = [tuple(sorted(it.block.pair())) for it in told]
         self.assertEqual(pairs, sorted(pairs, key=pairs.index))
+        verdicts = [it.verdict for it in told_of(gallery()["examples/tournament/refuted.cise"], "--budget", "1")[2]]
+        self.assertEqual(verdicts, sorted(verdicts))
+        self.assertEqual(set(verdicts), {"refuted", "undecided"})
         mixed = "cise 1 relation up invariant alive up relation hot operation f requires hot insert hot end operation g remove hot remove up end"
         found = [it.block.words() for it in told_of(mixed)[2]]
         self.assertEqual(found, ["init alive", "safety g alive", "commute f g hot", "stable f 1 g"])
