@@ -257,10 +257,10 @@ class Advice:
         group, on = self.group(pair), " ".join(pair.short())
         said = [on] if pair.conditions else []
         if group == "missing":
-            said.append(f"{either(self.enough)} is enough" if self.enough else "no single equality is known to be enough")
+            said.append(either(self.enough) if self.enough else "no single equality is known to be enough")
         elif group == "more":
-            said.append(f"{either(self.least(pair))} is enough")
-        elif group == "needed" and not self.least(pair):
+            said.append(either(self.least(pair)))
+        elif group == "needed" and pair.conditions[0].equalities and not self.least(pair):
             said.append("check says whether that is enough")
         rules = sorted({it for condition in pair.conditions for it in condition.rules})
         if rules:
@@ -269,7 +269,9 @@ class Advice:
 
 
 def either(found):
-    return " or ".join(it.short() for it in found)
+    """That one of some equalities is enough, as words."""
+    alone = " alone" if len(found) > 1 else ""
+    return f"{' or '.join(it.short() + alone for it in found)} is enough"
 
 
 # The groups of pairs, in the order in which they stand in the text.

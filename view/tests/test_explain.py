@@ -158,6 +158,29 @@ STORIES = {
       4 |                 up ( x )
   where up(A#0) is false
 """,
+    ("LONG", "safety {f} {i}"): """1. {f} breaks {i}
+   [safety {f} {i},
+   report line 6]
+
+  A replica holds:
+      (nothing: every fact is false, every counter 0)
+
+  There, this call is allowed:
+      {f}(
+        {p} = {c},
+        {q} = {T}#0,
+        {n} = 1)
+
+  After it the invariant {i} is false for
+  {x} = {c},
+  {y} = {T}#0,
+  {z} = {S}#1.
+      9 | {line}
+  where {k}({c},
+          {T}#0) is -1
+        {k}({S}#1,
+          {T}#0) is 0
+""".format(line=KINDS["LONG"].split("\n")[8], **{it: it * 32 for it in "STcrktixyzfgpqn"}),
 }
 
 HEADS = {
@@ -217,8 +240,8 @@ class Folder(unittest.TestCase):
 
 class Texts(unittest.TestCase):
     def test_stories(self):
-        for (name, obligation), story in STORIES.items():
-            with self.subTest(name=name, block=obligation):
+        for (name, _), story in STORIES.items():
+            with self.subTest(story=story.split("\n")[0]):
                 text = told(name)[1]
                 self.assertIn("\n\n" + story + "\n", text)
 

@@ -155,7 +155,7 @@ def holds(spec, consts, calls):
 
 
 DESIGN = """cise 1 sort S relation held ( S ) relation full
-token t ( S ) token w ( S ) token all
+token t ( S ) token w ( S ) token all token two ( S , S )
 {}
 operation put ( s : S , o : S ) insert held ( s ) {} end
 operation clear ( s : S ) remove held ( s ) {} end
@@ -200,6 +200,25 @@ class Compared(unittest.TestCase):
     def test_on_more_than_needed(self):
         found, _ = self.groups("conflict all all", "takes all", "takes all", "")
         self.assertEqual(found["Are ordered, on more than they have to be"], ["put || clear always; same s is enough; rule at line 3"])
+
+    def test_on_what_the_suggestion_does_not_judge(self):
+        found, _ = self.groups("conflict two ( x , y ) two ( x , y )", "takes two ( s , s )", "takes two ( s , s )", "")
+        self.assertEqual(found["Are ordered, and have to be"], ["put || clear same s; rule at line 3"])
+        alone = "cise 1 relation up operation rise insert up takes all end operation fall remove up takes all end"
+        for rules, words in (("", "no single equality is known to be enough"), ("conflict all all", "always; rule at line 2")):
+            text = alone.replace("up operation rise", f"up token all\n{rules} operation rise")
+            told = order.compared(Spec(text), Suggestion(program.run_on(text, "suggest")[1]))
+            self.assertIn(f"  rise || fall  {words}\n", told)
+        with open("examples/friends/half.cise", encoding="utf-8") as file:
+            text = file.read()
+        told = order.compared(Spec(text), Suggestion(program.run_on(text, "suggest")[1]))
+        self.assertIn("\n  block || unblock\n      same p, q; check says whether that is enough; rule at line 11\n", told)
+
+    def test_several_that_are_enough(self):
+        with open("examples/seats/half.cise", encoding="utf-8") as file:
+            text = file.read()
+        told = order.compared(Spec(text), Suggestion(program.run_on(text, "suggest")[1]))
+        self.assertIn("  book || give_back  same p alone or same s alone is enough\n", told)
 
     def test_on_too_little(self):
         found, _ = self.groups("conflict t ( x ) w ( x )", "takes t ( o )", "takes w ( s )", "")
