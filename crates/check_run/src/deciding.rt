@@ -18,12 +18,12 @@ use ground_numbers::{law_clauses_make_formulas_true, law_obligation_fits};
 use instances::{GroundRefused, Grounded, ground};
 use model_back::witness_of;
 use obligation_list::Obligation;
-use problem_search::search;
 use proof_lines::{Interpretation, Problem};
 use proof_report::{Cause, Verdict};
 use sat_core::Answer;
 use spec_core::Spec;
 use std::alloc::{AllocError, Global};
+use watched_search::search;
 use witness_shrinking::shrink;
 
 // The problem of an obligation.

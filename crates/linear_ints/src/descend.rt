@@ -194,12 +194,19 @@ fn value_at(
     };
     let low = match side_bound(tableau, &before, false, stage, values) {
         Ok(low) => low,
-        Err(at) => return Err(fault_stop(tableau, alloc, rows, stage, values, at)),
+        Err(at) => {
+            drop(before);
+            return Err(fault_stop(tableau, alloc, rows, stage, values, at));
+        }
     };
     let high = match side_bound(tableau, &before, true, stage, values) {
         Ok(high) => high,
-        Err(at) => return Err(fault_stop(tableau, alloc, rows, stage, values, at)),
+        Err(at) => {
+            drop(before);
+            return Err(fault_stop(tableau, alloc, rows, stage, values, at));
+        }
     };
+    drop(before);
     if crosses(&low, &high) {
         return Err(gap_stop(tableau, alloc, rows, stage, values, &low, &high));
     }

@@ -128,7 +128,10 @@ impl Theory for Eliminator {
             return TheoryAnswer::Memory;
         };
         match solve(&mut tableau, alloc, rows, ints) {
-            Ok(values) => TheoryAnswer::Model(values),
+            Ok(values) => {
+                drop(tableau);
+                TheoryAnswer::Model(values)
+            }
             Err(stop) => answer(tableau, alloc, rows, ints, stop),
         }
     }

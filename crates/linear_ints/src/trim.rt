@@ -73,17 +73,22 @@ fn mark(marks: &mut [bool], number: usize) {
     }
 }
 
+// Marks the rows on which the marked ones rest, from the last step back.
+fn mark_rested(marks: &mut [bool], given: usize, steps: &[RowStep]) {
+    for (i, step) in steps.iter().enumerate().rev() {
+        if is_marked(marks, given.saturating_add(i)) {
+            mark(marks, step.left as usize);
+            mark(marks, step.right as usize);
+        }
+    }
+}
+
 // The rows that the last one rests on are marked. The first `given` rows are those of no step.
 fn marks_of(alloc: Global, given: usize, steps: &[RowStep]) -> Result<Vec<bool>, AllocError> {
     let count = given.saturating_add(steps.len());
     let mut marks = vec![in alloc; false; count]?;
     mark(marks.as_mut_slice(), count.saturating_sub(1));
-    for (i, step) in steps.iter().enumerate().rev() {
-        if is_marked(marks.as_slice(), given.saturating_add(i)) {
-            mark(marks.as_mut_slice(), step.left as usize);
-            mark(marks.as_mut_slice(), step.right as usize);
-        }
-    }
+    mark_rested(marks.as_mut_slice(), given, steps);
     Ok(marks)
 }
 

@@ -4,3 +4,4 @@ mod Following
 mod Changing
 mod Going
 mod Rows
+mod Solvers

@@ -48,12 +48,11 @@ fn draw_lit(
     match problem.atoms.get(lit.atom as usize) {
         Some(AtomKind::Row(row)) => {
             let row = row_of_sign(alloc, row, lit.positive)?;
-            drawn.lits.push(lit)?;
-            drawn.rows.push(row)?;
+            or_drop!(drawn.lits.push(lit); row);
+            drawn.rows.push(row)
         }
-        _ => {}
+        _ => Ok(()),
     }
-    Ok(())
 }
 
 // Those of some literals that a trail has and whose atoms stand for rows, and their rows.
@@ -89,12 +88,28 @@ pub(crate) fn ask_early<T: Theory>(
     problem.law_fits();
     let drawn = draw_held(alloc, problem, trail, lits)?;
     match theory.check(alloc, drawn.rows.as_slice(), problem.ints) {
-        TheoryAnswer::Model(numbers) => Ok(Said::Model(numbers)),
-        TheoryAnswer::Conflict { used, steps } => {
-            let used = pick(alloc, drawn.lits.as_slice(), used.as_slice())?;
-            Ok(Said::Clash(Clash { used, steps }))
+        TheoryAnswer::Model(numbers) => {
+            drop(drawn);
+            Ok(Said::Model(numbers))
         }
-        TheoryAnswer::Memory => Err(AllocError),
-        _ => Ok(Said::Nothing),
+        TheoryAnswer::Conflict { used, steps } => {
+            let picked =
+                or_drop!(pick(alloc, drawn.lits.as_slice(), used.as_slice()); used, steps, drawn);
+            drop(used);
+            drop(drawn);
+            Ok(Said::Clash(Clash {
+                used: picked,
+                steps,
+            }))
+        }
+        TheoryAnswer::Memory => {
+            drop(drawn);
+            Err(AllocError)
+        }
+        other => {
+            drop(other);
+            drop(drawn);
+            Ok(Said::Nothing)
+        }
     }
 }

@@ -23,9 +23,28 @@
 // they satisfy some of the rows only; but the rows that follow are decided by them, so that the solver isn't asked again before a row
 // is forced that they don't satisfy. Where the solver would split or stop, the search goes on: that is answered of a whole trail alone.
 //
+// `search` chooses the solver. A problem without rows has the solver of no rows. One whose rows are differences has the solver of such
+// rows, which is fast and always decides. Any other has elimination, which decides all rows that don't become too many or too large.
+// Whoever asks sees one search: its answer is one that may have split and may have been stopped by rows, and where the problem fits the
+// solver of difference rows it neither did nor was.
+//
 // Definitions, in the order in which a reader needs them: specs/Watches (clauses at rest, what is watched), specs/Ready (where the
 // watched literals stand between the steps of a search), specs/Early (what is known of the rows that are asked about early).
 #![tactic(auto)]
+
+/// The value of a call; where it fails, lets go of these values and ends with its error. Values that are let go by name are let go
+/// once in a proof, and not once for each way out.
+macro_rules! or_drop {
+    ($call:expr; $($value:ident),*) => {
+        match $call {
+            Ok(value) => value,
+            Err(error) => {
+                $(drop($value);)*
+                return Err(error);
+            }
+        }
+    };
+}
 
 mod early;
 mod held;
@@ -33,7 +52,9 @@ mod hints;
 mod lists;
 mod looking;
 mod propagation;
+mod searching;
 mod solving;
 mod watches;
 
+pub use searching::search;
 pub use solving::solve;

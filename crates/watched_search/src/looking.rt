@@ -8,14 +8,14 @@ use proof_lines::Lit;
 use search_logs::Trail;
 
 /// The literals that a clause watches. A clause with one literal that isn't false watches that one twice.
-#[derive(Clone, Copy, PartialEq, Eq, Debug)]
+#[derive(Clone, Copy)]
 pub struct Watched {
     pub first: Lit,
     pub second: Lit,
 }
 
 /// What a clause is under a trail.
-#[derive(Clone, Copy, PartialEq, Eq, Debug)]
+#[derive(Clone, Copy)]
 pub enum Look {
     /// All literals are false.
     False,

@@ -26,9 +26,9 @@ pick-requires g c =
     let given : are_given d.rows c.in-Conflict.used ≡ true = subst (λ (z : List Row). are_given z c.in-Conflict.used ≡ true) c.as_slice.ensures c.in-Conflict.ensures.given in
     picks-so c.args.problem.now c.args.trail.now 0 d.lits c.as_slice-in-Conflict.result.now d.rows c.in-Conflict.used c.as_slice-in-Conflict-2.result.now (drawn-held c.args.problem.now.atoms c.args.trail.now d.lits d.rows c.in_ok-drawn.ensures) given c.as_slice-in-Conflict.ensures c.as_slice-in-Conflict-2.ensures
 
-pub returns-in-Conflict : goal.returns-in-Conflict
-returns-in-Conflict g c =
+pub returns-in-Ok : goal.returns-in-Ok
+returns-in-Ok g c =
     let d = c.in_ok-drawn.drawn in
     let con : IsConflict d.rows c.in-Conflict.used c.in-Conflict.steps = subst (λ (z : List Row). IsConflict z c.in-Conflict.used c.in-Conflict.steps) c.as_slice.ensures c.in-Conflict.ensures in
-    let e : c.in_ok-used-in-Conflict.used ≡ map (lit_at d.lits) c.in-Conflict.used = c.in_ok-used-in-Conflict.ensures ∙ (λ i. map (lit_at (c.as_slice-in-Conflict.ensures i)) (c.as_slice-in-Conflict-2.ensures i)) in
-    clash-so c.args.problem.now c.args.trail.now d.lits d.rows c.in-Conflict.used c.in_ok-used-in-Conflict.used c.in-Conflict.steps c.in_ok-drawn.ensures con e
+    let e : c.in-Ok.value ≡ map (lit_at d.lits) c.in-Conflict.used = c.in-Ok.ensures ∙ (λ i. map (lit_at (c.as_slice-in-Conflict.ensures i)) (c.as_slice-in-Conflict-2.ensures i)) in
+    clash-so c.args.problem.now c.args.trail.now d.lits d.rows c.in-Conflict.used c.in-Ok.value c.in-Conflict.steps c.in_ok-drawn.ensures con e

@@ -4,13 +4,13 @@ ghost use Rattle.search_logs.specs.Forcing.{is_plain, are_plain};
 ghost use Rattle.diff_bounds.specs.Differences.{problem_fits};
 ghost use Rattle.sat_core.specs.Answers.{IsAnswer};
 
+use crate::solving::solve;
 use diff_bounds::{DiffBounds, fits, law_fits};
 use linear_ints::Eliminator;
 use proof_lines::{AtomKind, Problem};
 use sat_core::Answer;
 use std::alloc::Global;
 use theory_api::NoInts;
-use watched_search::solve;
 
 fn is_plain(atom: &AtomKind) -> bool
     ensures { result ≡ is_plain atom.now }
