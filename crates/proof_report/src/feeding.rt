@@ -86,7 +86,9 @@ fn take(
 {
     spec.well_formed();
     if !says(spec, obligations, state, &event) {
-        return Err(Refusal::Line(untrue(&event)));
+        let kind = untrue(&event);
+        drop(event);
+        return Err(Refusal::Line(kind));
     }
     let budget = budget_of(&event);
     match advance(alloc, spec, state, event) {

@@ -20,6 +20,14 @@ use spec_core::{Call, Spec, World};
 use std::alloc::{AllocError, Global};
 use std::mem;
 
+// Puts another place. The place before is let go here alone, since that is dear to prove.
+fn put(place: &mut Place, next: Place)
+    ensures { place.new ≡ next }
+{
+    let before = mem::replace(place, next);
+    drop(before);
+}
+
 // Behind the last line of a log.
 fn log_ended(state: &mut State, log_of: LogOf)
     requires { told_of state.old.tally < 4294967295 }
@@ -28,14 +36,14 @@ fn log_ended(state: &mut State, log_of: LogOf)
     match log_of {
         LogOf::Proved => {
             state.tally.proved += 1;
-            state.place = Place::Due;
+            put(&mut state.place, Place::Due);
         }
         LogOf::Lines => {
             state.tally.undecided += 1;
-            state.place = Place::Due;
+            put(&mut state.place, Place::Due);
         }
-        LogOf::Rows => state.place = Place::Rows,
-        LogOf::Range => state.place = Place::Range,
+        LogOf::Rows => put(&mut state.place, Place::Rows),
+        LogOf::Range => put(&mut state.place, Place::Range),
     }
 }
 
@@ -47,7 +55,7 @@ fn log_left(state: &mut State, log_of: LogOf, lines: u32)
     if lines == 0 {
         log_ended(state, log_of);
     } else {
-        state.place = Place::Log(log_of, lines);
+        put(&mut state.place, Place::Log(log_of, lines));
     }
 }
 
@@ -109,7 +117,7 @@ fn sized(alloc: Global, spec: &Spec, place: &mut Place, size: u32) -> Result<(),
     if let Place::Sizes(world) = place {
         world.sizes.push(size)?;
         let world = mem::replace(world, no_world(alloc));
-        *place = at_sizes(alloc, spec, world);
+        put(place, at_sizes(alloc, spec, world));
     }
     Ok(())
 }
@@ -121,7 +129,7 @@ fn named(alloc: Global, spec: &Spec, place: &mut Place, element: u32) -> Result<
     if let Place::Consts(world) = place {
         world.consts.push(element)?;
         let world = mem::replace(world, no_world(alloc));
-        *place = at_consts(alloc, spec, world);
+        put(place, at_consts(alloc, spec, world));
     }
     Ok(())
 }
@@ -169,10 +177,10 @@ fn begun(alloc: Global, spec: &Spec, state: &mut State, word: VerdictWord)
 {
     match word {
         VerdictWord::Proved(lines) => log_left(state, LogOf::Proved, lines),
-        VerdictWord::Refuted => state.place = at_sizes(alloc, spec, no_world(alloc)),
+        VerdictWord::Refuted => put(&mut state.place, at_sizes(alloc, spec, no_world(alloc))),
         VerdictWord::Instances => {
             state.tally.undecided += 1;
-            state.place = Place::Due;
+            put(&mut state.place, Place::Due);
         }
         VerdictWord::Lines(lines) => log_left(state, LogOf::Lines, lines),
         VerdictWord::Rows(lines) => log_left(state, LogOf::Rows, lines),
@@ -223,7 +231,7 @@ fn end_of_witness(
     };
     let witness = witness(alloc, spec, shown, elements)?;
     state.tally.refuted += 1;
-    state.place = Place::Due;
+    put(&mut state.place, Place::Due);
     Ok(Ended::Refuted(witness))
 }
 
@@ -308,7 +316,7 @@ fn rows_told(spec: &Spec, state: &mut State, rows: RowsLine) -> Fed
     ensures tells { Tells spec.now state.old (Event.Rows rows) result }
 {
     state.tally.undecided += 1;
-    state.place = Place::Due;
+    put(&mut state.place, Place::Due);
     told(None, None, Some(Ended::Rows(rows.used, rows.steps)))
 }
 
@@ -318,7 +326,7 @@ fn range_told(spec: &Spec, state: &mut State, range: RangeLine) -> Fed
     ensures tells { Tells spec.now state.old (Event.Range range) result }
 {
     state.tally.undecided += 1;
-    state.place = Place::Due;
+    put(&mut state.place, Place::Due);
     told(
         None,
         None,
@@ -333,7 +341,7 @@ fn placed(state: &mut State, place: Place) -> Fed
     ensures log { result.log ≡ None }
     ensures ended { result.ended ≡ None }
 {
-    state.place = place;
+    put(&mut state.place, place);
     told(None, None, None)
 }
 
@@ -342,7 +350,7 @@ fn title_told(spec: &Spec, state: &mut State, version: u8) -> Fed
     ensures tells { Tells spec.now state.old (Event.Title version) result }
 {
     state.version = version;
-    state.place = Place::Budget;
+    put(&mut state.place, Place::Budget);
     told(None, None, None)
 }
 

@@ -292,6 +292,7 @@ pub fn log_line(alloc: Global, drops: bool, text: &[u8]) -> Result<Line, ReadErr
 {
     let (line, rest) = read_log_line(alloc, drops, Words::of(text))?;
     if !rest.is_over() {
+        drop(line);
         return Err(ReadError::Form);
     }
     Ok(line)
@@ -311,6 +312,7 @@ pub fn line(
 {
     let (event, rest) = front(alloc, spec, obligations, state, Words::of(text))?;
     if !rest.is_over() {
+        drop(event);
         return Err(ReadError::Form);
     }
     Ok(event)

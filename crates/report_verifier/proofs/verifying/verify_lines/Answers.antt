@@ -16,5 +16,5 @@ returns-in-Err-TooLong-clause-verified g c = λ d typed first.
 pub returns-in-Err-Fault-clause-verified : goal.returns-in-Err-Fault-clause-verified
 returns-in-Err-Fault-clause-verified g c = λ d typed first. (not_told d (g.E.Source.left c.args.report.now)).1
 
-pub returns-clause-verified : goal.returns-clause-verified
-returns-clause-verified g c = λ d typed first. (not_told d (g.E.Source.left c.args.report.now)).0
+pub returns-in-Err-Memory-clause-verified : goal.returns-in-Err-Memory-clause-verified
+returns-in-Err-Memory-clause-verified g c = λ d typed first. (not_told d (g.E.Source.left c.args.report.now)).0
