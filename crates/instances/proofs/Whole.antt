@@ -1,11 +1,8 @@
 -- The whole list: its table, its formulas over numbers and its length.
-use Rattle.std.proofs.Common.{◌≡◌, ℕ, suc, ◌+◌, ◌<◌, ◌≤◌, Bool, true, false, Some, None, List, [], ◌∷◌, ◌++◌, length, map, filter, append_assoc, refl, sym, ◌∙◌, ap, arith}
+use Rattle.std.proofs.Common.{◌≡◌, ℕ, ◌<◌, ◌≤◌, Bool, true, false, Some, None, List, [], length, filter, refl, sym, ◌∙◌, ap, arith}
 use Rattle.std.specs.Prelude.{ltb, ◌==◌, Err}
 use Rattle.std.proofs.lemmas.Bool.{ltb-true, ltb-false}
-use Rattle.std.proofs.lemmas.List.{map-append}
 use Rattle.std.proofs.lemmas.Option.{none-some}
-use Rattle.spec_core.specs.World.{below}
-use Rattle.spec_core.specs.declared.update.Thing.{Thing}
 use Rattle.spec_core.specs.Specification.{Specification}
 use Rattle.obligation_list.specs.declared.obligation.Obligation.{Obligation}
 use Rattle.ground_problem.specs.Symbols.{Symbolic}
@@ -16,18 +13,13 @@ use Rattle.ground_numbers.specs.Problem.{table_of, numbered_of}
 use Rattle.ground_atoms.specs.Known.{Known}
 use Rattle.ground_atoms.specs.Making.{MadeList, make_all}
 use Rattle.ground_atoms.proofs.Numbering.{make_all-is, readings_after-made}
-use Rattle.instances.specs.Limited.{most_formulas, make_upto, Appends}
+use Rattle.ground_groups.specs.Limited.{most_formulas, make_upto, Appends}
 use Rattle.instances.specs.Ground.{IsGround}
-use Rattle.instances.specs.declared.refused.GroundRefused.{GroundRefused}
-use Rattle.instances.specs.declared.refused.GroundRefused.TheVariants.{TooMany, Memory}
+use Rattle.ground_groups.specs.declared.refused.GroundRefused.{GroundRefused}
+use Rattle.ground_groups.specs.declared.refused.GroundRefused.TheVariants.{TooMany, Memory}
 use Rattle.ground_atoms.specs.declared.formula.GroundFormula.{GroundFormula}
-use Rattle.instances.specs.Calls.{numbered_arguments}
-use Rattle.instances.proofs.Lists.{upto_beyond, upto_is_all, upto_made}
-
-pub below_more : (f : ℕ → Thing) (k n : ℕ) (xs ys : List Thing) → n ≡ k → ys ≡ xs ++ map f (below k) → ys ++ f n ∷ [] ≡ xs ++ map f (below (k + 1))
-below_more f k n xs ys q e =
-    let s : suc k ≡ k + 1 = omega arith in
-    (λ i. e i ++ f (q i) ∷ []) ∙ append_assoc xs (map f (below k)) (f k ∷ []) ∙ ap (λ (zs : List Thing). xs ++ zs) (sym (map-append f (below k) (k ∷ []))) ∙ ap (λ (m : ℕ). xs ++ map f (below m)) s
+use Rattle.ground_groups.specs.Calls.{numbered_arguments}
+use Rattle.ground_groups.proofs.Lists.{upto_beyond, upto_is_all, upto_made}
 
 -- the readings that a list names are those that were named as it was made
 pub named_are : (d : Specification) (ob : Obligation) (n : ℕ) (list : List Symbolic) (l : Known) (fs : List Numbered) → make_upto [] (numbered_arguments d ob) list ≡ Some (record { known = l; forms = fs })

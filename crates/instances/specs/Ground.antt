@@ -6,11 +6,11 @@ use Rattle.ground_problem.specs.Constants.{constants_of}
 use Rattle.ground_problem.specs.Problem.{formulas_of}
 use Rattle.ground_numbers.specs.Problem.{table_of, numbered_of}
 use Rattle.ground_atoms.specs.Formulas.{form_of}
-use Rattle.instances.specs.Calls.{calls_of}
-use Rattle.instances.specs.Limited.{most_formulas}
+use Rattle.ground_groups.specs.Calls.{calls_of}
+use Rattle.ground_groups.specs.Limited.{most_formulas}
 use Rattle.instances.specs.declared.grounding.Grounded.{Grounded}
-use Rattle.instances.specs.declared.refused.GroundRefused.{GroundRefused}
-use Rattle.instances.specs.declared.refused.GroundRefused.TheVariants.{TooMany, Memory}
+use Rattle.ground_groups.specs.declared.refused.GroundRefused.{GroundRefused}
+use Rattle.ground_groups.specs.declared.refused.GroundRefused.TheVariants.{TooMany, Memory}
 
 -- The ground problem: the constants, the calls and the elements of the obligation, its table, and its formulas over that table.
 pub record IsGrounded (d : Specification) (ob : Obligation) (g : Grounded) : Type 0 where

@@ -1,6 +1,1 @@
-pub mod Limited
-pub mod Calls
-pub mod Lines
-pub mod Defined
-pub mod Rules
 pub mod Ground

@@ -6,19 +6,19 @@ ghost use Rattle.ground_problem.specs.Constants.{constants_of};
 ghost use Rattle.ground_problem.specs.Equality as equality;
 ghost use Rattle.ground_problem.specs.Problem.{formulas_of};
 ghost use Rattle.ground_atoms.specs.Symbols.{reading_of};
-ghost use Rattle.instances.specs.Limited.{Appends};
-ghost use Rattle.instances.specs.Calls.{constants_in, calls_of, numbered_arguments};
+ghost use Rattle.ground_groups.specs.Limited.{Appends};
+ghost use Rattle.ground_groups.specs.Calls.{constants_in, calls_of, numbered_arguments};
 ghost use Rattle.instances.specs.Ground.{IsGround};
 
-use crate::agreeing::add_congruence;
-use crate::constants::{Named, constants, operations_of};
-use crate::defining::readings_after;
-use crate::equating::add_equality;
 use crate::listing::add_all_defined;
-use crate::numbering::number_arguments;
-use crate::refused::GroundRefused;
-use crate::things::things_of;
 use ground_atoms::{Atoms, GroundCall, GroundFormula, NamedReading};
+use ground_groups::GroundRefused;
+use ground_groups::agreeing::add_congruence;
+use ground_groups::constants::{Named, constants, operations_of};
+use ground_groups::defining::readings_after;
+use ground_groups::equating::add_equality;
+use ground_groups::numbering::number_arguments;
+use ground_groups::things::things_of;
 use ground_numbers::law_arguments_are_first;
 use items::Items;
 use obligation_list::Obligation;
@@ -107,11 +107,18 @@ pub fn ground(alloc: Global, spec: &Spec, ob: &Obligation) -> Result<Grounded, G
     requires { IsObligation spec.now ob.now }
     ensures { IsGround spec.now ob.now result }
 {
-    let named = constants(alloc, spec, ob)?;
     let ops = operations_of(alloc, ob)?;
-    let mut atoms = numbered(alloc, spec, ob, ops.as_slice())?;
+    let Ok(mut atoms) = numbered(alloc, spec, ob, ops.as_slice()) else {
+        drop(ops);
+        return Err(GroundRefused::Memory);
+    };
+    let Ok(named) = constants(alloc, spec, ob) else {
+        drop(ops);
+        drop(atoms);
+        return Err(GroundRefused::Memory);
+    };
     let mut formulas = Items::new(alloc);
-    match add_all(
+    let added = add_all(
         &mut atoms,
         alloc,
         spec,
@@ -119,14 +126,20 @@ pub fn ground(alloc: Global, spec: &Spec, ob: &Obligation) -> Result<Grounded, G
         ops.as_slice(),
         &named,
         &mut formulas,
-    ) {
-        Ok(()) => {}
-        Err(refused) => return Err(refused),
-    }
+    );
+    drop(ops);
+    or_drop!(added; formulas, named, atoms);
+    let Named {
+        sorts,
+        calls,
+        chosen,
+        elements,
+    } = named;
+    drop(chosen);
     Ok(Grounded {
-        consts: named.sorts,
-        calls: named.calls,
-        elements: named.elements,
+        consts: sorts,
+        calls,
+        elements,
         atoms,
         formulas,
     })

@@ -6,9 +6,9 @@ use Rattle.ground_problem.specs.Definitions.{Reading, readings_after}
 use Rattle.ground_problem.specs.Equality.{equality, congruence}
 use Rattle.ground_problem.specs.Problem.{defined}
 use Rattle.ground_atoms.specs.Symbols.{reading_of}
-use Rattle.instances.specs.Limited.{Appends}
-use Rattle.instances.specs.Calls.{constants_in, numbered_arguments}
-use Rattle.instances.proofs.Lists.{seq, seq_refused}
+use Rattle.ground_groups.specs.Limited.{Appends}
+use Rattle.ground_groups.specs.Calls.{constants_in, numbered_arguments}
+use Rattle.ground_groups.proofs.Lists.{seq, seq_refused}
 use Rattle.instances.proofs.Whole.{named_are}
 use Rattle.instances.proofs.grounding.add_all.Goals as goal
 

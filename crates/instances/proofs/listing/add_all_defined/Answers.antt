@@ -2,9 +2,9 @@ use Rattle.std.proofs.Common.{◌≡◌, rules}
 use Rattle.ground_problem.specs.Constants.{constants_of}
 use Rattle.ground_problem.specs.Problem.{stated}
 use Rattle.ground_problem.specs.Definitions.{with_definitions}
-use Rattle.instances.specs.Calls.{calls_of}
-use Rattle.instances.proofs.Lists.{seq_refused}
-use Rattle.instances.proofs.Started.{defined_then}
+use Rattle.ground_groups.specs.Calls.{calls_of}
+use Rattle.ground_groups.proofs.Lists.{seq_refused}
+use Rattle.ground_groups.proofs.Started.{defined_then}
 use Rattle.instances.proofs.listing.add_all_defined.Goals as goal
 
 pub returns-in-Err : goal.returns-in-Err

@@ -1,4 +1,4 @@
-use Rattle.instances.proofs.Lists.{seq, seq_refused}
+use Rattle.ground_groups.proofs.Lists.{seq, seq_refused}
 use Rattle.instances.proofs.listing.add_calls.Goals as goal
 
 pub returns-in-Err : goal.returns-in-Err

@@ -1,0 +1,190 @@
+-- Lists of formulas up to a limit: one list after another, and lists that are too long.
+use Rattle.std.proofs.Common.{◌≡◌, ℕ, zero, suc, ◌+◌, ◌-◌, ◌<◌, ◌≤◌, Bool, true, false, cond, Option, Some, None, List, [], ◌∷◌, ◌++◌, length, map, drop, drop-cons, get_or, length-append, refl, sym, ◌∙◌, ap, arith}
+use Rattle.std.specs.Prelude.{ltb, Result, Ok, Err}
+use Rattle.std.specs.List.{flat_map}
+use Rattle.std.specs.Option.{option_and_then}
+use Rattle.std.proofs.lemmas.Bool.{ltb-true, ltb-false}
+use Rattle.std.proofs.lemmas.Option.{same_Some}
+use Rattle.std.proofs.lemmas.List.{length-map}
+use Rattle.ground_atoms.specs.Formulas.{form_of}
+use Rattle.ground_atoms.specs.declared.formula.GroundFormula.{GroundFormula}
+use Rattle.ground_problem.specs.Symbols.{Symbolic}
+use Rattle.ground_numbers.specs.Numbered.{Numbered}
+use Rattle.ground_atoms.specs.Known.{Known}
+use Rattle.ground_atoms.specs.Making.{MadeList, make, make_all}
+use Rattle.ground_groups.specs.Limited.{most_formulas, make_upto, Appends, HasRoomFor, IsWithin}
+use Rattle.ground_groups.specs.declared.refused.GroundRefused.{GroundRefused}
+use Rattle.ground_groups.specs.declared.refused.GroundRefused.TheVariants.{TooMany, Memory}
+
+-- one list and then another
+pub upto_append : (so_far : List Numbered) (k : Known) (xs ys : List Symbolic) → make_upto so_far k (xs ++ ys) ≡ option_and_then (λ m. make_upto m.forms m.known ys) (make_upto so_far k xs)
+upto_append so_far k [] ys = refl
+upto_append so_far k (x ∷ xs) ys = by_test (ltb (length so_far) most_formulas) (upto_append (so_far ++ (make k x).form ∷ []) (make k x).known xs ys)
+  where
+    by_test : (b : Bool) → make_upto (so_far ++ (make k x).form ∷ []) (make k x).known (xs ++ ys) ≡ option_and_then (λ m. make_upto m.forms m.known ys) (make_upto (so_far ++ (make k x).form ∷ []) (make k x).known xs)
+        → cond b (make_upto (so_far ++ (make k x).form ∷ []) (make k x).known (xs ++ ys)) None ≡ option_and_then (λ m. make_upto m.forms m.known ys) (cond b (make_upto (so_far ++ (make k x).form ∷ []) (make k x).known xs) None)
+    by_test true e = e
+    by_test false e = refl
+
+pub upto_then : (so_far more : List Numbered) (k l : Known) (xs ys : List Symbolic) → make_upto so_far k xs ≡ Some (record { known = l; forms = more }) → make_upto so_far k (xs ++ ys) ≡ make_upto more l ys
+upto_then so_far more k l xs ys e = upto_append so_far k xs ys ∙ ap (λ (o : Option MadeList). option_and_then (λ m. make_upto m.forms m.known ys) o) e
+
+pub upto_none : (so_far : List Numbered) (k : Known) (xs ys : List Symbolic) → make_upto so_far k xs ≡ None → make_upto so_far k (xs ++ ys) ≡ None
+upto_none so_far k xs ys e = upto_append so_far k xs ys ∙ ap (λ (o : Option MadeList). option_and_then (λ m. make_upto m.forms m.known ys) o) e
+
+-- more formulas than there is room for
+pub upto_beyond : (so_far : List Numbered) (k : Known) (fs : List Symbolic) → most_formulas - length so_far < length fs → make_upto so_far k fs ≡ None
+upto_beyond so_far k [] h = absurd (omega arith)
+upto_beyond so_far k (f ∷ fs) h = by_test (ltb (length so_far) most_formulas) refl (λ g. upto_beyond (so_far ++ (make k f).form ∷ []) (make k f).known fs g)
+  where
+    longer : length (so_far ++ (make k f).form ∷ []) ≡ length so_far + 1
+    longer = length-append so_far ((make k f).form ∷ [])
+
+    by_test : (b : Bool) → ltb (length so_far) most_formulas ≡ b → (most_formulas - length (so_far ++ (make k f).form ∷ []) < length fs → make_upto (so_far ++ (make k f).form ∷ []) (make k f).known fs ≡ None)
+        → cond b (make_upto (so_far ++ (make k f).form ∷ []) (make k f).known fs) None ≡ None
+    by_test true e g = g (omega (arith, longer, h, ltb-true (length so_far) most_formulas e))
+    by_test false e g = refl
+
+-- the same for what a program holds
+pub instances_beyond : (old : List GroundFormula) (k : Known) (f : List ℕ → Symbolic) (vs : List (List ℕ)) → most_formulas - length old < length vs → make_upto (map form_of old) k (map f vs) ≡ None
+instances_beyond old k f vs h =
+    let e : length (map form_of old) ≡ length old = length-map old form_of in
+    let g : length (map f vs) ≡ length vs = length-map vs f in
+    upto_beyond (map form_of old) k (map f vs) (omega (arith, e, g, h))
+
+-- ---- one group of formulas for each member of a list
+
+next_of : {X : Type 0} (f : X → List Symbolic) (xs : List X) (i : ℕ) (d : X) → i < length xs → flat_map f (drop i xs) ≡ f (get_or xs i d) ++ flat_map f (drop (i + 1) xs)
+next_of f xs i d h =
+    let e : suc i ≡ i + 1 = omega arith in
+    ap (flat_map f) (drop-cons xs i d h) ∙ ap (λ (n : ℕ). f (get_or xs i d) ++ flat_map f (drop n xs)) e
+
+-- the next member of a loop over them
+pub group_next : {X : Type 0} (f : X → List Symbolic) (xs : List X) (i : ℕ) (x : X) → i < length xs → x ≡ get_or xs i x → (so_far more : List Numbered) (k l : Known)
+    → make_upto so_far k (f x) ≡ Some (record { known = l; forms = more })
+    → make_upto more l (flat_map f (drop (i + 1) xs)) ≡ make_upto so_far k (flat_map f (drop i xs))
+group_next f xs i x h q so_far more k l e =
+    sym (upto_then so_far more k l (f (get_or xs i x)) (flat_map f (drop (i + 1) xs)) (ap (λ y. make_upto so_far k (f y)) (sym q) ∙ e))
+    ∙ ap (make_upto so_far k) (sym (next_of f xs i x h))
+
+any_default : {X : Type 0} (xs : List X) (i : ℕ) (d e : X) → i < length xs → get_or xs i d ≡ get_or xs i e
+any_default [] i d e h = absurd (omega arith)
+any_default (x ∷ xs) zero d e h = refl
+any_default (x ∷ xs) (suc i) d e h = any_default xs i d e (omega arith)
+
+-- the same for a member that is copied
+pub group_next_at : {X : Type 0} (f : X → List Symbolic) (xs : List X) (i : ℕ) (d : X) → i < length xs → (so_far more : List Numbered) (k l : Known)
+    → make_upto so_far k (f (get_or xs i d)) ≡ Some (record { known = l; forms = more })
+    → make_upto more l (flat_map f (drop (i + 1) xs)) ≡ make_upto so_far k (flat_map f (drop i xs))
+group_next_at f xs i d h so_far more k l e = group_next f xs i (get_or xs i d) h (any_default xs i d (get_or xs i d) h) so_far more k l e
+
+none_group : {X : Type 0} (f : X → List Symbolic) (xs : List X) (i : ℕ) (x : X) → i < length xs → x ≡ get_or xs i x → (so_far : List Numbered) (k : Known)
+    → make_upto so_far k (f x) ≡ None → make_upto so_far k (flat_map f (drop i xs)) ≡ None
+none_group f xs i x h q so_far k e = ap (make_upto so_far k) (next_of f xs i x h) ∙ upto_none so_far k (f (get_or xs i x)) (flat_map f (drop (i + 1) xs)) (ap (λ y. make_upto so_far k (f y)) (sym q) ∙ e)
+
+-- a refusal at it is one of all
+pub group_refused : {X : Type 0} (f : X → List Symbolic) (xs : List X) (i : ℕ) (x : X) → i < length xs → x ≡ get_or xs i x → (why : GroundRefused) (out new first : List GroundFormula) (k now start : Known)
+    → make_upto (map form_of out) k (flat_map f (drop i xs)) ≡ make_upto (map form_of first) start (flat_map f xs)
+    → Appends {A = Unit {0}} (Err why) out k (f x) new now → Appends {A = Unit {0}} (Err why) first start (flat_map f xs) new now
+group_refused f xs i x h q TooMany out new first k now start e g = sym e ∙ none_group f xs i x h q (map form_of out) k g
+group_refused f xs i x h q Memory out new first k now start e g = tt
+
+pub group_refused_at : {X : Type 0} (f : X → List Symbolic) (xs : List X) (i : ℕ) (d : X) → i < length xs → (why : GroundRefused) (out new first : List GroundFormula) (k now start : Known)
+    → make_upto (map form_of out) k (flat_map f (drop i xs)) ≡ make_upto (map form_of first) start (flat_map f xs)
+    → Appends {A = Unit {0}} (Err why) out k (f (get_or xs i d)) new now → Appends {A = Unit {0}} (Err why) first start (flat_map f xs) new now
+group_refused_at f xs i d h why out new first k now start e g = group_refused f xs i (get_or xs i d) h (any_default xs i d (get_or xs i d) h) why out new first k now start e g
+
+pub refused_beyond : (why : GroundRefused) (old new : List GroundFormula) (k now : Known) (f : List ℕ → Symbolic) (vs : List (List ℕ)) → HasRoomFor (Err why) (most_formulas - length old) (length vs) → Appends {A = Unit {0}} (Err why) old k (map f vs) new now
+refused_beyond TooMany old new k now f vs h = instances_beyond old k f vs h
+refused_beyond Memory old new k now f vs h = tt
+
+-- ---- one group of formulas for each two members of two lists, up to the end of the shorter one
+
+pub pair_next : {X Y : Type 0} (z : ℕ → List X → List Y → List Symbolic) (f : ℕ → X → Y → List Symbolic) → ((n : ℕ) (x : X) (y : Y) (xs : List X) (ys : List Y) → z n (x ∷ xs) (y ∷ ys) ≡ f n x y ++ z (n + 1) xs ys)
+    → (xs : List X) (ys : List Y) (i : ℕ) (x : X) (y : Y) → i < length xs → i < length ys → x ≡ get_or xs i x → y ≡ get_or ys i y
+    → z i (drop i xs) (drop i ys) ≡ f i x y ++ z (i + 1) (drop (i + 1) xs) (drop (i + 1) ys)
+pair_next z f cons xs ys i x y h g p q =
+    let e : suc i ≡ i + 1 = omega arith in
+    let a = drop-cons xs i x h in
+    let b = drop-cons ys i y g in
+    (λ j. z i (a j) (b j)) ∙ cons i (get_or xs i x) (get_or ys i y) (drop (suc i) xs) (drop (suc i) ys)
+    ∙ (λ j. f i (sym p j) (sym q j) ++ z (i + 1) (drop (e j) xs) (drop (e j) ys))
+
+pub pair_step : (fs gs hs : List Symbolic) → hs ≡ fs ++ gs → (so_far more : List Numbered) (k l : Known)
+    → make_upto so_far k fs ≡ Some (record { known = l; forms = more }) → make_upto more l gs ≡ make_upto so_far k hs
+pair_step fs gs hs s so_far more k l e = sym (upto_then so_far more k l fs gs e) ∙ ap (make_upto so_far k) (sym s)
+
+pub pair_refused : (fs gs hs all : List Symbolic) → hs ≡ fs ++ gs → (why : GroundRefused) (out new first : List GroundFormula) (k now start : Known)
+    → make_upto (map form_of out) k hs ≡ make_upto (map form_of first) start all
+    → Appends {A = Unit {0}} (Err why) out k fs new now → Appends {A = Unit {0}} (Err why) first start all new now
+pair_refused fs gs hs all s TooMany out new first k now start e g = sym e ∙ ap (make_upto (map form_of out) k) s ∙ upto_none (map form_of out) k fs gs g
+pair_refused fs gs hs all s Memory out new first k now start e g = tt
+
+pub refused_beyond_false : (why : GroundRefused) (old new : List GroundFormula) (k now : Known) (g : Symbolic → Symbolic) (f : List ℕ → Symbolic) (vs : List (List ℕ)) → HasRoomFor (Err why) (most_formulas - length old) (length vs) → Appends {A = Unit {0}} (Err why) old k (map g (map f vs)) new now
+refused_beyond_false TooMany old new k now g f vs h =
+    let a : length (map form_of old) ≡ length old = length-map old form_of in
+    let b : length (map f vs) ≡ length vs = length-map vs f in
+    let c : length (map g (map f vs)) ≡ length (map f vs) = length-map (map f vs) g in
+    upto_beyond (map form_of old) k (map g (map f vs)) (omega (arith, a, b, c, h))
+refused_beyond_false Memory old new k now g f vs h = tt
+
+-- ---- one group after another
+
+pub seq : {A : Type 0} (r : Result A GroundRefused) (old mid new : List GroundFormula) (k l now : Known) (xs ys : List Symbolic)
+    → make_upto (map form_of old) k xs ≡ Some (record { known = l; forms = map form_of mid }) → Appends r mid l ys new now → Appends r old k (xs ++ ys) new now
+seq (Ok v) old mid new k l now xs ys e g = upto_then (map form_of old) (map form_of mid) k l xs ys e ∙ g
+seq (Err TooMany) old mid new k l now xs ys e g = upto_then (map form_of old) (map form_of mid) k l xs ys e ∙ g
+seq (Err Memory) old mid new k l now xs ys e g = tt
+
+pub seq_refused : (why : GroundRefused) (old mid : List GroundFormula) (k l : Known) (xs ys : List Symbolic)
+    → Appends {A = Unit {0}} (Err why) old k xs mid l → Appends {A = Unit {0}} (Err why) old k (xs ++ ys) mid l
+seq_refused TooMany old mid k l xs ys e = upto_none (map form_of old) k xs ys e
+seq_refused Memory old mid k l xs ys e = tt
+
+-- ---- lists that are made whole, and tested afterwards
+
+all-length : (so_far : List Numbered) (k : Known) (fs : List Symbolic) → length (make_all so_far k fs).forms ≡ length so_far + length fs
+all-length so_far k [] = omega arith
+all-length so_far k (f ∷ fs) =
+    let e = all-length (so_far ++ (make k f).form ∷ []) (make k f).known fs in
+    let g : length (so_far ++ (make k f).form ∷ []) ≡ length so_far + 1 = length-append so_far ((make k f).form ∷ []) in
+    omega (arith, e, g)
+
+pub upto_is_all : (so_far : List Numbered) (k : Known) (fs : List Symbolic) → length so_far + length fs ≤ most_formulas → make_upto so_far k fs ≡ Some (make_all so_far k fs)
+upto_is_all so_far k [] h = refl
+upto_is_all so_far k (f ∷ fs) h = by_test (ltb (length so_far) most_formulas) refl (upto_is_all (so_far ++ (make k f).form ∷ []) (make k f).known fs (omega (arith, longer, h)))
+  where
+    longer : length (so_far ++ (make k f).form ∷ []) ≡ length so_far + 1
+    longer = length-append so_far ((make k f).form ∷ [])
+
+    by_test : (b : Bool) → ltb (length so_far) most_formulas ≡ b → make_upto (so_far ++ (make k f).form ∷ []) (make k f).known fs ≡ Some (make_all (so_far ++ (make k f).form ∷ []) (make k f).known fs)
+        → cond b (make_upto (so_far ++ (make k f).form ∷ []) (make k f).known fs) None ≡ Some (make_all (so_far ++ (make k f).form ∷ []) (make k f).known fs)
+    by_test true e g = g
+    by_test false e g = absurd (let n = ltb-false (length so_far) most_formulas e in omega (arith, n, h))
+
+pub limited : (r : Result (Unit {0}) GroundRefused) (old new : List GroundFormula) (k now : Known) (fs : List Symbolic) → 0 < length fs
+    → make_all (map form_of old) k fs ≡ record { known = now; forms = map form_of new } → IsWithin r (length new) → Appends r old k fs new now
+limited r old new k now fs s e w =
+    let a : length (map form_of new) ≡ length (map form_of old) + length fs = ap (λ (m : MadeList). length m.forms) (sym e) ∙ all-length (map form_of old) k fs in
+    let b : length (map form_of new) ≡ length new = length-map new form_of in
+    by_result r a b w
+  where
+    by_result : (r : Result (Unit {0}) GroundRefused) → length (map form_of new) ≡ length (map form_of old) + length fs → length (map form_of new) ≡ length new → IsWithin r (length new) → Appends r old k fs new now
+    by_result (Ok v) a b w = upto_is_all (map form_of old) k fs (omega (arith, a, b, w)) ∙ ap Some e
+    by_result (Err TooMany) a b w = upto_beyond (map form_of old) k fs (omega (arith, a, b, w, s))
+    by_result (Err Memory) a b w = absurd w
+
+-- what was made up to the limit is what is made
+pub upto_made : (so_far : List Numbered) (k : Known) (fs : List Symbolic) (m : MadeList) → make_upto so_far k fs ≡ Some m → make_all so_far k fs ≡ m
+upto_made so_far k [] m e = same_Some (record { known = k; forms = so_far }) m e
+upto_made so_far k (f ∷ fs) m e = by_test (ltb (length so_far) most_formulas) e (upto_made (so_far ++ (make k f).form ∷ []) (make k f).known fs m)
+  where
+    by_test : (b : Bool) → cond b (make_upto (so_far ++ (make k f).form ∷ []) (make k f).known fs) None ≡ Some m
+        → (make_upto (so_far ++ (make k f).form ∷ []) (make k f).known fs ≡ Some m → make_all (so_far ++ (make k f).form ∷ []) (make k f).known fs ≡ m)
+        → make_all (so_far ++ (make k f).form ∷ []) (make k f).known fs ≡ m
+    by_test true e g = g e
+    by_test false e g = absurd cc
+
+-- the length of what was made up to the limit
+pub upto_length : (so_far : List Numbered) (k : Known) (fs : List Symbolic) (m : MadeList) → make_upto so_far k fs ≡ Some m → length m.forms ≡ length so_far + length fs
+upto_length so_far k fs m e = ap (λ (n : MadeList). length n.forms) (sym (upto_made so_far k fs m e)) ∙ all-length so_far k fs

@@ -1,0 +1,173 @@
+// What is true at the entry: the invariants and the requires lines of the calls.
+ghost use Rattle.std.specs.Prelude.{◌≡◌, [], get_or};
+ghost use Rattle.std.specs.List.{flat_map};
+ghost use Rattle.ground_atoms.specs.Formulas.{consts_of_args};
+ghost use Rattle.ground_problem.specs.Formulas.{caller, instances};
+ghost use Rattle.ground_problem.specs.Entry as entry;
+ghost use Rattle.spec_core.specs.Specification.{op_of};
+ghost use Rattle.stage_defs.specs.Settings.{readings_in, caller_in};
+ghost use Rattle.ground_groups.specs.Limited.{Appends};
+ghost use Rattle.ground_groups.specs.Calls.{constants_in};
+ghost use Rattle.ground_groups.specs.Lines.{line_at, lines_at};
+
+use crate::adding::has_room;
+use crate::constants::Named;
+use crate::instancing::add_instances;
+use crate::refused::GroundRefused;
+use ground_atoms::{Atoms, GroundArg, GroundFormula};
+use items::Items;
+use spec_core::{Invariant, Prefix, Prefixed, Spec};
+use stage_defs::{Setting, Stage, formula};
+use std::alloc::Global;
+
+/// Appends each invariant, once for each assignment.
+pub fn add_invariants(
+    atoms: &mut Atoms,
+    alloc: Global,
+    spec: &Spec,
+    named: &Named,
+    out: &mut Items<GroundFormula>,
+) -> Result<(), GroundRefused>
+    ensures { Appends result out.old atoms.old (entry.invariants_hold spec.now (constants_in named.now)) out.new atoms.new }
+{
+    let setting = Setting {
+        spec,
+        stage: Stage::Numbered(0),
+        call: 0,
+        args: &[],
+    };
+    add_each(
+        atoms,
+        alloc,
+        &setting,
+        named,
+        spec.invariants.as_slice(),
+        out,
+    )
+}
+
+fn add_each(
+    atoms: &mut Atoms,
+    alloc: Global,
+    setting: &Setting<'_>,
+    named: &Named,
+    invariants: &[Invariant],
+    out: &mut Items<GroundFormula>,
+) -> Result<(), GroundRefused>
+    ensures { Appends result out.old atoms.old (flat_map (λ i. instances (constants_in named.now) (readings_in setting.now) (caller_in setting.now) i.line.vars i.line.body) invariants.now) out.new atoms.new }
+{
+    for invariant in invariants {
+        match add_line(atoms, alloc, setting, named, &invariant.line, out) {
+            Ok(()) => {}
+            Err(refused) => return Err(refused),
+        }
+    }
+    Ok(())
+}
+
+// Appends a line once for each assignment.
+fn add_line(
+    atoms: &mut Atoms,
+    alloc: Global,
+    setting: &Setting<'_>,
+    named: &Named,
+    line: &Prefixed,
+    out: &mut Items<GroundFormula>,
+) -> Result<(), GroundRefused>
+    ensures { Appends result out.old atoms.old (instances (constants_in named.now) (readings_in setting.now) (caller_in setting.now) line.now.vars line.now.body) out.new atoms.new }
+{
+    add_instances(
+        atoms,
+        alloc,
+        setting,
+        named,
+        line.vars.as_slice(),
+        &line.body,
+        out,
+    )
+}
+
+/// Appends a requires line: with `exists` at its own constants, else once for each assignment.
+pub fn add_requires(
+    atoms: &mut Atoms,
+    alloc: Global,
+    setting: &Setting<'_>,
+    named: &Named,
+    line: &Prefixed,
+    own: &Items<u32>,
+    out: &mut Items<GroundFormula>,
+) -> Result<(), GroundRefused>
+    ensures { Appends result out.old atoms.old (line_at (constants_in named.now) (readings_in setting.now) (caller_in setting.now) line.now own.now) out.new atoms.new }
+{
+    match line.prefix {
+        Prefix::Exists => {
+            has_room(out)?;
+            out.push(formula(atoms, alloc, setting, own.as_slice(), &line.body)?)?;
+            Ok(())
+        }
+        _ => add_line(atoms, alloc, setting, named, line, out),
+    }
+}
+
+// Appends each requires line of a call.
+fn add_lines(
+    atoms: &mut Atoms,
+    alloc: Global,
+    setting: &Setting<'_>,
+    named: &Named,
+    lines: &[Prefixed],
+    owns: &[Items<u32>],
+    out: &mut Items<GroundFormula>,
+) -> Result<(), GroundRefused>
+    ensures { Appends result out.old atoms.old (lines_at (constants_in named.now) (readings_in setting.now) (caller_in setting.now) 0 lines.now owns.now) out.new atoms.new }
+{
+    let count = lines.len().min(owns.len());
+    for place in 0..count {
+        match add_requires(
+            atoms,
+            alloc,
+            setting,
+            named,
+            &lines[place],
+            &owns[place],
+            out,
+        ) {
+            Ok(()) => {}
+            Err(refused) => return Err(refused),
+        }
+    }
+    Ok(())
+}
+
+/// The arguments of a call, none where there is no such call.
+pub fn args_of(named: &Named, call: u8) -> &[GroundArg]
+    ensures { consts_of_args result.now ≡ get_or (constants_in named.now).params call [] }
+{
+    match named.calls.as_slice().get(call as usize) {
+        Some(found) => found.args.as_slice(),
+        None => &[],
+    }
+}
+
+/// Appends each requires line of the call at a place, which is one of this operation.
+pub fn add_call_ready(
+    atoms: &mut Atoms,
+    alloc: Global,
+    spec: &Spec,
+    named: &Named,
+    call: u8,
+    op: u8,
+    owns: &Items<Items<u32>>,
+    out: &mut Items<GroundFormula>,
+) -> Result<(), GroundRefused>
+    ensures { Appends result out.old atoms.old (entry.lines_hold (constants_in named.now) (caller (constants_in named.now) call) (op_of spec.now op).requires_ owns.now) out.new atoms.new }
+{
+    let setting = Setting {
+        spec,
+        stage: Stage::Numbered(0),
+        call,
+        args: args_of(named, call),
+    };
+    let lines = spec.requires_of(op);
+    add_lines(atoms, alloc, &setting, named, lines, owns.as_slice(), out)
+}

@@ -1,0 +1,78 @@
+// The requires lines of all calls.
+ghost use Rattle.std.specs.Prelude.{◌≡◌};
+ghost use Rattle.ground_problem.specs.Formulas.{caller};
+ghost use Rattle.ground_problem.specs.Entry as entry;
+ghost use Rattle.spec_core.specs.Specification.{op_of};
+ghost use Rattle.ground_groups.specs.Limited.{Appends};
+ghost use Rattle.ground_groups.specs.Calls.{constants_in};
+
+use crate::constants::Named;
+use crate::entry::add_call_ready;
+use crate::numbering::as_small;
+use crate::refused::GroundRefused;
+use ground_atoms::{Atoms, GroundFormula};
+use items::Items;
+use spec_core::Spec;
+use std::alloc::Global;
+
+// Appends those of the call at a place.
+fn add_ready_at(
+    atoms: &mut Atoms,
+    alloc: Global,
+    spec: &Spec,
+    named: &Named,
+    place: usize,
+    op: u8,
+    own: &Items<Items<u32>>,
+    out: &mut Items<GroundFormula>,
+) -> Result<(), GroundRefused>
+    ensures { Appends result out.old atoms.old (entry.lines_hold (constants_in named.now) (caller (constants_in named.now) place) (op_of spec.now op).requires_ own.now) out.new atoms.new }
+{
+    let call = as_small(place)?;
+    add_call_ready(atoms, alloc, spec, named, call, op, own, out)
+}
+
+/// Appends each requires line of each of these operations' calls, which have these constants of their own.
+pub fn add_ready(
+    atoms: &mut Atoms,
+    alloc: Global,
+    spec: &Spec,
+    named: &Named,
+    ops: &[u8],
+    owns: &[Items<Items<u32>>],
+    out: &mut Items<GroundFormula>,
+) -> Result<(), GroundRefused>
+    ensures { Appends result out.old atoms.old (entry.calls_ready spec.now (constants_in named.now) 0 ops.now owns.now) out.new atoms.new }
+{
+    let count = ops.len().min(owns.len());
+    for place in 0..count {
+        match add_ready_at(
+            atoms,
+            alloc,
+            spec,
+            named,
+            place,
+            ops[place],
+            &owns[place],
+            out,
+        ) {
+            Ok(()) => {}
+            Err(refused) => return Err(refused),
+        }
+    }
+    Ok(())
+}
+
+/// The same with the constants that the calls have.
+pub fn add_all_ready(
+    atoms: &mut Atoms,
+    alloc: Global,
+    spec: &Spec,
+    named: &Named,
+    ops: &[u8],
+    out: &mut Items<GroundFormula>,
+) -> Result<(), GroundRefused>
+    ensures { Appends result out.old atoms.old (entry.calls_ready spec.now (constants_in named.now) 0 ops.now (constants_in named.now).chosen) out.new atoms.new }
+{
+    add_ready(atoms, alloc, spec, named, ops, named.chosen.as_slice(), out)
+}
