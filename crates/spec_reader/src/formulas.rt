@@ -12,7 +12,8 @@ use crate::tree::{Comparison, Connective, Formula, Product, Reading, Summand, Te
 use crate::words::{comparison, connective, is_connective};
 use std::alloc::Global;
 use token_readers::{
-    Key, Kind, ReadError, Token, Version, is_key, is_name, is_number, key, next_kind, sign,
+    Key, Kind, ReadError, Token, Version, closing, is_key, is_name, is_number, is_opening, key,
+    next_kind, opening,
 };
 
 /// What stands in brackets. Its parts are in boxes, so that a level of brackets takes little stack.
@@ -208,12 +209,12 @@ fn plain(
     if is_key(kind, Key::False) {
         return false_formula(tokens);
     }
-    if !is_key(kind, Key::Open) {
+    if !is_opening(kind) {
         return has(alloc, version, tokens);
     }
-    let (word, rest) = key(tokens, Key::Open)?;
+    let (word, rest) = opening(tokens)?;
     let (bracket, rest) = inner(alloc, version, depth, rest)?;
-    let rest = or_drop!(sign(rest, Key::Close); bracket);
+    let rest = or_drop!(closing(rest); bracket);
     Ok((closed(word, bracket), rest))
 }
 

@@ -2,6 +2,7 @@
 use Rattle.std.specs.Prelude.{◌≡◌, ℕ, Bool, true, false, if◌then◌else◌, ◌||◌, List, [], ◌∷◌, ◌++◌, codes, length, ◌==◌, nat_lt}
 use Rattle.std.specs.List.{AllByRecursion}
 use Rattle.std.specs.Str.{bytes_eq}
+use Rattle.word_cut.specs.Texts.{longest_name}
 use Rattle.token_readers.specs.declared.token.Key.{Key}
 use Rattle.token_readers.specs.declared.token.Key.TheVariants as keys
 use Rattle.token_readers.specs.declared.token.Symbol.{Symbol}
@@ -29,7 +30,7 @@ observes_text = codes "observes"
 
 -- A name has 1 to 32 bytes.
 abbrev pub name_kind : List ℕ → Kind
-name_kind text = if bytes_eq text shared_text then kind.Shared else (if bytes_eq text exclusive_text then kind.Exclusive else (if bytes_eq text observes_text then kind.Observes else (if (length text == 0) || nat_lt 32 (length text) then kind.Unnamed else kind.Name)))
+name_kind text = if bytes_eq text shared_text then kind.Shared else (if bytes_eq text exclusive_text then kind.Exclusive else (if bytes_eq text observes_text then kind.Observes else (if (length text == 0) || nat_lt longest_name (length text) then kind.Unnamed else kind.Name)))
 
 abbrev pub number_kind : ℕ → Kind
 number_kind n = if n == 1 then kind.One else (if n == 2 then kind.Two else kind.Number)

@@ -8,11 +8,13 @@
 // the parts are in `proofs/`; `Loop` there is for code that reads one after the other.
 #![tactic(auto)]
 
+mod brackets;
 mod fault;
 mod looking;
 mod making;
 mod token;
 
+pub use brackets::{closing, is_opening, opening};
 pub use fault::ReadError;
 pub use looking::{is_key, is_name, is_number, key, kind_of_symbol, next_kind, sign};
 pub use making::{key_text, tokens};

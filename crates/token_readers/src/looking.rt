@@ -7,6 +7,7 @@ ghost use Rattle.token_readers.specs.Read.{key_at, sign_at};
 
 use crate::fault::ReadError;
 use crate::token::{Key, Kind, Symbol, Token, Version};
+use word_cut::LONGEST_NAME;
 
 fn kind_of_name(text: &[u8]) -> Kind
     ensures { result ≡ name_kind text.now }
@@ -20,7 +21,7 @@ fn kind_of_name(text: &[u8]) -> Kind
     if text == b"observes".as_slice() {
         return Kind::Observes;
     }
-    if text.is_empty() || text.len() > 32 {
+    if text.is_empty() || text.len() > LONGEST_NAME {
         return Kind::Unnamed;
     }
     Kind::Name

@@ -1,5 +1,5 @@
 -- Which bytes words are made of, and which texts are words.
-use Rattle.std.specs.Prelude.{ℕ, Bool, true, false, ◌==◌, nat_le, ◌&&◌, ◌||◌, if◌then◌else◌, List, [], ◌∷◌, length, codes}
+use Rattle.std.specs.Prelude.{ℕ, Bool, true, false, ◌==◌, nat_le, nat_lt, ◌&&◌, ◌||◌, if◌then◌else◌, List, [], ◌∷◌, length, codes}
 use Rattle.std.specs.List.{list_all, list_any}
 use Rattle.std.specs.Str.{bytes_eq}
 use Rattle.word_cut.specs.declared.word.WordKind.{WordKind}
@@ -92,7 +92,7 @@ abbrev pub longest_number : ℕ
 longest_number = 38
 
 abbrev pub is_long_name : List ℕ → Bool
-is_long_name text = is_name text && nat_le 33 (length text)
+is_long_name text = is_name text && nat_lt longest_name (length text)
 
 abbrev pub is_long_number : List ℕ → Bool
-is_long_number text = is_number text && nat_le 39 (length text)
+is_long_number text = is_number text && nat_lt longest_number (length text)

@@ -78,24 +78,30 @@ pub fn kind_of(text: &[u8]) -> WordKind
     }
 }
 
-/// Whether a word is a name of more than 32 bytes.
+/// The most bytes of a name.
+pub const LONGEST_NAME: usize = 32;
+
+/// The most digits of a number.
+pub const LONGEST_NUMBER: usize = 38;
+
+/// Whether a word is a name that is too long.
 pub fn is_long_name(text: &[u8]) -> bool
     requires { word_test text.now ≡ true }
     ensures { result ≡ long_name_test text.now }
 {
     match text {
         [] => false,
-        [first, ..] => is_letter(*first) && text.len() > 32,
+        [first, ..] => is_letter(*first) && text.len() > LONGEST_NAME,
     }
 }
 
-/// Whether a word is a number of more than 38 digits.
+/// Whether a word is a number that is too long.
 pub fn is_long_number(text: &[u8]) -> bool
     requires { word_test text.now ≡ true }
     ensures { result ≡ long_number_test text.now }
 {
     match text {
         [] => false,
-        [first, ..] => is_digit(*first) && text.len() > 38,
+        [first, ..] => is_digit(*first) && text.len() > LONGEST_NUMBER,
     }
 }

@@ -13,6 +13,7 @@ mod whole;
 mod word;
 
 pub use cutting::{CutRefused, cut};
+pub use kinds::LONGEST_NAME;
 pub use laws::{law_cut_or_refused, law_one_cut, law_one_refusal, law_words_stand};
 pub use whole::{read_number, read_whole};
 pub use word::{Word, WordKind};
