@@ -88,13 +88,6 @@ impl Tuples {
         write_tuples(alloc, name, &self.keys, out)
     }
 
-    /// A fact for proofs: the tuples rise.
-    pub fn rises(&self)
-        ensures { is_rising self.now ≡ true }
-    {
-        let _keys = &self.keys;
-    }
-
     /// Lists a tuple, or takes it from the list.
     pub fn set(&mut self, tuple: &[u32], value: bool) -> Result<(), AllocError>
         ensures rising { is_rising self.new ≡ true }
