@@ -1,6 +1,7 @@
 """`./cise json FILE`: a report, a replay, a simulation or a suggestion of the program as JSON. docs/JSON.md has the form. Nothing is added and
 nothing is left out: the text is written anew from the JSON, and only what gives the same text is taken for one of the program's."""
 import json
+import re
 
 from view.output import say
 from view.report import Replay, Report, Simulation, Suggestion
@@ -11,6 +12,8 @@ PARTS = {"init": ["invariant"], "safety": ["operation", "invariant"], "commute":
 # For each cause of a refused step how the numbers behind it are called.
 CAUSES = {"conflict": "event", "missing": "event", "precondition": "requires", "observation": "observes"}
 STATUS_OK, STATUS_REFUSED = 0, 4
+# A list of numbers in several lines. No text within the JSON has an end of line.
+NUMBERS = re.compile(r"\[\n\s+((?:-?\d+,\s+)*-?\d+)\n\s+\]")
 
 
 def answer(path):
@@ -20,7 +23,13 @@ def answer(path):
     if facts is None:
         say(f"{path}:{line}:1: this is no report, replay, simulation or suggestion as the program writes it\n")
         return STATUS_REFUSED, ""
-    return STATUS_OK, json.dumps(facts, indent=2) + "\n"
+    return STATUS_OK, laid_out(facts)
+
+
+def laid_out(facts):
+    """The JSON, with each list of numbers in one line."""
+    text = json.dumps(facts, indent=2) + "\n"
+    return NUMBERS.sub(lambda it: f"[{', '.join(part.strip() for part in it.group(1).split(','))}]", text)
 
 
 def facts_of(text):

@@ -33,7 +33,8 @@ class RoundTrips(unittest.TestCase):
             with self.subTest(" ".join(words)):
                 found, line = facts.facts_of(text)
                 self.assertIsNone(line)
-                self.assertEqual(facts.text_from(json.loads(json.dumps(found))), text)
+                self.assertEqual(json.loads(facts.laid_out(found)), found)
+                self.assertEqual(facts.text_from(json.loads(facts.laid_out(found))), text)
                 kinds |= {found["text"]} | {it["verdict"] for it in found.get("obligations", [])} | {found.get("stop", {}).get("word")}
         self.assertLessEqual({"report", "replay", "simulation", "suggestion", "proved", "refuted", "undecided", "done", "broken", "refused"}, kinds)
 
