@@ -26,13 +26,21 @@ TABLE = [
     ("conflict t ( x ) u ( x )", "takes t ( p ) takes u ( q )", "takes t ( p ) takes u ( q )", ["p = q", "or q = p"], ["p = q"]),
     ("conflict two ( x , y ) two ( x , y )", "takes two ( p , q )", "takes two ( p , v )", ["same p, q = v"], ["same p, q"]),
     ("conflict two ( x , y ) two ( y , x )", "takes two ( p , q )", "takes two ( p , v )", ["p = v, q = p"], ["p = q, q = p"]),
-    ("conflict two ( x , x ) t ( x )", "takes two ( p , q )", "takes t ( v )", ["p = q in one, p = v"], ["at once"]),
-    ("conflict two ( x , x ) t ( y )", "takes two ( p , q )", "takes t ( v )", ["p = q in one"], ["at once"]),
-    ("conflict t ( x ) t ( x )", "takes t ( c )", "takes t ( p )", ["p = c"], ["always"]),
+    ("conflict two ( x , x ) t ( x )", "takes two ( p , q )", "takes t ( v )", ["p = q in f, p = v"], ["at once"]),
+    ("conflict two ( x , x ) t ( y )", "takes two ( p , q )", "takes t ( v )", ["p = q in f"], ["at once"]),
+    ("conflict t ( x ) t ( x )", "takes t ( c )", "takes t ( p )", ["p = c in g"], ["always"]),
+    ("conflict t ( x ) u ( x )", "takes t ( c ) takes u ( q )", "takes u ( p )", ["p = c in g"], ["q = c in one"]),
+    ("conflict two ( x , x ) t ( y )", "takes two ( p , q ) takes t ( q )", "takes t ( v )", ["p = q in f"], ["p = q in one"]),
     ("conflict t ( x ) t ( x )", "takes t ( c )", "takes t ( d )", ["c = d"], ["always"]),
     ("conflict t ( x ) t ( x )", "takes t ( c )", "takes t ( c )", ["always"], ["always"]),
     ("conflict t ( x ) t ( x )", "takes t ( p ) takes t ( q )", "takes t ( v )", ["p = v", "or q = v"], ["same p", "or p = q", "or same q"]),
-    ("conflict t ( x ) t ( x ) conflict two ( x , y ) two ( x , y )", "takes t ( p ) takes two ( p , q )", "takes t ( p ) takes two ( p , v )", ["same p"], ["same p"]),
+    (
+        "conflict t ( x ) t ( x ) conflict two ( x , y ) two ( x , y )",
+        "takes t ( p ) takes two ( p , q )",
+        "takes t ( p ) takes two ( p , v )",
+        ["same p"],
+        ["same p"],
+    ),
     ("conflict t ( x ) t ( x ) conflict t ( x ) t ( y )", "takes t ( p )", "takes t ( p )", ["always"], ["always"]),
     ("conflict t ( x ) t ( x )", "takes t ( p ) shared", "takes t ( p ) shared", ["at once"], ["at once"]),
     ("conflict t ( x ) t ( x )", "takes t ( p ) shared", "takes t ( p ) exclusive", ["same p"], ["at once"]),
@@ -64,7 +72,8 @@ class Read(unittest.TestCase):
                 self.assertEqual(status, 0, text)
 
     def test_sentences(self):
-        pairs = pairs_of("conflict two ( x , y ) two ( x , y ) conflict t ( x ) two ( x , x )", "takes two ( p , q ) takes t ( q )", "takes two ( p , v )")
+        rules = "conflict two ( x , y ) two ( x , y ) conflict t ( x ) two ( x , x )"
+        pairs = pairs_of(rules, "takes two ( p , q ) takes t ( q )", "takes two ( p , v )")
         self.assertEqual(
             order.sentence(pairs["f", "g"].conditions, "f", "g"),
             "ordered where both have the same p and q of f = v of g, or where q of f = p of g and q of f = v of g",
@@ -88,9 +97,9 @@ class Read(unittest.TestCase):
         self.assertTrue(order.sentence(found, "f", "g").endswith(f", or in {len(found) - 7} more cases"))
 
     def test_rules_by_line(self):
-        spec = Spec(HEAD + "conflict t ( x ) t ( x )\nconflict u ( x ) u ( x )\n" + F.format("takes t ( p ) takes u ( p )") + G.format("takes u ( p ) takes t ( p )"))
-        found = order.conditions(spec, "f", "g")
-        self.assertEqual([it.rules for it in found], [[2, 3]])
+        rules = "conflict t ( x ) t ( x )\nconflict u ( x ) u ( x )\nconflict two ( x , y ) two ( x , y )"
+        text = text_with("\n" + rules, "takes t ( p ) takes u ( p ) takes two ( p , q )", "takes u ( p ) takes t ( p ) takes two ( p , q )")
+        self.assertEqual([it.rules for it in order.conditions(Spec(text), "f", "g")], [[3, 4]])
 
 
 class Replayed(unittest.TestCase):
