@@ -158,9 +158,10 @@ class Beyond(unittest.TestCase):
         change(block.witness)
         self.assertIsNotNone(outcome.outcome(spec, block).states)
         wide = KINDS["WRITTEN"].replace("relation granted", "relation all ( User , User , User ) relation granted")
-        every = {("all", (a, b, c)) for a in range(20) for b in range(20) for c in range(20)}
-        why = self.why(wide, "stable write 1 purge", lambda it: it.sizes.update(User=20) or it.state.true.update(every))
-        self.assertEqual(why, "A replay can have 10,000 steps, and this state needs more.")
+        for size in (20, 30):
+            every = {("all", (a, b, c)) for a in range(size) for b in range(size) for c in range(size)}
+            why = self.why(wide, "stable write 1 purge", lambda it: it.sizes.update(User=size) or it.state.true.update(every))
+            self.assertEqual(why, "A replay can have 10,000 steps, and this state needs more.")
 
 
 if __name__ == "__main__":
