@@ -1,4 +1,5 @@
 """On what two operations are ordered: by hand, and against the refusal `conflict` of replays over random rules, constants, modes and calls."""
+import itertools
 import random
 import re
 import unittest
@@ -70,6 +71,20 @@ class Read(unittest.TestCase):
                 self.assertIs(pairs["f", "g"], pairs["g", "f"])
                 status, text = program.run_on(text_with(rules, f_lines, g_lines), "spell")
                 self.assertEqual(status, 0, text)
+
+    def test_implied(self):
+        """A condition implies another where every choice of two values that meets the one meets the other."""
+        arguments = [(side, name) for side in "fg" for name in "pq"] + [(None, "c"), (None, "d")]
+        choose, counts = random.Random(1), {True: 0, False: 0}
+        for _ in range(600):
+            one, other = ([tuple(choose.sample(arguments, 2)) for _ in range(most)] for most in (choose.randrange(6), choose.randrange(1, 3)))
+            worlds = [dict(zip(arguments, values)) for values in itertools.product(range(2), repeat=len(arguments))]
+            follows = all(all(it[a] == it[b] for a, b in other) for it in worlds if all(it[a] == it[b] for a, b in one))
+            condition, turned = order.Condition(one), [tuple((order.OTHER[side], name) for side, name in it) for it in other]
+            self.assertEqual(condition.implies(order.Condition(other)), follows, (one, other))
+            self.assertEqual(condition.implies(order.Condition(turned), swapped=True), follows, (one, other))
+            counts[follows] += 1
+        self.assertGreater(min(counts.values()), 100, counts)
 
     def test_sentences(self):
         rules = "conflict two ( x , y ) two ( x , y ) conflict t ( x ) two ( x , x )"
