@@ -9,7 +9,7 @@ from view.report import Replay, Suggestion
 from view.tests.designs import Design
 from view.tree import Spec
 
-HEAD = "cise 2 sort S sort T const c : S const d : S token t ( S ) token u ( S ) token two ( S , S ) token all\n"
+HEAD = "cise 2 sort S sort T const c : S const d : S token t ( S ) token u ( S ) token two ( S , S ) token alt ( S , S ) token all\n"
 F = "operation f ( p : S , q : S , r : T ) {} end "
 G = "operation g ( p : S , v : S , q : S ) {} end\n"
 
@@ -115,6 +115,11 @@ class Read(unittest.TestCase):
         rules = "conflict t ( x ) t ( x )\nconflict u ( x ) u ( x )\nconflict two ( x , y ) two ( x , y )"
         text = text_with("\n" + rules, "takes t ( p ) takes u ( p ) takes two ( p , q )", "takes u ( p ) takes t ( p ) takes two ( p , q )")
         self.assertEqual([it.rules for it in order.conditions(Spec(text), "f", "g")], [[3, 4]])
+
+    def test_rules_that_say_the_same(self):
+        text = text_with("\nconflict two ( x , x ) t ( x )\nconflict alt ( x , x ) t ( x )", "takes two ( p , q ) takes alt ( q , p )", "takes t ( v )")
+        found = order.conditions(Spec(text), "f", "g")
+        self.assertEqual([(it.short(), it.rules) for it in found], [("p = q in f, p = v", [3, 4])])
 
 
 class Replayed(unittest.TestCase):
