@@ -108,22 +108,15 @@ def step_fault(step):
 
 
 class Course:
-    """The steps of a replay or a simulation up to the one that was refused, and who made which call."""
+    """The steps of a replay or a simulation up to the one that was refused. `made` are those that made a call; no refusal of a simulation speaks of
+    an event."""
 
     def __init__(self, spec, schedule, text):
         self.spec, self.steps = spec, schedule["steps"]
-        self.names, self.made = Names(spec, schedule["constants"]), []
+        self.names = Names(spec, schedule["constants"])
         self.stop = next(line.split() for line in text.splitlines() if line.startswith("refused "))
-        waiting = {}
-        for line in text.splitlines():
-            parts = line.split()
-            if parts[0] != "step":
-                continue
-            step = self.steps[int(parts[1])]
-            if "call" in step:
-                waiting[step["replica"]] = step
-            if parts[4] == "call":
-                self.made.append(waiting[int(parts[3])])
+        accepted = [line.split() for line in text.splitlines() if line.startswith("step ")]
+        self.made = [self.steps[int(it[1])] for it in accepted if it[4] == "call"]
 
     def event(self, number):
         """An event with its call: `call 1, withdraw(a = Account#0, n = 60) of replica 0`."""

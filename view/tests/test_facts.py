@@ -66,6 +66,19 @@ class Facts(unittest.TestCase):
         self.assertEqual(found["stop"], {"word": "refused", "step": 3, "cause": "conflict", "event": 1})
         self.assertEqual(found["replicas"][0], {"replica": 0, "taken": 2, "true": [], "count": [{"counter": "balance", "elements": [0], "value": 40}]})
 
+    def test_other_ends(self):
+        start = program.run_on("cise 1 relation up invariant alive up", "replay", schedule={"sizes": {}, "constants": {}, "replicas": 1, "steps": []})[1]
+        found, _ = facts.facts_of(start)
+        self.assertEqual(found["stop"], {"word": "broken", "step": None, "invariant": "alive"})
+        deposits = [{"replica": 0, "call": "deposit", "args": [0, it]} for it in (10**15, 1)]
+        steps = {"missing": deposits[1:] * 2 + [{"replica": 1, "take": 1}], "range": deposits, "precondition": [{"replica": 0, "call": "withdraw", "args": [0, 5]}]}
+        rest = {"missing": {"event": 0}, "range": {"counter": "balance", "elements": [0], "value": 10**15 + 1}, "precondition": {"requires": 2}}
+        for cause, taken in steps.items():
+            text = program.run_on(text_of("examples/bank/accepted.cise"), "replay", schedule={"sizes": {"Account": 1}, "constants": {}, "replicas": 2, "steps": taken})[1]
+            found, _ = facts.facts_of(text)
+            self.assertEqual(found["stop"], {"word": "refused", "step": len(taken) - 1, "cause": cause, **rest[cause]})
+            self.assertEqual(facts.text_from(found), text)
+
     def test_a_simulation(self):
         found, _ = facts.facts_of(program.run("simulate", "examples/bank/accepted.cise", "examples/bank/granted.json")[1])
         self.assertEqual(found["steps"][3], {"step": 3, "replica": 1, "said": "awaits", "call": [0, 1]})

@@ -226,6 +226,15 @@ class Parts(unittest.TestCase):
         pair.answers = [Answer("by", "a", "w"), Answer("notby", "a", "x"), Answer("by", "b", "x"), Answer("by", "c", "y"), Answer("by", "d", "z"), Answer("by", "c", "w")]
         self.assertEqual(by_lines(pair), [("a", "w"), ("b", "x"), ("c", "y"), ("c", "w")])
 
+    def test_calls_of_one_operation_may_be_exchanged(self):
+        one, other = {"p": 1, "q": 0}, {"p": 5, "q": 1}
+        search = Search(Spec(FRIENDS), "meet", "meet")
+        self.assertEqual([search.orders([[("p", "q")]], it) for it in ((one, other), (other, one), (one, one))], [True, True, False])
+        self.assertEqual(search.equalities, [("p", "p"), ("p", "q"), ("q", "q")])
+        search = Search(Spec(FRIENDS), "meet", "part")
+        self.assertEqual([search.orders([[("p", "q")]], it) for it in ((one, other), (other, one))], [True, False])
+        self.assertEqual([search.orders([[("p", "p")], [("p", "q"), ("q", "p")]], it) for it in ((one, {"p": 0, "q": 1}), (one, other))], [True, False])
+
     def test_a_search_learns_from_refutations(self):
         search = Search(Spec(FRIENDS), "meet", "part")
         self.assertFalse(search.is_enough([[("p", "p")]]))

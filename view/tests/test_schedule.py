@@ -174,15 +174,6 @@ class Steps(unittest.TestCase):
         slip = schedule.refused_step(Spec(CHAT), text, said)
         self.assertEqual((slip.line, slip.message), (2, "step 0 is refused: line 20 of the specification is false at replica 0: observes member ( u , r )"))
 
-    def test_calls_of_a_simulation_that_ran_late(self):
-        with open("examples/bank/granted.json") as file:
-            top = json.load(file)
-        top["steps"] += [{"replica": 0, "take": 2}, {"replica": 0, "take": 9}]
-        text = json.dumps(top)
-        said = program.run_on(text_of(BANK), "simulate", schedule=top)[1]
-        slip = schedule.refused_step(Spec(text_of(BANK)), text, said)
-        self.assertEqual(slip.message, "step 6 is refused: there is no call 9 so far; accepted calls are numbered from 0")
-
 
 class Reports(unittest.TestCase):
     def test_each_kind_has_a_sentence(self):

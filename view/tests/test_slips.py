@@ -137,6 +137,18 @@ class Grammars(unittest.TestCase):
         self.assertGreaterEqual(found, 8)
 
 
+class Parts(unittest.TestCase):
+    def test_where_a_formula_begins(self):
+        text = "cise 1 invariant i ( n >= 0 and not ( m > 2"
+        starts = [syntax_slips.Place(words(text), at).formula_start() for at in (5, 7, 8, 9, 11, 12)]
+        self.assertEqual(starts, [5, 5, 5, 9, 11, 11])
+
+    def test_words_of_version_2(self):
+        self.assertEqual(slips.tell("x", "cise 2 sort shared", refusal_of("cise 2 sort shared")).split("\n")[0],
+                         "x:1:13: 'shared' is a word of the language, so nothing can have it as its name")
+        self.assertIsNone(refusal_of("cise 1 sort shared"))
+
+
 class Names(unittest.TestCase):
     """What is said besides the message."""
 
