@@ -1,4 +1,4 @@
-"""The words of the script's own commands, and where each is answered. `./cise` calls `main` for these, and `places` behind the program's own commands.
+"""The words of the script's own commands, and where each is answered. `./cise` calls `main` for these, and `places` behind the program's commands.
 
 A command's module has `answer(path, ..)`, which takes the paths of the command's words and gives a status and the whole text for standard
 output. Where the program refuses an input, `program.answer` or `program.replayed` raises `program.Stopped` there, and nothing catches it but

@@ -11,7 +11,7 @@ from view import mend, order, program
 from view.edits import with_tokens
 from view.enough import Search, by_lines
 from view.report import Answer, SuggestedPair, Suggestion
-from view.tests.unordered import BLOG, COURSES, FRIENDS, NUMBERS, PAYMENT, PROJECTS, TICKETS, UNORDERED
+from view.tests.unordered import FRIENDS, NUMBERS, TICKETS, UNORDERED
 from view.tokens import Order, Tokens
 from view.tree import Spec
 from view.words import text_of, words
