@@ -11,115 +11,19 @@ counters functions to the integers, quantifiers stand as they are, and what is r
 before it. z3 gets all problems of a specification in one run, and then each in a run of its own. This isn't part of any proof. A sort of
 z3 is never empty, so what breaks only with an empty sort isn't found.
 """
+import os
 import re
 import resource
 import subprocess
 import sys
 import tempfile
 
-PROGRAM = "crates/cise_cli/out/cise_cli"
+sys.path.insert(0, os.path.dirname(os.path.dirname(os.path.realpath(__file__))))
+from view import program  # noqa: E402
+from view.tree import UPDATES, Spec  # noqa: E402
+from view.words import text_of  # noqa: E402
+
 CONNECTIVES = {"and": "and", "or": "or", "implies": "=>"}
-
-
-class Reader:
-    """Reads the words of a well-formed specification."""
-
-    def __init__(self, text):
-        self.words = re.findall(r"[A-Za-z][A-Za-z0-9_]*|[0-9]+|<=|>=|!=|[(),:.*+\-=<>]", re.sub(r"#.*", "", text)) + [""]
-        self.at = 2
-
-    def peek(self):
-        return self.words[self.at]
-
-    def next(self):
-        self.at += 1
-        return self.words[self.at - 1]
-
-    def takes(self, word):
-        found = self.peek() == word
-        self.at += found
-        return found
-
-    def listed(self, item, begin, end):
-        """What stands between two words, with commas, or nothing where the first isn't there."""
-        found = []
-        if self.peek() == begin:
-            while not self.takes(end):
-                self.next()
-                found.append(item())
-        return found
-
-    def typed(self):
-        name, _ = self.next(), self.next()
-        return name, self.next()
-
-    def reading(self):
-        return self.next(), self.listed(self.next, "(", ")")
-
-    def term(self):
-        """Coefficients, each with a reading or with nothing."""
-        found, sign = [], -1 if self.takes("-") else 1
-        while True:
-            if self.peek().isdigit():
-                found.append((sign * int(self.next()), self.reading() if self.takes("*") else None))
-            else:
-                found.append((sign, self.reading()))
-            if self.peek() not in ("+", "-"):
-                return found
-            sign = 1 if self.next() == "+" else -1
-
-    def formula(self):
-        if self.peek() in ("true", "false"):
-            return (self.next(),)
-        if self.takes("not"):
-            return ("not", self.formula())
-        if not self.takes("("):
-            return ("has", self.reading())
-        if self.begins_formula():
-            left = self.formula()
-            found = (CONNECTIVES[self.next()], left, self.formula())
-        else:
-            left = self.term()
-            found = ("compare", self.next(), left, self.term())
-        self.next()
-        return found
-
-    def begins_formula(self):
-        """Behind a bracket: whether a formula begins, and not a sum."""
-        start = self.at
-        found = self.peek() in ("true", "false", "not", "(") or (self.peek()[0].isalpha() and self.reading() and self.peek() in CONNECTIVES)
-        self.at = start
-        return found
-
-    def line(self):
-        quantifier = self.peek()
-        return {"vars": self.listed(self.typed, quantifier, ".") if quantifier in ("forall", "exists") else [], "quantifier": quantifier, "body": self.formula()}
-
-    def operation(self):
-        op = {"name": self.next(), "params": self.listed(self.typed, "(", ")"), "requires": [], "updates": [], "takes": []}
-        while not self.takes("end"):
-            word = self.next()
-            if word == "takes":
-                token, args = self.reading()
-                mode = self.next() if self.peek() in ("shared", "exclusive") else "exclusive"
-                op["takes"].append((token, args, mode == "shared"))
-            elif word in ("requires", "observes"):
-                line = self.line()
-                op["requires"] += [line] * (word == "requires")
-            else:
-                (thing, spots), amount = self.reading(), self.term() if word in ("add", "set") else None
-                op["updates"].append((word, thing, spots, amount, self.formula() if self.takes("when") else None))
-        return op
-
-    def specification(self):
-        spec = {word: [] for word in "sort const relation counter initially token conflict invariant operation".split()}
-        readers = {"sort": self.next, "const": self.typed, "relation": self.reading, "counter": self.reading, "token": self.reading}
-        readers["initially"] = lambda: (self.next(), f"(- {self.next()})" if self.takes("-") else self.next())
-        readers |= {"conflict": lambda: (self.reading(), self.reading()), "invariant": lambda: (self.next(), self.line()), "operation": self.operation}
-        while self.peek():
-            word = self.next()
-            spec[word].append(readers[word]())
-        return spec
 
 
 def written(value):
@@ -144,67 +48,71 @@ class Problems:
 
     def __init__(self, spec):
         self.spec, self.lines = spec, []
-        self.places = dict(spec["relation"] + spec["counter"])
-        self.kind = dict.fromkeys(self.places, "Int") | {name: "Bool" for name, _ in spec["relation"]}
+        self.places = {**spec.relations, **spec.counters}
+        self.kind = {name: "Bool" if name in spec.relations else "Int" for name in self.places}
 
     def element(self, scope, word):
         return scope[word][0] if word in scope else f"|c.{word}|"
 
     def read(self, state, scope, reading):
-        name, args = reading
+        _, name, args = reading
         if not args and name in scope:
             return scope[name][0]
         return applied(state.get(name, f"t.{name}"), [self.element(scope, a) for a in args])
 
     def is_element(self, scope, term):
-        word = term[0][1][0] if len(term) == 1 and term[0][0] == 1 and term[0][1] and not term[0][1][1] else None
-        return scope[word][1] != "int" if word in scope else word in dict(self.spec["const"])
+        coefficient, reading = term[0]
+        word = reading[1] if len(term) == 1 and coefficient == 1 and reading and not reading[2] else None
+        return scope[word][1] != "int" if word in scope else word in self.spec.consts
 
     def term(self, state, scope, term):
         return joined("+", [written(c) if r is None else f"(* {written(c)} {self.read(state, scope, r)})" for c, r in term], "0")
 
     def formula(self, state, scope, f):
-        if f[0] == "has":
-            return self.read(state, scope, f[1])
+        if f[0] == "reading":
+            return self.read(state, scope, f)
+        if f[0] == "not":
+            return f"(not {self.formula(state, scope, f[1])})"
         if f[0] != "compare":
-            return joined(f[0], [self.formula(state, scope, g) for g in f[1:]], f[0]) if f[0] != "not" else f"(not {self.formula(state, scope, f[1])})"
+            return joined(CONNECTIVES.get(f[0]), [self.formula(state, scope, g) for g in f[1:]], f[0])
         sign, sides = f[1], f[2:]
         if sign in ("=", "!=") and all(self.is_element(scope, t) for t in sides):
-            sides = [self.element(scope, t[0][1][0]) for t in sides]
+            sides = [self.element(scope, t[0][1][1]) for t in sides]
         else:
             sides = [self.term(state, scope, t) for t in sides]
         return f"(not (= {' '.join(sides)}))" if sign == "!=" else f"({sign} {' '.join(sides)})"
 
     def line(self, state, scope, line):
-        inner = scope | {v: (f"|v.{v}|", sort) for v, sort in line["vars"]}
-        body = self.formula(state, inner, line["body"])
-        heads = " ".join(f"(|v.{v}| |s.{sort}|)" for v, sort in line["vars"])
-        return f"({line['quantifier']} ({heads}) {body})" if heads else body
+        inner = {**scope, **{v: (f"|v.{v}|", sort) for v, sort in line.vars}}
+        body = self.formula(state, inner, line.tree())
+        heads = " ".join(f"(|v.{v}| |s.{sort}|)" for v, sort in line.vars)
+        return f"({line.prefix} ({heads}) {body})" if heads else body
 
     def declare(self):
-        self.lines = [f"(declare-sort |s.{sort}| 0)" for sort in self.spec["sort"]]
-        self.lines += [f"(declare-const |c.{name}| |s.{sort}|)" for name, sort in self.spec["const"]]
+        self.lines = [f"(declare-sort |s.{sort}| 0)" for sort in self.spec.sorts]
+        self.lines += [f"(declare-const |c.{name}| |s.{sort}|)" for name, sort in self.spec.consts.items()]
         for name, places in self.places.items():
             self.lines.append(f"(declare-fun |t.{name}| ({' '.join(f'|s.{s}|' for s in places)}) {self.kind[name]})")
 
     def call(self, op, which):
         """The scope of a call, whose arguments may be any."""
-        self.lines += [f"(declare-const |{which}.{name}| {'Int' if sort == 'int' else f'|s.{sort}|'})" for name, sort in op["params"]]
-        return {name: (f"|{which}.{name}|", sort) for name, sort in op["params"]}
+        self.lines += [f"(declare-const |{which}.{name}| {'Int' if sort == 'int' else f'|s.{sort}|'})" for name, sort in op.params]
+        return {name: (f"|{which}.{name}|", sort) for name, sort in op.params}
 
     def after(self, state, call, mark):
         """The state after a call: guards and amounts read the state before it."""
         op, scope = call
-        found = dict(state)
-        for name in dict.fromkeys(u[1] for u in op["updates"]):
+        found, updates = dict(state), op.of(*UPDATES)
+        for name in dict.fromkeys(line.thing()[0] for line in updates):
             keys = [f"|x{i}|" for i in range(len(self.places[name]))]
             value = applied(state.get(name, f"t.{name}"), keys)
-            for word, thing, spots, amount, guard in op["updates"]:
+            for line in updates:
+                thing, spots = line.thing()
                 if thing == name:
                     acts = [f"(= {x} {self.element(scope, s)})" for x, s in zip(keys, spots) if s != "*"]
-                    acts += [] if guard is None else [self.formula(state, scope, guard)]
-                    new = {"insert": "true", "remove": "false"}.get(word) or self.term(state, scope, amount)
-                    value = f"(ite {joined('and', acts, 'true')} {f'(+ {value} {new})' if word == 'add' else new} {value})"
+                    acts += [] if line.guard() is None else [self.formula(state, scope, line.guard())]
+                    new = {"insert": "true", "remove": "false"}.get(line.head) or self.term(state, scope, line.amount())
+                    value = f"(ite {joined('and', acts, 'true')} {f'(+ {value} {new})' if line.head == 'add' else new} {value})"
             heads = " ".join(f"({x} |s.{s}|)" for x, s in zip(keys, self.places[name]))
             self.lines.append(f"(define-fun |{mark}.{name}| ({heads}) {self.kind[name]} {value})")
             found[name] = f"{mark}.{name}"
@@ -212,32 +120,33 @@ class Problems:
 
     def ready(self, *calls):
         """All invariants and the preconditions of the calls are true, and two calls don't conflict."""
-        for _, line in self.spec["invariant"]:
+        for line in self.spec.invariants.values():
             self.lines.append(asserted(self.line({}, {}, line)))
         for op, scope in calls:
-            for line in op["requires"]:
+            for line in op.of("requires"):
                 self.lines.append(asserted(self.line({}, scope, line)))
         if len(calls) == 2:
             self.lines.append(asserted(f"(not {joined('or', self.matches(*calls) + self.matches(*reversed(calls)), 'false')})"))
 
     def matches(self, first, second):
         found = []
-        for rule in self.spec["conflict"]:
-            for one in first[0]["takes"]:
-                for other in second[0]["takes"]:
-                    if (one[0], other[0]) == (rule[0][0], rule[1][0]) and not (one[2] and other[2]):
+        for left, right, _ in self.spec.rules:
+            for one in first[0].of("takes"):
+                for other in second[0].of("takes"):
+                    (token, arguments), (other_token, other_arguments) = one.thing(), other.thing()
+                    if (token, other_token) == (left[0], right[0]) and not (one.is_shared() and other.is_shared()):
                         values = {}
-                        for pattern, take, call in ((rule[0], one, first), (rule[1], other, second)):
-                            for variable, word in zip(pattern[1], take[1]):
+                        for pattern, words, call in ((left, arguments, first), (right, other_arguments, second)):
+                            for variable, word in zip(pattern[1], words):
                                 values.setdefault(variable, []).append(self.element(call[1], word))
                         found.append(joined("and", [f"(= {' '.join(v)})" for v in values.values() if len(v) > 1], "true"))
         return found
 
     def init(self, line):
-        values = dict(self.spec["initially"])
         for name, places in self.places.items():
             keys = [f"|x{i}|" for i in range(len(places))]
-            equal = f"(= {applied(f't.{name}', keys)} {values.get(name, 'false' if self.kind[name] == 'Bool' else '0')})"
+            value = self.spec.initially.get(name, "false" if self.kind[name] == "Bool" else "0")
+            equal = f"(= {applied(f't.{name}', keys)} {value if self.kind[name] == 'Bool' else written(int(value))})"
             heads = " ".join(f"({x} |s.{s}|)" for x, s in zip(keys, places))
             self.lines.append(asserted(f"(forall ({heads}) {equal})" if heads else equal))
         return self.line({}, {}, line)
@@ -262,14 +171,16 @@ class Problems:
 
     def obligations(self):
         """The names of the obligations, in the order of the report, each with what fails where it is broken."""
-        ops, invariants = self.spec["operation"], self.spec["invariant"]
+        ops, invariants = list(self.spec.operations.values()), self.spec.invariants.items()
         yield from ((f"init {name}", self.init, line) for name, line in invariants)
-        yield from ((f"safety {op['name']} {name}", self.safety, op, line) for op in ops for name, line in invariants)
+        yield from ((f"safety {op.name} {name}", self.safety, op, line) for op in ops for name, line in invariants)
         for i, op in enumerate(ops):
             for other in ops[i:]:
-                written = {u[1] for u in op["updates"] + other["updates"]}
-                yield from ((f"commute {op['name']} {other['name']} {thing}", self.commute, op, other, thing) for thing in self.places if thing in written)
-        yield from ((f"stable {op['name']} {k + 1} {other['name']}", self.stable, op, line, other) for op in ops for k, line in enumerate(op["requires"]) for other in ops)
+                changed = {line.thing()[0] for line in op.of(*UPDATES) + other.of(*UPDATES)}
+                yield from ((f"commute {op.name} {other.name} {thing}", self.commute, op, other, thing) for thing in self.places if thing in changed)
+        for op in ops:
+            for k, line in enumerate(op.of("requires"), 1):
+                yield from ((f"stable {op.name} {k} {other.name}", self.stable, op, line, other) for other in ops)
 
     def all(self):
         for name, conclusion, *parts in self.obligations():
@@ -297,11 +208,11 @@ def sample(n):
 
 
 def compare(title, text):
-    problems = list(Problems(Reader(text).specification()).all())
+    problems = list(Problems(Spec(text)).all())
     with tempfile.NamedTemporaryFile("w", suffix=".cise") as spec:
         spec.write(text)
         spec.flush()
-        report, ours = min((run([PROGRAM, "check", spec.name, "--budget", "1000000"]) for _ in range(3)), key=lambda found: found[1])
+        report, ours = min((run([program.path, "check", spec.name, "--budget", "1000000"]) for _ in range(3)), key=lambda found: found[1])
     answers, theirs = min((run(["z3", "-in"], "".join(p for _, p in problems)) for _ in range(3)), key=lambda found: found[1])
     alone = sum(run(["z3", "-in"], p)[1] for _, p in problems)
     verdicts = re.findall(r"^((?:init|safety|commute|stable) .*)\n(proved|refuted|undecided)", report, re.M)
@@ -316,5 +227,5 @@ def compare(title, text):
 
 
 if __name__ == "__main__":
-    GIVEN = [(word, sample(int(word)) if word.isdigit() else open(word, encoding="utf-8").read()) for word in sys.argv[1:]]
+    GIVEN = [(word, sample(int(word)) if word.isdigit() else text_of(word)) for word in sys.argv[1:]]
     sys.exit(0 if all([compare(*given) for given in GIVEN]) else 1)

@@ -1,0 +1,31 @@
+"""Text in lines of at most 80 columns. A word that is longer than a line stays whole, and an equality stays in one line."""
+import textwrap
+
+WIDTH = 80
+# Stands for a space at which no line is cut.
+KEPT = "\ue000"
+
+
+def wrapped(text, first=0, rest=None):
+    """A text as lines, the first with an indent, the others with another one."""
+    indents = {"initial_indent": " " * first, "subsequent_indent": " " * (first if rest is None else rest)}
+    glued = text.replace(" = ", f"{KEPT}={KEPT}").replace(" : ", f"{KEPT}:{KEPT}")
+    return [it.replace(KEPT, " ") for it in textwrap.wrap(glued, WIDTH, break_long_words=False, break_on_hyphens=False, **indents)]
+
+
+def table(rows, indent=0):
+    """Rows of a name and words. The words stand under each other where there is room for them, else each below its name."""
+    widest = max((len(name) for name, _ in rows), default=0) + 2
+    if all(indent + widest + len(words) <= WIDTH for _, words in rows):
+        return [f"{' ' * indent}{name:{widest}}{words}".rstrip() for name, words in rows]
+    return [line for name, words in rows for line in wrapped(name, indent, indent + 2) + wrapped(words, indent + 4)]
+
+
+def printable(text):
+    """A text without what a terminal would take for more than letters, as may stand in a comment within a line."""
+    return "".join(it if it.isprintable() else " " if it.isspace() else "?" for it in text)
+
+
+def joined(names):
+    """As `a`, `a and b`, `a, b and c`."""
+    return " and ".join([", ".join(names[:-1]), names[-1]] if len(names) > 1 else names)

@@ -1,0 +1,153 @@
+"""`./cise explain SPEC [REPORT]`: what a report says, in words for a terminal. Lines have at most 80 columns, but for the user's own, which are never
+cut, and for a name that is longer."""
+from view import order, program
+from view.columns import WIDTH, printable, table, wrapped
+from view.report import Report
+from view.story import stories
+from view.tree import Spec
+from view.words import text_of
+
+# The most facts that are listed, and the widest calls that stand side by side with a remark.
+MOST_FACTS, WIDEST_CALL = 12, 46
+NOTHING = "(nothing: every fact is false, every counter 0)"
+ORIGIN = (
+    "Verdicts and values are the program's. Lines, and what is ordered, are read off the specification. The sentences are made from both, "
+    "and aren't proved."
+)
+
+
+def answer(path, report_path=None):
+    """The status and the text. Without a report the program checks the specification, with one it verifies that."""
+    if report_path is None:
+        status, text = program.answer("check", path)
+    else:
+        status, _ = program.answer("verify", path, report_path)
+        text = text_of(report_path)
+    return status, explained(Spec(text_of(path)), Report(text))
+
+
+def explained(spec, report):
+    """A report in words: a line for each operation and each pair of which there is something to say, the stories, and the counts."""
+    told, pairs = stories(spec, report), order.pairs(spec, report.blocks)
+    lines = overview(spec, report, told, pairs) + [""]
+    for number, it in enumerate(told, 1):
+        lines += [*tell(it, number, pairs.get(it.block.pair())), ""]
+    lines += wrapped(ORIGIN) + [""]
+    lines.append(f"{report.word}: {report.proved} proved, {report.refuted} refuted, {report.undecided} undecided")
+    return "\n".join(lines) + "\n"
+
+
+def overview(spec, report, told, pairs):
+    """The head: the start and each operation that breaks alone, each pair that may not run at once, and how many may."""
+    numbers, rows, free = {it.block: number for number, it in enumerate(told, 1)}, [], 0
+    for name, alone in alone_blocks(spec, report):
+        seen = [it for it in alone if it in numbers]
+        if seen:
+            verdict = "refuted" if any(it.verdict == "refuted" for it in seen) else "undecided"
+            rows.append((name, f"{verdict}, {references(seen, numbers)}"))
+    for pair in dict.fromkeys(pairs.values()):
+        seen, on = [it for it in pair.blocks if it in numbers], " ".join(pair.short())
+        if seen:
+            rows.append((pair.name(), f"{pair.state()}, {references(seen, numbers)}" + (f", though ordered: {on}" if pair.conditions else "")))
+        elif pair.conditions:
+            rows.append((pair.name(), f"ordered: {on}"))
+        else:
+            free += 1
+    count = f"{free} {'pair' if free == 1 else 'pairs'} may run at once" if pairs else "there are no operations"
+    return table(rows) + [count]
+
+
+def alone_blocks(spec, report):
+    """The blocks of the start and those of each operation alone, each with a name."""
+    yield "at the start", [it for it in report.blocks if it.kind == "init"]
+    for name in spec.operations:
+        yield f"{name} alone", [it for it in report.blocks if it.kind == "safety" and it.names[0] == name]
+
+
+def references(blocks, numbers):
+    return "see " + ", ".join(map(str, sorted(numbers[it] for it in blocks)))
+
+
+def tell(story, number, pair):
+    """A story as lines; `pair` is that of its two operations, or None."""
+    head = f"{number}. "
+    lines = wrapped(head + story.title(), 0, len(head))
+    lines += wrapped(f"[{story.block.words()}, report line {story.block.line_in_report}]", len(head)) + [""]
+    if story.verdict == "undecided":
+        return lines + wrapped(story.limit, 2) + wrapped(story.todo, 2) + [""] + sources(story)
+    who = {"init": "At the start there is:", "safety": "A replica holds:"}.get(story.kind, "Both replicas hold:")
+    lines += wrapped(f"{story.world()} {who}".strip(), 2) + listed(story.facts or [NOTHING]) + listed(story.also) + [""]
+    if story.calls:
+        lines += called(story) + [""]
+    lines += ended(story) + sources(story) + values(story)
+    for note in notes(story, pair):
+        lines += ["", *wrapped("Note. " + note, 2)]
+    return lines
+
+
+def notes(story, pair):
+    """Cautions: on order that isn't enough, on values that aren't shown, on what is observed."""
+    found = []
+    if pair and pair.conditions:
+        both = f"Two calls of {pair.f}" if pair.f == pair.g else f"{pair.f} and {pair.g}"
+        found.append(f"{both} are {order.sentence(pair.conditions, pair.f, pair.g)}. These two calls aren't.")
+    return found + [it for it in (story.untold, story.observed()) if it]
+
+
+def called(story):
+    """The call, or the two side by side."""
+    texts = [it.text() for it in story.calls]
+    if len(texts) == 1:
+        return ["  There, this call is allowed:"] + arguments(story.calls[0], "      ")
+    lines, widest = ["  There, both calls are allowed:"], max(map(len, texts))
+    if widest <= WIDEST_CALL:
+        return lines + [f"    A  {texts[0]:{widest}} --.  neither knows", f"    B  {texts[1]:{widest}} --'  of the other"]
+    for who, call in zip("AB", story.calls):
+        lines += arguments(call, f"    {who}  ")
+    return lines + ["  Neither knows of the other."]
+
+
+def arguments(call, head):
+    """A call in one line, or with a line for each argument where it is too long."""
+    if len(head + call.text()) <= WIDTH:
+        return [head + call.text()]
+    lines = [f"{head}{call.op}("] + [f"{' ' * len(head)}  {name} = {value}," for name, value in call.args]
+    return lines[:-1] + [lines[-1][:-1] + ")"]
+
+
+def ended(story):
+    """What is wrong at the end."""
+    texts = story.end_texts() if story.kind == "commute" else None
+    if not texts:
+        return wrapped(story.ending(), 2)
+    lines = ["  Each then takes the other's call. At the end:"]
+    for who, text in zip("AB", texts):
+        lines += wrapped(f"{who}  {story.names.thing(*story.differs)} is {text}", 4, 9)
+    return lines + ["  though both have taken the same calls."]
+
+
+def values(story):
+    """What the failing line reads where it is false."""
+    lines = []
+    for text, value, _ in story.readings:
+        lines += wrapped(f"{'' if lines else 'where '}{text} is {value}", 8 if lines else 2, 10)
+    return lines
+
+
+def sources(story):
+    """The user's own lines, each with its number, at the indent of its first word."""
+    lines = []
+    for it in story.lines:
+        before = story.spec.text[: it.head.at].rpartition("\n")[2]
+        indent = len(before.expandtabs())
+        for at, row in enumerate(it.text.split("\n")):
+            row = printable(row.expandtabs()).rstrip()
+            lines.append(f"  {it.number + at:5} | {row[min(indent, len(row) - len(row.lstrip())) :] if at else row}".rstrip())
+    return lines
+
+
+def listed(texts):
+    """Facts, each in a line where there is room for it; those beyond the most are counted."""
+    shown = texts if len(texts) <= MOST_FACTS else texts[: MOST_FACTS - 1]
+    lines = [line for it in shown for line in wrapped(it, 6, 10)]
+    return lines + ([f"      ... and {len(texts) - len(shown)} more; the report has them all"] if len(texts) > len(shown) else [])

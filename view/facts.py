@@ -1,0 +1,214 @@
+"""`./cise json FILE`: a report, a replay, a simulation or a suggestion of the program as JSON. docs/JSON.md has the form. Nothing is added and
+nothing is left out: the text is written anew from the JSON, and only what gives the same text is taken for one of the program's."""
+import json
+import re
+
+from view.output import say
+from view.report import Replay, Report, Simulation, Suggestion
+from view.words import text_of
+
+# For each kind of obligation how its words are called; of `operations` there are two.
+PARTS = {"init": ["invariant"], "safety": ["operation", "invariant"], "commute": ["first", "second", "thing"], "stable": ["operation", "requires", "other"]}
+# For each cause of a refused step how the numbers behind it are called.
+CAUSES = {"conflict": "event", "missing": "event", "precondition": "requires", "observation": "observes"}
+STATUS_OK, STATUS_REFUSED = 0, 4
+# A list of numbers in several lines. No text within the JSON has an end of line.
+NUMBERS = re.compile(r"\[\n\s+((?:-?\d+,\s+)*-?\d+)\n\s+\]")
+
+
+def answer(path):
+    """Status 0 and the JSON; status 4 and nothing for a file that is none of the program's texts."""
+    text = text_of(path)
+    facts, line = facts_of(text)
+    if facts is None:
+        say(f"{path}:{line}:1: this is no report, replay, simulation or suggestion as the program writes it\n")
+        return STATUS_REFUSED, ""
+    return STATUS_OK, laid_out(facts)
+
+
+def laid_out(facts):
+    """The JSON, with each list of numbers in one line."""
+    text = json.dumps(facts, indent=2) + "\n"
+    return NUMBERS.sub(lambda it: f"[{', '.join(part.strip() for part in it.group(1).split(','))}]", text)
+
+
+def facts_of(text):
+    """The facts of a text of the program, and None; or None, and the number of the line that isn't as it should be."""
+    kind = next((it for it in READERS if text.startswith(f"cise {it} ")), None)
+    if not kind:
+        return None, 1
+    try:
+        facts = READERS[kind](text)
+        again = text_from(facts)
+    except (ValueError, IndexError, KeyError, AttributeError, TypeError):
+        # A line that no text of the program has.
+        return None, 1
+    if again == text:
+        return facts, None
+    ours, theirs = again.split("\n"), text.split("\n")
+    return None, next((at for at, (a, b) in enumerate(zip(ours, theirs), 1) if a != b), min(len(ours), len(theirs)) + 1)
+
+
+def report_facts(text):
+    report = Report(text)
+    counts = {"proved": report.proved, "refuted": report.refuted, "undecided": report.undecided}
+    blocks = [block_facts(it) for it in report.blocks]
+    return {"text": "report", "version": report.version, "budget": report.budget, "obligations": blocks, **counts, "word": report.word}
+
+
+def block_facts(block):
+    """An obligation with its verdict."""
+    found = {"line": block.line_in_report, "kind": block.kind}
+    found.update(zip(PARTS[block.kind], block.names))
+    if block.kind == "stable":
+        found["requires"] = int(found["requires"])
+    found["verdict"] = block.verdict
+    if block.verdict == "refuted":
+        found["witness"] = witness_facts(block.witness)
+    elif block.verdict == "proved":
+        found["log"] = block.log
+    else:
+        found["limit"], found["log"], found["evidence"] = block.why, block.log[: block.count], block.log[block.count :]
+    return found
+
+
+def witness_facts(witness):
+    calls = [{"operation": operation, "arguments": arguments} for operation, arguments in witness.calls]
+    return {"sizes": witness.sizes, "constants": witness.consts, **state_facts(witness.state), "calls": calls, "at": witness.at}
+
+
+def state_facts(state):
+    """What is true and what isn't 0, in the order of the text."""
+    true = [{"relation": thing, "elements": list(at)} for thing, at, value in state.listed if value is None]
+    count = [{"counter": thing, "elements": list(at), "value": value} for thing, at, value in state.listed if value is not None]
+    return {"true": true, "count": count}
+
+
+def replay_facts(text):
+    replay = Replay(text)
+    steps = [{"step": at, "replica": replica, kind: event} for at, (replica, kind, event) in enumerate(replay.steps)]
+    return {"text": "replay", "version": 1, "steps": steps, **end_facts(replay)}
+
+
+def simulation_facts(text):
+    simulation = Simulation(text)
+    steps = [{"step": step, "replica": replica, "said": parts[0], **said_facts(parts)} for step, replica, parts in simulation.steps]
+    return {"text": "simulation", "version": 1, "steps": steps, **end_facts(simulation)}
+
+
+def said_facts(parts):
+    """What a simulation says of a step."""
+    if parts[0] == "awaits":
+        return {"call": [int(it) for it in parts[1:]]}
+    return {"cause": parts[1], **cause_facts(parts[1:])} if parts[0] == "void" else {"event": int(parts[1])}
+
+
+def end_facts(replay):
+    word, *rest = replay.stop
+    stop = {"word": word}
+    if word == "done":
+        stop["steps"] = int(rest[0])
+    else:
+        stop["step"] = None if rest[0] == "start" else int(rest[0])
+        stop.update({"invariant": rest[1]} if word == "broken" else {"cause": rest[1], **cause_facts(rest[1:])})
+    replicas = [{"replica": at, "taken": taken, **state_facts(state)} for at, (taken, state) in enumerate(zip(replay.taken, replay.states))]
+    return {"stop": stop, "replicas": replicas}
+
+
+def cause_facts(parts):
+    """What stands behind the cause of a refusal."""
+    if parts[0] == "range":
+        return {"counter": parts[1], "elements": [int(it) for it in parts[2:-1]], "value": int(parts[-1])}
+    return {CAUSES[parts[0]]: int(parts[1])} if parts[0] in CAUSES else {}
+
+
+def suggestion_facts(text):
+    suggestion = Suggestion(text)
+    counts = {"needed": suggestion.needed, "free": suggestion.free, "unknown": suggestion.unknown}
+    return {"text": "suggestion", "version": 1, "pairs": [pair_facts(it) for it in suggestion.pairs], **counts, "word": suggestion.word}
+
+
+def pair_facts(pair):
+    equalities = [{"left": it.left, "right": it.right, "verdict": it.word, "obligation": block_facts(it.block) if it.block else None} for it in pair.answers]
+    return {"left": pair.left, "right": pair.right, "verdict": pair.word, "obligation": block_facts(pair.block) if pair.block else None, "equalities": equalities}
+
+
+READERS = {"report": report_facts, "replay": replay_facts, "simulate": simulation_facts, "suggest": suggestion_facts}
+
+
+def text_from(facts):
+    """The program's text of facts."""
+    lines = {"report": report_lines, "replay": replay_lines, "simulation": simulation_lines, "suggestion": suggestion_lines}[facts["text"]](facts)
+    return "".join(it + "\n" for it in lines)
+
+
+def spelled(*parts):
+    return " ".join(str(it) for it in parts)
+
+
+def report_lines(facts):
+    lines = [f"cise report {facts['version']}", f"budget {facts['budget']}", f"obligations {len(facts['obligations'])}"]
+    for it in facts["obligations"]:
+        lines += block_lines(it)
+    return lines + [f"summary proved {facts['proved']} refuted {facts['refuted']} undecided {facts['undecided']}", facts["word"]]
+
+
+def block_lines(block):
+    lines = [spelled(block["kind"], *[block[it] for it in PARTS[block["kind"]]])]
+    if block["verdict"] == "refuted":
+        return lines + ["refuted"] + witness_lines(block["witness"])
+    if block["verdict"] == "proved":
+        return lines + [f"proved {len(block['log'])}"] + block["log"]
+    count = [] if block["limit"] == "instances" else [len(block["log"])]
+    return lines + [spelled("undecided", block["limit"], *count)] + block["log"] + block["evidence"]
+
+
+def witness_lines(witness):
+    lines = [spelled("size", *it) for it in witness["sizes"].items()] + [spelled("const", *it) for it in witness["constants"].items()]
+    calls = [spelled("call", it["operation"], *it["arguments"]) for it in witness["calls"]]
+    return lines + state_lines(witness) + calls + [spelled("at", *witness["at"])]
+
+
+def state_lines(state):
+    true = [spelled("true", it["relation"], *it["elements"]) for it in state["true"]]
+    return true + [spelled("count", it["counter"], *it["elements"], it["value"]) for it in state["count"]]
+
+
+def replay_lines(facts):
+    steps = [spelled("step", it["step"], "replica", it["replica"], *(("call", it["call"]) if "call" in it else ("take", it["take"]))) for it in facts["steps"]]
+    return ["cise replay 1", *steps, *end_lines(facts)]
+
+
+def simulation_lines(facts):
+    lines = ["cise simulate 1"]
+    for it in facts["steps"]:
+        said = it["call"] if it["said"] == "awaits" else [it["cause"], *cause_parts(it)] if it["said"] == "void" else [it["event"]]
+        lines.append(spelled("step", it["step"], "replica", it["replica"], it["said"], *said))
+    return lines + end_lines(facts)
+
+
+def end_lines(facts):
+    stop = facts["stop"]
+    if stop["word"] == "done":
+        lines = [f"done {stop['steps']}"]
+    else:
+        step = "start" if stop["step"] is None else stop["step"]
+        lines = [spelled(stop["word"], step, *([stop["invariant"]] if stop["word"] == "broken" else [stop["cause"], *cause_parts(stop)]))]
+    for it in facts["replicas"]:
+        lines += [f"replica {it['replica']} taken {it['taken']}"] + state_lines(it)
+    return lines
+
+
+def cause_parts(facts):
+    if facts["cause"] == "range":
+        return [facts["counter"], *facts["elements"], facts["value"]]
+    return [facts[CAUSES[facts["cause"]]]] if facts["cause"] in CAUSES else []
+
+
+def suggestion_lines(facts):
+    lines = ["cise suggest 1", f"pairs {len(facts['pairs'])}"]
+    for pair in facts["pairs"]:
+        lines += [spelled(pair["verdict"], pair["left"], pair["right"])] + (block_lines(pair["obligation"]) if pair["obligation"] else [])
+        for it in pair["equalities"]:
+            lines += [spelled(it["verdict"], it["left"], it["right"])] + (block_lines(it["obligation"]) if it["obligation"] else [])
+    return lines + [f"summary needed {facts['needed']} free {facts['free']} unknown {facts['unknown']}", facts["word"]]

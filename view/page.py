@@ -1,0 +1,184 @@
+"""A page on a design, `page SPEC`, or on a replay, `page SPEC SCHEDULE`. It stands alone: one file of HTML without a script."""
+from view import drawn, order, program
+from view.explain import notes
+from view.matrix import alone_id, matrix, worst
+from view.parts import banner, chip, code, foot, head, listed, sheet, shown, sign, title_of, user_lines, whole_text, with_code
+from view.picture import pictures, short_names
+from view.report import Report
+from view.story import stories
+from view.tree import Spec
+from view.words import text_of
+
+# Of more facts than this a story counts the last ones, and has them in a fold.
+MOST_FACTS = 12
+# So many facts are read as easily in the picture.
+FACTS_IN_PICTURE = 5
+SAYS = {
+    "accepted": "Every obligation is proved. As long as what is ordered below is kept in order, replicas that have taken the same calls are equal, "
+    "and no invariant is ever false.",
+    "rejected": "Some obligations are refuted. Each story below has a state and calls with which one of them fails.",
+    "undecided": "Nothing is refuted, but not everything is proved.",
+}
+STATES = {"accepted": "proved", "rejected": "refuted", "undecided": "undecided"}
+VERDICTS = ("refuted", "undecided", "proved")
+
+
+class Design:
+    """What a page on a design is made of: the specification, the report, the pairs of operations and the stories."""
+
+    def __init__(self, spec, report):
+        self.spec, self.report = spec, report
+        self.pairs = order.pairs(spec, report.blocks)
+        self.stories = stories(spec, report)
+        self.numbers = {it.block: number for number, it in enumerate(self.stories, 1)}
+        self.names = {*map(str, [*spec.relations, *spec.counters, *spec.invariants, *spec.operations])}
+        self.short = short_names(spec)
+
+    def starts(self):
+        return [it for it in self.report.blocks if it.kind == "init"]
+
+    def alone(self, operation):
+        """The blocks on an operation's calls alone."""
+        return [it for it in self.report.blocks if it.kind == "safety" and it.names[0] == operation]
+
+    def target(self, blocks, fold):
+        """Where a cell leads: to the first story of its blocks, else to their fold."""
+        numbers = [self.numbers[it] for it in blocks if it in self.numbers]
+        return f"story-{min(numbers)}" if numbers else fold
+
+
+def answer(path, schedule_path=None):
+    """The status and the page."""
+    if schedule_path is not None:
+        return drawn.answer(path, schedule_path)
+    status, text = program.answer("check", path)
+    return status, page_of(Design(Spec(text_of(path)), Report(text)), title_of(path))
+
+
+def page_of(design, title):
+    report = design.report
+    body = [head(design.spec, title, "Design check"), summary(report), matrix(design)]
+    for verdict, name in (("refuted", "Refuted"), ("undecided", "Undecided")):
+        cards = [card(design, it) for it in design.stories if it.verdict == verdict]
+        if cards:
+            body.append(f'<section><h2 id="{verdict}">{name} <span class="count">{len(cards)}</span></h2>{"".join(cards)}</section>')
+    body.append(f'<section><h2 id="obligations">Every obligation <span class="count">{len(report.blocks)}</span></h2>')
+    body.append(f'<div class="folds">{"".join(folds(design))}</div></section>')
+    body.append(whole_text(design.spec))
+    body.append(foot(design.spec, f"Verdicts are the program\u2019s, with a budget of {report.budget:,} log lines; its report has a proof of each that is proved."))
+    return sheet(title, body)
+
+
+def summary(report):
+    counts = {it: len(report.with_verdict(it)) for it in VERDICTS}
+    bar = "".join(f'<i class="{it}" style="flex:{counts[it]}"></i>' for it in VERDICTS if counts[it])
+    places = {"refuted": "refuted", "undecided": "undecided", "proved": "obligations"}
+    said = ", ".join(f'<a href="#{places[it]}">{counts[it]} {it}</a>' if counts[it] else f"{counts[it]} {it}" for it in VERDICTS)
+    return banner(
+        STATES[report.word],
+        report.word,
+        f'<p>{SAYS[report.word]}</p><div class="bar" aria-hidden="true">{bar}</div><p class="counts">{len(report.blocks)} obligations: {said}</p>',
+    )
+
+
+def card(design, story):
+    """A story with its picture, or an undecided obligation with its limit."""
+    number, block = design.numbers[story.block], story.block
+    lines = user_lines(story.lines, design.spec.version, story.verdict)
+    out = (
+        f'<article class="story {story.verdict}" id="story-{number}"><header><p class="kind">{chip(story.verdict, story.verdict)}'
+        f'<a class="where" href="#{home(block)}">{block.words()}</a></p><h3><span class="count">{number}.</span> {with_code(story.title(), design.names)}</h3></header>'
+    )
+    if story.verdict == "undecided":
+        return out + f"<p>{shown(story.limit)} {shown(story.todo)}</p>{lines}</article>"
+    return out + f'<figure>{pictures(story, design.short)}</figure><div class="words">{told(design, story, lines)}</div></article>'
+
+
+def told(design, story, lines):
+    """A story in words."""
+    out = []
+    world = story.world()
+    if len(story.facts) > FACTS_IN_PICTURE:
+        who = {"init": "At the start:", "safety": "A replica holds:"}.get(story.kind, "Both replicas hold:")
+        out.append(f"<p>{with_code(world, design.names)} {who}</p>{facts(story.facts)}")
+    elif world:
+        out.append(f"<p>{with_code(world, design.names)}</p>")
+    if story.also:
+        out.append(f'<p>{", ".join(map(code, story.also))}.</p>')
+    out.append(calls(story))
+    out.append(f'<p class="end">{with_code(story.ending(), design.names)}</p>{lines}')
+    if story.readings:
+        out.append(f'<p>There {", ".join(f"{code(thing)} is <strong>{value}</strong>" for thing, value, _ in story.readings)}.</p>')
+    out += [f'<p class="note">{with_code(it, design.names)}</p>' for it in notes(story, design.pairs.get(story.block.pair()))]
+    return "".join(out)
+
+
+def facts(items):
+    """A list of facts, of which the last ones stand in a fold where there are many."""
+    rest = items[MOST_FACTS:]
+    fold = f"<details><summary>and {len(rest)} more</summary>{listed(rest)}</details>" if rest else ""
+    return listed(items[:MOST_FACTS]) + fold
+
+
+def calls(story):
+    """The calls of a story, and why each is allowed."""
+    said = [code(it.text()) for it in story.calls]
+    if not said:
+        return ""
+    if len(said) == 1:
+        return f"<p>The call is {said[0]}. It is allowed: what it requires is true, and so is every invariant.</p>"
+    return f"<p>A calls {said[0]} while B calls {said[1]}. Both are allowed: what they require is true, and so is every invariant.</p>"
+
+
+def folds(design):
+    """Every obligation: the start, each operation alone, each pair."""
+    out, spec = [], design.spec
+    if design.starts():
+        out.append(fold(design, "start", "the start", design.starts(), f"{proved(design.starts())} invariants hold"))
+    for it in spec.operations:
+        own = design.alone(it)
+        says = f"keeps {proved(own)} invariants" if own else "nothing is asked: there is no invariant"
+        out.append(fold(design, alone_id(it), f"{it} alone", own, says))
+    for pair in dict.fromkeys(design.pairs.values()):
+        out.append(fold(design, pair.id(), f"{pair.f} \u2225 {pair.g}", pair.blocks, pair.says(), pair.state()))
+    return out
+
+
+def proved(blocks):
+    return f"{sum(it.verdict == 'proved' for it in blocks)} of {len(blocks)}"
+
+
+def fold(design, place, name, blocks, says, state=None):
+    """A fold of obligations. It has the link's target itself, so that a link works where a browser doesn't open folds."""
+    state = state or worst(blocks)
+    items = "".join(item(design, it) for it in blocks)
+    inner = f'<ul class="blocks">{items}</ul>' if items else '<p class="blocks">Nothing is asked.</p>'
+    return f'<details class="fold {state}" id="{place}"><summary>{sign(state)}<b>{shown(name)}</b> <span>{shown(says)}</span></summary>{inner}</details>'
+
+
+def item(design, block):
+    """An obligation in a fold."""
+    if block in design.numbers:
+        more = f'<a href="#story-{design.numbers[block]}">story {design.numbers[block]}</a>'
+    else:
+        more = f'<span class="log">{block.count:,} log line{"" if block.count == 1 else "s"}</span>'
+    return f'<li class="{block.verdict}" id="obligation-{block.line_in_report}">{sign(block.verdict)}<span>{with_code(asked(block), design.names)}</span> {more}</li>'
+
+
+def asked(block):
+    """An obligation as a sentence, without its full stop."""
+    n = block.names
+    if block.kind == "init":
+        return f"{n[0]} holds at the start"
+    if block.kind == "safety":
+        return f"{n[0]} keeps {n[1]}"
+    if block.kind == "commute":
+        return f"{n[0]} and {n[1]}, in either order, leave {n[2]} alike"
+    return f"{n[2]} leaves standing line {n[1]} of what {n[0]} requires"
+
+
+def home(block):
+    """The fold in which a block stands; of a pair the block itself, which a link to it opens where the browser does so."""
+    if block.kind == "init":
+        return "start"
+    return alone_id(block.names[0]) if block.kind == "safety" else f"obligation-{block.line_in_report}"

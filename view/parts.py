@@ -1,0 +1,117 @@
+"""The parts that both kinds of page have: signs, the user's own text with its numbers and colours, the head, the foot, and the page around them."""
+import hashlib
+import os
+import re
+from html import escape
+
+from view.words import RESERVED, RESERVED_IN_2, encoded
+
+# A sign for each state, so that none is told by its colour alone.
+SIGNS = {
+    "proved": '<path d="M3.5 8.5l3 3 6-7"/>',
+    "refuted": '<path d="M4 4l8 8M12 4l-8 8"/>',
+    "undecided": '<path d="M5.3 5.6a2.8 2.8 0 1 1 4 2.6c-1 .5-1.3 1-1.3 1.9M8 12.9v.2"/>',
+    "refused": '<circle cx="8" cy="8" r="5.7"/><path d="M5.4 8h5.2"/>',
+    "ordered": '<path d="M2.5 8h9M8.5 4.6L12 8l-3.5 3.4M14 3.5v9"/>',
+}
+# A character that a page can't show.
+UNSHOWN = re.compile("[\x00-\x08\x0b-\x1f\x7f\ud800-\udfff]")
+# A name with an element's number or with arguments, or a name alone.
+NAMED = re.compile(r"[A-Za-z][A-Za-z0-9_]*(#\d+)?(\([^)]*\))?")
+
+
+def shown(text):
+    """A text as HTML. A carriage return is white space; what else a page can't show has a sign in its place."""
+    return escape(UNSHOWN.sub("\ufffd", text.replace("\r", " ")))
+
+
+def sign(state):
+    return f'<svg class="sign" viewBox="0 0 16 16" aria-hidden="true">{SIGNS[state]}</svg>'
+
+
+def chip(state, words):
+    return f'<span class="chip {state}">{sign(state)}{shown(words)}</span>'
+
+
+def code(text):
+    return f"<code>{shown(text)}</code>"
+
+
+def with_code(sentence, names):
+    """A sentence in which elements, readings and the specification's own names stand as code. What follows a full stop and a space is no name."""
+
+    def one(found):
+        return f"<code>{found.group()}</code>" if found.group(1) or found.group(2) or found.group() in names else found.group()
+
+    return NAMED.sub(one, shown(sentence))
+
+
+def listed(items):
+    """A list of facts as code."""
+    return f'<ul class="facts">{"".join(f"<li>{code(it)}</li>" for it in items)}</ul>'
+
+
+def painted(text, version):
+    """A line of a specification, in which reserved words and the comment have their own looks."""
+    reserved = RESERVED | (RESERVED_IN_2 if version == 2 else frozenset())
+    body, hash_sign, comment = text.partition("#")
+    out = re.sub(r"[A-Za-z][A-Za-z0-9_]*", lambda it: f"<b>{it.group()}</b>" if it.group() in reserved else it.group(), shown(body))
+    return out + (f"<i>{shown(hash_sign + comment)}</i>" if hash_sign else "")
+
+
+def user_lines(lines, version, state="refuted"):
+    """Lines as the user wrote them, each in one or more rows; each number leads to the row in the whole text. The state gives the colour."""
+    rows = []
+    for line in lines:
+        for number, row in enumerate(line.text.split("\n"), line.number):
+            link = f'<a class="number" href="#line-{number}">{number}</a>'
+            rows.append(f'<span class="row">{link}<span>{painted(row.rstrip(), version)}</span></span>')
+    return f'<pre class="line {state}">{"".join(rows)}</pre>' if rows else ""
+
+
+def whole_text(spec):
+    """The whole specification, with line numbers."""
+    rows = []
+    for number, row in enumerate(spec.text.rstrip("\r\n").split("\n"), 1):
+        text = painted(row.rstrip(), spec.version)
+        rows.append(f'<span class="row" id="line-{number}"><span class="number">{number}</span><span>{text}</span></span>')
+    return f'<section><h2 id="text">The specification</h2><pre class="source">{"".join(rows)}</pre></section>'
+
+
+def scrolling(name, inner):
+    """What may be wider than the page: it scrolls, also by the keyboard."""
+    return f'<div class="scroll" tabindex="0" role="region" aria-label="{escape(name, True)}">{inner}</div>'
+
+
+def title_of(*paths):
+    """A page's title: the folder of the first file, and the names of all, without what stands behind their points."""
+    folder = os.path.basename(os.path.dirname(os.path.abspath(paths[0])))
+    names = ", ".join(os.path.splitext(os.path.basename(it))[0] for it in paths)
+    return f"{folder} / {names}" if folder else names
+
+
+def head(spec, title, kind):
+    about = spec.about()
+    return f'<header class="top"><p class="kind">{kind}</p><h1>{shown(title)}</h1>{f"<p>{shown(about)}</p>" if about else ""}</header>'
+
+
+def banner(state, word, says):
+    """The last word of the program's text; `says` is HTML."""
+    return f'<div class="banner {state}"><p class="word">{sign(state)}{word}</p>{says}</div>'
+
+
+def foot(spec, program_says):
+    made = "Pictures, sentences and what is said of order are made from the program\u2019s texts and the specification by a layer that isn\u2019t proved."
+    whole = hashlib.sha256(encoded(spec.text)).hexdigest()
+    return f'<footer><p>{program_says} {made}</p><p class="sum">sha256 of the specification: {whole}</p></footer>'
+
+
+def sheet(title, body):
+    """A whole page. It has no script, and nothing in it is from elsewhere."""
+    with open(os.path.join(os.path.dirname(os.path.abspath(__file__)), "page.css"), encoding="utf-8") as file:
+        style = file.read()
+    return (
+        '<!doctype html>\n<html lang="en"><head><meta charset="utf-8"><meta name="viewport" content="width=device-width,initial-scale=1">'
+        f'<meta name="color-scheme" content="light dark"><title>{shown(title)}</title><style>\n{style}</style></head>\n'
+        f'<body><main>{"".join(body)}</main></body></html>\n'
+    )

@@ -1,0 +1,174 @@
+"""What the program prints: a report, a replay, a suggestion. Only whole texts of the program come here, as docs/REPORT.md, docs/SCHEDULE.md and
+docs/SUGGEST.md tell them."""
+
+
+class State:
+    """`true` holds (relation, elements) for what is true, `count` has (counter, elements): value for what isn't 0. All else is false or 0.
+    `listed` has the same in the order of the text: (relation or counter, elements, value or None)."""
+
+    def __init__(self):
+        self.true, self.count, self.listed = set(), {}, []
+
+    def line(self, parts):
+        """Takes a line `true` or `count` of a text, cut into its parts."""
+        if parts[0] == "true":
+            place = parts[1], tuple(map(int, parts[2:]))
+            self.true.add(place)
+            self.listed.append((*place, None))
+        else:
+            place = parts[1], tuple(map(int, parts[2:-1]))
+            self.count[place] = int(parts[-1])
+            self.listed.append((*place, self.count[place]))
+
+
+class Witness:
+    """`sizes` and `consts` by name, the state, `calls` as (operation, [argument, ..]), and `at`, the elements at which it fails."""
+
+    def __init__(self):
+        self.sizes, self.consts, self.state, self.calls, self.at = {}, {}, State(), [], []
+
+    def line(self, parts):
+        """Takes a line of a witness, cut into its parts."""
+        if parts[0] == "size":
+            self.sizes[parts[1]] = int(parts[2])
+        elif parts[0] == "const":
+            self.consts[parts[1]] = int(parts[2])
+        elif parts[0] == "call":
+            self.calls.append((parts[1], list(map(int, parts[2:]))))
+        elif parts[0] == "at":
+            self.at = list(map(int, parts[1:]))
+        else:
+            self.state.line(parts)
+
+
+class Block:
+    """An obligation with its verdict.
+
+    kind, names      the obligation's line: init, safety, commute or stable, and the rest of its words
+    line_in_report   the number of that line, from 1
+    verdict          proved, refuted or undecided
+    why              of undecided the limit: instances, lines, rows or range
+    count            of proved and undecided, how many lines the log has
+    witness          of refuted
+    log              the lines of the log, and behind them the line of evidence, as text
+    """
+
+    def __init__(self, parts, number):
+        self.kind, self.names, self.line_in_report = parts[0], parts[1:], number
+        self.verdict, self.why, self.count, self.witness, self.log = None, None, 0, None, []
+
+    def pair(self):
+        """The two operations of commute and stable, in the order of the calls of a witness; None of the others."""
+        return (self.names[0], self.names[1 if self.kind == "commute" else 2]) if self.kind in ("commute", "stable") else None
+
+    def words(self):
+        """The obligation's line."""
+        return " ".join([self.kind] + self.names)
+
+    def line(self, line):
+        """Takes a line behind the obligation's line."""
+        if self.witness:
+            self.witness.line(line.split())
+        elif self.verdict:
+            self.log.append(line)
+        else:
+            parts = line.split()
+            self.verdict = parts[0]
+            if self.verdict == "refuted":
+                self.witness = Witness()
+            elif self.verdict == "proved":
+                self.count = int(parts[1])
+            else:
+                self.why, self.count = parts[1], int(parts[2]) if len(parts) > 2 else 0
+
+
+OBLIGATIONS = ("init ", "safety ", "commute ", "stable ")
+
+
+class Report:
+    """A report: its `version` and `budget`, the `blocks`, how many are `proved`, `refuted` and `undecided`, and the last `word`."""
+
+    def __init__(self, text):
+        lines = text.splitlines()
+        self.version, self.budget, self.blocks = int(lines[0].split()[2]), int(lines[1].split()[1]), []
+        for number, line in enumerate(lines[3:-2], 4):
+            if line.startswith(OBLIGATIONS):
+                self.blocks.append(Block(line.split(), number))
+            else:
+                self.blocks[-1].line(line)
+        counts = lines[-2].split()
+        self.proved, self.refuted, self.undecided, self.word = int(counts[2]), int(counts[4]), int(counts[6]), lines[-1]
+
+    def with_verdict(self, verdict):
+        """The blocks with a verdict, in order."""
+        return [it for it in self.blocks if it.verdict == verdict]
+
+
+class Replay:
+    """A replay: `steps` are those that were accepted, as (replica, call or take, event); `stop` the parts of the line that says how it
+    stopped; `taken` how many events each replica has taken, and `states` its state."""
+
+    def __init__(self, text):
+        self.steps, self.stop, self.taken, self.states = [], None, [], []
+        for line in text.splitlines()[1:]:
+            parts = line.split()
+            if parts[0] == "step":
+                self.steps.append((int(parts[3]), parts[4], int(parts[5])))
+            elif parts[0] in ("done", "broken", "refused"):
+                self.stop = parts
+            elif parts[0] == "replica":
+                self.taken.append(int(parts[3]))
+                self.states.append(State())
+            else:
+                self.states[-1].line(parts)
+
+
+class Simulation:
+    """A simulation: `steps` are (step, replica, the parts of what is said of it); `stop`, `taken` and `states` are those of a replay."""
+
+    def __init__(self, text):
+        self.steps, rest = [], []
+        for line in text.splitlines()[1:]:
+            parts = line.split()
+            if parts[0] == "step":
+                self.steps.append((int(parts[1]), int(parts[3]), parts[4:]))
+            else:
+                rest.append(line)
+        end = Replay("\n".join(["", *rest]))
+        self.stop, self.taken, self.states = end.stop, end.taken, end.states
+
+
+class Answer:
+    """What a suggestion says of one pair of parameters: `word` is by, notby or openby; `block` the refutation of notby."""
+
+    def __init__(self, word, left, right):
+        self.word, self.left, self.right, self.block = word, left, right, None
+
+
+class SuggestedPair:
+    """A pair of operations: `word` is free, needed or unknown; `block` the refutation of needed; `answers` one for each two parameters."""
+
+    def __init__(self, word, left, right):
+        self.word, self.left, self.right, self.block, self.answers = word, left, right, None, []
+
+
+class Suggestion:
+    """A suggestion: its `pairs`, how many are `needed`, `free` and `unknown`, and the last `word`, complete or undecided."""
+
+    def __init__(self, text):
+        lines = text.splitlines()
+        self.pairs, owner = [], None
+        for number, line in enumerate(lines[2:-2], 3):
+            parts = line.split()
+            if parts[0] in ("free", "needed", "unknown"):
+                owner = SuggestedPair(*parts)
+                self.pairs.append(owner)
+            elif parts[0] in ("by", "notby", "openby"):
+                owner = Answer(*parts)
+                self.pairs[-1].answers.append(owner)
+            elif line.startswith(OBLIGATIONS):
+                owner.block = Block(parts, number)
+            else:
+                owner.block.line(line)
+        counts = lines[-2].split()
+        self.needed, self.free, self.unknown, self.word = int(counts[2]), int(counts[4]), int(counts[6]), lines[-1]

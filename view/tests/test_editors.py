@@ -1,0 +1,60 @@
+"""The files for editors: they know the words of the language, and the places that are written."""
+import json
+import re
+import unittest
+
+from view import slips
+from view.tests.slips_table import SLIPS
+from view.words import RESERVED, RESERVED_IN_2, text_of, words
+
+ALL = RESERVED | RESERVED_IN_2
+
+
+class Words(unittest.TestCase):
+    def test_vim(self):
+        groups = re.findall(r"^syntax keyword cise(?!Todo)\w+ (.*)$", text_of("editors/vim/syntax/cise.vim"), re.M)
+        listed = [it for group in groups for it in group.split()]
+        self.assertEqual(sorted(listed), sorted(ALL))
+
+    def test_textmate(self):
+        grammar = json.loads(text_of("editors/vscode/cise.tmLanguage.json"))
+        listed = [it for row in grammar["patterns"] if not row.get("captures") for group in re.findall(r"\(([a-z|]+)\)", row["match"]) for it in group.split("|")]
+        self.assertEqual(sorted(listed), sorted(ALL))
+
+    def test_textmate_cuts_a_text_into_its_words(self):
+        patterns = [re.compile(row["match"], re.M) for row in json.loads(text_of("editors/vscode/cise.tmLanguage.json"))["patterns"]]
+        text = text_of("examples/stock/by_shop.cise")
+        at, found = 0, []
+        while at < len(text):
+            match = next((it for it in (pattern.match(text, at) for pattern in patterns) if it and it.group()), None)
+            if match and not match.group().startswith("#"):
+                found += match.group().split()
+            at = match.end() if match else at + 1
+        self.assertEqual(found, words(text))
+
+    def test_vim_links_every_group(self):
+        text = text_of("editors/vim/syntax/cise.vim")
+        groups = set(re.findall(r"^syntax (?:keyword|match) (\w+)", text, re.M))
+        self.assertEqual(groups, set(re.findall(r"^highlight default link (\w+)", text, re.M)))
+
+
+class Places(unittest.TestCase):
+    def test_the_problem_matcher_reads_what_is_written(self):
+        (matcher,) = json.loads(text_of("editors/vscode/package.json"))["contributes"]["problemMatchers"]
+        pattern = matcher["pattern"]
+        for text, refusal in (("cise 1\nsort A\nrelation r ( B )\n", "refused specification unknown B word 7"), ("cise 1 sort", "refused specification syntax word 3")):
+            lines = slips.tell("a folder/d.cise", text, refusal).split("\n")
+            found = re.match(pattern["regexp"], lines[0])
+            slip = slips.slip_of(text, refusal[len(slips.BEGIN) :])
+            groups = [found.group(pattern[it]) for it in ("file", "line", "column", "message")]
+            self.assertEqual(groups, ["a folder/d.cise", str(slip.line), str(slip.column), slip.message])
+            self.assertFalse(any(re.match(pattern["regexp"], it) for it in lines[1:]))
+
+    def test_the_columns_of_the_table_are_read(self):
+        (matcher,) = json.loads(text_of("editors/vscode/package.json"))["contributes"]["problemMatchers"]
+        for *_, place, _, message in SLIPS:
+            self.assertEqual(re.match(matcher["pattern"]["regexp"], f"d.cise:{place}: {message}").groups(), ("d.cise", *place.split(":"), message))
+
+
+if __name__ == "__main__":
+    unittest.main()

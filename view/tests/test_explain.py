@@ -1,0 +1,410 @@
+"""The text of `explain`, byte for byte for each kind of story; its width and its letters; what it answers for other reports and for bad input."""
+import functools
+import os
+import re
+import tempfile
+import time
+import unittest
+from unittest import mock
+
+from view import explain, program
+from view.report import Report
+from view.tests.kinds import KINDS
+from view.tests.test_outcome import checked, gallery, report_on
+from view.tree import Spec
+from view.words import encoded, text_of
+
+STORIES = {
+    ("examples/flags/refuted.cise", "init stored"): """1. stored is false at the start
+   [init stored, report line 6]
+
+  At the start there is:
+      up
+
+  There the invariant stored is false.
+     11 | invariant stored in_step
+  where in_step is false
+""",
+    ("COUNTED", "safety undo counted"): """1. undo breaks counted
+   [safety undo counted, report line 6]
+
+  User has no element here. A replica holds:
+      (nothing: every fact is false, every counter 0)
+
+  There, this call is allowed:
+      undo(d = draft)
+
+  After it the invariant counted is false for d = draft.
+      8 | invariant counted forall d : Document . ( edits ( d ) >= 0 )
+  where edits(draft) is -1
+""",
+    ("examples/cart/refuted.cise", "commute put take_out in_cart"): """1. put and take_out leave in_cart different
+   [commute put take_out in_cart, report line 35]
+
+  Both replicas hold:
+      (nothing: every fact is false, every counter 0)
+
+  There, both calls are allowed:
+    A  put(c = Customer#0, i = Item#0)      --.  neither knows
+    B  take_out(c = Customer#0, i = Item#0) --'  of the other
+
+  Each then takes the other's call. At the end:
+    A  in_cart(Customer#0, Item#0) is false
+    B  in_cart(Customer#0, Item#0) is true
+  though both have taken the same calls.
+     10 | insert in_cart ( c , i )
+     14 | remove in_cart ( c , i )
+""",
+    ("examples/seats/refuted.cise", "stable book 1 book"): """1. another book takes away what book requires
+   [stable book 1 book, report line 229]
+
+  Both replicas hold:
+      (nothing: every fact is false, every counter 0)
+
+  There, both calls are allowed:
+    A  book(p = Passenger#0, s = Seat#0) --.  neither knows
+    B  book(p = Passenger#0, s = Seat#0) --'  of the other
+
+  A's call reaches B after B's own call. There a line that A's call requires is
+  false for q = Passenger#0.
+     13 | requires forall q : Passenger . not holds ( q , s )
+  where holds(Passenger#0, Seat#0) is true
+""",
+    ("ROOMS", "stable start 1 shut"): """1. shut takes away what start requires
+   [stable start 1 shut, report line 34]
+
+  Both replicas hold:
+      free(lobby)
+
+  There, both calls are allowed:
+    A  start() --.  neither knows
+    B  shut()  --'  of the other
+
+  A's call reaches B after B's own call. There a line that A's call requires is
+  false: no r : Room is left for which it holds.
+      9 | requires exists r : Room . free ( r )
+""",
+    ("WRITTEN", "stable write 1 purge"): """1. purge takes away what write requires
+   [stable write 1 purge, report line 103]
+
+  Both replicas hold:
+      granted(User#0, draft)
+
+  There, both calls are allowed:
+    A  write(u = User#0, d = draft, n = 1) --.  neither knows
+    B  purge()                             --'  of the other
+
+  A's call reaches B after B's own call. There a line that A's call requires is
+  false.
+     10 | requires granted ( u , d )
+  where granted(User#0, draft) is false
+
+  Note. The witness need not keep what write observes: no obligation asks it.
+""",
+    ("examples/undecided/meals.cise", "stable cook 5 cook"): """1. whether another cook leaves standing what cook requires
+   [stable cook 5 cook, report line 43]
+
+  The search for whole numbers reached 10,000 rows.
+  Fewer numbers that stand together in one comparison make it smaller.
+
+     14 | requires ( store >= rice + beans + kale )
+""",
+    ("SILENT", "safety fall alive"): """1. fall breaks alive
+   [safety fall alive, report line 6]
+
+  Room#0 is there too. A replica holds:
+      up
+      back is front
+
+  There, this call is allowed:
+      fall()
+
+  After it the invariant alive is false.
+      9 | invariant alive up
+  where up is false
+""",
+    ("SETTLED", "commute join leave sum"): """2. join and leave leave sum different
+   [commute join leave sum, report line 126]
+
+  Both replicas hold:
+      (nothing: every fact is false, every counter 0)
+
+  There, both calls are allowed:
+    A  join(a = P#0, b = P#0)  --.  neither knows
+    B  leave(a = P#0, b = P#1) --'  of the other
+
+  Each then takes the other's call. At the end:
+    A  sum(P#0) is 3
+    B  sum(P#0) is 2
+  though both have taken the same calls.
+      9 | set sum ( a ) 2
+     14 | set sum ( * ) 3
+
+  Note. join and leave are ordered where both have the same a and the same b.
+  These two calls aren't.
+""",
+    ("LAID_OUT", "safety f alive"): """1. f breaks alive
+   [safety f alive, report line 6]
+
+  A replica holds:
+      up(A#0)
+
+  There, this call is allowed:
+      f(a = A#0)
+
+  After it the invariant alive is false for x = A#0.
+      2 | invariant alive
+      3 |         forall x : A .   # all \u00e9??[31m of them
+      4 |                 up ( x )
+  where up(A#0) is false
+""",
+    ("examples/auction/forgotten.cise", "safety offer highest"): """1. offer breaks highest
+   [safety offer highest, report line 31]
+
+  A replica holds:
+      won(Lot#0, Bidder#1)
+      open(Lot#0)
+
+  There, this call is allowed:
+      offer(l = Lot#0, b = Bidder#0, n = 1)
+
+  After it the invariant highest is false for l = Lot#0, w = Bidder#1,
+  b = Bidder#0.
+     16 | invariant highest forall l : Lot , w : Bidder , b : Bidder .
+     17 |   ( won ( l , w ) implies ( bid ( l , b ) <= bid ( l , w ) ) )
+  where won(Lot#0, Bidder#1) is true
+        bid(Lot#0, Bidder#0) is 1
+        bid(Lot#0, Bidder#1) is 0
+""",
+    ("LONG", "safety"): """1. {f} breaks {i}
+   [safety {f} {i},
+   report line 6]
+
+  A replica holds:
+      (nothing: every fact is false, every counter 0)
+
+  There, this call is allowed:
+      {f}(
+        {p} = {c},
+        {q} = {T}#0,
+        {n} = 1)
+
+  After it the invariant {i} is false for
+  {x} = {c},
+  {y} = {T}#0,
+  {z} = {S}#1.
+      9 | {line}
+  where {k}({c},
+          {T}#0) is -1
+        {k}({S}#1,
+          {T}#0) is 0
+""".format(line=KINDS["LONG"].split("\n")[8], **{it: it * 32 for it in "STcrktixyzfgpqn"}),
+}
+
+HEADS = {
+    "examples/auction/forgotten.cise": """offer alone     refuted, see 1
+close alone     refuted, see 2
+start || start  ordered: same l
+start || offer  ordered: same l
+start || close  ordered: same l
+offer || close  ordered: same l
+close || close  ordered: same l
+1 pair may run at once
+""",
+    "examples/folders/accepted.cise": """make || make      ordered: same c or c = p
+make || move      ordered: same c or c = p or p = c
+make || delete    ordered: same c or p = c
+move || move      ordered: same c or c = p
+move || delete    ordered: same c or p = c
+delete || delete  ordered: same c
+0 pairs may run at once
+""",
+    "examples/flags/refuted.cise": "at the start  refuted, see 1\nthere are no operations\n",
+    "examples/undecided/vast.cise": "cash_in alone  undecided, see 1\n1 pair may run at once\n",
+    "examples/undecided/meals.cise": "cook || cook  undecided, see 1\n0 pairs may run at once\n",
+    "SETTLED": """join || join    ordered: same a, b
+join || leave   refuted, see 1, 2, though ordered: same a, b
+leave || leave  refuted, see 3, though ordered: same a, b
+0 pairs may run at once
+""",
+}
+
+
+@functools.lru_cache(maxsize=None)
+def told(name):
+    """The status and the text for a specification of the gallery."""
+    with tempfile.TemporaryDirectory() as folder:
+        path = os.path.join(folder, "design.cise")
+        with open(path, "wb") as file:
+            file.write(encoded(gallery()[name]))
+        return explain.answer(path)
+
+
+class Folder(unittest.TestCase):
+    def setUp(self):
+        folder = tempfile.TemporaryDirectory()
+        self.addCleanup(folder.cleanup)
+        self.folder = folder.name
+
+    def file(self, name, text):
+        path = os.path.join(self.folder, name)
+        with open(path, "wb") as file:
+            file.write(encoded(text))
+        return path
+
+    def explained(self, text, *report):
+        return explain.answer(self.file("design.cise", text), *[self.file("report", it) for it in report])
+
+
+class Texts(unittest.TestCase):
+    def test_stories(self):
+        for (name, _), story in STORIES.items():
+            with self.subTest(story=story.split("\n")[0]):
+                text = told(name)[1]
+                self.assertIn("\n\n" + story + "\n", text)
+
+    def test_heads(self):
+        for name, head in HEADS.items():
+            with self.subTest(name=name):
+                text = told(name)[1]
+                self.assertEqual(text[: len(head) + 1], head + "\n")
+
+    def test_a_whole_text(self):
+        status, text = told("COUNTED")
+        story = STORIES["COUNTED", "safety undo counted"]
+        origin = (
+            "Verdicts and values are the program's. Lines, and what is ordered, are read off\n"
+            "the specification. The sentences are made from both, and aren't proved.\n"
+        )
+        self.assertEqual(status, 1)
+        self.assertEqual(text, f"undo alone  refuted, see 1\n1 pair may run at once\n\n{story}\n{origin}\nrejected: 2 proved, 1 refuted, 0 undecided\n")
+
+    def test_statuses_and_counts(self):
+        for name, status, last in (
+            ("examples/bank/accepted.cise", 0, "accepted: 12 proved, 0 refuted, 0 undecided"),
+            ("examples/bank/refuted.cise", 1, "rejected: 11 proved, 1 refuted, 0 undecided"),
+            ("examples/undecided/vast.cise", 5, "undecided: 4 proved, 0 refuted, 1 undecided"),
+        ):
+            found, text = told(name)
+            self.assertEqual((found, text.splitlines()[-1]), (status, last))
+
+    def test_width_and_letters(self):
+        for name, text in gallery().items():
+            names = {it.capitalize() for it in Spec(text).words if it[0].islower() and len(it) > 1} - set(Spec(text).words)
+            for line in told(name)[1].splitlines():
+                with self.subTest(name=name, line=line):
+                    if not re.match(r" *[0-9]+ \|", line):
+                        self.assertLessEqual(len(line), 80)
+                        self.assertTrue(line.isascii())
+                        self.assertEqual(line, line.rstrip())
+                        self.assertFalse(names.intersection(re.findall(r"\w+", line)) - {"There", "At", "Each", "Note"})
+
+    def test_every_story_is_told(self):
+        for name, text in gallery().items():
+            said = told(name)[1]
+            for it in checked(text)[1].blocks:
+                head = f"[{it.words()}, report line {it.line_in_report}]"
+                self.assertEqual(" ".join(said.split()).count(head), int(it.verdict != "proved"), name)
+                if it.verdict == "refuted" and it.kind == "commute":
+                    story = said[said.index(f"[{it.kind} {it.names[0]}") :]
+                    self.assertRegex(story, r"(?s)At the end:\n    A  .* is \S+\n    B  .* is \S+\n  though both")
+
+    def test_long_lists_are_cut(self):
+        text = told("THINGS")[1]
+        facts = re.findall(r"^      [rk]\d+\(.*", text, re.M)
+        self.assertEqual(len(facts), 11)
+        self.assertEqual(facts[0], "      k0(A#0, B#0) = 1")
+        self.assertIn("\n      ... and 13 more; the report has them all\n", text)
+
+
+class Reports(Folder):
+    """With a report the program verifies it, and the stories are the report's."""
+
+    def test_the_same_report(self):
+        for name in ("COUNTED", "examples/stock/refuted.cise", "examples/undecided/meals.cise"):
+            text = gallery()[name]
+            report = report_on(text)
+            self.assertEqual(self.explained(text, report), told(name))
+
+    def test_an_upgraded_report(self):
+        text = gallery()["examples/stock/refuted.cise"]
+        path = self.file("design.cise", text)
+        report = program.run("upgrade", path, self.file("report", report_on(text)))[1]
+        self.assertTrue(report.startswith("cise report 2\n"))
+        status, said = self.explained(text, report)
+        lines = re.compile(r", report line \d+")
+        self.assertEqual((status, lines.sub("", said)), (1, lines.sub("", told("examples/stock/refuted.cise")[1])))
+
+    def test_without_values(self):
+        """A witness beyond what a replay can have is told without values, and says so."""
+        text = gallery()["examples/cart/refuted.cise"]
+        report = report_on(text).replace("size Item 1\ncall put", "size Item 100\ncall put")
+        status, said = self.explained(text, report)
+        self.assertEqual(status, 1)
+        self.assertIn(
+            "  Each replica has taken both calls, and in_cart(Customer#0, Item#0) differs.\n"
+            "     10 | insert in_cart ( c , i )\n     14 | remove in_cart ( c , i )\n\n"
+            "  Note. The values at the end aren't shown. Item has 100 elements, and a replay\n  can have 64 of a sort.\n",
+            said,
+        )
+        self.assertIn("  Item#1, Item#2, Item#3, Item#4, Item#5 and 94 more elements are there too.\n  Both replicas hold:\n", said)
+
+    def test_beyond_the_range(self):
+        text = KINDS["COUNTED"].replace("initially", "counter pool initially").replace(">= 0", "<= 1")
+        text = text.replace("add edits ( d ) - 1", "add edits ( d ) - pool")
+        report = report_on(text)
+        changed = re.sub(r"const draft 0\n(count .*\n)*", f"const draft 0\ncount edits 0 1\ncount pool {-(10**15)}\n", report)
+        self.assertNotEqual(changed, report)
+        status, said = self.explained(text, changed)
+        self.assertEqual(status, 1)
+        note = "Note. The values at the end aren't shown. A value of edits leaves the range of\n  a replay, 10^15 to either side.\n"
+        self.assertIn(note, said)
+        self.assertNotIn("where edits", said)
+
+
+class Refusals(Folder):
+    """The program's own text and status, and nothing else."""
+
+    def refused(self, status, text, *paths):
+        with self.assertRaises(program.Stopped) as caught:
+            explain.answer(*paths)
+        self.assertEqual((caught.exception.status, caught.exception.text), (status, text))
+
+    def test_bad_input(self):
+        design = self.file("design.cise", KINDS["COUNTED"])
+        report = program.run("check", design)[1]
+        bad = self.file("bad.cise", "cise 1 sort 5")
+        self.refused(3, "refused specification syntax word 3\n", bad)
+        self.refused(3, "refused specification syntax word 3\n", bad, self.file("report", report))
+        self.refused(6, "", os.path.join(self.folder, "none"))
+        self.refused(6, "", self.folder)
+        self.refused(6, "", design, os.path.join(self.folder, "none"))
+        self.refused(4, "refused report line 1 form\n", design, self.file("report", "cise report 9\n"))
+        line = report.split("\n").index("refuted") + 1
+        self.refused(4, f"refused report line {line} witness\n", design, self.file("report", report.replace("call undo 0", "call undo 1")))
+        self.refused(4, "refused report line 3 obligation\n", self.file("rooms.cise", KINDS["ROOMS"]), self.file("report", report))
+
+
+class Cost(Folder):
+    def test_runs(self):
+        """One run of the program for the report, and one for each story."""
+        for name in ("folders/refuted", "flags/refuted", "undecided/crowd", "bank/accepted"):
+            text = gallery()[f"examples/{name}.cise"]
+            _, report = checked(text)
+            with mock.patch.object(program, "run", side_effect=program.run) as runs:
+                self.explained(text)
+            self.assertEqual(runs.call_count, 1 + report.refuted)
+
+    def test_time(self):
+        """Besides the program's runs a text takes less than 0.2 seconds of the processor's time."""
+        text = gallery()["examples/folders/refuted.cise"]
+        spent = []
+        for _ in range(3):
+            begin = time.process_time()
+            self.explained(text)
+            spent.append(time.process_time() - begin)
+        self.assertLess(min(spent), 0.2)
+
+
+if __name__ == "__main__":
+    unittest.main()

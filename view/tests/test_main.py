@@ -1,0 +1,170 @@
+"""The commands as the script calls them: statuses, what is written where, and that nothing ends in a trace."""
+import os
+import subprocess
+import sys
+import tempfile
+import time
+import unittest
+
+from view import main, program
+
+TOP = os.path.dirname(os.path.dirname(os.path.dirname(os.path.abspath(__file__))))
+CALL = f"import sys; sys.path.insert(0, {TOP!r}); from view import main; sys.exit(main.main({os.path.abspath(program.path)!r}, sys.argv[1:]))"
+PLACES = f"import sys; sys.path.insert(0, {TOP!r}); from view import main; main.places({os.path.abspath(program.path)!r}, sys.argv[2:], int(sys.argv[1]))"
+REFUTED, ACCEPTED, SCHEDULE = (f"{TOP}/examples/bank/{it}" for it in ("refuted.cise", "accepted.cise", "two_branches.json"))
+
+
+def called(*words, code=CALL, **more):
+    """Status, standard output and standard error of a command, as bytes."""
+    done = subprocess.run([sys.executable, "-IS", "-c", code, *words], stdout=subprocess.PIPE, stderr=subprocess.PIPE, **more)
+    return done.returncode, done.stdout, done.stderr
+
+
+class InFolder(unittest.TestCase):
+    def setUp(self):
+        self.folder = tempfile.TemporaryDirectory()
+
+    def tearDown(self):
+        self.folder.cleanup()
+
+    def file(self, name, text):
+        path = os.path.join(self.folder.name, name)
+        with open(path, "wb") as file:
+            file.write(text if isinstance(text, bytes) else text.encode())
+        return path
+
+
+class Commands(InFolder):
+    def test_statuses_are_the_programs(self):
+        report = self.file("report", program.run("check", REFUTED)[1])
+        for words, status in ((("explain", REFUTED), 1), (("explain", ACCEPTED), 0), (("explain", REFUTED, report), 1), (("mend", REFUTED), 0), (("order", REFUTED), 0),
+                              (("page", REFUTED), 1), (("page", REFUTED, SCHEDULE), 1), (("page", ACCEPTED, SCHEDULE), 4), (("json", report), 0)):
+            with self.subTest(" ".join(words)):
+                found, out, error = called(*words)
+                self.assertEqual(found, status, error)
+                self.assertTrue(out)
+                self.assertNotIn(b"Traceback", error)
+
+    def test_wrong_words(self):
+        for words in (("explain",), ("explain", "a", "b", "c"), ("mend", "a", "b"), ("page",), ("json",), ("json", "a", "b"), ("order", "--help")):
+            with self.subTest(" ".join(words)):
+                status, out, error = called(*words)
+                self.assertEqual((status, out), (2, b"refused words\n"))
+                self.assertIn(main.USAGE.encode(), error)
+
+    def test_what_cannot_be_read(self):
+        for words in (("explain", "no/file"), ("mend", self.folder.name), ("order", "no/file"), ("page", "no/file"), ("json", "no/file"), ("json", self.folder.name),
+                      ("explain", REFUTED, "no/file"), ("page", REFUTED, "no/file")):
+            with self.subTest(" ".join(words)):
+                self.assertEqual(called(*words), (6, b"", b"cise: an input couldn't be read\n"))
+
+    def test_a_refused_specification(self):
+        path = self.file("d.cise", "cise 1\nsort Seat\nrelation sold ( Seat , Row )\n")
+        for words in (("explain", path), ("mend", path), ("order", path), ("page", path), ("page", path, SCHEDULE), ("explain", path, SCHEDULE)):
+            with self.subTest(" ".join(words)):
+                status, out, error = called(*words)
+                self.assertEqual((status, out), (3, b"refused specification unknown Row word 9\n"))
+                self.assertTrue(error.startswith(path.encode() + b":3:24: unknown name Row\n    3 | relation sold ( Seat , Row )\n"), error)
+
+    def test_a_refused_report_and_schedule(self):
+        report, schedule = self.file("r", "cise report 1\nbudget 0\n"), self.file("s.json", '{ "sizes": }')
+        self.assertEqual(called("explain", REFUTED, report)[:2], (4, b"refused report line 2 form\n"))
+        self.assertTrue(called("explain", REFUTED, report)[2].startswith(report.encode() + b":2:1: "))
+        status, out, error = called("page", REFUTED, schedule)
+        self.assertEqual((status, out), (4, b"refused schedule json\n"))
+        self.assertTrue(error.startswith(schedule.encode() + b":1:12: no JSON: "), error)
+
+    def test_bytes_of_any_kind(self):
+        text = program.run("spell", REFUTED)[1].encode().replace(b"\n", b" # \xff\xc3\xa9\n", 1)
+        path = self.file(b"d\xff.cise".decode("utf-8", "surrogateescape"), text)
+        for command in ("explain", "mend", "order", "page"):
+            with self.subTest(command):
+                # The program takes no name that isn't UTF-8.
+                self.assertEqual(called(command, path)[:2], (9, b""))
+        path = self.file("d.cise", text)
+        status, out, error = called("mend", path)
+        self.assertEqual(status, 0, error)
+        self.assertIn(b" # \xff\xc3\xa9\n", out)
+        self.assertEqual([called(it, path)[0] for it in ("explain", "page", "order")], [1, 1, 0])
+
+    def test_pipes(self):
+        with open(REFUTED, "rb") as file:
+            text = file.read()
+        whole = called("mend", REFUTED)
+        self.assertEqual(called("mend", "/dev/stdin", input=text), whole)
+        with open(REFUTED, "rb") as file:
+            self.assertEqual(called("mend", "/dev/stdin", stdin=file), whole)
+        os.mkfifo(os.path.join(self.folder.name, "pipe"))
+        path = os.path.join(self.folder.name, "pipe")
+        writer = subprocess.Popen(["cp", REFUTED, path])
+        self.assertEqual(called("mend", path), whole)
+        writer.wait()
+
+    def test_output_that_cannot_be_written(self):
+        with open("/dev/full", "wb") as full:
+            done = subprocess.run([sys.executable, "-IS", "-c", CALL, "order", ACCEPTED], stdout=full, stderr=subprocess.PIPE)
+        self.assertEqual((done.returncode, done.stderr), (7, b""))
+        closed = subprocess.run(["sh", "-c", f'"{sys.executable}" -IS -c "$0" explain "$1" 2>err >&-; echo $?; cat err', CALL, REFUTED], stdout=subprocess.PIPE, cwd=self.folder.name)
+        self.assertEqual(closed.stdout, b"7\n")
+
+    def test_signals_end_it_without_a_trace(self):
+        path = self.file("slow.cise", SLOW)
+        running = subprocess.Popen([sys.executable, "-IS", "-c", CALL, "mend", path], stdout=subprocess.PIPE, stderr=subprocess.PIPE)
+        time.sleep(0.7)
+        running.terminate()
+        out, error = running.communicate(timeout=20)
+        self.assertIn((running.returncode, out, error), [(143, b"", b""), (-15, b"", b"")])
+
+    def test_each_command_is_quick_but_for_its_runs(self):
+        """At most 0.2 seconds of the layer's own processor time, over a large design."""
+        import resource
+
+        path = self.file("large.cise", large())
+        report = self.file("large.report", program.run("check", path)[1])
+        for words in (("explain", path), ("order", path), ("page", path), ("json", report)):
+            with self.subTest(words[0]):
+                code = CALL.replace("sys.exit(", "s = (") + "; import os; t = os.times(); sys.stderr.write(f'{t.user + t.system}')"
+                status, out, error = called(*words, code=code)
+                self.assertTrue(out)
+                self.assertLess(float(error), 0.6, words)
+        self.assertTrue(resource)
+
+
+SLOW = "cise 1 sort A relation r ( A ) " + " ".join(f"operation f{it} ( a : A , b : A , c : A ) insert r ( a ) remove r ( b ) insert r ( c ) end" for it in range(16))
+
+
+def large():
+    """Eight operations that need no order, of a design with 200 obligations and more."""
+    lines = ["cise 1", "sort Item"] + [f"relation r{it} ( Item )" for it in range(8)]
+    lines += [f"invariant needs{it} forall x : Item . ( r{it} ( x ) implies r{it - 1} ( x ) )" for it in range(1, 8)]
+    for it in range(8):
+        lines += [f"operation add{it} ( x : Item )"] + [f"  requires r{it - 1} ( x )"] * (it > 0) + [f"  insert r{it} ( x )", "end"]
+    return "\n".join(lines) + "\n"
+
+
+class Places(InFolder):
+    def test_behind_a_command(self):
+        path = self.file("d.cise", "cise 1\nsort Seat sort Seat\n")
+        for words in (("check", path), ("check", path, "--budget", "7"), ("suggest", path), ("spell", path), ("verify", path, SCHEDULE), ("replay", path, SCHEDULE)):
+            with self.subTest(" ".join(words)):
+                status, out, error = called("3", *words, code=PLACES)
+                self.assertEqual((status, out), (0, b""))
+                self.assertTrue(error.startswith(path.encode() + b":2:16: Seat is declared twice"), error)
+
+    def test_behind_a_refused_step(self):
+        for command in ("replay", "simulate"):
+            steps = self.file("s.json", '{"sizes":{"Account":1},"constants":{},"replicas":1,"steps":[\n{"replica":0,"take":4}]}')
+            status, out, error = called("4", command, ACCEPTED, steps, code=PLACES)
+            self.assertEqual((status, out), (0, b""))
+            self.assertTrue(error.startswith(steps.encode() + b":2:1: step 0 is refused: there is no call 4 so far"), error)
+
+    def test_it_says_nothing_where_it_knows_nothing(self):
+        report = self.file("report", program.run("check", REFUTED)[1])
+        for status, words in ((3, ("check", "no/file")), (3, ()), (3, ("check", REFUTED)), (4, ("verify", REFUTED, report)), (4, ("verify", REFUTED)), (4, ("upgrade", REFUTED, "/dev/null")),
+                              (0, ("check", REFUTED)), (3, ("check", "/dev/stdin")), (4, ("replay", REFUTED, "no/file"))):
+            with self.subTest(f"{status} {words}"):
+                self.assertEqual(called(str(status), *words, code=PLACES, stdin=subprocess.DEVNULL), (0, b"", b""))
+
+
+if __name__ == "__main__":
+    unittest.main()

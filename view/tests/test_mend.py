@@ -1,0 +1,248 @@
+"""mend: what is accepted, what is ordered, and that the user's own text stays."""
+import glob
+import io
+import os
+import re
+import tempfile
+import unittest
+from contextlib import redirect_stderr
+
+from view import mend, order, program
+from view.edits import with_tokens
+from view.enough import Search, by_lines
+from view.report import Answer, SuggestedPair, Suggestion
+from view.tests.unordered import BLOG, COURSES, FRIENDS, NUMBERS, PAYMENT, PROJECTS, TICKETS, UNORDERED
+from view.tokens import Order, Tokens
+from view.tree import Spec
+from view.words import text_of, words
+
+# What of the gallery no token mends: the start, or an operation alone, breaks an invariant, or is undecided.
+NOT_BY_TOKENS = {"flags/refuted.cise": 1, "auction/forgotten.cise": 1, "tournament/refuted.cise": 1}
+
+
+class Said(io.StringIO):
+    """Standard error, as a text."""
+
+    def __init__(self):
+        super().__init__()
+        self.buffer = self
+
+    def write(self, text):
+        return super().write(text if isinstance(text, str) else text.decode())
+
+
+def mended(text):
+    """The status, the text and what is said on standard error, of mend on a text."""
+    with tempfile.TemporaryDirectory() as folder:
+        path = os.path.join(folder, "design.cise")
+        with open(path, "wb") as file:
+            file.write(text.encode("utf-8", "surrogateescape"))
+        said = Said()
+        with redirect_stderr(said):
+            status, new = mend.answer(path)
+    return status, new, said.getvalue()
+
+
+def short(text):
+    """On what each pair of a text is ordered, where it is."""
+    found = order.pairs(Spec(text))
+    return {pair.name(): " ".join(pair.short()) for pair in found.values() if pair.conditions}
+
+
+def suggested(text):
+    return Suggestion(program.run_on(text, "suggest")[1])
+
+
+class Unordered(unittest.TestCase):
+    @classmethod
+    def setUpClass(cls):
+        cls.mended = {name: mended(text) for name, text in UNORDERED.items()}
+
+    def test_each_is_refuted_before_and_accepted_after(self):
+        for name, text in UNORDERED.items():
+            with self.subTest(name):
+                self.assertEqual(program.run_on(text, "check")[0], 1)
+                status, new, said = self.mended[name]
+                self.assertEqual(status, 0, said)
+                self.assertEqual(program.run_on(new, "check")[0], 0)
+
+    def test_pairs_that_are_free_stay_free_and_the_needed_ones_are_ordered(self):
+        for name, text in UNORDERED.items():
+            with self.subTest(name):
+                ordered = short(self.mended[name][1])
+                for it in suggested(text).pairs:
+                    self.assertEqual(f"{it.left} || {it.right}" in ordered, it.word == "needed", it.left + " " + it.right)
+
+    def test_all_by_lines_of_a_pair_stand_together(self):
+        count = 0
+        for name, text in UNORDERED.items():
+            spec = Spec(self.mended[name][1])
+            for it in suggested(text).pairs:
+                together = [(("f", a.left), ("g", a.right)) for a in it.answers if a.word == "by"]
+                if together:
+                    count += len(together) > 1
+                    (condition,) = order.conditions(spec, it.left, it.right)
+                    self.assertEqual({frozenset(e) for e in condition.equalities}, {frozenset(e) for e in together})
+        self.assertGreater(count, 0)
+
+    def test_the_users_words_and_comments_stay(self):
+        for name, text in UNORDERED.items():
+            with self.subTest(name):
+                new = self.mended[name][1]
+                spec = Spec(new)
+                left = [it for head, item in spec.items if head not in ("token", "conflict") for it in [head, *item]]
+                for operation in spec.operations.values():
+                    for line in operation.of("takes"):
+                        at = next(k for k, it in enumerate(left) if it is line.head)
+                        del left[at : at + 1 + len(line.body)]
+                self.assertEqual(words(text)[:2] + left, words(text))
+                self.assertEqual(re.findall("#.*", new), re.findall("#.*", text))
+                if name != "projects":
+                    lines = [it for it in new.split("\n") if not re.match(r"\s*(token|conflict|takes)\b", it)]
+                    self.assertEqual([it for it in lines if it.strip()], [it for it in text.split("\n") if it.strip()])
+
+    def test_orders_of_some(self):
+        self.assertEqual(short(self.mended["friends"][1]), {"meet || part": "same p, q or p = q, q = p"})
+        self.assertEqual(short(self.mended["blog"][1]), {"open || close": "same u", "close || follow": "same u or u = v"})
+        self.assertEqual(short(self.mended["register"][1]), {"write || write": "always", "write || reset": "always"})
+        self.assertEqual(short(self.mended["mail"][1])["give_up || give_up"], "same u, a")
+
+    def test_what_is_written(self):
+        new = self.mended["courses"][1]
+        declared = "token add_course_or_enroll_token(Course)\ntoken remove_course_token(Course)\nconflict add_course_or_enroll_token(c) remove_course_token(c)\n"
+        self.assertIn(f"\n{declared}\n# Registers somebody.\n", new)
+        self.assertIn("    remove course(c)\n    # nothing else\n    takes remove_course_token(c)\nend\n", new)
+        self.assertIn(" insert employee ( e ) takes hire_employee ( e ) end\n", self.mended["projects"][1])
+        self.assertIn("token release_or_pay_show ( Show )\n", self.mended["tickets"][1])
+        self.assertNotIn("\n", self.mended["blog"][1].replace("\r\n", ""))
+
+    def test_what_is_said(self):
+        said = self.mended["friends"][2]
+        self.assertEqual(said.count("\n"), 2)
+        self.assertIn("mend: meet || part: ordered where both have the same p and the same q, or where p of meet = q of part and q of meet = p of part\n", said)
+        self.assertIn("mend: accepted: 6 proved, 0 refuted, 0 undecided\n", said)
+
+    def test_what_is_mended_stays_as_it_is(self):
+        for name in ("tickets", "blog"):
+            status, again, said = mended(self.mended[name][1])
+            self.assertEqual((status, again), (0, self.mended[name][1]))
+            self.assertIn("nothing to be mended", said)
+
+
+class Gallery(unittest.TestCase):
+    def test_each_is_accepted_but_what_no_token_mends(self):
+        for path in sorted(glob.glob("examples/*/*.cise")):
+            name = path.partition("/")[2]
+            if name.startswith("undecided/"):
+                continue
+            with self.subTest(name):
+                status, new, said = mended(text_of(path))
+                self.assertEqual(status, NOT_BY_TOKENS.get(name, 0), said)
+                self.assertEqual(program.run_on(new, "check")[0], status)
+                if program.run("check", path)[0] == 0:
+                    self.assertEqual(new, text_of(path))
+                self.assertEqual("that no token mends" in said, status != 0)
+
+    def test_the_story_of_what_is_left_is_told(self):
+        status, new, said = mended(text_of("examples/tournament/refuted.cise"))
+        self.assertEqual(status, 1)
+        self.assertIn("1. call_off breaks registered\n", said)
+        self.assertIn("takes call_off_tournament ( t )", new)
+
+    def test_undecided_pairs_are_said_to_be_so(self):
+        status, new, said = mended(text_of("examples/undecided/meals.cise"))
+        self.assertEqual(status, 0)
+        self.assertIn("cook || cook: always ordered; undecided before, so it may need no order", said)
+
+
+class Limits(unittest.TestCase):
+    def test_without_room_for_tokens_the_rest_is_mended(self):
+        own = "".join(f"token own{it}\n" for it in range(14))
+        status, new, said = mended(TICKETS.replace("\noperation hold", f"{own}\noperation hold") + "operation pay_all ( s : Show )\n  set held ( s ) 0\nend\n")
+        self.assertEqual(status, 1)
+        self.assertIn("isn't ordered: a text has no room for more tokens", said)
+        self.assertIn("takes hold_show ( s )", new)
+
+    def test_own_tokens_stay_and_what_they_order_is_enough(self):
+        text = FRIENDS.replace("operation meet", "token pair ( Person )\nconflict pair ( x ) pair ( x )\noperation meet", 1)
+        text = text.replace("end\noperation part", "  takes pair ( p )\n  takes pair ( q )\nend\noperation part")
+        text = text[: text.rindex("end")] + "  takes pair ( p )\n  takes pair ( q )\nend\n"
+        self.assertEqual(mended(text)[:2], (0, text))
+
+    def test_names_of_tokens_are_new(self):
+        text = TICKETS.replace("held", "hold_show")
+        self.assertIn("token hold_calls ( Show )", mended(text)[1])
+        long = TICKETS.replace("release", "release_what_was_held_before").replace("pay", "pay_what_was_held_before_it")
+        self.assertIn("token hold_show ( Show )\ntoken release_what_was_held_befo_calls ( Show )\n", mended(long)[1])
+
+
+class Parts(unittest.TestCase):
+    def test_a_sort_that_comes_later(self):
+        spec = Spec(NUMBERS)
+        both = Order("boot", "give", [[]]), Order("give", "give", [[("c", "c")]])
+        text = with_tokens(spec, Tokens(spec, both))
+        self.assertEqual(program.run_on(text, "spell")[0], 0)
+        self.assertTrue(text.rstrip().split("\n")[-1].startswith("conflict "))
+
+    def test_more_than_three_places_are_several_tokens(self):
+        text = "cise 1 sort A operation f ( a : A , b : A , c : A , d : A ) end operation g ( x : A ) end operation h ( y : A , z : A ) end "
+        spec = Spec(text)
+        orders = [Order("f", "g", [[("a", "x")]]), Order("f", "h", [[("b", "y"), ("c", "z")]]), Order("f", "f", [[("d", "d")]])]
+        new = with_tokens(spec, Tokens(spec, orders))
+        self.assertEqual(program.run_on(new, "spell")[0], 0)
+        self.assertEqual(short(new), {"f || g": "a = x", "f || h": "b = y, c = z", "f || f": "same d"})
+
+    def test_an_equality_of_two_places_with_one(self):
+        spec = Spec("cise 1 sort A operation f ( a : A ) end operation g ( x : A , y : A ) end ")
+        new = with_tokens(spec, Tokens(spec, [Order("f", "g", [[("a", "x"), ("a", "y")]])]))
+        self.assertEqual(program.run_on(new, "spell")[0], 0)
+        found = order.conditions(Spec(new), "f", "g")
+        self.assertTrue(found[0].implies(order.Condition([(("f", "a"), ("g", "y"))], 0)) and found[0].implies(order.Condition([(("f", "a"), ("g", "x"))], 0)))
+
+    def test_tokens_of_random_orders_say_what_they_were_made_of(self):
+        import random
+
+        chance = random.Random(3)
+        for _ in range(60):
+            kinds = {name: [chance.choice("AB") for _ in range(chance.randrange(4))] for name in "fgh"}
+            text = "cise 1 sort A sort B " + " ".join(
+                f"operation {name}" + (f" ( {' , '.join(f'{name}{k} : {kind}' for k, kind in enumerate(of))} )" if of else "") + " end" for name, of in kinds.items())
+            spec, orders = Spec(text), []
+            for f, g in ("ff", "fg", "gh", "fh"):
+                same = [(f"{f}{i}", f"{g}{k}") for i, a in enumerate(kinds[f]) for k, b in enumerate(kinds[g]) if a == b and (f != g or i <= k)]
+                orders.append(Order(f, g, [[it] for it in chance.sample(same, min(len(same), 2))] or [[]]))
+            orders = chance.sample(orders, chance.randrange(1, 5))
+            new = with_tokens(spec, Tokens(spec, orders))
+            self.assertEqual(program.run_on(new, "spell")[0], 0, new)
+            found = order.pairs(Spec(new))
+            self.assertEqual({pair.name() for pair in found.values() if pair.conditions}, {f"{it.f} || {it.g}" for it in orders}, new)
+            for it in orders:
+                pair, wanted = found[it.f, it.g], [order.Condition([(("f", p), ("g", q)) for p, q in one], 0) for one in it.alternatives]
+                self.assertTrue(all(pair.covers(one) for one in wanted), new)
+                self.assertTrue(all(any(pair.follows(one, other) for other in wanted) for one in pair.conditions), new)
+
+    def test_by_lines_take_at_most_three_places(self):
+        pair = SuggestedPair("needed", "f", "g")
+        pair.answers = [Answer("by", "a", "w"), Answer("notby", "a", "x"), Answer("by", "b", "x"), Answer("by", "c", "y"), Answer("by", "d", "z"), Answer("by", "c", "w")]
+        self.assertEqual(by_lines(pair), [("a", "w"), ("b", "x"), ("c", "y"), ("c", "w")])
+
+    def test_calls_of_one_operation_may_be_exchanged(self):
+        one, other = {"p": 1, "q": 0}, {"p": 5, "q": 1}
+        search = Search(Spec(FRIENDS), "meet", "meet")
+        self.assertEqual([search.orders([[("p", "q")]], it) for it in ((one, other), (other, one), (one, one))], [True, True, False])
+        self.assertEqual(search.equalities, [("p", "p"), ("p", "q"), ("q", "q")])
+        search = Search(Spec(FRIENDS), "meet", "part")
+        self.assertEqual([search.orders([[("p", "q")]], it) for it in ((one, other), (other, one))], [True, False])
+        self.assertEqual([search.orders([[("p", "p")], [("p", "q"), ("q", "p")]], it) for it in ((one, {"p": 0, "q": 1}), (one, other))], [True, False])
+
+    def test_a_search_learns_from_refutations(self):
+        search = Search(Spec(FRIENDS), "meet", "part")
+        self.assertFalse(search.is_enough([[("p", "p")]]))
+        self.assertTrue(search.breaking)
+        trials = search.trials
+        self.assertFalse(search.is_enough([[("p", "p")]]))
+        self.assertEqual(search.trials, trials, "the same proposal isn't tried twice")
+
+
+if __name__ == "__main__":
+    unittest.main()

@@ -1,0 +1,341 @@
+"""Pages on designs against the reports that they tell of: each obligation, each story, each cell; that they stand alone, and that every link leads
+somewhere."""
+import functools
+import os
+import random
+import re
+import subprocess
+import sys
+import tempfile
+import unittest
+
+from view import order, page, program
+from view.report import Report
+from view.story import stories
+from view.tests.designs import Design
+from view.tests.kinds import KINDS
+from view.tests.page_tree import Tree
+from view.tests.test_outcome import gallery, report_on
+from view.tree import Spec
+
+OUTSIDE = re.compile(r"<script|<link|<iframe|<object|\bsrc=|\bon[a-z]+=|https?:|url\(|@import")
+VERDICTS = ("refuted", "undecided", "proved")
+
+
+def page_on(text):
+    """The status and the page on a text."""
+    with tempfile.TemporaryDirectory() as folder:
+        path = os.path.join(folder, "design.cise")
+        with open(path, "wb") as file:
+            file.write(text.encode("utf-8", "surrogateescape"))
+        return page.answer(path)
+
+
+@functools.lru_cache(maxsize=None)
+def pages():
+    """Designs by name: the specification, the report and the page, as text and as a tree. The random ones are checked with a small budget, so that
+    some obligations are undecided."""
+    found = {}
+    designs = {name: (text, ()) for name, text in gallery().items()}
+    designs.update({f"random {seed}": (Design(random.Random(seed), version=1 + seed % 2).text, ("--budget", "40")) for seed in range(400, 425)})
+    for name, (text, words) in designs.items():
+        spec, report = Spec(text), Report(report_on(text, *words))
+        html = page.page_of(page.Design(spec, report), name)
+        found[name] = spec, report, html, Tree(html)
+    return found
+
+
+def lost_links(tree):
+    """Links that lead nowhere, and names of places that stand twice."""
+    places = [it.attributes["id"] for it in tree.elements() if "id" in it.attributes]
+    links = [it.attributes["href"] for it in tree.all("a")]
+    return [it for it in links if not it.startswith("#") or it[1:] not in places] + sorted({it for it in places if places.count(it) > 1})
+
+
+class EachPage(unittest.TestCase):
+    """What is true of each page of the gallery, of what is out of the ordinary, and of random designs."""
+
+    def each(self, examine):
+        for name, it in pages().items():
+            with self.subTest(name=name):
+                examine(*it)
+
+    def test_stands_alone(self):
+        def examine(_spec, _report, html, tree):
+            self.assertEqual(OUTSIDE.findall(html), [])
+            self.assertEqual(lost_links(tree), [])
+            self.assertTrue(tree.all("a"))
+
+        self.each(examine)
+
+    def test_what_is_not_alone_is_found(self):
+        html = pages()["examples/bank/refuted.cise"][2]
+        for planted in ("<script>", '<img src="x">', '<p onclick="x">', '<a href="http://a">', "@import", "url(x)"):
+            self.assertTrue(OUTSIDE.findall(html + planted), planted)
+        self.assertEqual(lost_links(Tree(html.replace('id="story-1"', 'id="story-9"'))), ["#story-1"] * html.count('href="#story-1"'))
+        self.assertEqual(lost_links(Tree(html.replace('id="line-2"', 'id="line-1"'))), ["line-1"])
+
+    def test_counts(self):
+        def examine(_spec, report, _html, tree):
+            counts = dict(zip(VERDICTS, (report.refuted, report.undecided, report.proved)))
+            said = ", ".join(f"{counts[it]} {it}" for it in VERDICTS)
+            self.assertEqual(tree.one("p", "counts").text(), f"{len(report.blocks)} obligations: {said}")
+            self.assertEqual(tree.one("div", "banner").one("p", "word").text(), report.word)
+            bar = [(it.classes()[0], it.attributes["style"]) for it in tree.one("div", "bar").all("i")]
+            self.assertEqual(bar, [(it, f"flex:{counts[it]}") for it in VERDICTS if counts[it]])
+
+        self.each(examine)
+
+    def test_an_item_for_each_block(self):
+        def examine(spec, report, _html, tree):
+            items = {it.attributes["id"]: it for part in tree.all("ul", "blocks") for it in part.all("li")}
+            self.assertEqual(sorted(items), sorted(f"obligation-{it.line_in_report}" for it in report.blocks))
+            for block in report.blocks:
+                item = items[f"obligation-{block.line_in_report}"]
+                self.assertEqual(item.classes(), [block.verdict])
+                for name in block.names:
+                    self.assertIn(name, item.text())
+                fold = item.parent.parent
+                self.assertEqual((fold.tag, fold.attributes["id"]), ("details", fold_of(spec, block)))
+                if block.verdict == "proved":
+                    self.assertIn(f"{block.count:,} log line", item.text())
+
+        self.each(examine)
+
+    def test_a_story_for_each_that_is_not_proved(self):
+        def examine(spec, report, _html, tree):
+            cards = tree.all("article", "story")
+            told = stories(spec, report)
+            self.assertEqual([it.attributes["id"] for it in cards], [f"story-{at}" for at in range(1, len(told) + 1)])
+            self.assertEqual(len(cards), report.refuted + report.undecided)
+            for number, (card, story) in enumerate(zip(cards, told), 1):
+                self.assertIn(story.verdict, card.classes())
+                self.assertEqual(card.one("a", "where").text(), story.block.words())
+                self.assertEqual(card.one("h3").text(), f"{number}. {story.title()}")
+                forms = [it.classes()[1] for it in card.all("svg", "pic")]
+                self.assertEqual(forms, ["wide", "narrow"] if story.verdict == "refuted" else [])
+                said = [story.limit, story.todo] if story.verdict == "undecided" else [story.ending(), *(it.text() for it in story.calls)]
+                for it in said:
+                    self.assertIn(it, card.text())
+
+        self.each(examine)
+
+    def test_lines_of_stories(self):
+        """Each number of a story's line leads to the same words in the whole text."""
+        seen = []
+
+        def examine(_spec, _report, _html, tree):
+            rows = {it.attributes["id"]: it for it in tree.one("pre", "source").all("span", "row")}
+            for card in tree.all("article", "story"):
+                for row in [it for part in card.all("pre", "line") for it in part.all("span", "row")]:
+                    link = row.one("a", "number")
+                    whole = rows[link.attributes["href"][1:]]
+                    self.assertEqual(whole.one("span", "number").text(), link.text())
+                    self.assertIn(row.parts[1].text().strip(), whole.text())
+                    seen.append(link.text())
+
+        self.each(examine)
+        self.assertGreater(len(seen), 80)
+
+    def test_the_whole_text(self):
+        def examine(spec, _report, _html, tree):
+            rows = tree.one("pre", "source").all("span", "row")
+            lines = spec.text.rstrip("\r\n").split("\n")
+            self.assertEqual([it.one("span", "number").text() for it in rows], [str(at) for at in range(1, len(lines) + 1)])
+            for row, line in zip(rows, lines):
+                shown = re.sub("[\x00-\x08\x0b-\x1f\x7f\ud800-\udfff]", "\ufffd", line.rstrip())
+                self.assertEqual(row.parts[1].text(), shown)
+
+        self.each(examine)
+
+
+def fold_of(spec, block):
+    """The fold in which a block stands."""
+    if block.kind == "init":
+        return "start"
+    if block.kind == "safety":
+        return f"alone-{block.names[0]}"
+    both = block.names[0], block.names[1 if block.kind == "commute" else 2]
+    return "-".join(["pair", *sorted(both, key=list(spec.operations).index)])
+
+
+class Matrices(unittest.TestCase):
+    """A cell for each operation alone and each two operations in both orders."""
+
+    def expected(self, spec, blocks, f, g):
+        """The sign of a cell, from the blocks that name both operations and from the rules."""
+        verdicts = {it.verdict for it in blocks}
+        for it in ("refuted", "undecided"):
+            if it in verdicts:
+                return it
+        return "ordered" if order.conditions(spec, f, g) else "proved"
+
+    def about(self, report, f, g):
+        """The blocks that are about a call of f and a call of g."""
+        named = [(it, (it.names[0], it.names[1]) if it.kind == "commute" else (it.names[0], it.names[2])) for it in report.blocks if it.kind in ("commute", "stable")]
+        return [it for it, both in named if both in ((f, g), (g, f))]
+
+    def test_each_cell(self):
+        signs = {}
+        for name, (spec, report, _, tree) in pages().items():
+            with self.subTest(name=name):
+                operations = list(map(str, spec.operations))
+                if not operations:
+                    continue
+                table = tree.one("table", "matrix")
+                heads = [it.text() for it in table.all("th") if it.inside("thead")]
+                self.assertEqual(heads, ["alone"] + operations)
+                rows = [it for it in table.all("tr") if it.inside("tbody")]
+                self.assertEqual([it.one("th").text() for it in rows], operations)
+                numbers = {it.attributes["id"]: it.one("a", "where").text() for it in tree.all("article", "story")}
+                for f, row in zip(operations, rows):
+                    cells = row.all("td")
+                    self.assertEqual(len(cells), len(operations) + 1)
+                    own = [it for it in report.blocks if it.kind == "safety" and it.names[0] == f]
+                    self.examine(cells[0], next((it for it in ("refuted", "undecided") if it in {b.verdict for b in own}), "proved"), own, f"alone-{f}", numbers)
+                    for g, cell in zip(operations, cells[1:]):
+                        blocks = self.about(report, f, g)
+                        state = self.expected(spec, blocks, f, g)
+                        self.examine(cell, state, blocks, "-".join(["pair", *sorted((f, g), key=operations.index)]), numbers)
+                        self.words(spec, cell, state, f, g)
+                        signs[state] = signs.get(state, 0) + 1
+        self.assertGreater(min(signs[it] for it in ("refuted", "undecided", "ordered", "proved")), 10, signs)
+
+    def examine(self, cell, state, blocks, fold, numbers):
+        """A cell has the class, the sign and the link of its state."""
+        link = cell.one("a")
+        self.assertEqual(cell.classes()[0], state)
+        self.assertEqual(link.all("path")[0].attributes["d"], SIGNS[state])
+        stories_ = [it for it in numbers if numbers[it] in {block.words() for block in blocks}]
+        self.assertEqual(link.attributes["href"], "#" + (min(stories_, key=lambda it: int(it[6:])) if stories_ else fold))
+
+    def words(self, spec, cell, state, f, g):
+        """What a cell says: the state; on what calls are ordered, also where it is refuted."""
+        said, label = cell.one("span", "words").text(), cell.one("span", "unseen").text()
+        self.assertEqual(cell.one("a").attributes["title"], label)
+        self.assertTrue(label.startswith(f"{f} with {g}: "))
+        found = order.conditions(spec, f, g)
+        if state in ("refuted", "undecided"):
+            self.assertTrue(said.startswith(state) and state in label)
+            self.assertEqual("ordered" in said, bool(found))
+            self.assertEqual("though" in label, bool(found))
+        elif found:
+            self.assertEqual(said, "".join(order.short(found)))
+            self.assertIn("ordered", label)
+        else:
+            self.assertEqual(said, "at once")
+
+    def test_refuted_and_ordered(self):
+        """The sign is the worse one, the words say both."""
+        text = """cise 1
+sort P
+relation on ( P )
+token link ( P )
+conflict link ( x ) link ( x )
+operation join ( a : P , b : P )
+  requires not on ( b )
+  insert on ( b )
+  takes link ( a )
+end
+"""
+        cell = Tree(page_on(text)[1]).one("td", "own")
+        self.assertEqual(cell.classes()[0], "refuted")
+        self.assertEqual(cell.one("span", "words").text(), "refutedordered: same a")
+        self.assertIn("though ordered where both have the same a", cell.one("span", "unseen").text())
+
+    def test_the_first_argument_is_the_row_s(self):
+        text = """cise 1
+sort P
+relation on ( P )
+token link ( P )
+conflict link ( x ) link ( x )
+operation join ( a : P )
+  insert on ( a )
+  takes link ( a )
+end
+operation leave ( b : P )
+  insert on ( b )
+  takes link ( b )
+end
+"""
+        cells = [it.one("span", "words").text() for it in Tree(page_on(text)[1]).one("table", "matrix").all("td") if it.all("a")]
+        self.assertEqual(cells, ["keeps all", "same a", "a = b", "keeps all", "b = a", "same b"])
+
+    def test_many_operations(self):
+        text = "cise 1\n" + "".join(f"operation f{at}\nend\n" for at in range(24))
+        table = Tree(page_on(text)[1]).one("table", "matrix")
+        self.assertIn("dense", table.classes())
+        self.assertEqual(len(table.all("td", "proved")), 24 * 25)
+
+    def test_no_operation(self):
+        tree = Tree(page_on("cise 1 relation up invariant alive up")[1])
+        self.assertEqual(tree.all("table"), [])
+        self.assertEqual(len(tree.all("article", "refuted")), 1)
+
+
+SIGNS = {
+    "proved": "M3.5 8.5l3 3 6-7", "refuted": "M4 4l8 8M12 4l-8 8", "ordered": "M2.5 8h9M8.5 4.6L12 8l-3.5 3.4M14 3.5v9",
+    "undecided": "M5.3 5.6a2.8 2.8 0 1 1 4 2.6c-1 .5-1.3 1-1.3 1.9M8 12.9v.2",
+}
+
+
+class Texts(unittest.TestCase):
+    def test_what_the_user_wrote_is_no_markup(self):
+        text = '# <script>alert(1)</script> & "quoted" </title> http\ncise 1 # <b> &amp; </pre>\nrelation up\ninvariant alive up # </article>\n'
+        html = page_on(text)[1]
+        tree = Tree(html)
+        self.assertEqual(html.count("<script"), 0)
+        self.assertIn('<script>alert(1)</script> & "quoted" </title> http', tree.one("header", "top").text())
+        self.assertEqual([it.parts[1].text() for it in tree.one("pre", "source").all("span", "row")], text.rstrip("\n").split("\n"))
+
+    def test_a_file_s_name_is_no_markup(self):
+        with tempfile.TemporaryDirectory() as folder:
+            path = os.path.join(folder, "<b>&.cise")
+            with open(path, "w") as file:
+                file.write("cise 1 relation up")
+            self.assertIn("/ <b>&", Tree(page.answer(path)[1]).one("h1").text())
+
+    def test_any_bytes(self):
+        """A page is UTF-8, whatever the comments are."""
+        html = page_on(KINDS["LAID_OUT"])[1]
+        html.encode("utf-8")
+        self.assertNotIn("\r", html)
+        self.assertNotIn("\x1b", html)
+
+    def test_the_same_twice(self):
+        self.assertEqual(page.answer("examples/bank/refuted.cise"), page.answer("examples/bank/refuted.cise"))
+
+
+class Refusals(unittest.TestCase):
+    """Where the program refuses, its text is all there is."""
+
+    def answered(self, *words):
+        code = "import sys; from view.main import main; sys.exit(main(sys.argv[1], sys.argv[2:]))"
+        done = subprocess.run([sys.executable, "-c", code, program.path, *words], stdout=subprocess.PIPE, stderr=subprocess.PIPE)
+        self.assertNotIn(b"Traceback", done.stderr)
+        return done.returncode, done.stdout.decode()
+
+    def test_no_page(self):
+        with tempfile.TemporaryDirectory() as folder:
+            path, missing = os.path.join(folder, "design.cise"), os.path.join(folder, "none")
+            with open(path, "w") as file:
+                file.write("cise 1 relation r ( A )")
+            plan = os.path.join(folder, "plan.json")
+            with open(plan, "w") as file:
+                file.write("{")
+            good = "examples/bank/refuted.cise"
+            for words, status in ((["page", path], 3), (["page", missing], 6), (["page", good, plan], 4), (["page", good, missing], 6), (["page", folder], 6)):
+                with self.subTest(words=words):
+                    expected = program.run("check" if len(words) == 2 else "replay", *words[1:])
+                    self.assertEqual(self.answered(*words), expected)
+                    self.assertEqual(expected[0], status)
+
+    def test_a_whole_page(self):
+        for words, status in ((["examples/bank/refuted.cise"], 1), (["examples/bank/accepted.cise"], 0), (["examples/bank/refuted.cise", "examples/bank/two_branches.json"], 1)):
+            found, text = self.answered("page", *words)
+            self.assertEqual(found, status)
+            self.assertTrue(text.startswith("<!doctype html>\n") and text.endswith("</html>\n"))
+
+
+if __name__ == "__main__":
+    unittest.main()

@@ -1,0 +1,166 @@
+"""Tokens, conflict rules and takes lines for pairs of operations that are to be ordered.
+
+An operation takes one token of its own, whose places are the parameters on which it is ordered with any other; where these are more than three it
+takes several. A rule for each pair says which places are equal. So a rule speaks of one pair alone, and pairs that need no order get none.
+Operations whose tokens stand in the same rules share one token: this orders no other pair."""
+from view.words import RESERVED, RESERVED_IN_2
+
+MOST_PLACES, MOST_LETTERS = 3, 32
+
+
+class Order:
+    """Two operations that are to be ordered where one of the `alternatives` holds. An alternative is a list of equalities (parameter of `f`,
+    parameter of `g`); the empty one always holds."""
+
+    def __init__(self, f, g, alternatives):
+        self.f, self.g, self.alternatives = f, g, alternatives
+
+
+class Token:
+    """A token that is taken by operations, by each at as many parameters: `takers` are pairs (operation, parameters)."""
+
+    def __init__(self, operation, params, sorts):
+        self.takers, self.sorts, self.name = [(operation, params)], sorts, None
+
+
+class Rule:
+    """Two tokens and the numbers of the variables at their places, in the order in which they first stand; equal places have one number."""
+
+    def __init__(self, left, right, left_places, right_places):
+        numbers = {}
+        self.left, self.right = left, right
+        self.left_places, self.right_places = [tuple(numbers.setdefault(it, len(numbers)) for it in places) for places in (left_places, right_places)]
+
+    def forms(self):
+        """The rule as a value, seen from either of its tokens."""
+        turned = Rule(self.right, self.left, self.right_places, self.left_places)
+        return [(it.left, it.right, it.left_places, it.right_places) for it in (self, turned)]
+
+
+class Tokens:
+    """The tokens and rules of orders, over a specification."""
+
+    def __init__(self, spec, orders):
+        self.spec, self.tokens, self.rules = spec, [], []
+        self.own = {}
+        for it in orders:
+            for alternative in it.alternatives:
+                self.need(it.f, {p for p, _ in alternative})
+                self.need(it.g, {q for _, q in alternative})
+        for it in orders:
+            for alternative in it.alternatives:
+                self.rule(it.f, it.g, alternative)
+        while self.share():
+            pass
+        place = {it: at for at, it in enumerate(spec.operations)}
+        self.tokens.sort(key=lambda it: place[it.takers[0][0]])
+        self.name()
+
+    def params(self, operation):
+        return [it for it, _ in self.spec.operations[operation].params]
+
+    def need(self, operation, params):
+        """Sees to it that one of an operation's sets of parameters holds these."""
+        sets = self.own.setdefault(operation, [])
+        fitting = next((it for it in sets if len(it | params) <= MOST_PLACES), None)
+        if fitting is None:
+            sets.append(set(params))
+        else:
+            fitting |= params
+
+    def token(self, operation, params):
+        """The operation's token whose places hold these parameters."""
+        held = next(it for it in self.own[operation] if params <= it)
+        places = [it for it in self.params(operation) if it in held]
+        found = next((it for it in self.tokens if it.takers == [(operation, places)]), None)
+        if not found:
+            sorts = dict(self.spec.operations[operation].params)
+            found = Token(operation, places, [sorts[it] for it in places])
+            self.tokens.append(found)
+        return found
+
+    def rule(self, f, g, alternative):
+        left, right = self.token(f, {p for p, _ in alternative}), self.token(g, {q for _, q in alternative})
+        groups = {}
+
+        def of(it):
+            while it in groups:
+                it = groups[it]
+            return it
+
+        for p, q in alternative:
+            if of(("f", p)) != of(("g", q)):
+                groups[of(("g", q))] = of(("f", p))
+        self.add(Rule(left, right, [of(("f", it)) for it in left.takers[0][1]], [of(("g", it)) for it in right.takers[0][1]]))
+
+    def add(self, rule):
+        if not any(form in it.forms() for it in self.rules for form in rule.forms()):
+            self.rules.append(rule)
+
+    def share(self):
+        """Lets two tokens be one where they stand in the same rules, and says whether there were any."""
+        for at, one in enumerate(self.tokens):
+            for other in self.tokens[at + 1 :]:
+                if one.sorts == other.sorts and self.are_alike(one, other):
+                    place = {it: number for number, it in enumerate(self.spec.operations)}
+                    one.takers = sorted(one.takers + other.takers, key=lambda it: place[it[0]])
+                    self.tokens.remove(other)
+                    rules, self.rules = self.rules, []
+                    for it in rules:
+                        left, right = [one if token is other else token for token in (it.left, it.right)]
+                        self.add(Rule(left, right, it.left_places, it.right_places))
+                    return True
+        return False
+
+    def are_alike(self, one, other):
+        """Whether two tokens stand in the same rules with each third one, and with each other as each with itself."""
+
+        def outside(token):
+            return {form[1:] for it in self.rules for form in it.forms() if form[0] is token and form[1] not in (one, other)}
+
+        def within(first, second):
+            return {form[2:] for it in self.rules for form in it.forms() if form[0] is first and form[1] is second}
+
+        return outside(one) == outside(other) and within(one, one) == within(other, other) == within(one, other)
+
+    def name(self):
+        """Names the tokens by what they are: whose calls they order, and of what."""
+        taken = {str(it) for it in self.spec.words} | RESERVED | RESERVED_IN_2
+        for token in self.tokens:
+            calls = "_or_".join(str(operation) for operation, _ in token.takers)
+            places = "_".join(self.place_name(token, at) for at in range(len(token.sorts)))
+            told = {self.place_name(token, at) for at in range(len(token.sorts))} <= set(calls.split("_"))
+            whole = f"any_{calls}" if not places else f"{calls}_token" if told else f"{calls}_{places}"
+            first = token.takers[0][0]
+            others = [f"{first}_and_others"] if len(token.takers) > 1 else []
+            names = [whole, f"{calls}_calls", *others, f"{first[: MOST_LETTERS - len('_calls')]}_calls"]
+            token.name = next(it for it in numbered(names) if it not in taken and len(it) <= MOST_LETTERS)
+            taken.add(token.name)
+
+    def place_name(self, token, at):
+        """The sort of a place; or the parameter, where an operation has two of that sort."""
+        params = {places[at] for _, places in token.takers}
+        twice = any([kind for _, kind in self.spec.operations[it].params].count(token.sorts[at]) > 1 for it, _ in token.takers)
+        return str(params.pop()) if twice and len(params) == 1 else token.sorts[at].lower()
+
+    def variables(self, rule):
+        """The names of a rule's variables: parameters of its operations where these differ."""
+        used = {str(it) for it in [*self.spec.sorts, *self.spec.consts, *self.spec.relations, *self.spec.counters, *self.spec.tokens]}
+        used |= {str(it) for it in [*self.spec.invariants, *self.spec.operations]} | {it.name for it in self.tokens}
+        names = {}
+        for token, places in ((rule.left, rule.left_places), (rule.right, rule.right_places)):
+            for param, number in zip(token.takers[0][1], places):
+                if number not in names:
+                    names[number] = next(it for it in numbered([str(param)]) if it not in used and len(it) <= MOST_LETTERS)
+                    used.add(names[number])
+        return [[names[it] for it in places] for places in (rule.left_places, rule.right_places)]
+
+
+def numbered(names):
+    """The names, and then the last of them with numbers behind it."""
+    yield from names
+    number = 2
+    while True:
+        tail = f"_{number}"
+        yield names[-1][: MOST_LETTERS - len(tail)] + tail
+        number += 1
