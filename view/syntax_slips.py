@@ -110,6 +110,10 @@ class Place:
             return f": {text}"
         return f", as {other}" if other else ""
 
+    def declared(self, *heads):
+        """The names that items with these first words have declared before the place."""
+        return {self.words[it] for it in range(1, self.at) if self.words[it - 1] in heads}
+
     def named_row(self, start):
         """The names that stand in a row from a place, in one line of the text."""
         row = self.words[start : start + 1]
@@ -163,6 +167,8 @@ def two_signs(place):
     word, before = place.word, place.near(-1)
     if not word or word[0].isalnum():
         return None
+    if not place.joins() and before + word in (">=", "<="):
+        return f"{before}{word} is one sign, without a space in it"
     if place.joins() and before + word in PAIRS_OF_SIGNS and (before + word != "--" or not place.brackets):
         return PAIRS_OF_SIGNS[before + word]
     after = place.near(1)
@@ -210,8 +216,14 @@ def reading_before(place):
 
 
 def truth_value(place):
-    if place.word in ("true", "false") and place.near(-1) in ("=", "!="):
+    is_compared = place.word in ("true", "false") and place.near(-1) in ("=", "!=")
+    if is_compared or place.word in ("=", "!=") and place.near(1) in ("true", "false") and place.head not in ("initially", "set", "add"):
         return "a fact is true or false by itself and isn't compared: write it alone, or 'not' before it"
+
+
+def truth_value_of_change(place):
+    if place.word in ("true", "false") and place.head in UPDATES:
+        return "no truth value stands here: 'insert' makes a relation true, and 'remove' false"
 
 
 def empty_brackets(place):
@@ -228,15 +240,29 @@ def reserved_name(place):
     before = place.near(-1)
     if before == "invariant" and word in FORMULA | {"forall", "exists"}:
         return f"an invariant has a name: invariant NAME {word} .."
+    if before == "initially":
+        return first_value(place)
     if word == "int":
         return "'int' is the kind of a parameter alone: places, keys and variables are of sorts, and a whole number is a counter without keys"
     is_line = word in LINE_HEADS | {"end"}
-    begins = place.near(-1) and place.near(-1).line < word.line
-    if place.expected == {NAME} and not begins and word != "end" and (is_line or word not in ITEMS or before in ITEMS | LINES | {"(", ","}):
+    begins = before and before.line < word.line
+    if place.expected == {NAME} and not begins and (is_line or word not in ITEMS or before in ITEMS | LINES | {"(", ","}):
         return f"{quoted(word)} is a word of the language, so nothing can have it as its name"
 
 
+def no_name(place):
+    word, before = place.word, place.near(-1)
+    if place.expected == {NAME} and before == "invariant" and word == "(":
+        return "an invariant has a name: invariant NAME formula"
+    if place.expected == {NAME} and before in ("forall", "exists") and word == "(":
+        return f"no brackets stand round the variables: {before} x : A ."
+    if place.expected == {NAME} and place.is_number(word) and before in ITEMS | {"("}:
+        return "a name begins with a letter"
+
+
 def second_token(place):
+    if place.head == "conflict" and place.line is None and place.near(-1) in ("with", "against", "vs"):
+        return "a rule names two tokens, with nothing between them: conflict t ( x ) u ( x )"
     if place.head == "conflict" and place.line is None and place.expected & {NAME}:
         if place.word in (",", "and", "with"):
             return "a rule names two tokens, with nothing between them: conflict t ( x ) u ( x )"
@@ -259,8 +285,11 @@ def variables(place):
     """Slips behind forall, exists, and in the list of an operation's parameters."""
     in_prefix = any(it in ("forall", "exists") for it in place.words[place.line or place.item or 0 : place.at]) and "." not in place.words[place.line or place.item or 0 : place.at]
     before, word, after = place.near(-1), place.word, place.near(1)
+    if before == "for" and word == "all":
+        return "'forall' is one word"
     if place.expected == {":"} and place.head == "const":
-        return f"a constant has its sort behind a colon: const {before} : {word}" if place.is_name(word) else None
+        sort = word if place.is_name(word) else after
+        return f"a constant has its sort behind a colon: const {before} : {sort}" if place.is_name(sort) else None
     if place.expected == {":"}:
         what = "variable" if in_prefix else "parameter"
         kind = next((str(it) for at, it in enumerate(place.words[place.at :], place.at) if place.words[at - 1] == ":"), "A")
@@ -284,6 +313,8 @@ def places_of_things(place):
         return "each sort has an item of its own: sort A sort B"
     if place.head == "initially":
         return first_value(place)
+    if word == "=" and place.head in ("relation", "counter"):
+        return f"the first value is stated by an item of its own: initially {name} {place.near(1) or '5'}"
     if place.head != "sort" and word == ":" and place.brackets:
         return f"places are sorts alone, without names: {place.head} {name} ( {' , '.join(kinds_in_brackets(place)) or 'A'} )"
     if place.head != "sort" and place.at == place.item + 2 and (word == ":" or place.is_name(word) and not other_word(word)):
@@ -303,7 +334,7 @@ def kinds_in_brackets(place):
 
 def first_value(place):
     name = place.words[place.item + 1] if place.at > place.item + 1 else "c"
-    if place.word == "(":
+    if place.word in ("(", "forall", "exists"):
         return f"one value is stated for all places, without brackets: initially {name} 5, or true or false of a relation"
     if place.word in ("=", ":", "is", "not"):
         return f"the value stands right behind the name: initially {name} 5, or true or false of a relation"
@@ -392,11 +423,13 @@ def argument(place):
     word = place.word
     if place.expected == {",", ")"} and word:
         if place.is_name(word):
-            return "a comma stands between arguments"
+            return "a comma is missing before this"
         if word == "(":
             return "an argument is a name alone: a parameter, a variable or a constant"
         if word in ("+", "-", "*"):
             return "an argument is a name alone, and no sum"
+    if place.brackets and set(CONNECTIVES) <= place.expected and (word == "," or place.is_name(word)):
+        return bare_row(place) or ("formulas are joined by 'and', and not by a comma" if word == "," else "'and' or another connective is missing before this")
     if place.is_number(word) and NAME in place.expected and NUMBER not in place.expected and not FORMULA <= place.expected and place.brackets:
         return "an argument is a name: a parameter, a variable or a constant"
 
@@ -427,17 +460,41 @@ def end_alone(place):
         return "there is no operation to be ended here: each has one 'end', and nothing else has any"
 
 
+def bare_row(place):
+    """Names without brackets behind a relation or a counter."""
+    before = place.near(-1)
+    if place.is_name(place.word) and before in place.declared("relation", "counter", "token") and before.line == place.word.line:
+        return f"arguments stand in brackets: {before} ( {' , '.join(place.named_row(place.at))} )"
+
+
+def fact_between(place):
+    """A fact with its relation in the middle or at the end, or without brackets."""
+    if place.head not in ("requires", "observes", "invariant") or not place.is_name(place.word) or "end" not in place.expected | {"end"}:
+        return None
+    if place.word in ("in", "of", "is", "has") and place.near(1):
+        return "a fact has its relation first, and then its things in brackets: r ( x , y )"
+    return bare_row(place)
+
+
 def amount(place):
     """Slips between the name of an add or set line and its amount, and right behind that."""
     if place.head not in ("add", "set") or "when" in place.words[place.line : place.at]:
         return None
     word, before = place.word, place.near(-1)
+    if place.at == place.line + 3 and place.brackets and (word == "-" or place.is_number(word)):
+        return f"the amount has no brackets, as in {place.head} {place.words[place.line + 1]} - n"
+    if place.at == place.line + 3 and place.is_name(word) and before.line == word.line and place.words[place.line + 1] in place.declared("counter") and before not in ("by", "to"):
+        *keys, last = [before, *place.named_row(place.at)]
+        return f"keys stand in brackets: {place.head} {place.words[place.line + 1]} ( {' , '.join(keys)} ) {last}"
     if NUMBER in place.expected and place.brackets == [] and before not in ("+", "-", "*"):
         if word in ("=", ":", "+"):
             line = [*place.words[place.line : place.at], *place.longest("term", place.at + 1)]
             return f"the amount stands right behind the name, without {word}" + place.sample("line", line, f"{place.head} c ( x ) n")
         if word is None or word in LINE_HEADS | ITEMS | {"end", "when"}:
             return f"the amount is missing, as n in {place.head} c ( x ) n"
+    if before in ("to", "into", "of") and word in place.declared("counter"):
+        line = [place.head, *place.longest("reading", place.at), *place.words[place.line + 1 : place.at - 1]]
+        return "the counter stands first, and then the amount" + place.sample("line", line, f"{place.head} c ( x ) n")
     if before in ("by", "to", "of", "with") and word and (place.is_name(word) or place.is_number(word)):
         line = [*place.words[place.line : place.at - 1], *place.longest("term", place.at)]
         return f"the amount stands right behind the name, without '{before}'" + place.sample("line", line, f"{place.head} c ( x ) n")
@@ -449,6 +506,8 @@ def condition(place):
     """A condition behind a change."""
     if place.head in UPDATES and place.word in CONDITIONS:
         return "a condition of a change stands behind it with 'when': insert r ( x ) when formula"
+    if place.word == "else":
+        return "there is no 'else': write another line, with the opposite behind its 'when'"
     if place.word == "when" and place.head in ("requires", "observes"):
         return "'when' stands behind a change alone; what is required is one formula, perhaps with 'implies'"
     if place.word == "when" and place.head == "takes":
@@ -460,7 +519,9 @@ def bare_arguments(place):
     if place.head not in ("insert", "remove", "takes") or place.line is None:
         return None
     if place.at == place.line + 2 and place.is_name(place.word) and not other_word(place.word):
-        return f"arguments stand in brackets: {place.head} {place.near(-1)} ( {' , '.join(place.named_row(place.at))} )"
+        row = [place.near(-1), *place.named_row(place.at)]
+        row.sort(key=lambda it: it not in place.declared("relation", "counter", "token"))
+        return f"arguments stand in brackets: {place.head} {row[0]} ( {' , '.join(row[1:])} )"
     if place.at == place.line + 1 and place.word == "(":
         return f"the name stands first, then its arguments in brackets: {place.head} r ( x , y )"
     if place.word == "," and not place.brackets:
@@ -491,6 +552,10 @@ def begins_wrong(place):
         return f"'{word}' stands behind 'requires'" if in_operation else f"'{word}' stands behind an invariant's name"
     if word == "cise":
         return "'cise' and the version stand once, at the begin of the text"
+    if word == "int" and not in_operation:
+        return "'int' begins no item: 'counter' does"
+    if word == "(" and in_operation and place.near(-1).line < word.line:
+        return "a line begins with what it does: 'requires' stands before what has to be true"
     if word == "(" and place.head in ("requires", "observes"):
         return f"a line '{place.head}' has one formula: join two with 'and' in brackets, or write another line"
     if word == ":" and place.at <= (place.item if place.line is None else place.line) + 2:
@@ -511,6 +576,8 @@ def named_begin(place, in_operation):
     signs = "".join(place.words[follows : follows + 2])
     if in_operation and signs[:2] in ("+=", "-=") or signs[:1] == "=" or signs[:2] == ":=":
         return "a line begins with what it does: 'add' or 'set' a counter, 'insert' into or 'remove' from a relation"
+    if in_operation and word in place.declared("relation", "counter"):
+        return "a line begins with what it does: 'requires' before what has to be true, 'insert', 'remove', 'add' or 'set' before what changes"
     heads = (LINES | {"end"} | (RESERVED_IN_2 - {"shared", "exclusive"} if place.version == 2 else set())) if in_operation else ITEMS
     near = difflib.get_close_matches(word.lower(), sorted(heads), 1, 0.75)
     if near:
@@ -540,9 +607,11 @@ def too_deep(place):
         return "a formula nests at most 200 deep, and here it would be deeper"
 
 
-SLIPS = [begin, other_version, too_deep, capital, two_signs, numbers, truth_value, empty_brackets, product, second_token, forall_inside, variables, amount,
-         reserved_name, no_comparison_brackets, chain, one_part, connective, argument, unclosed, unopened, missing_end, end_alone, condition, bare_arguments,
-         places_of_things, colon, dot, begins_wrong, sign_before_formula]
+SLIPS = [
+    *(begin, other_version, too_deep, capital, two_signs, numbers, truth_value, truth_value_of_change, empty_brackets, product, no_name),
+    *(second_token, forall_inside, variables, amount, reserved_name, no_comparison_brackets, chain, one_part, connective, argument, unclosed),
+    *(unopened, missing_end, end_alone, condition, bare_arguments, places_of_things, colon, dot, fact_between, begins_wrong, sign_before_formula),
+]
 
 
 def sentence(place):

@@ -73,7 +73,7 @@ class Shown(unittest.TestCase):
 
     def test_what_could_stand_there(self):
         text = "cise 1 sort A relation r ( A A )"
-        self.assertEqual(slips.tell("x", text, refusal_of(text)).split("\n")[0], "x:1:30: a comma stands between arguments")
+        self.assertEqual(slips.tell("x", text, refusal_of(text)).split("\n")[0], "x:1:30: a comma is missing before this")
         self.assertIn("\n  expected ) or , here\n", slips.tell("x", text, refusal_of(text)))
 
     def test_an_empty_text(self):
