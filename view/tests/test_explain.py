@@ -204,20 +204,17 @@ STORIES = {
 HEADS = {
     "examples/auction/forgotten.cise": """offer alone     refuted, see 1
 close alone     refuted, see 2
-start || start  ordered: same l
-start || offer  ordered: same l
 start || close  ordered: same l
 offer || close  ordered: same l
 close || close  ordered: same l
-1 pair may run at once
+3 pairs may run at once
 """,
-    "examples/folders/accepted.cise": """make || make      ordered: same c or c = p
-make || move      ordered: same c or c = p or p = c
-make || delete    ordered: same c or p = c
-move || move      ordered: same c or c = p
+    "examples/folders/accepted.cise": """make || make      ordered: same c
+make || delete    ordered: p = c
+move || move      ordered: same c
 move || delete    ordered: same c or p = c
 delete || delete  ordered: same c
-0 pairs may run at once
+1 pair may run at once
 """,
     "examples/flags/refuted.cise": "at the start  refuted, see 1\nthere are no operations\n",
     "examples/undecided/vast.cise": "cash_in alone  undecided, see 1\n1 pair may run at once\n",

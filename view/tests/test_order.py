@@ -241,7 +241,7 @@ class Compared(unittest.TestCase):
         with open("examples/friends/half.cise", encoding="utf-8") as file:
             text = file.read()
         told = order.compared(Spec(text), Suggestion(program.run_on(text, "suggest")[1]))
-        self.assertIn("\n  block || unblock\n      same p, q; check says whether that is enough; rule at line 11\n", told)
+        self.assertIn("\n  block || unblock\n      same p, q; check says whether that is enough; rule at line 15\n", told)
 
     def test_several_that_are_enough(self):
         with open("examples/seats/half.cise", encoding="utf-8") as file:
