@@ -17,7 +17,7 @@ def texts():
         if "undecided" in path and "meals" not in path and "store" not in path:
             continue
         yield ("check", path), program.run("check", path)[1]
-        if "meals" not in path:
+        if "refuted" in path:
             yield ("suggest", path), program.run("suggest", path)[1]
         for schedule in sorted(glob.glob(os.path.dirname(path) + "/*.json")):
             for command in ("replay", "simulate"):

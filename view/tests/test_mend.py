@@ -57,6 +57,7 @@ class Unordered(unittest.TestCase):
     @classmethod
     def setUpClass(cls):
         cls.mended = {name: mended(text) for name, text in UNORDERED.items()}
+        cls.suggested = {name: suggested(text) for name, text in UNORDERED.items()}
 
     def test_each_is_refuted_before_and_accepted_after(self):
         for name, text in UNORDERED.items():
@@ -67,17 +68,17 @@ class Unordered(unittest.TestCase):
                 self.assertEqual(program.run_on(new, "check")[0], 0)
 
     def test_pairs_that_are_free_stay_free_and_the_needed_ones_are_ordered(self):
-        for name, text in UNORDERED.items():
+        for name in UNORDERED:
             with self.subTest(name):
                 ordered = short(self.mended[name][1])
-                for it in suggested(text).pairs:
+                for it in self.suggested[name].pairs:
                     self.assertEqual(f"{it.left} || {it.right}" in ordered, it.word == "needed", it.left + " " + it.right)
 
     def test_all_by_lines_of_a_pair_stand_together(self):
         count = 0
-        for name, text in UNORDERED.items():
+        for name in UNORDERED:
             spec = Spec(self.mended[name][1])
-            for it in suggested(text).pairs:
+            for it in self.suggested[name].pairs:
                 together = [(("f", a.left), ("g", a.right)) for a in it.answers if a.word == "by"]
                 if together:
                     count += len(together) > 1
@@ -138,9 +139,9 @@ class Gallery(unittest.TestCase):
             with self.subTest(name):
                 status, new, said = mended(text_of(path))
                 self.assertEqual(status, NOT_BY_TOKENS.get(name, 0), said)
-                self.assertEqual(program.run_on(new, "check")[0], status)
-                if program.run("check", path)[0] == 0:
-                    self.assertEqual(new, text_of(path))
+                self.assertEqual("nothing to be mended" in said, new == text_of(path) and status == 0)
+                if "nothing to be mended" not in said:
+                    self.assertEqual(program.run_on(new, "check")[0], status)
                 self.assertEqual("that no token mends" in said, status != 0)
 
     def test_the_story_of_what_is_left_is_told(self):
