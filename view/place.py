@@ -22,7 +22,8 @@ class Place:
         self.item = max((it for it in range(at) if all_words[it] in ITEMS), default=None)
         start = self.item or 0
         in_operation = self.item is not None and all_words[start] == "operation" and "end" not in all_words[start:at]
-        self.line = max((it for it in range(start, at) if all_words[it] in LINE_HEADS), default=None) if in_operation else None
+        heads = LINE_HEADS if self.version == 2 else LINES
+        self.line = max((it for it in range(start, at) if all_words[it] in heads), default=None) if in_operation else None
         self.head = all_words[self.begin()] if at > 1 else None
         self.brackets = self.open_brackets(self.begin())
 

@@ -20,6 +20,10 @@ from view.words import text_of, words
 NOT_BY_TOKENS = {"flags/refuted.cise": 1, "auction/forgotten.cise": 1, "tournament/refuted.cise": 1}
 
 
+# Of those that are accepted as they are, which are tried.
+ACCEPTED = ("access", "auction", "bank", "seats")
+
+
 class Said(io.StringIO):
     """Standard error, as a text."""
 
@@ -134,7 +138,7 @@ class Gallery(unittest.TestCase):
     def test_each_is_accepted_but_what_no_token_mends(self):
         for path in sorted(glob.glob("examples/*/*.cise")):
             name = path.partition("/")[2]
-            if name.startswith("undecided/"):
+            if name.startswith("undecided/") or name.endswith("accepted.cise") and name.partition("/")[0] not in ACCEPTED:
                 continue
             with self.subTest(name):
                 status, new, said = mended(text_of(path))
@@ -163,6 +167,14 @@ class Limits(unittest.TestCase):
         self.assertEqual(status, 1)
         self.assertIn("isn't ordered: a text has no room for more tokens", said)
         self.assertIn("takes hold_show ( s )", new)
+
+    def test_an_operation_without_room_for_takes_lines_leaves_the_others(self):
+        own = "".join(f"  takes own{it}\n" for it in range(4))
+        text = TICKETS.replace("\noperation hold", "".join(f"token own{it}\n" for it in range(4)) + "\noperation hold")
+        at = text.index("end", text.index("operation hold"))
+        status, new, said = mended(text[:at] + own.replace("  ", "", 1) + text[at:])
+        self.assertEqual(said.split("\n")[0], "mend: hold || hold isn't ordered: a text has no room for more tokens, rules or takes lines, or no order is enough")
+        self.assertEqual(short(new), {"release || release": "same s", "release || pay": "same s", "pay || pay": "same s"})
 
     def test_own_tokens_stay_and_what_they_order_is_enough(self):
         text = FRIENDS.replace("operation meet", "token pair ( Person )\nconflict pair ( x ) pair ( x )\noperation meet", 1)
