@@ -44,7 +44,7 @@ def other_version(place):
 def capital(place):
     """A word of the language with capitals; as a name it may have been read one word before."""
     for word in (place.word, place.near(-1)):
-        is_capital = word and word.lower() != word and word.lower() in RESERVED | RESERVED_IN_2
+        is_capital = word and word.lower() != word and word.lower() in RESERVED | RESERVED_IN_2 and word not in place.declared(*ITEMS)
         if is_capital and (word is place.word or place.at - 1 > place.begin()):
             return f"words of the language are written small: {word.lower()}"
 
@@ -72,6 +72,8 @@ def no_name(place):
         return "an invariant has a name: invariant NAME formula"
     if place.expected == {NAME} and before in ("forall", "exists") and word == "(":
         return f"no brackets stand round the variables: {before} x : A ."
+    if place.expected == {NAME} and before in ITEMS and (word is None or word in ITEMS and word.line > before.line):
+        return f"a name is missing behind '{before}'"
     if place.expected == {NAME} and place.is_number(word) and before in ITEMS | {"("}:
         return "a name begins with a letter"
 
