@@ -1,16 +1,24 @@
 """`./cise json FILE`: a report, a replay, a simulation or a suggestion of the program as JSON. docs/JSON.md has the form. Nothing is added and
 nothing is left out: the text is written anew from the JSON, and only what gives the same text is taken for one of the program's."""
 import json
+import re
 
 from view.output import say
 from view.report import Replay, Report, Simulation, Suggestion
 from view.words import text_of
 
 # For each kind of obligation how its words are called; of `operations` there are two.
-PARTS = {"init": ["invariant"], "safety": ["operation", "invariant"], "commute": ["first", "second", "thing"], "stable": ["operation", "requires", "other"]}
+PARTS = {
+    "init": ["invariant"],
+    "safety": ["operation", "invariant"],
+    "commute": ["first", "second", "thing"],
+    "stable": ["operation", "requires", "other"],
+}
 # For each cause of a refused step how the numbers behind it are called.
 CAUSES = {"conflict": "event", "missing": "event", "precondition": "requires", "observation": "observes"}
 STATUS_OK, STATUS_REFUSED = 0, 4
+# A list of numbers in several lines. No text within the JSON has an end of line.
+NUMBERS = re.compile(r"\[\n\s+((?:-?\d+,\s+)*-?\d+)\n\s+\]")
 
 
 def answer(path):
@@ -20,7 +28,13 @@ def answer(path):
     if facts is None:
         say(f"{path}:{line}:1: this is no report, replay, simulation or suggestion as the program writes it\n")
         return STATUS_REFUSED, ""
-    return STATUS_OK, json.dumps(facts, indent=2) + "\n"
+    return STATUS_OK, laid_out(facts)
+
+
+def laid_out(facts):
+    """The JSON, with each list of numbers in one line."""
+    text = json.dumps(facts, indent=2) + "\n"
+    return NUMBERS.sub(lambda it: f"[{', '.join(part.strip() for part in it.group(1).split(','))}]", text)
 
 
 def facts_of(text):
@@ -120,8 +134,13 @@ def suggestion_facts(text):
 
 
 def pair_facts(pair):
-    equalities = [{"left": it.left, "right": it.right, "verdict": it.word, "obligation": block_facts(it.block) if it.block else None} for it in pair.answers]
-    return {"left": pair.left, "right": pair.right, "verdict": pair.word, "obligation": block_facts(pair.block) if pair.block else None, "equalities": equalities}
+    return {**answer_facts(pair), "equalities": [answer_facts(it) for it in pair.answers]}
+
+
+def answer_facts(answer):
+    """What is said of two operations, or of two parameters."""
+    obligation = block_facts(answer.block) if answer.block else None
+    return {"left": answer.left, "right": answer.right, "verdict": answer.word, "obligation": obligation}
 
 
 READERS = {"report": report_facts, "replay": replay_facts, "simulate": simulation_facts, "suggest": suggestion_facts}
@@ -166,8 +185,11 @@ def state_lines(state):
 
 
 def replay_lines(facts):
-    steps = [spelled("step", it["step"], "replica", it["replica"], *(("call", it["call"]) if "call" in it else ("take", it["take"]))) for it in facts["steps"]]
-    return ["cise replay 1", *steps, *end_lines(facts)]
+    lines = ["cise replay 1"]
+    for it in facts["steps"]:
+        kind = "call" if "call" in it else "take"
+        lines.append(spelled("step", it["step"], "replica", it["replica"], kind, it[kind]))
+    return lines + end_lines(facts)
 
 
 def simulation_lines(facts):

@@ -25,10 +25,10 @@ MOST_COMPARED, MOST_TOLD = 32, 8
 class Condition:
     """Two calls are ordered where all `equalities` hold, so always where there is none. An equality is a pair of arguments. An argument is
     ("f", parameter) of the first call, ("g", parameter) of the second, or (None, constant). No equality follows from the others. `rules` has the
-    numbers of the lines with the rules that say so."""
+    numbers of the lines with the rules that say so, and `calls` what the two calls are called where an equality is about one of them."""
 
-    def __init__(self, equalities=(), rules=()):
-        self.equalities, self.rules = [], list(rules)
+    def __init__(self, equalities=(), calls=None):
+        self.equalities, self.rules, self.calls = [], [], calls
         # For each argument of an equality one that stands for all that are equal to it.
         self.leaders = {}
         for a, b in equalities:
@@ -53,10 +53,15 @@ class Condition:
         return all(self.joins(a, b) for a, b in other.equalities)
 
     def short(self):
-        """As `same a, b`, `p = q`, `p = root`; of two parameters of one call `p = q in one`."""
+        """As `same a, b` and `p = q`, of the first call and the second; of one call alone `p = q in move`, `p = root in move`."""
         alike = [a[1] for a, b in self.equalities if is_same(a, b)]
-        other = [f"{a[1]} = {b[1]}" + (" in one" if a[0] == b[0] is not None else "") for a, b in self.equalities if not is_same(a, b)]
+        other = [f"{a[1]} = {b[1]}{self.where(a, b)}" for a, b in self.equalities if not is_same(a, b)]
         return ", ".join((["same " + ", ".join(alike)] if alike else []) + other)
+
+    def where(self, a, b):
+        """Which call an equality is about, where it isn't about both."""
+        sides = {a[0], b[0]} - {None}
+        return f" in {self.calls[sides.pop()]}" if len(sides) == 1 else ""
 
     def sentence(self, f, g):
         """As `both have the same a` and `p of move = c of delete`; `the one` and `the other` where both calls are of one operation."""
@@ -96,6 +101,7 @@ def takings(spec, operation, side):
 def conditions(spec, f, g):
     """The conditions on which a call of f and a call of g are ordered, without those that follow from others; none where they never are."""
     found, known = [], {}
+    calls = {"f": "one", "g": "one"} if f == g else {"f": f, "g": g}
     f_takings, g_takings = takings(spec, f, "f"), takings(spec, g, "g")
     places = {side: {it: at for at, (it, _) in enumerate(spec.operations[name].params)} for side, name in (("f", f), ("g", g))}
     for left, right, number in spec.rules:
@@ -103,7 +109,7 @@ def conditions(spec, f, g):
             for a in f_takings.get(first[0], ()):
                 for b in g_takings.get(second[0], ()):
                     if not (a.is_shared and b.is_shared):
-                        condition = matched(places, [*first[1], *second[1]], a.arguments + b.arguments)
+                        condition = matched(places, Condition(calls=calls), [*first[1], *second[1]], a.arguments + b.arguments)
                         key = tuple(condition.equalities)
                         if key not in known:
                             known[key] = condition
@@ -112,15 +118,15 @@ def conditions(spec, f, g):
     return found
 
 
-def matched(places, variables, arguments):
-    """The condition on which one choice of elements for the variables gives the elements of the arguments. Parameters of the first call stand first
-    in it, each in the order of its operation, and constants last."""
+def matched(places, condition, variables, arguments):
+    """Adds to a condition without equalities those by which one choice of elements for the variables gives the elements of the arguments. Parameters
+    of the first call stand first in it, each in the order of its operation, and constants last."""
 
     def rank(argument):
         side, name = argument
         return RANKS[side], places[side][name] if side else 0
 
-    bound, condition = {}, Condition()
+    bound = {}
     for variable, argument in zip(variables, arguments):
         condition.join(*sorted((bound.setdefault(variable, argument), argument), key=rank))
     condition.equalities.sort(key=lambda it: (rank(it[0]), rank(it[1])))

@@ -42,8 +42,9 @@ def outcome(spec, block):
     large = [it for it, size in witness.sizes.items() if size > MOST_ELEMENTS]
     if large:
         return Outcome(None, f"{large[0]} has {witness.sizes[large[0]]} elements, and a replay can have {MOST_ELEMENTS} of a sort.")
-    made = Confirmation(spec, block)
-    if len(made.steps) > MOST_STEPS:
+    # A step sets up two facts at most.
+    made = Confirmation(spec, block) if len(witness.state.true) + len(witness.state.count) <= 2 * MOST_STEPS else None
+    if not made or len(made.steps) > MOST_STEPS:
         return Outcome(None, f"A replay can have {MOST_STEPS:,} steps, and this state needs more.")
     _, text = program.replay(made.text(), made.schedule())
     if not text.startswith("cise replay"):

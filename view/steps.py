@@ -1,8 +1,13 @@
 """The steps of a replay, and what changes by each. The program's text has the state at the end alone; the states before it come from replays
 of the same schedule cut short, so that no effect is worked out here."""
+import json
+import os
+import tempfile
+
 from view import order, program, schedule
 from view.report import Replay
 from view.story import Call, Names
+from view.words import encoded
 
 # The steps whose changes are asked for, the last ones.
 MOST_STEPS = 80
@@ -38,6 +43,33 @@ class Step:
     def what(self):
         """The call that it makes or takes, as text; where its arguments don't fit the name of its operation."""
         return self.call.text() if self.call else self.operation
+
+
+class CutShort:
+    """Replays of the first steps of a schedule. States don't depend on invariants, which are left out, so that the program need not evaluate them at
+    each step once more."""
+
+    def __init__(self, spec, plan, folder):
+        self.spec_path, self.plan_path = os.path.join(folder, "design.cise"), os.path.join(folder, "schedule.json")
+        text = spec.text
+        for head, words in reversed(spec.items):
+            if head == "invariant":
+                text = text[: head.at] + text[words[-1].end :]
+        with open(self.spec_path, "wb") as file:
+            file.write(encoded(text))
+        self.steps = [json.dumps(it) for it in plan["steps"]]
+        rest = json.dumps({key: value for key, value in plan.items() if key != "steps"})
+        self.head = rest[: -len("}")] + ', "steps": ['
+
+    def states_after(self, number):
+        """The states after so many steps, each of which is accepted."""
+        with open(self.plan_path, "w", encoding="utf-8") as file:
+            file.write(f"{self.head}{','.join(self.steps[:number])}]}}")
+        status, text = program.run("replay", self.spec_path, self.plan_path)
+        _, stop, end = text.partition("\ndone ")
+        if status or not stop:
+            raise program.Stopped(("replay", self.spec_path, self.plan_path), status, text)
+        return Replay(stop + end).states
 
 
 class Steps:
@@ -86,23 +118,15 @@ class Steps:
 
     def ask_changes(self):
         """Asks the program for the state before and after each of the last steps."""
-        before = None
-        for number in range(self.first, len(self.accepted) + 1):
-            now = self.states_after(number)
-            if before is not None:
-                step = self.accepted[number - 1]
-                step.changes = [text for _, text in self.names.changes(before[step.replica], now[step.replica])]
-            before = now
-
-    def states_after(self, number):
-        """The states after so many steps."""
-        if number == len(self.accepted):
-            return self.replay.states
-        cut_short = {**self.schedule, "steps": self.schedule["steps"][:number]}
-        status, text = program.replay(self.spec.text, cut_short)
-        if not text.startswith("cise replay"):
-            raise program.Stopped(("replay",), status, text)
-        return Replay(text).states
+        with tempfile.TemporaryDirectory() as folder:
+            replays = CutShort(self.spec, self.schedule, folder)
+            before = None
+            for number in range(self.first, len(self.accepted) + 1):
+                now = self.replay.states if number == len(self.accepted) else replays.states_after(number)
+                if before is not None:
+                    step = self.accepted[number - 1]
+                    step.changes = [text for _, text in self.names.changes(before[step.replica], now[step.replica])]
+                before = now
 
     def drawn(self):
         """The steps whose changes are known, and behind them the refused step."""

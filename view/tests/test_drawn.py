@@ -128,6 +128,15 @@ class Changes(unittest.TestCase):
         self.assertEqual([it.one("th").text() for it in tree.all("tr") if it.inside("tbody")], [str(it) for it in range(120, 200)])
         self.assertIn("Steps 0 to 119 are left out here.", tree.text())
 
+    def test_members_in_any_order(self):
+        """A schedule's members may stand in any order, and twice: the last one counts."""
+        plan = schedule([call(0, "sell", 0, 1), call(0, "sell", 0, 2), take(1, 0)])
+        turned = json.dumps({key: plan[key] for key in reversed(list(plan))})
+        doubled = '{"steps": 7, ' + turned[1:]
+        pages = [page_and_steps(LOOSE, it)[1].split("</h1>")[1] for it in (json.dumps(plan), turned, doubled)]
+        self.assertEqual(pages, [pages[0]] * 3)
+        self.assertEqual([it.changes for it in told(LOOSE, plan)[2].accepted], [["sold(Shop#0) = 1"], ["sold(Shop#0) = 3"], ["sold(Shop#0) = 1"]])
+
     def test_as_many_runs_as_there_are_steps(self):
         """One run for each state that is asked for, and none for what the replay itself says."""
         for count in (0, 1, 30, 200):

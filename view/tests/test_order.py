@@ -1,4 +1,5 @@
 """On what two operations are ordered: by hand, and against the refusal `conflict` of replays over random rules, constants, modes and calls."""
+import itertools
 import random
 import re
 import unittest
@@ -8,7 +9,7 @@ from view.report import Replay, Suggestion
 from view.tests.designs import Design
 from view.tree import Spec
 
-HEAD = "cise 2 sort S sort T const c : S const d : S token t ( S ) token u ( S ) token two ( S , S ) token all\n"
+HEAD = "cise 2 sort S sort T const c : S const d : S token t ( S ) token u ( S ) token two ( S , S ) token alt ( S , S ) token all\n"
 F = "operation f ( p : S , q : S , r : T ) {} end "
 G = "operation g ( p : S , v : S , q : S ) {} end\n"
 
@@ -26,13 +27,21 @@ TABLE = [
     ("conflict t ( x ) u ( x )", "takes t ( p ) takes u ( q )", "takes t ( p ) takes u ( q )", ["p = q", "or q = p"], ["p = q"]),
     ("conflict two ( x , y ) two ( x , y )", "takes two ( p , q )", "takes two ( p , v )", ["same p, q = v"], ["same p, q"]),
     ("conflict two ( x , y ) two ( y , x )", "takes two ( p , q )", "takes two ( p , v )", ["p = v, q = p"], ["p = q, q = p"]),
-    ("conflict two ( x , x ) t ( x )", "takes two ( p , q )", "takes t ( v )", ["p = q in one, p = v"], ["at once"]),
-    ("conflict two ( x , x ) t ( y )", "takes two ( p , q )", "takes t ( v )", ["p = q in one"], ["at once"]),
-    ("conflict t ( x ) t ( x )", "takes t ( c )", "takes t ( p )", ["p = c"], ["always"]),
+    ("conflict two ( x , x ) t ( x )", "takes two ( p , q )", "takes t ( v )", ["p = q in f, p = v"], ["at once"]),
+    ("conflict two ( x , x ) t ( y )", "takes two ( p , q )", "takes t ( v )", ["p = q in f"], ["at once"]),
+    ("conflict t ( x ) t ( x )", "takes t ( c )", "takes t ( p )", ["p = c in g"], ["always"]),
+    ("conflict t ( x ) u ( x )", "takes t ( c ) takes u ( q )", "takes u ( p )", ["p = c in g"], ["q = c in one"]),
+    ("conflict two ( x , x ) t ( y )", "takes two ( p , q ) takes t ( q )", "takes t ( v )", ["p = q in f"], ["p = q in one"]),
     ("conflict t ( x ) t ( x )", "takes t ( c )", "takes t ( d )", ["c = d"], ["always"]),
     ("conflict t ( x ) t ( x )", "takes t ( c )", "takes t ( c )", ["always"], ["always"]),
     ("conflict t ( x ) t ( x )", "takes t ( p ) takes t ( q )", "takes t ( v )", ["p = v", "or q = v"], ["same p", "or p = q", "or same q"]),
-    ("conflict t ( x ) t ( x ) conflict two ( x , y ) two ( x , y )", "takes t ( p ) takes two ( p , q )", "takes t ( p ) takes two ( p , v )", ["same p"], ["same p"]),
+    (
+        "conflict t ( x ) t ( x ) conflict two ( x , y ) two ( x , y )",
+        "takes t ( p ) takes two ( p , q )",
+        "takes t ( p ) takes two ( p , v )",
+        ["same p"],
+        ["same p"],
+    ),
     ("conflict t ( x ) t ( x ) conflict t ( x ) t ( y )", "takes t ( p )", "takes t ( p )", ["always"], ["always"]),
     ("conflict t ( x ) t ( x )", "takes t ( p ) shared", "takes t ( p ) shared", ["at once"], ["at once"]),
     ("conflict t ( x ) t ( x )", "takes t ( p ) shared", "takes t ( p ) exclusive", ["same p"], ["at once"]),
@@ -63,8 +72,23 @@ class Read(unittest.TestCase):
                 status, text = program.run_on(text_with(rules, f_lines, g_lines), "spell")
                 self.assertEqual(status, 0, text)
 
+    def test_implied(self):
+        """A condition implies another where every choice of two values that meets the one meets the other."""
+        arguments = [(side, name) for side in "fg" for name in "pq"] + [(None, "c"), (None, "d")]
+        choose, counts = random.Random(1), {True: 0, False: 0}
+        for _ in range(600):
+            one, other = ([tuple(choose.sample(arguments, 2)) for _ in range(most)] for most in (choose.randrange(6), choose.randrange(1, 3)))
+            worlds = [dict(zip(arguments, values)) for values in itertools.product(range(2), repeat=len(arguments))]
+            follows = all(all(it[a] == it[b] for a, b in other) for it in worlds if all(it[a] == it[b] for a, b in one))
+            condition, turned = order.Condition(one), [tuple((order.OTHER[side], name) for side, name in it) for it in other]
+            self.assertEqual(condition.implies(order.Condition(other)), follows, (one, other))
+            self.assertEqual(condition.implies(order.Condition(turned), swapped=True), follows, (one, other))
+            counts[follows] += 1
+        self.assertGreater(min(counts.values()), 100, counts)
+
     def test_sentences(self):
-        pairs = pairs_of("conflict two ( x , y ) two ( x , y ) conflict t ( x ) two ( x , x )", "takes two ( p , q ) takes t ( q )", "takes two ( p , v )")
+        rules = "conflict two ( x , y ) two ( x , y ) conflict t ( x ) two ( x , x )"
+        pairs = pairs_of(rules, "takes two ( p , q ) takes t ( q )", "takes two ( p , v )")
         self.assertEqual(
             order.sentence(pairs["f", "g"].conditions, "f", "g"),
             "ordered where both have the same p and q of f = v of g, or where q of f = p of g and q of f = v of g",
@@ -88,9 +112,14 @@ class Read(unittest.TestCase):
         self.assertTrue(order.sentence(found, "f", "g").endswith(f", or in {len(found) - 7} more cases"))
 
     def test_rules_by_line(self):
-        spec = Spec(HEAD + "conflict t ( x ) t ( x )\nconflict u ( x ) u ( x )\n" + F.format("takes t ( p ) takes u ( p )") + G.format("takes u ( p ) takes t ( p )"))
-        found = order.conditions(spec, "f", "g")
-        self.assertEqual([it.rules for it in found], [[2, 3]])
+        rules = "conflict t ( x ) t ( x )\nconflict u ( x ) u ( x )\nconflict two ( x , y ) two ( x , y )"
+        text = text_with("\n" + rules, "takes t ( p ) takes u ( p ) takes two ( p , q )", "takes u ( p ) takes t ( p ) takes two ( p , q )")
+        self.assertEqual([it.rules for it in order.conditions(Spec(text), "f", "g")], [[3, 4]])
+
+    def test_rules_that_say_the_same(self):
+        text = text_with("\nconflict two ( x , x ) t ( x )\nconflict alt ( x , x ) t ( x )", "takes two ( p , q ) takes alt ( q , p )", "takes t ( v )")
+        found = order.conditions(Spec(text), "f", "g")
+        self.assertEqual([(it.short(), it.rules) for it in found], [("p = q in f, p = v", [3, 4])])
 
 
 class Replayed(unittest.TestCase):
@@ -212,7 +241,7 @@ class Compared(unittest.TestCase):
         with open("examples/friends/half.cise", encoding="utf-8") as file:
             text = file.read()
         told = order.compared(Spec(text), Suggestion(program.run_on(text, "suggest")[1]))
-        self.assertIn("\n  block || unblock\n      same p, q; check says whether that is enough; rule at line 11\n", told)
+        self.assertIn("\n  block || unblock\n      same p, q; check says whether that is enough; rule at line 15\n", told)
 
     def test_several_that_are_enough(self):
         with open("examples/seats/half.cise", encoding="utf-8") as file:

@@ -134,13 +134,15 @@ class Beyond(unittest.TestCase):
 
     def test_large_sorts(self):
         text = KINDS["COUNTED"]
-        self.assertEqual(self.why(text, "safety undo counted", lambda it: it.sizes.update(User=65)), "User has 65 elements, and a replay can have 64 of a sort.")
+        why = self.why(text, "safety undo counted", lambda it: it.sizes.update(User=65))
+        self.assertEqual(why, "User has 65 elements, and a replay can have 64 of a sort.")
         spec, block = found_in(text, "safety undo counted")
         block.witness.sizes["User"] = 64
         self.assertIsNotNone(outcome.outcome(spec, block).states)
 
     def test_values_beyond_the_range(self):
-        text = KINDS["COUNTED"].replace("add edits ( d ) - 1", "add edits ( d ) pool").replace(">= 0", "<= 5").replace("initially", "counter pool initially")
+        text = KINDS["COUNTED"].replace("initially", "counter pool initially").replace(">= 0", "<= 5")
+        text = text.replace("add edits ( d ) - 1", "add edits ( d ) pool")
         change = lambda it: it.state.count.update({("edits", (0,)): 1, ("pool", ()): 10**15})
         self.assertEqual(self.why(text, "safety undo counted", change), "A value of edits leaves the range of a replay, 10^15 to either side.")
 
@@ -155,9 +157,11 @@ class Beyond(unittest.TestCase):
         spec, block = found_in(KINDS["WRITTEN"], "stable write 1 purge")
         change(block.witness)
         self.assertIsNotNone(outcome.outcome(spec, block).states)
-        wide = KINDS["WRITTEN"].replace("relation granted ( User , Document )", "relation granted ( User , Document ) relation all ( User , User , User )")
-        many = lambda it: it.sizes.update(User=20) or it.state.true.update(("all", (a, b, c)) for a in range(20) for b in range(20) for c in range(20))
-        self.assertEqual(self.why(wide, "stable write 1 purge", many), "A replay can have 10,000 steps, and this state needs more.")
+        wide = KINDS["WRITTEN"].replace("relation granted", "relation all ( User , User , User ) relation granted")
+        for size in (20, 30):
+            every = {("all", (a, b, c)) for a in range(size) for b in range(size) for c in range(size)}
+            why = self.why(wide, "stable write 1 purge", lambda it: it.sizes.update(User=size) or it.state.true.update(every))
+            self.assertEqual(why, "A replay can have 10,000 steps, and this state needs more.")
 
 
 if __name__ == "__main__":

@@ -36,14 +36,12 @@ def pages():
     """Designs by name: the specification, the report and the page, as text and as a tree. The random ones are checked with a small budget, so that
     some obligations are undecided."""
     found = {}
-    for name, text in gallery().items():
-        html = page_on(text)[1]
-        found[name] = Spec(text), Report(report_on(text)), html, Tree(html)
-    for seed in range(400, 425):
-        spec = Spec(Design(random.Random(seed), version=1 + seed % 2).text)
-        report = Report(report_on(spec.text, "--budget", "40"))
-        html = page.page_of(page.Design(spec, report), f"random / {seed}")
-        found[f"random {seed}"] = spec, report, html, Tree(html)
+    designs = {name: (text, ()) for name, text in gallery().items()}
+    designs.update({f"random {seed}": (Design(random.Random(seed), version=1 + seed % 2).text, ("--budget", "40")) for seed in range(400, 425)})
+    for name, (text, words) in designs.items():
+        spec, report = Spec(text), Report(report_on(text, *words))
+        html = page.page_of(page.Design(spec, report), name)
+        found[name] = spec, report, html, Tree(html)
     return found
 
 
@@ -305,7 +303,7 @@ class Texts(unittest.TestCase):
         self.assertNotIn("\x1b", html)
 
     def test_the_same_twice(self):
-        self.assertEqual(page_on(KINDS["LONG"])[1].split("<h1>")[1].split("</h1>")[1], page_on(KINDS["LONG"])[1].split("<h1>")[1].split("</h1>")[1])
+        self.assertEqual(page.answer("examples/bank/refuted.cise"), page.answer("examples/bank/refuted.cise"))
 
 
 class Refusals(unittest.TestCase):

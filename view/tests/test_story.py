@@ -79,7 +79,8 @@ class Exact(unittest.TestCase):
 
     def names_are_its_own(self, spec, story):
         """Every name in the texts of a story is the specification's, or an element that is there."""
-        texts = story.facts + story.also + [it.text() for it in story.calls] + [it[0] for it in story.readings] + [f"{a} = {b}" for a, b in story.where]
+        texts = story.facts + story.also + [it.text() for it in story.calls]
+        texts += [it[0] for it in story.readings] + [f"{a} = {b}" for a, b in story.where]
         elements = {f"{sort}#{at}" for sort, size in story.sizes.items() for at in range(size)}
         known = set(spec.words) | elements | {"is"}
         for text in texts:
@@ -145,14 +146,16 @@ class Worded(unittest.TestCase):
     def test_titles(self):
         self.assertEqual(self.titles(gallery()["examples/flags/refuted.cise"]), ["stored is false at the start"])
         self.assertEqual(self.titles(KINDS["COUNTED"]), ["undo breaks counted"])
-        self.assertEqual(self.titles(KINDS["SETTLED"]), ["join and leave leave on different", "join and leave leave sum different", "two calls of leave leave on different"])
+        both = ["join and leave leave on different", "join and leave leave sum different", "two calls of leave leave on different"]
+        self.assertEqual(self.titles(KINDS["SETTLED"]), both)
         self.assertEqual(self.titles(KINDS["ROOMS"]), ["shut takes away what start requires"])
         self.assertEqual(self.titles(gallery()["examples/bank/refuted.cise"]), ["another withdraw takes away what withdraw requires"])
 
     def test_titles_of_what_is_undecided(self):
         found = self.titles(gallery()["examples/tournament/refuted.cise"], "--budget", "1")
-        for it in ("whether sign_up keeps registered", "whether two calls of call_off leave tournament alike in both orders", "whether another enroll leaves standing what enroll requires"):
-            self.assertIn(it, found)
+        self.assertIn("whether sign_up keeps registered", found)
+        self.assertIn("whether two calls of call_off leave tournament alike in both orders", found)
+        self.assertIn("whether another enroll leaves standing what enroll requires", found)
 
     def test_limits(self):
         spec, report = checked("cise 1 relation up invariant alive up operation f end")
