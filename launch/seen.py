@@ -79,6 +79,9 @@ class Looks:
         self.seen[path] = (mark, total)
         return None if total == "-" else total
 
+    def last_sum_of(self, path):
+        return self.known.get(path, (NO_MARK, None))[1]
+
     def look_at(self, path):
         """Takes a folder, or what isn't there, for a part of what was looked at."""
         self.seen[path] = (settled_mark_of(path), "-")
