@@ -21,12 +21,17 @@ def choose():
     for choice in (HOME, KEPT):
         reason = why_not(choice, sources, looks)
         if not reason:
-            if choice == KEPT and looks.last_choice != KEPT:
-                say(f"{KEPT_PROGRAM} answers, the program that the gate built of these very sources; ./cise prove proves and builds it here")
+            if choice == KEPT and not was_told(looks):
+                say(f"{reasons[0]}. So {KEPT_PROGRAM} answers, which the gate built of these very sources; ./cise prove proves and builds it here")
             looks.keep(choice)
             return choice, reasons
         reasons.append(reason)
     return None, reasons
+
+
+def was_told(looks):
+    """Whether the same kept program answered the last time, so that this was said."""
+    return looks.last_choice == KEPT and looks.sum_of(KEPT_PROGRAM) == looks.last_sum_of(KEPT_PROGRAM)
 
 
 def why_not(choice, sources, looks):

@@ -1,9 +1,10 @@
 """What was looked at when a program was last chosen, so that a call needs no sums of files that haven't changed since.
 
-The file's first line says what was chosen, and how many lines follow. There is one for each file and folder that had a part in it: its mark, its
-sum (`-` for a folder, and for what isn't there) and its path. A mark is of the size, the time of the last change of the content, that of the last change of any kind, and
-the number of the file in its file system. A folder's mark changes with the names in it. What changed less than a quarter of a second before
-it was looked at gets no mark, since a further change could leave its times as they are; so its sum is taken again at the next call.
+The file's first line says what was chosen, and how many lines follow. There is one for each file and folder that had a part in it: its mark,
+its sum (`-` for a folder, and for what isn't there) and its path. A mark is of the size, the time of the last change of the content, that of
+the last change of any kind, and the number of the file in its file system. A folder's mark changes with the names in it. What changed less
+than a quarter of a second before it was looked at gets no mark, since a further change could leave its times as they are; so its sum is taken
+again at the next call.
 """
 import os
 import time
@@ -77,6 +78,9 @@ class Looks:
         total = known_sum if mark == known_mark != NO_MARK else sum_now(path)
         self.seen[path] = (mark, total)
         return None if total == "-" else total
+
+    def last_sum_of(self, path):
+        return self.known.get(path, (NO_MARK, None))[1]
 
     def look_at(self, path):
         """Takes a folder, or what isn't there, for a part of what was looked at."""
