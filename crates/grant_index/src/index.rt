@@ -5,10 +5,10 @@ ghost use Rattle.token_protocol.specs.declared.granted.Granted.{Granted as Grant
 ghost use Rattle.grant_index.specs.Index.{numbers_from, numbers_at, IsUpTo, AreUpTo};
 
 use crate::list::Candidates;
-use token_rules::Rivalry;
 use std::alloc::{AllocError, Global};
 use std::marker::Model;
 use token_protocol::Granted;
+use token_rules::Rivalry;
 
 /// For each operation, the numbers of the grants that can conflict with its calls, as far as they were gone through.
 #[derive(Drop)]

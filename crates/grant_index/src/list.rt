@@ -5,10 +5,10 @@ ghost use Rattle.grant_index.specs.Index.{can_conflict, numbers_from, IsUpTo};
 ghost use Rattle.grant_index.specs.Same.{same_rivalry, same_rivals};
 ghost use Rattle.token_protocol.specs.declared.granted.Granted.{Granted as Grant};
 
-use token_rules::Rivalry;
 use items::Items;
 use std::alloc::{AllocError, Global};
 use token_protocol::Granted;
+use token_rules::Rivalry;
 
 /// The numbers of the grants that can conflict with calls of an operation, among so many grants from the first.
 #[derive(Drop)]

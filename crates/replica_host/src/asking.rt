@@ -11,12 +11,12 @@ ghost use Rattle.replica_replay.specs.Holding.{calls_of};
 ghost use Rattle.token_rules.specs.Rivals.{rivals_of as rivals_with};
 ghost use Rattle.replica_host.specs.Lines.{observes_asked, lines_asked};
 
-use token_rules::{Rivalry, rivals_of};
 use effectors::ApplyRefused;
 use replica_replay::{Happened, Order, StepRefused, least_unseen, operation_named, taking_asked};
 use spec_core::{Call, Spec, State, World, observes_broken_at};
 use std::alloc::{AllocError, Global};
 use token_core::Runner;
+use token_rules::{Rivalry, rivals_of};
 
 /// The place of the operation of this name.
 pub fn named<R: Runner>(runner: &R, name: &[u8]) -> Option<u8>

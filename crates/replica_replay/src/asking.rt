@@ -23,10 +23,10 @@ ghost use Rattle.replica_replay.specs.Steps.{operation_named as operation_named_
 use crate::keeping::Happened;
 use crate::order::Order;
 use crate::step::StepRefused;
-use token_rules::{Rivalry, conflicts, may_conflict};
 use effectors::{ApplyRefused, apply_over};
 use spec_core::{Call, Operation, Spec, State, World, observes_broken_at, requires_broken_at};
 use std::alloc::Global;
+use token_rules::{Rivalry, conflicts, may_conflict};
 
 fn named(operations: &[Operation], name: &[u8]) -> Option<u8>
     requires { length operations.now ≤ most_operations }

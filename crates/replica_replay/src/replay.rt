@@ -12,11 +12,11 @@ use crate::keeping::{
     take_spare,
 };
 use crate::step::{Step, StepRefused, Taken};
-use token_rules::rivals_of;
 use items::Items;
 use spec_core::{Call, Spec, State, World};
 use std::alloc::{AllocError, Global};
 use std::marker::Model;
+use token_rules::rivals_of;
 
 /// A replay of a specification in a world. Its events form an execution, and what each replica has taken is a delivery order
 /// of it. The steps so far take memory for each event and for each taking, and none for what an event has seen.

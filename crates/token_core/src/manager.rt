@@ -12,13 +12,13 @@ ghost use Rattle.token_rules.specs.Rivals.{rivals_of};
 ghost use Rattle.grant_index.specs.Index.{numbers_from};
 ghost use Rattle.grant_index.specs.Named.{id_if, ids_at};
 
-use token_rules::{Rivalry, conflicts, may_conflict, rivals_of};
 use grant_index::GrantIndex;
 use items::Items;
 use spec_core::{Call, Spec, World};
 use std::alloc::{AllocError, Global};
 use std::marker::Model;
 use token_protocol::{EventId, Granted, Message, Request, same_id};
+use token_rules::{Rivalry, conflicts, may_conflict, rivals_of};
 
 /// What was granted so far, in the order granted. Contracts see the list.
 #[derive(Drop)]
