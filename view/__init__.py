@@ -1,21 +1,40 @@
 """The layer for people: it tells in words and pictures what the program's texts say, and claims nothing beyond them. docs/VIEW.md says what each
 command writes. The modules, in the order in which they stand on each other:
 
-    words      the words of a specification, with their places
-    formulas   a formula as a tree
-    tree       a specification that the program accepts
-    report     what the program prints: reports, replays, suggestions
-    program    runs the program
-    slips      what is wrong with a specification that the program refuses
-    schedule   what is wrong with a schedule that the program refuses
-    mend       a specification with the tokens that a suggestion asks for
-    facts      reports, replays and suggestions as JSON
-    outcome    the states at the end of a refutation
-    story      a refuted or undecided obligation as people would tell it
-    order      on what two calls are ordered
-    explain    stories for a terminal
-    picture    stories as pictures
-    drawn      schedules as pictures
-    page       a design as a page
-    main       the words of a command, and where each is answered
+    words           the words of a specification, with their places
+    formulas        a formula as a tree
+    tree            a specification that the program accepts
+    report          what the program prints: reports, replays, simulations, suggestions
+    program         runs the program
+    output          standard output and standard error
+
+    grammar         the whole grammar, and what could stand at a place
+    place           the word that is refused, and what stands about it
+    formula_slips   what is meant there, in a formula
+    item_slips      what is meant there, in an item or a line
+    syntax_slips    both, and what was expected
+    name_slips      what is wrong with a name, a number or a line
+    letter_slips    what is wrong with a character
+    slips           a refused specification: place, message, line and caret
+    located         JSON with places
+    schedule        a refused schedule or step
+    refused_report  a refused report
+
+    outcome         the states at the end of a refutation
+    columns         texts in 80 columns
+    story           a refuted or undecided obligation as people would tell it
+    order           on what two calls are ordered
+    explain         stories for a terminal
+
+    tokens          tokens, rules and takes lines for pairs of operations
+    edits           puts them into a user's text
+    enough          on which equalities a pair has to be ordered
+    mend            a specification with the tokens that it needs
+    facts           the program's texts as JSON
+
+    shapes, picture       stories as pictures
+    matrix, parts, page   a report as a page
+    steps, lanes, drawn   a replay as a page
+
+    main            the words of a command, and where each is answered
 """

@@ -8,7 +8,7 @@ from view.tree import Spec
 from view.words import text_of
 
 # The most facts that are listed, and the widest calls that stand side by side with a remark.
-MOST_FACTS, WIDEST_CALL = 12, 46
+MOST_FACTS, WIDEST_CALL = 12, 54
 NOTHING = "(nothing: every fact is false, every counter 0)"
 ORIGIN = (
     "Verdicts and values are the program's. Lines, and what is ordered, are read off the specification. The sentences are made from both, "

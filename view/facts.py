@@ -8,7 +8,12 @@ from view.report import Replay, Report, Simulation, Suggestion
 from view.words import text_of
 
 # For each kind of obligation how its words are called; of `operations` there are two.
-PARTS = {"init": ["invariant"], "safety": ["operation", "invariant"], "commute": ["first", "second", "thing"], "stable": ["operation", "requires", "other"]}
+PARTS = {
+    "init": ["invariant"],
+    "safety": ["operation", "invariant"],
+    "commute": ["first", "second", "thing"],
+    "stable": ["operation", "requires", "other"],
+}
 # For each cause of a refused step how the numbers behind it are called.
 CAUSES = {"conflict": "event", "missing": "event", "precondition": "requires", "observation": "observes"}
 STATUS_OK, STATUS_REFUSED = 0, 4
@@ -129,8 +134,13 @@ def suggestion_facts(text):
 
 
 def pair_facts(pair):
-    equalities = [{"left": it.left, "right": it.right, "verdict": it.word, "obligation": block_facts(it.block) if it.block else None} for it in pair.answers]
-    return {"left": pair.left, "right": pair.right, "verdict": pair.word, "obligation": block_facts(pair.block) if pair.block else None, "equalities": equalities}
+    return {**answer_facts(pair), "equalities": [answer_facts(it) for it in pair.answers]}
+
+
+def answer_facts(answer):
+    """What is said of two operations, or of two parameters."""
+    obligation = block_facts(answer.block) if answer.block else None
+    return {"left": answer.left, "right": answer.right, "verdict": answer.word, "obligation": obligation}
 
 
 READERS = {"report": report_facts, "replay": replay_facts, "simulate": simulation_facts, "suggest": suggestion_facts}
@@ -175,8 +185,11 @@ def state_lines(state):
 
 
 def replay_lines(facts):
-    steps = [spelled("step", it["step"], "replica", it["replica"], *(("call", it["call"]) if "call" in it else ("take", it["take"]))) for it in facts["steps"]]
-    return ["cise replay 1", *steps, *end_lines(facts)]
+    lines = ["cise replay 1"]
+    for it in facts["steps"]:
+        kind = "call" if "call" in it else "take"
+        lines.append(spelled("step", it["step"], "replica", it["replica"], kind, it[kind]))
+    return lines + end_lines(facts)
 
 
 def simulation_lines(facts):

@@ -1,4 +1,4 @@
-"""The words of the script's own commands, and where each is answered. `./cise` calls `main` for these, and `places` behind the program's own commands.
+"""The words of the script's own commands, and where each is answered. `./cise` calls `main` for these, and `places` behind the program's commands.
 
 A command's module has `answer(path, ..)`, which takes the paths of the command's words and gives a status and the whole text for standard
 output. Where the program refuses an input, `program.answer` or `program.replayed` raises `program.Stopped` there, and nothing catches it but
@@ -16,7 +16,7 @@ from view.words import text_of
 # For each command the module that answers it, and how many paths it takes at least and at most.
 COMMANDS = {"explain": ("explain", 1, 2), "mend": ("mend", 1, 1), "order": ("order", 1, 1), "page": ("page", 1, 2), "json": ("facts", 1, 1)}
 USAGE = "explain SPEC [REPORT], mend SPEC, order SPEC, page SPEC [SCHEDULE], json REPORT|REPLAY|SUGGESTION"
-# The program reads no more of any input than a little over this; more is copied of none that is no file.
+# The program reads no more than this of any input, and one byte to see whether there is more.
 MOST_BYTES = 1 << 26
 BAD_WORDS, NOT_READ, NOT_WRITTEN, NO_MEMORY = 2, 6, 7, 8
 # What these statuses mean, which the program doesn't say itself.
@@ -100,7 +100,7 @@ def refused_specification(words):
     from view import slips
 
     path = words[1]
-    return slips.tell(path, text_of(path), program.run("spell", path)[1]) if os.path.isfile(path) else ""
+    return slips.tell(path, text_of(path, MOST_BYTES + 1), program.run("spell", path)[1]) if os.path.isfile(path) else ""
 
 
 def refused_input(words):
@@ -111,7 +111,7 @@ def refused_input(words):
     command, spec_path, path = words[:3]
     if not (os.path.isfile(spec_path) and os.path.isfile(path)):
         return ""
-    answer, text = program.run(command, spec_path, path)[1], text_of(path)
+    answer, text = program.run(command, spec_path, path)[1], text_of(path, MOST_BYTES + 1)
     if answer.startswith(refused_report.BEGIN):
         slip = refused_report.slip_of(text, answer[len(refused_report.BEGIN) :].strip())
     elif answer.startswith(schedule.BEGIN):

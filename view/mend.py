@@ -49,9 +49,18 @@ def settled(spec, orders):
                 return Spec(text), status, report, tried
             tried = [Order(it.f, it.g, [[]]) if it in left else it for it in tried if it not in left or it.alternatives != [[]]]
         elif status == 3 and tried:
-            tried.pop()
+            tried = fitting(spec, tried)
         else:
             raise program.Stopped(["check"], status, said)
+
+
+def fitting(spec, orders):
+    """The orders without one: that without which the text is a specification, or the last."""
+    for it in reversed(orders):
+        left = [other for other in orders if other is not it]
+        if program.run_on(with_tokens(spec, Tokens(spec, left)), "spell")[0] == 0:
+            return left
+    return orders[:-1]
 
 
 def no_room(orders, kept):

@@ -4,7 +4,7 @@ import difflib
 
 from view.tree import UPDATES, Line, between, names
 
-DECLARES = {"sort": "sort", "const": "constant", "relation": "relation", "counter": "counter", "token": "token", "invariant": "invariant", "operation": "operation"}
+DECLARES = {**{it: it for it in ("sort", "relation", "counter", "token", "invariant", "operation")}, "const": "constant"}
 NEEDS = {
     "sort": "a sort",
     "kind": "a sort or int",
@@ -156,7 +156,7 @@ def unknown(spec, word):
     later = find([it for it in whole(spec) if it.word.at > word.at], word)
     if later:
         return f"unknown name {word}", f"It is declared in line {later.word.line}; what is used has to be declared before."
-    other = elsewhere(spec, word)
+    other = elsewhere(spec, word) if site and site.needs in ("element", "number") else None
     if other:
         return f"unknown name {word}", other
     said = f"Nothing of this name is declared before; here {needed(spec, site)} is needed." if site else "Nothing of this name is declared before."
@@ -190,10 +190,10 @@ def elsewhere(spec, word):
             own = operation.head.at <= word.at < item[-1].end
             for name, _ in operation.params:
                 if name == word and not own:
-                    return f"It is a parameter of {operation.name} alone (line {name.line})."
+                    return f"A parameter is known in its own operation alone, as this one in {operation.name} (line {name.line})."
             for line in operation.lines:
                 if own and any(name == word for name, _ in line.vars):
-                    return f"It is a variable of line {line.number} alone."
+                    return f"A variable is known in its own line alone, as this one in line {line.number}."
     return None
 
 
@@ -205,7 +205,8 @@ def twice(spec, word):
     other = find(in_scope(spec, word), word)
     where = f"line {other.word.line}" + (f", column {other.word.column}" if other.word.line == word.line else "")
     message = f"{word} is declared twice: it is {article(other.what)} {other.what} of {where} already"
-    return message, "All names of a text share one scope, those of parameters and variables too." if other.what not in ("parameter", "variable") else None
+    scope = "All names of a text share one scope, those of parameters and variables too."
+    return message, None if other.what in ("parameter", "variable") else scope
 
 
 def kind(spec, word):
@@ -219,7 +220,7 @@ def kind(spec, word):
     if compared:
         return compared
     if site.needs == "number" and found.what == "counter" and found.places:
-        return f"{word} has {plural(len(found.places), 'key')} ({', '.join(found.places)}), and here stand none", f"It is declared in line {found.word.line}."
+        return numbered(found, 0)
     return f"{word} is {found.told()}, and here {needed(spec, site)} is needed", advice(found, site)
 
 
@@ -231,7 +232,8 @@ def advice(found, site):
         if found.what == "relation":
             return "A relation is changed by 'insert' and 'remove'."
     if site.needs == "relation" and found.what == "counter":
-        return f"A number is true of nothing by itself: compare it, as in ( {' '.join([found.word] + (['( x )'] if len(found.places) == 1 else ['( x , y )'] if found.places else []))} >= 1 )."
+        reading = " ".join([found.word, *[["( x )"], ["( x , y )"]][len(found.places) - 1]]) if found.places else found.word
+        return f"A number is true of nothing by itself: compare it, as in ( {reading} >= 1 )."
     if site.needs == "relation" and found.kind:
         return "A formula is a fact of things, or a comparison in brackets."
     if site.needs == "number" and found.what == "relation":
@@ -255,7 +257,8 @@ def of_two_sorts(spec, word):
 def rule_variable(spec, word, item):
     other = find([it for it in whole(spec) if it.word.at < word.at], word)
     if other:
-        return f"{word} is {other.told()}, and here a variable of the rule is needed", "The names behind a token in a rule stand for any elements and are declared nowhere: conflict t ( x ) t ( x )."
+        more = "The names behind a token in a rule stand for any elements and are declared nowhere: conflict t ( x ) t ( x )."
+        return f"{word} is {other.told()}, and here a variable of the rule is needed", more
     second = item.index(")") + 1 if item[1] == "(" else 1
     uses = []
     for token, arguments in ((item[0], names(item[1:second])), (item[second], names(item[second + 1 :]))):
@@ -268,10 +271,15 @@ def rule_variable(spec, word, item):
 def count(spec, word):
     thing = find(in_scope(spec, word), word)
     at = next(k for k, it in enumerate(spec.words) if it.at == word.at)
-    given = len(names(between(spec.words[at + 1 :])))
-    called = {"relation": "place", "token": "place", "counter": "key"}[thing.what]
+    return numbered(thing, len(names(between(spec.words[at + 1 :]))))
+
+
+def numbered(thing, given):
+    """The sentences of a thing with another number of places than it has."""
+    has = plural(len(thing.places), "key" if thing.what == "counter" else "place")
     of = f" ({', '.join(thing.places)})" if thing.places else ""
-    return f"{word} has {plural(len(thing.places), called)}{of}, and here {'stands' if given == 1 else 'stand'} {given or 'none'}", f"It is declared in line {thing.word.line}."
+    stands = f"stands {given}" if given == 1 else f"stand {given or 'none'}"
+    return f"{thing.word} has {has}{of}, and here {stands}", f"It is declared in line {thing.word.line}."
 
 
 LIMITS = {

@@ -18,7 +18,7 @@ def short_names(spec):
 def pictures(story, short):
     """Both forms of a refutation's picture. The page shows one of them."""
     if story.kind in ("commute", "stable"):
-        return pair_wide(story, Boxes(story, short, 27, 34)) + pair_narrow(story, Boxes(story, short, 19, 42))
+        return pair_wide(story, Boxes(story, short, 27, 36)) + pair_narrow(story, Boxes(story, short, 19, 42))
     return alone_wide(story, Boxes(story, short, 27, 27)) + alone_narrow(story, Boxes(story, short, 38, 38))
 
 

@@ -59,7 +59,10 @@ def fault(spec, top, part, rest):
 
 
 def kind_of(value):
-    return {"object": "an object", "list": "a list", "text": "a text", "number": "a number"}.get(value.kind, value.kind)
+    """What a value is, in words; of a number that itself."""
+    if value.kind == "number":
+        return value.value
+    return {"object": "an object", "list": "a list", "text": "a text"}.get(value.kind, value.kind)
 
 
 def keys_fault(value, keys, what):
@@ -78,7 +81,7 @@ def range_fault(value, what, least, most):
     if value.whole() is None or value.whole() < 0 and least == 0:
         spelled = value.kind == "number" and value.whole() is None
         more = "A whole number has no point, no exponent and no -0." if spelled else None
-        return value.at, f"{what}; a whole number from {least} on is needed, and this is {value.value if value.kind == 'number' else kind_of(value)}", more
+        return value.at, f"{what}; a whole number from {least} on is needed, and this is {kind_of(value)}", more
     if most < least:
         return value.at, f"{what}; its sort has no element", None
     return value.at, f"{what}; it is from {least} to {most}, and this is {value.whole()}", None
@@ -97,14 +100,15 @@ def step_fault(step):
     for key in ("replica", "take"):
         member = step.value.get(key)
         if member and not 0 <= (-1 if member.whole() is None else member.whole()) <= MOST_PLACE:
-            return member.at, f"{key}: a whole number from 0 to {MOST_PLACE:,} is needed, and this is {member.value if member.kind == 'number' else kind_of(member)}", None
+            return member.at, f"{key}: a whole number from 0 to {MOST_PLACE:,} is needed, and this is {kind_of(member)}", None
     call, args = step.value.get("call"), step.value.get("args")
     if call.kind != "text" or not 1 <= len(call.value.encode()) <= 32:
         return call.at, "call: the name of an operation is needed, a text of 1 to 32 bytes", None
     if args.kind != "list":
         return args.at, f"args: a list is needed, and this is {kind_of(args)}", None
     wrong = next(it for it in args.value if it.whole() is None)
-    return wrong.at, "args: elements and whole numbers stand here as numbers, without a point or an exponent", "An element is the number that it has in its sort, from 0."
+    more = "An element is the number that it has in its sort, from 0."
+    return wrong.at, "args: elements and whole numbers stand here as numbers, without a point or an exponent", more
 
 
 class Course:
@@ -128,12 +132,15 @@ class Course:
         cause, rest, step = self.stop[2], self.stop[3:], self.steps[int(self.stop[1])]
         who = f"replica {step['replica']}"
         if cause == "conflict":
-            return f"it conflicts with {self.event(int(rest[0]))}, which {who} hasn't taken", "By the tokens one of the two has to know of the other: let the replica take that call first."
+            more = "By the tokens one of the two has to know of the other: let the replica take that call first."
+            return f"it conflicts with {self.event(int(rest[0]))}, which {who} hasn't taken", more
         if cause in ("precondition", "observation"):
             line = self.spec.operations[step["call"]].of("requires" if cause == "precondition" else "observes")[int(rest[0]) - 1]
             return f"line {line.number} of the specification is false at {who}: {' '.join(line.text.split())}", None
         if cause == "missing":
-            return f"{self.event(step['take'])} was made where {self.event(int(rest[0]))} had been taken, and {who} hasn't taken that", "Replicas take a call only after all that it knew of."
+            made, known = self.event(step["take"]), self.event(int(rest[0]))
+            more = "Replicas take a call only after all that it knew of."
+            return f"{made} was made where {known} had been taken, and {who} hasn't taken that", more
         if cause == "range":
             *place, value = rest
             return f"{self.names.thing(place[0], list(map(int, place[1:])))} would be {value}, beyond -10^15 to 10^15", None

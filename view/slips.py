@@ -1,6 +1,9 @@
 """What is wrong with a specification that the program refuses, for people: `design.cise:5:14: unknown name Row`, the line, and a caret under the
 word. Lines and columns count from 1. The program says at which byte or word a text is refused and by which rule; all else is read off the text."""
+import re
+
 from view import letter_slips, name_slips, syntax_slips
+from view.place import Place
 from view.tree import Spec
 from view.words import MOST_BYTES, encoded, words
 
@@ -38,25 +41,23 @@ def slip_of(text, refusal):
 def letter(text, kind, at):
     """A character that begins no word, or a word that is too long."""
     line, column = position(text, at)
-    length = len(syntax_word(text, at))
+    length = len(long_word(text, at))
     if kind == "name":
         return Slip(line, column, length, f"a name has at most 32 characters, and this one {length}")
     if kind == "number":
-        return Slip(line, column, length, f"a number has at most 38 digits, and this one {length}", "The largest that a text may say is 1,000,000,000.")
+        more = "The largest that a text may say is 1,000,000,000."
+        return Slip(line, column, length, f"a number has at most 38 digits, and this one {length}", more)
     return Slip(line, column, 1, f"{letter_slips.name_of(text[at])} begins no word: {letter_slips.sentence(text[at])}")
 
 
-def syntax_word(text, at):
-    """The letters and digits that stand at a place."""
-    end = at
-    while end < len(text) and text[end].isascii() and (text[end].isalnum() or text[end] == "_" and not text[at].isdigit()) and (text[end].isdigit() or not text[at].isdigit()):
-        end += 1
-    return text[at:end]
+def long_word(text, at):
+    """The name or the number that stands at a place, or nothing."""
+    return re.compile(r"[A-Za-z][A-Za-z0-9_]*|[0-9]*").match(text, at).group()
 
 
 def syntax(text, all_words, place):
     """A word with which no specification goes on, or the end of the text where more was to come."""
-    at = syntax_slips.Place(all_words, place)
+    at = Place(all_words, place)
     expected, said = syntax_slips.expectation(at.expected), syntax_slips.sentence(at)
     message, more = said or expected, expected if said else None
     if at.word is not None:

@@ -39,10 +39,10 @@ def words(text):
     return found
 
 
-def text_of(path):
-    """The text of a file, of which bytes that aren't UTF-8 are kept: `encoded` gives the same bytes."""
+def text_of(path, most=-1):
+    """The text of a file, or of so many of its first bytes. Bytes that aren't UTF-8 are kept: `encoded` gives the same bytes."""
     with open(path, "rb") as file:
-        return file.read().decode("utf-8", "surrogateescape")
+        return file.read(most).decode("utf-8", "surrogateescape")
 
 
 def encoded(text):

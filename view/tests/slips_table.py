@@ -206,6 +206,8 @@ SLIPS = [
      "a fact has its relation first, and then its things in brackets: r ( x , y )"),
     (TOURNAMENT, "remove open ( t )", "remove open ( t ) else insert open ( t )", "20:21", "syntax",
      "there is no 'else': write another line, with the opposite behind its 'when'"),
+    (CHAT, "counter posts ( Room )", "counter", "8:1", "syntax", "a name is missing behind 'counter'"),
+    (CHAT, "initially posts 0", "initially 5", "8:11", "syntax", "a name begins with a letter"),
     # Names.
     (BANK, "sort Account", "sort Acount", "3:19", "unknown", "unknown name Account"),
     (BANK, "requires ( balance ( a ) >= m )", "requires ( balance ( a ) >= n )", "11:31", "unknown", "unknown name n"),

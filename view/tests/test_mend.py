@@ -11,13 +11,17 @@ from view import mend, order, program
 from view.edits import with_tokens
 from view.enough import Search, by_lines
 from view.report import Answer, SuggestedPair, Suggestion
-from view.tests.unordered import BLOG, COURSES, FRIENDS, NUMBERS, PAYMENT, PROJECTS, TICKETS, UNORDERED
+from view.tests.unordered import FRIENDS, NUMBERS, TICKETS, UNORDERED
 from view.tokens import Order, Tokens
 from view.tree import Spec
 from view.words import text_of, words
 
 # What of the gallery no token mends: the start, or an operation alone, breaks an invariant, or is undecided.
 NOT_BY_TOKENS = {"flags/refuted.cise": 1, "auction/forgotten.cise": 1, "tournament/refuted.cise": 1}
+
+
+# Of those that are accepted as they are, which are tried.
+ACCEPTED = ("access", "auction", "bank", "seats")
 
 
 class Said(io.StringIO):
@@ -57,6 +61,7 @@ class Unordered(unittest.TestCase):
     @classmethod
     def setUpClass(cls):
         cls.mended = {name: mended(text) for name, text in UNORDERED.items()}
+        cls.suggested = {name: suggested(text) for name, text in UNORDERED.items()}
 
     def test_each_is_refuted_before_and_accepted_after(self):
         for name, text in UNORDERED.items():
@@ -67,17 +72,17 @@ class Unordered(unittest.TestCase):
                 self.assertEqual(program.run_on(new, "check")[0], 0)
 
     def test_pairs_that_are_free_stay_free_and_the_needed_ones_are_ordered(self):
-        for name, text in UNORDERED.items():
+        for name in UNORDERED:
             with self.subTest(name):
                 ordered = short(self.mended[name][1])
-                for it in suggested(text).pairs:
+                for it in self.suggested[name].pairs:
                     self.assertEqual(f"{it.left} || {it.right}" in ordered, it.word == "needed", it.left + " " + it.right)
 
     def test_all_by_lines_of_a_pair_stand_together(self):
         count = 0
-        for name, text in UNORDERED.items():
+        for name in UNORDERED:
             spec = Spec(self.mended[name][1])
-            for it in suggested(text).pairs:
+            for it in self.suggested[name].pairs:
                 together = [(("f", a.left), ("g", a.right)) for a in it.answers if a.word == "by"]
                 if together:
                     count += len(together) > 1
@@ -133,14 +138,14 @@ class Gallery(unittest.TestCase):
     def test_each_is_accepted_but_what_no_token_mends(self):
         for path in sorted(glob.glob("examples/*/*.cise")):
             name = path.partition("/")[2]
-            if name.startswith("undecided/"):
+            if name.startswith("undecided/") or name.endswith("accepted.cise") and name.partition("/")[0] not in ACCEPTED:
                 continue
             with self.subTest(name):
                 status, new, said = mended(text_of(path))
                 self.assertEqual(status, NOT_BY_TOKENS.get(name, 0), said)
-                self.assertEqual(program.run_on(new, "check")[0], status)
-                if program.run("check", path)[0] == 0:
-                    self.assertEqual(new, text_of(path))
+                self.assertEqual("nothing to be mended" in said, new == text_of(path) and status == 0)
+                if "nothing to be mended" not in said:
+                    self.assertEqual(program.run_on(new, "check")[0], status)
                 self.assertEqual("that no token mends" in said, status != 0)
 
     def test_the_story_of_what_is_left_is_told(self):
@@ -162,6 +167,14 @@ class Limits(unittest.TestCase):
         self.assertEqual(status, 1)
         self.assertIn("isn't ordered: a text has no room for more tokens", said)
         self.assertIn("takes hold_show ( s )", new)
+
+    def test_an_operation_without_room_for_takes_lines_leaves_the_others(self):
+        own = "".join(f"  takes own{it}\n" for it in range(4))
+        text = TICKETS.replace("\noperation hold", "".join(f"token own{it}\n" for it in range(4)) + "\noperation hold")
+        at = text.index("end", text.index("operation hold"))
+        status, new, said = mended(text[:at] + own.replace("  ", "", 1) + text[at:])
+        self.assertEqual(said.split("\n")[0], "mend: hold || hold isn't ordered: a text has no room for more tokens, rules or takes lines, or no order is enough")
+        self.assertEqual(short(new), {"release || release": "same s", "release || pay": "same s", "pay || pay": "same s"})
 
     def test_own_tokens_stay_and_what_they_order_is_enough(self):
         text = FRIENDS.replace("operation meet", "token pair ( Person )\nconflict pair ( x ) pair ( x )\noperation meet", 1)

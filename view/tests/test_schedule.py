@@ -51,12 +51,12 @@ SLIPS = [
     ('"replicas": 2', '"replicas": "2"', "shape replicas", "4:15", "replicas: how many there are; a whole number from 1 on is needed, and this is a text"),
     ('"replicas": 2', '"replicas": 17', "size replicas", "4:15", "replicas: how many there are; it is from 1 to 16, and this is 17"),
     ('"args": [0, 100]', '"arguments": [0, 100]', "shape step 0", "6:40", "step 0: a call: there is no key arguments; its keys are exactly replica, call, args"),
-    ('"args": [0, 100]', '"args": 100', "shape step 0", "6:48", "step 0: args: a list is needed, and this is a number"),
+    ('"args": [0, 100]', '"args": 100', "shape step 0", "6:48", "step 0: args: a list is needed, and this is 100"),
     ("[0, 100]", '["0", 100]', "shape step 0", "6:49", "step 0: args: elements and whole numbers stand here as numbers, without a point or an exponent"),
     ('"take": 0', '"takes": 0', "shape step 1", "7:5", "step 1: a step has either the keys replica, call and args, or the keys replica and take"),
     ('"take": 0', '"take": -1', "shape step 1", "7:29", "step 1: take: a whole number from 0 to 4,294,967,295 is needed, and this is -1"),
     ('"deposit"', '""', "shape step 0", "6:29", "step 0: call: the name of an operation is needed, a text of 1 to 32 bytes"),
-    ('{ "replica": 1, "take": 0 }', "7", "shape step 1", "7:5", "step 1: an object is needed, and this is a number"),
+    ('{ "replica": 1, "take": 0 }', "7", "shape step 1", "7:5", "step 1: an object is needed, and this is 7"),
 ]
 # The steps, which command refuses one, its cause, the line of the step, the message behind `step N is refused: `.
 DEPOSIT, WITHDRAW = '{ "replica": 0, "call": "deposit", "args": [0, 100] }', '{ "replica": 0, "call": "withdraw", "args": [0, 60] }'

@@ -3,7 +3,7 @@ import random
 import re
 import unittest
 
-from view import program, slips, syntax_slips
+from view import place, program, slips, syntax_slips
 from view.grammar import VERSION_1, VERSION_2, Grammar, expected_at
 from view.tests.slips_table import BANK, CHAT, SEATS, SLIPS, STOCK, TOURNAMENT
 from view.words import RESERVED, RESERVED_IN_2, text_of, words
@@ -140,7 +140,7 @@ class Grammars(unittest.TestCase):
 class Parts(unittest.TestCase):
     def test_where_a_formula_begins(self):
         text = "cise 1 invariant i ( n >= 0 and not ( m > 2"
-        starts = [syntax_slips.Place(words(text), at).formula_start() for at in (5, 7, 8, 9, 11, 12)]
+        starts = [place.Place(words(text), at).formula_start() for at in (5, 7, 8, 9, 11, 12)]
         self.assertEqual(starts, [5, 5, 5, 9, 11, 11])
 
     def test_words_of_version_2(self):
@@ -160,11 +160,11 @@ class Names(unittest.TestCase):
 
     def test_a_name_of_another_operation(self):
         text = BANK.replace(">= m )\n  add", ">= n )\n  add")
-        self.assertEqual(self.more(text), "It is a parameter of deposit alone (line 5).")
+        self.assertEqual(self.more(text), "A parameter is known in its own operation alone, as this one in deposit (line 5).")
 
     def test_a_name_of_another_line(self):
         text = SEATS.replace("insert holds ( p , s )", "insert holds ( q , s )")
-        self.assertEqual(self.more(text), "It is a variable of line 11 alone.")
+        self.assertEqual(self.more(text), "A variable is known in its own line alone, as this one in line 11.")
 
     def test_a_name_like_it(self):
         text = CHAT.replace("observes member ( u", "observes members ( u")

@@ -1,0 +1,273 @@
+"""What people mean where the grammar refuses a word in a formula, a sum, or a list of variables or arguments.
+
+Each function knows one kind of slip. It takes a `Place` and gives a sentence, or None where its slip isn't what stands there. What a sentence
+proposes to write is of the grammar: `Place.sample` sees to that."""
+from view.formulas import COMPARISONS, CONNECTIVES
+from view.grammar import NAME, NUMBER
+from view.place import FORMULA, LINE_HEADS, quoted
+from view.tree import ITEMS, UPDATES
+
+PAIRS_OF_SIGNS = {
+    "==": "equal is one sign: =",
+    "=>": "=> is no sign: 'at least' is >=, and what follows from something is joined by 'implies'",
+    "=<": "=< is no sign: 'at most' is <=",
+    "<>": "<> is no sign: unequal is !=",
+    "->": "-> is no sign: what follows from something is joined by 'implies'",
+    "<=>": "<=> is no sign: both ways are two formulas with 'implies'",
+    ":=": ":= is no sign: a counter is changed by a line 'set' and the new value behind its name",
+    "+=": "+= is no sign: a counter is changed by a line 'add' and the amount behind its name",
+    "-=": "-= is no sign: a counter is changed by a line 'add' and the amount behind its name, with - before it",
+    "--": "a comment begins with #",
+}
+
+
+def two_signs(place):
+    word, before = place.word, place.near(-1)
+    if not word or word[0].isalnum():
+        return None
+    if not place.joins() and before + word in (">=", "<="):
+        return f"{before}{word} is one sign, without a space in it"
+    if place.joins() and before + word in PAIRS_OF_SIGNS and (before + word != "--" or not place.brackets):
+        return PAIRS_OF_SIGNS[before + word]
+    after = place.near(1)
+    if after and after.at == word.end and word + after in PAIRS_OF_SIGNS and place.head not in ("add", "set"):
+        return PAIRS_OF_SIGNS[word + after]
+
+
+def numbers(place):
+    word, before, after = place.word, place.near(-1), place.near(1)
+    if not place.is_number(before):
+        return None
+    if place.is_name(word) and "*" in place.expected:
+        return f"a number and what it multiplies have * between them: {before} * {word}"
+    if place.is_number(word) and place.joins() and before == "0":
+        return f"a number doesn't begin with 0: {word}"
+    if place.is_number(word) and not place.expected & {NAME, NUMBER}:
+        return "one number has no gap in it; between two a sign is missing"
+    if word in (".", ",") and place.is_number(after) and place.joins() and after.at == word.end:
+        return "numbers are whole: there is no point in them" if word == "." else "a number is written without commas in it"
+
+
+def product(place):
+    word, before, after = place.word, place.near(-1), place.near(1)
+    if before == "*" and place.is_number(word):
+        return "two numbers aren't multiplied: write their product"
+    if before == "*" and word == "(":
+        return "brackets don't stand in a sum: multiply each part by itself, 2 * a + 2 * b"
+    if word == "*" and (place.is_name(before) or before == ")") and place.expected & {"+", "-"}:
+        if place.is_number(after):
+            start = place.at - len(reading_before(place))
+            return f"the number stands before what it multiplies: {after} * {' '.join(place.words[start:place.at])}"
+        return "a product of two names can't be said; a number times a name can, as 2 * n"
+    if word == "*" and place.expected == {NAME}:
+        return "* stands in lines insert, remove, add and set alone; in a formula, name a variable of forall or exists"
+
+
+def reading_before(place):
+    """The words of the reading that ends right before the place."""
+    at = place.at - 1
+    if place.words[at] == ")":
+        while place.words[at] != "(":
+            at -= 1
+        at -= 1
+    return place.words[at : place.at]
+
+
+def truth_value(place):
+    is_compared = place.word in ("true", "false") and place.near(-1) in ("=", "!=")
+    if is_compared or place.word in ("=", "!=") and place.near(1) in ("true", "false") and place.head not in ("initially", "set", "add"):
+        return "a fact is true or false by itself and isn't compared: write it alone, or 'not' before it"
+
+
+def truth_value_of_change(place):
+    if place.word in ("true", "false") and place.head in UPDATES:
+        return "no truth value stands here: 'insert' makes a relation true, and 'remove' false"
+
+
+def empty_brackets(place):
+    if place.word == ")" and place.near(-1) == "(":
+        return "what has no arguments has no brackets"
+    if place.word == ")" and place.near(-1) == ",":
+        return "behind the comma something is missing, or the comma is one too many"
+
+
+def forall_inside(place):
+    if place.word not in ("forall", "exists") or not FORMULA <= place.expected or place.word in place.expected:
+        return None
+    if place.near(-1) == ".":
+        first = place.words[max(it for it in range(place.at) if place.words[it] in ("forall", "exists"))]
+        if first == place.word:
+            return f"a line has one '{first}', with commas between its variables: {first} x : A , y : B ."
+        return "a line has one quantifier: forall with exists behind it can't be said; a counter of how many there are may say it"
+    name = " and the name" if place.head == "invariant" else ""
+    return f"'{place.word}' stands before a whole line alone, right behind {place.head or 'requires'}{name}"
+
+
+def variables(place):
+    """Slips behind forall, exists, and in the list of an operation's parameters."""
+    line = place.words[place.begin() : place.at]
+    in_prefix = ("forall" in line or "exists" in line) and "." not in line
+    before, word, after = place.near(-1), place.word, place.near(1)
+    if before == "for" and word == "all":
+        return "'forall' is one word"
+    if place.expected == {":"} and place.head == "const":
+        sort = word if place.is_name(word) else after
+        return f"a constant has its sort behind a colon: const {before} : {sort}" if place.is_name(sort) else None
+    if place.expected == {":"}:
+        what = "variable" if in_prefix else "parameter"
+        kind = next((str(it) for at, it in enumerate(place.words[place.at :], place.at) if place.words[at - 1] == ":"), "A")
+        if word == ",":
+            return f"each {what} has its own kind: {before} : {kind} , {after} : {kind}"
+        if word in ("in", "of", "is", "as"):
+            return f"a colon stands between a {what} and its kind: {before} : {after}"
+        if place.is_name(word):
+            return f"the {what} stands first, then a colon and its kind: {word} : {before}"
+        return f"each {what} has a kind behind a colon: {before} : A" + ("" if in_prefix else f", or {before} : int")
+    if in_prefix and place.expected == {",", "."}:
+        return "a dot stands behind the last variable, and then the formula: forall x : A . formula"
+
+
+def no_comparison_brackets(place):
+    """A comparison without brackets, seen at its first number or sign, or at its comparison sign."""
+    word = place.word
+    is_amount = place.head in UPDATES and "when" not in place.words[place.line : place.at]
+    if not word or is_amount or not (word in COMPARISONS or word in ("+", "-") or place.is_number(word)):
+        return None
+    found = place.comparison(place.formula_start())
+    if found and found[-1].at >= word.at >= found[0].at:
+        whole = ["(", *found, ")"]
+        if place.grammar.accepts("formula", whole):
+            return "a comparison stands in brackets" + place.sample("formula", whole, "( n >= 0 )")
+    if word in COMPARISONS and "end" in place.expected:
+        return "a comparison stands in brackets, as ( n >= 0 )"
+
+
+def chain(place):
+    """A third part in brackets that hold two."""
+    word = place.word
+    if not place.brackets or ")" not in place.expected:
+        return None
+    left = place.words[place.brackets[-1] + 1 : place.at]
+    if word in COMPARISONS:
+        return second_comparison(place, left)
+    if word not in CONNECTIVES:
+        return None
+    if any(it in COMPARISONS for it in left) and not any(it in CONNECTIVES for it in left) and place.grammar.accepts("formula", ["(", *left, ")"]):
+        right = place.comparison(place.at + 1)
+        right = ["(", *right, ")"] if right else place.longest("formula", place.at + 1)
+        whole = ["(", "(", *left, ")", word, *right, ")"]
+        return "each comparison has brackets of its own" + place.sample("formula", whole, f"( ( a > 0 ) {word} ( b > 0 ) )")
+    whole = grouped(left, word, place.longest("formula", place.at + 1))
+    third = "a pair of brackets joins two parts; with a third one it wants brackets again"
+    return third + place.sample("formula", whole, f"( ( a {word} b ) {word} c )")
+
+
+def second_comparison(place, left):
+    """A comparison sign behind a whole comparison."""
+    sign = next((at for at, it in enumerate(left) if it in COMPARISONS), None)
+    right = place.longest("term", place.at + 1)
+    if sign is None or not right:
+        return None
+    whole = ["(", "(", *left, ")", "and", "(", *left[sign + 1 :], place.word, *right, ")", ")"]
+    return "a comparison has two sides" + place.sample("formula", whole, "( ( 0 <= n ) and ( n <= 9 ) )")
+
+
+def grouped(left, word, right):
+    """Two joined parts and a third one, with the brackets that most people mean: 'and' binds closer than 'or', and that than 'implies'."""
+    depth, first = 0, None
+    for at, it in enumerate(left):
+        depth += (it == "(") - (it == ")")
+        if depth == 0 and it in CONNECTIVES:
+            first = at
+    if first is not None and (CONNECTIVES.index(word) < CONNECTIVES.index(left[first]) or word == left[first] == "implies"):
+        return ["(", *left[: first + 1], "(", *left[first + 1 :], word, *right, ")", ")"]
+    return ["(", "(", *left, ")", word, *right, ")"]
+
+
+def one_part(place):
+    """Brackets round a formula or a sum that is whole without them."""
+    if place.word != ")" or not place.brackets:
+        return None
+    inner = place.words[place.brackets[-1] + 1 : place.at]
+    if place.grammar.accepts("formula", inner):
+        return "brackets stand round two parts that are joined, and one part alone has none" + place.sample("formula", inner)
+    if place.grammar.accepts("term", inner):
+        return "a sum has no brackets of its own; they stand round a whole comparison, as ( a + b >= c )"
+
+
+def connective(place):
+    """and, or, implies behind a whole formula without brackets."""
+    if place.word not in CONNECTIVES:
+        return None
+    start = place.formula_start()
+    right = place.longest("formula", place.at + 1)
+    while start > 0 and place.words[start - 1] in FORMULA:
+        start -= 1
+    whole = ["(", *place.words[start : place.at], place.word, *right, ")"]
+    if place.expected & {"end", "sort"}:
+        return f"what '{place.word}' joins stands in brackets" + place.sample("formula", whole, f"( a {place.word} b )")
+    if place.expected & set(COMPARISONS):
+        return f"'{place.word}' joins formulas, and before it stands a sum: compare it with something, in brackets"
+
+
+def argument(place):
+    """Slips in the brackets of arguments."""
+    word = place.word
+    if place.expected == {",", ")"} and word:
+        if place.is_name(word):
+            return "a comma is missing before this"
+        if word == "(":
+            return "an argument is a name alone: a parameter, a variable or a constant"
+        if word in ("+", "-", "*"):
+            return "an argument is a name alone, and no sum"
+    if place.brackets and set(CONNECTIVES) <= place.expected and (word == "," or place.is_name(word)):
+        missing = "'and' or another connective is missing before this"
+        return bare_row(place) or ("formulas are joined by 'and', and not by a comma" if word == "," else missing)
+    if place.is_number(word) and NAME in place.expected and NUMBER not in place.expected and not FORMULA <= place.expected and place.brackets:
+        return "an argument is a name: a parameter, a variable or a constant"
+
+
+def bare_row(place):
+    """Names without brackets behind a relation or a counter."""
+    before = place.near(-1)
+    if place.is_name(place.word) and before in place.declared("relation", "counter", "token") and before.line == place.word.line:
+        return f"arguments stand in brackets: {before} ( {' , '.join(place.named_row(place.at))} )"
+
+
+def fact_between(place):
+    """A fact with its relation in the middle or at the end, or without brackets."""
+    if place.head not in ("requires", "observes", "invariant") or not place.is_name(place.word):
+        return None
+    if place.word in ("in", "of", "is", "has") and place.near(1):
+        return "a fact has its relation first, and then its things in brackets: r ( x , y )"
+    return bare_row(place)
+
+
+def unclosed(place):
+    """A bracket that is open where a line, an item or the text ends."""
+    word = place.word
+    if place.brackets and (word is None or word in ITEMS or word in LINE_HEADS or word in ("end", "when")):
+        opening = place.words[place.brackets[-1]]
+        more = "" if ")" in place.expected else ", and what stands in it isn't whole"
+        return f"the bracket of line {opening.line}, column {opening.column} isn't closed before this{more}"
+
+
+def unopened(place):
+    if place.word == ")" and not place.brackets:
+        return "there is no open bracket that this one closes"
+
+
+def dot(place):
+    if place.word == "." and place.is_name(place.near(-1)) and place.is_name(place.near(1)):
+        return f"a fact of a thing has the thing in brackets: {place.near(1)} ( {place.near(-1)} )"
+
+
+def sign_before_formula(place):
+    if place.word and FORMULA <= place.expected and (place.word in COMPARISONS or place.word in CONNECTIVES):
+        return f"before {quoted(place.word)} something is missing"
+
+
+def too_deep(place):
+    word = place.word
+    if word and (str(word) in place.expected or place.grammar.kind(word) in place.expected):
+        return "a formula nests at most 200 deep, and here it would be deeper"

@@ -1,0 +1,112 @@
+"""The word of a text that the grammar refuses, and what stands about it."""
+from view.formulas import COMPARISONS, CONNECTIVES
+from view.grammar import NAME, NUMBER, Grammar, expected_at
+from view.tree import ITEMS, LINES
+
+LINE_HEADS = LINES | {"observes"}
+FORMULA = {"not", "true", "false"}
+# Words behind which a formula begins.
+BEFORE_FORMULA = {*CONNECTIVES, "not", "when", ".", "requires", "observes"}
+MOST_SAMPLE = 70
+
+
+class Place:
+    """The word that is refused among the words of a text, and what stands about it."""
+
+    def __init__(self, all_words, at):
+        self.words, self.at = all_words, at
+        self.word = all_words[at] if at < len(all_words) else None
+        self.expected = expected_at(all_words, at)
+        self.version = 2 if all_words[1:2] == ["2"] else 1
+        self.grammar = Grammar(self.version)
+        self.item = max((it for it in range(at) if all_words[it] in ITEMS), default=None)
+        start = self.item or 0
+        in_operation = self.item is not None and all_words[start] == "operation" and "end" not in all_words[start:at]
+        heads = LINE_HEADS if self.version == 2 else LINES
+        self.line = max((it for it in range(start, at) if all_words[it] in heads), default=None) if in_operation else None
+        self.head = all_words[self.begin()] if at > 1 else None
+        self.brackets = self.open_brackets(self.begin())
+
+    def open_brackets(self, start):
+        found = []
+        for it in range(start, self.at):
+            if self.words[it] == "(":
+                found.append(it)
+            elif self.words[it] == ")" and found:
+                found.pop()
+        return found
+
+    def near(self, step):
+        """The word that many places behind, or before where the number is negative; "" where there is none."""
+        at = self.at + step
+        return self.words[at] if 0 <= at < len(self.words) else ""
+
+    def begin(self):
+        """The place of the first word of the line or the item that the word stands in or behind."""
+        return self.line if self.line is not None else self.item or 0
+
+    def joins(self):
+        """Whether the word stands right behind the one before, without a space."""
+        return self.word is not None and self.at > 0 and self.words[self.at - 1].end == self.word.at
+
+    def is_name(self, word):
+        return bool(word) and self.grammar.kind(word) == NAME
+
+    def is_number(self, word):
+        return bool(word) and self.grammar.kind(word) == NUMBER
+
+    def formula_start(self):
+        """Where the innermost formula that the word stands in or behind begins."""
+        at, depth = self.at, 0
+        while at > 0:
+            before = self.words[at - 1]
+            depth += (before == ")") - (before == "(")
+            if depth < 0 or depth == 0 and before in BEFORE_FORMULA:
+                break
+            if depth == 0 and at >= 2 and self.words[at - 2] == "invariant":
+                break
+            at -= 1
+        return at
+
+    def sample(self, symbol, parts, other=None):
+        """`: ` and words that are of a symbol, to be written in place of what stands there; where they aren't of it, or are long, the other
+        words as an example."""
+        text = " ".join(parts)
+        if parts and len(text) <= MOST_SAMPLE and self.grammar.accepts(symbol, parts):
+            return f": {text}"
+        return f", as {other}" if other else ""
+
+    def declared(self, *heads):
+        """The names that items with these first words have declared before the place."""
+        return {self.words[it] for it in range(1, self.at) if self.words[it - 1] in heads}
+
+    def named_row(self, start):
+        """The names that stand in a row from a place, in one line of the text."""
+        row = self.words[start : start + 1]
+        while start + len(row) < len(self.words) and self.is_name(self.words[start + len(row)]) and self.words[start + len(row)].line == row[0].line:
+            row.append(self.words[start + len(row)])
+        return row
+
+    def longest(self, symbol, start):
+        """The longest row of words from a place that is of a symbol, or nothing."""
+        ways, found = self.grammar.begin(symbol), start
+        for at in range(start, len(self.words)):
+            ways = self.grammar.behind(ways, self.words[at])
+            if not ways:
+                break
+            if 0 in ways:
+                found = at + 1
+        return self.words[start:found]
+
+    def comparison(self, start):
+        """The words of a comparison without its brackets that begins at a place, or nothing."""
+        left = self.longest("term", start)
+        sign = start + len(left)
+        if not left or sign >= len(self.words) or self.words[sign] not in COMPARISONS:
+            return []
+        right = self.longest("term", sign + 1)
+        return self.words[start : sign + 1 + len(right)] if right else []
+
+
+def quoted(word):
+    return f"'{word}'"
