@@ -32,7 +32,7 @@ def page_of(steps, title):
         '<section><details class="fold" id="table"><summary><b>The same as a table</b></summary>'
         f'{note}{scrolling("The steps as a table", table(steps))}{ends(steps)}</details></section>'
     )
-    body += [whole_text(spec), foot(spec, "Steps, refusals and states are the program\u2019s.")]
+    body += [whole_text(spec), foot(spec, "Steps, refusals and states are the program's.")]
     return sheet(title, body)
 
 

@@ -3,6 +3,8 @@
 The grammar stands here as docs/LANGUAGE.md has it, and a test compares the two. It is read into rules without repetition, and words are gone
 through with all the ways in which they could go on, side by side: a way is a stack of what is still to come. Behind an opened bracket a sum or
 a formula may stand, so there are a few ways at a time and never many."""
+import functools
+
 from view.tree import ITEMS
 from view.words import RESERVED, RESERVED_IN_2
 
@@ -87,8 +89,9 @@ class Rules:
         return symbol
 
 
+@functools.lru_cache()
 def rules_of(version):
-    """The rules of version 1 or 2."""
+    """The rules of version 1 or 2, which nobody changes."""
     rules = Rules(VERSION_1).rules
     if version == 2:
         more = Rules(VERSION_2).rules
@@ -108,6 +111,8 @@ class Grammar:
     def __init__(self, version):
         self.version, self.rules = version, rules_of(version)
         self.nodes, self.numbers = [None], {}
+        # What was answered before: lines of one kind go on in the same ways.
+        self.known = {}
 
     def way(self, symbols, behind=0):
         for symbol in reversed(symbols):
@@ -128,7 +133,7 @@ class Grammar:
                 left += [self.way(it, behind) for it in self.rules[symbol]]
             else:
                 found.add(way)
-        return found
+        return frozenset(found)
 
     def begin(self, symbol):
         """The ways of a symbol at its start."""
@@ -136,8 +141,10 @@ class Grammar:
 
     def behind(self, ways, word):
         """The ways behind a word."""
-        kind = self.kind(word)
-        return self.at_words([self.nodes[it][1] for it in ways if it and self.nodes[it][0] in (str(word), kind)])
+        kind = self.kind(word) or str(word)
+        if (ways, kind) not in self.known:
+            self.known[ways, kind] = self.at_words([self.nodes[it][1] for it in ways if it and self.nodes[it][0] == kind])
+        return self.known[ways, kind]
 
     def kind(self, word):
         if word[0].isdigit():

@@ -227,7 +227,7 @@ def begins_wrong(place):
         return "a line begins with what it does: 'requires' stands before what has to be true"
     if word == "(" and place.head in ("requires", "observes"):
         return f"a line '{place.head}' has one formula: join two with 'and' in brackets, or write another line"
-    if word == ":" and place.at <= (place.item if place.line is None else place.line) + 2:
+    if word == ":" and place.at <= place.begin() + 2:
         return "no colon stands here"
     if word == ".":
         return "a fact of a thing has the thing in brackets: balance ( a )"

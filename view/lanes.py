@@ -1,6 +1,6 @@
-"""The picture of a replay: a lane for each replica, and time runs down. Each step has a row of its own, so that an arrow which runs along a row meets no
-box. With more than two replicas an arrow leaves the lower edge of the call's box, runs down between the lanes and then along the row of the taking;
-each taking has its own arrow."""
+"""The picture of a replay: a lane for each replica, and time runs down. Each step has a row of its own, so that an arrow which runs along a row
+meets no box. Each taking has its own arrow from the lower edge of the call's box. With more than two replicas it runs down between the lanes, and
+then along the row of the taking."""
 from view.shapes import LETTER, PAD, Box, arrow, rounded, svg, text, wrapped
 
 # The width of the page's text, and what is free between lanes (less where they don't fit in anyhow) and between rows.
@@ -21,10 +21,10 @@ def pictures(steps, short):
 
 
 class Row:
-    """A step in the picture, with its box; `y` is its top."""
+    """A step in the picture, with its box: `at` counts the rows, and `y` is its top."""
 
-    def __init__(self, step, box):
-        self.step, self.box, self.y = step, box, 0
+    def __init__(self, at, step, box):
+        self.at, self.step, self.box, self.y = at, step, box, 0
 
     def bottom(self):
         return self.y + self.box.h
@@ -55,7 +55,8 @@ class Picture:
         room = (PAGE[form] - self.gutter - GAP[form] * (self.count - 1)) / self.count
         self.gap = GAP[form] if room > LEAST else NEAR
         self.most = max(LEAST_LETTERS, min(MOST_LETTERS, int((room - 2 * PAD) / LETTER)))
-        self.rows = [Row(it, self.step_box(it)) for it in steps.drawn() if it.replica < self.count]
+        seen = [it for it in steps.drawn() if it.replica < self.count]
+        self.rows = [Row(at, it, self.step_box(it)) for at, it in enumerate(seen)]
         self.finals = [self.final_box(it) for it in steps.replay.states]
         self.w = max([it.box.w for it in self.rows] + [it.w for it in self.finals] + [LEAST])
         self.ways = self.find_ways()
@@ -103,13 +104,14 @@ class Picture:
     def place_tracks(self):
         """Numbers the arrows of each call, and gives each a track that is free as long as it runs down. Of one call those that are taken last run
         next to the caller's lane, so that they don't cross the others."""
-        order = {id(row): at for at, row in enumerate(self.rows)}
-        busy = {}
-        for way in sorted(self.ways, key=lambda it: (order[id(it.call)], -order[id(it.taking)])):
-            way.place = sum(other.call is way.call and other.side == way.side and order[id(other.taking)] < order[id(way.taking)] for other in self.ways)
+        busy, count = {}, {}
+        for way in self.ways:
+            way.place = count.get((way.call.at, way.side), 0)
+            count[way.call.at, way.side] = way.place + 1
+        for way in sorted(self.ways, key=lambda it: (it.call.at, -it.taking.at)):
             tracks = busy.setdefault((way.gap, way.side), [])
-            way.track = next((at for at, end in enumerate(tracks) if end < order[id(way.call)]), len(tracks))
-            tracks[way.track : way.track + 1] = [order[id(way.taking)]]
+            way.track = next((at for at, end in enumerate(tracks) if end < way.call.at), len(tracks))
+            tracks[way.track : way.track + 1] = [way.taking.at]
         self.tracks = {place: len(it) for place, it in busy.items()} if self.bends() else {}
 
     def bends(self):

@@ -1,5 +1,5 @@
-"""The matrix of a design: a row for each operation, with a cell for its calls alone and one for its calls beside those of each operation. A cell says by
-its sign, its colour and its words whether the two may run at once. It leads to its first story, else to its obligations."""
+"""The matrix of a design: a row for each operation, with a cell for its calls alone and one for its calls beside those of each operation. A cell says
+by its sign, its colour and its words whether the two may run at once. It leads to its first story, else to its obligations."""
 from html import escape
 
 from view import order

@@ -65,7 +65,8 @@ def page_of(design, title):
     body.append(f'<section><h2 id="obligations">Every obligation <span class="count">{len(report.blocks)}</span></h2>')
     body.append(f'<div class="folds">{"".join(folds(design))}</div></section>')
     body.append(whole_text(design.spec))
-    body.append(foot(design.spec, f"Verdicts are the program\u2019s, with a budget of {report.budget:,} log lines; its report has a proof of each that is proved."))
+    says = f"Verdicts are the program's, with a budget of {report.budget:,} log lines; its report has a proof of each that is proved."
+    body.append(foot(design.spec, says))
     return sheet(title, body)
 
 
@@ -83,11 +84,11 @@ def summary(report):
 
 def card(design, story):
     """A story with its picture, or an undecided obligation with its limit."""
-    number, block = design.numbers[story.block], story.block
+    number, block, title = design.numbers[story.block], story.block, with_code(story.title(), design.names)
     lines = user_lines(story.lines, design.spec.version, story.verdict)
     out = (
         f'<article class="story {story.verdict}" id="story-{number}"><header><p class="kind">{chip(story.verdict, story.verdict)}'
-        f'<a class="where" href="#{home(block)}">{block.words()}</a></p><h3><span class="count">{number}.</span> {with_code(story.title(), design.names)}</h3></header>'
+        f'<a class="where" href="#{home(block)}">{block.words()}</a></p><h3><span class="count">{number}.</span> {title}</h3></header>'
     )
     if story.verdict == "undecided":
         return out + f"<p>{shown(story.limit)} {shown(story.todo)}</p>{lines}</article>"
@@ -153,7 +154,8 @@ def fold(design, place, name, blocks, says, state=None):
     state = state or worst(blocks)
     items = "".join(item(design, it) for it in blocks)
     inner = f'<ul class="blocks">{items}</ul>' if items else '<p class="blocks">Nothing is asked.</p>'
-    return f'<details class="fold {state}" id="{place}"><summary>{sign(state)}<b>{shown(name)}</b> <span>{shown(says)}</span></summary>{inner}</details>'
+    summary_ = f"<summary>{sign(state)}<b>{shown(name)}</b> <span>{shown(says)}</span></summary>"
+    return f'<details class="fold {state}" id="{place}">{summary_}{inner}</details>'
 
 
 def item(design, block):
@@ -162,7 +164,8 @@ def item(design, block):
         more = f'<a href="#story-{design.numbers[block]}">story {design.numbers[block]}</a>'
     else:
         more = f'<span class="log">{block.count:,} log line{"" if block.count == 1 else "s"}</span>'
-    return f'<li class="{block.verdict}" id="obligation-{block.line_in_report}">{sign(block.verdict)}<span>{with_code(asked(block), design.names)}</span> {more}</li>'
+    said = f"{sign(block.verdict)}<span>{with_code(asked(block), design.names)}</span> {more}"
+    return f'<li class="{block.verdict}" id="obligation-{block.line_in_report}">{said}</li>'
 
 
 def asked(block):

@@ -101,7 +101,7 @@ def banner(state, word, says):
 
 
 def foot(spec, program_says):
-    made = "Pictures, sentences and what is said of order are made from the program\u2019s texts and the specification by a layer that isn\u2019t proved."
+    made = "Pictures, sentences and what is said of order are made from its texts and the specification by a layer that isn't proved."
     whole = hashlib.sha256(encoded(spec.text)).hexdigest()
     return f'<footer><p>{program_says} {made}</p><p class="sum">sha256 of the specification: {whole}</p></footer>'
 

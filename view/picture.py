@@ -197,24 +197,29 @@ class Right:
 
 def pair_narrow(story, boxes):
     start, calls = boxes.start("both replicas hold"), [boxes.call(0), boxes.call(1)]
-    ends = [boxes.end(0, boxes.most), boxes.end(1, boxes.most)] if story.kind == "commute" else []
+    stable = story.kind == "stable"
+    ends = [] if stable else [boxes.end(0, boxes.most), boxes.end(1, boxes.most)]
+    below = [it for it in (boxes.after(1), boxes.line()) if it] if stable else []
     w = max([it.w for it in calls + ends] + [158])
-    total = max(2 * w + 14, start.w)
+    total = max([2 * w + 14, start.w + 2] + [it.w + 2 for it in below])
     lanes, lefts = (17, total - 17), (1, total - w - 1)
     call_y = HEAD + start.h + 30
-    taken_y = call_y + max(it.h for it in calls) + 84
+    called_y = call_y + max(it.h for it in calls)
+    taken_y = called_y + 84
     end_y = taken_y + 44
-    out = [lane_narrow(x, HEAD + start.h, end_y if ends else taken_y) for x in lanes]
+    out = [lane_narrow(x, HEAD + start.h, taken_y if stable else end_y) for x in lanes]
     out.append(text(1, HEAD - 6, "both replicas hold", "cap") + start.draw(1, HEAD, total - 2))
     out += beside(lanes, call_y, "replica {} calls")
     out += [box.draw(x, call_y, w) for x, box in zip(lefts, calls)]
-    stable = not ends
-    out.append(arrow([(lefts[0] + w / 2, call_y + calls[0].h + 2), (lanes[1] - (11 if stable else 8), taken_y - 4)], "bad" if stable else ""))
-    out.append(arrow([(lefts[1] + w / 2, call_y + calls[1].h + 2), (lanes[0] + 8, taken_y - 4)]))
+    for at, goal in ((0, lanes[1] - (11 if stable else 8)), (1, lanes[0] + 8)):
+        x = lefts[at] + w / 2
+        # The arrow of the shorter box first runs down beside the other one.
+        points = [(x, call_y + calls[at].h + 2), (x, called_y + 2), (goal, taken_y - 4)]
+        out.append(arrow(points[0 if calls[at].h + call_y < called_y else 1 :], "bad" if stable and at == 0 else ""))
     out.append(dot(lanes[0], taken_y) + (cross if stable else dot)(lanes[1], taken_y))
     out += neither_knows(total / 2, taken_y)
     if stable:
-        return stable_narrow(story, boxes, out, total, end_y)
+        return stable_narrow(story, boxes, below, out, total, end_y)
     out += beside(lanes, end_y, "{} ends with") + [box.draw(x, end_y, w) for x, box in zip(lefts, ends)]
     return svg(total, end_y + max(it.h for it in ends) + 3, out, "narrow", story.title())
 
@@ -228,12 +233,11 @@ def beside(lanes, y, words):
     return [text(lanes[0] + 8, y - 7, words.format("A"), "cap"), text(lanes[1] - 8, y - 7, words.format("B"), "cap", "end")]
 
 
-def stable_narrow(story, boxes, out, total, y):
-    """The lower part of a narrow picture, in which B doesn't allow A's call."""
-    held, line = boxes.after(1), boxes.line()
-    w = max([total - 2, line.w] + ([held.w] if held else []))
-    if held:
-        out = out + [text(total - 1, y - 6, "B holds, after its own call", "cap", "end"), held.draw(1, y, w)]
-        y += held.h + ROW + 9
-    out = out + [text(1, y - 6, f"{boxes.short(story.calls[0].op)} requires", "cap code capbad"), line.draw(1, y, w)]
-    return svg(w + 2, y + line.h + 3, out, "narrow", story.title())
+def stable_narrow(story, boxes, below, out, total, y):
+    """The lower part of a narrow picture, in which B doesn't allow A's call: what B holds, where that is known, and the line."""
+    *held, line = below
+    for box in held:
+        out = out + [text(total - 1, y - 6, "B holds, after its own call", "cap", "end"), box.draw(1, y, total - 2)]
+        y += box.h + ROW + 9
+    out = out + [text(1, y - 6, f"{boxes.short(story.calls[0].op)} requires", "cap code capbad"), line.draw(1, y, total - 2)]
+    return svg(total, y + line.h + 3, out, "narrow", story.title())

@@ -27,9 +27,9 @@ def slip_of(spec, text, refusal):
     return slip(text, at, message, more)
 
 
-def slip(text, at, message, more=None):
+def slip(text, at, message, more=None, length=1):
     line, column = position(text, at)
-    return Slip(line, column, 1, message, more)
+    return Slip(line, column, length, message, more)
 
 
 def fault(spec, top, part, rest):
@@ -168,4 +168,5 @@ def refused_step(spec, text, replay):
     course = Course(spec, top.plain(), replay)
     message, more = course.meaning()
     number = int(course.stop[1])
-    return slip(text, top.value["steps"].value[number].at, f"step {number} is refused: {message}", more)
+    step = top.value["steps"].value[number]
+    return slip(text, step.at, f"step {number} is refused: {message}", more, step.end - step.at)

@@ -7,8 +7,8 @@ RESERVED = frozenset(
 )
 # What is reserved in version 2 alone.
 RESERVED_IN_2 = frozenset(["shared", "exclusive", "observes"])
-WORD = re.compile(r"[A-Za-z][A-Za-z0-9_]*|0|[1-9][0-9]*|<=|>=|!=|[(),:.*+\-=<>]")
-SPACE = re.compile(r"(?:[ \t\r\n]|#[^\n]*)+")
+# A word, or white space and comments that hold an end of line.
+PIECE = re.compile(r"([A-Za-z][A-Za-z0-9_]*|0|[1-9][0-9]*|<=|>=|!=|[(),:.*+\-=<>])|[ \t\r]*(?:#[^\n]*)?\n|#[^\n]*")
 # The program reads no more of a specification.
 MOST_BYTES = 65536
 
@@ -16,26 +16,23 @@ MOST_BYTES = 65536
 class Word(str):
     """A word. `line` and `column` count from 1, `at` is the place of its first letter in the text and `end` that behind it, from 0."""
 
+    __slots__ = ("line", "column", "at", "end")
+
     def __new__(cls, text, line, column, at):
-        word = super().__new__(cls, text)
+        word = str.__new__(cls, text)
         word.line, word.column, word.at, word.end = line, column, at, at + len(text)
         return word
 
 
 def words(text):
     """The words of a text, in order. A character that begins no word is passed over: the program has refused such a text."""
-    found, at, line, begin = [], 0, 1, 0
-    while at < len(text):
-        space = SPACE.match(text, at)
-        if space:
-            line += text.count("\n", at, space.end())
-            begin = max(begin, text.rfind("\n", at, space.end()) + 1)
-            at = space.end()
-            continue
-        match = WORD.match(text, at)
-        if match:
-            found.append(Word(match.group(), line, at - begin + 1, at))
-        at = match.end() if match else at + 1
+    found, line, begin = [], 1, 0
+    for piece in PIECE.finditer(text):
+        if piece.group(1):
+            at = piece.start()
+            found.append(Word(piece.group(1), line, at - begin + 1, at))
+        elif text[piece.end() - 1] == "\n":
+            line, begin = line + 1, piece.end()
     return found
 
 

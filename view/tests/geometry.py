@@ -33,7 +33,8 @@ class Picture:
         self.whole = Place(root.get("aria-label"), 0, 0, *map(float, root.get("viewBox").split()[2:]))
         self.boxes = [box_of(it) for it in root.iter("rect")]
         self.texts = [text_of(it) for it in root.iter("text")]
-        self.arrows = [points_of(it.get("d")) for it in root.iter("path") if it.get("class") in ("way", "waybad", "wayopen") and not re.search("[lhvm]", it.get("d"))]
+        paths = [it.get("d") for it in root.iter("path") if it.get("class") in ("way", "waybad", "wayopen")]
+        self.arrows = [points_of(it) for it in paths if not re.search("[lhvm]", it)]
         self.tips = [it.get("class") for it in root.iter("path") if it.get("class").startswith("tip")]
 
     def words(self):

@@ -181,14 +181,15 @@ class Pictures(unittest.TestCase):
         self.assertGreater(arrows, 200)
 
     def arrows_lead(self, steps, made, seen):
-        """Each taking of a drawn call has an arrow of its own, from the lower edge of the call's box to the taking's box, and it meets no other box."""
+        """Each taking of a drawn call has an arrow of its own, from the lower edge of the call's box to the taking's box. It meets no other box."""
         boxes = dict(zip((it.number for it in steps.drawn()), seen.boxes))
         calls = {it.event: it for it in steps.drawn() if it.kind == "call" and it is not steps.refused}
         expected = sorted((calls[it.event].number, it.number) for it in steps.drawn() if it.kind == "take" and it.event in calls)
         found = []
         for points in seen.arrows:
             start = [number for number, box in boxes.items() if abs(box.bottom - points[0][1]) < 0.2 and box.left < points[0][0] < box.right]
-            end = [number for number, box in boxes.items() if box.top < points[-1][1] < box.bottom and min(abs(box.left - points[-1][0]), abs(box.right - points[-1][0])) < 13]
+            x, y = points[-1]
+            end = [number for number, box in boxes.items() if box.top < y < box.bottom and min(abs(box.left - x), abs(box.right - x)) < 13]
             self.assertEqual((len(start), len(end)), (1, 1), points)
             found.append((start[0], end[0]))
             if made.bends():
@@ -260,7 +261,8 @@ class Ends(unittest.TestCase):
         self.refused("operation", schedule([call(0, "<b>&")]), "no operation <b>&")
         self.refused("arguments", schedule([call(0, "sell", 0)]), "the arguments don't fit sell")
         self.refused("arguments", schedule([call(0, "sell", 2, 1)]), "the arguments don't fit sell")
-        tree, _ = self.refused("conflict", schedule([call(0, "shut", 1), call(1, "shut", 1)]), "shut(s = Shop#1)", "Two calls of shut are ordered where both have the same s")
+        ordered = "Two calls of shut are ordered where both have the same s"
+        tree, _ = self.refused("conflict", schedule([call(0, "shut", 1), call(1, "shut", 1)]), "shut(s = Shop#1)", ordered)
         self.assertEqual(tree.source.count('class="clash"'), 2)
         tree, _ = self.refused("precondition", schedule([call(0, "sell", 0, 900000001)]), "line 11 ")
         self.assertIn("11requires ( n <= 900000000 )", tree.one("pre", "line").text())
@@ -287,7 +289,8 @@ class Ends(unittest.TestCase):
         """Where the program writes no replay, its text is all there is."""
         with tempfile.TemporaryDirectory() as folder:
             spec, plan = os.path.join(folder, "s.cise"), os.path.join(folder, "p.json")
-            for text, content, status in ((SHOP, "{", 4), (SHOP, "[]", 4), ("cise 3", "{}", 3), (SHOP, None, 6), (SHOP, json.dumps(schedule([], 17)), 4)):
+            too_many = json.dumps(schedule([], 17))
+            for text, content, status in ((SHOP, "{", 4), (SHOP, "[]", 4), ("cise 3", "{}", 3), (SHOP, None, 6), (SHOP, too_many, 4)):
                 with open(spec, "w") as file:
                     file.write(text)
                 path = plan if content is not None else folder + "/none"

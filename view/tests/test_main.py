@@ -116,9 +116,7 @@ class Commands(InFolder):
         self.assertIn((running.returncode, out, error), [(143, b"", b""), (-15, b"", b"")])
 
     def test_each_command_is_quick_but_for_its_runs(self):
-        """At most 0.2 seconds of the layer's own processor time, over a large design."""
-        import resource
-
+        """At most 0.2 seconds of the layer's own processor time, and a little for Python, over a large design."""
         path = self.file("large.cise", large())
         report = self.file("large.report", program.run("check", path)[1])
         for words in (("explain", path), ("order", path), ("page", path), ("json", report)):
@@ -126,8 +124,7 @@ class Commands(InFolder):
                 code = CALL.replace("sys.exit(", "s = (") + "; import os; t = os.times(); sys.stderr.write(f'{t.user + t.system}')"
                 status, out, error = called(*words, code=code)
                 self.assertTrue(out)
-                self.assertLess(float(error), 0.6, words)
-        self.assertTrue(resource)
+                self.assertLess(float(error), 0.3, words)
 
 
 SLOW = "cise 1 sort A relation r ( A ) " + " ".join(f"operation f{it} ( a : A , b : A , c : A ) insert r ( a ) remove r ( b ) insert r ( c ) end" for it in range(16))

@@ -172,8 +172,12 @@ class Matrices(unittest.TestCase):
 
     def about(self, report, f, g):
         """The blocks that are about a call of f and a call of g."""
-        named = [(it, (it.names[0], it.names[1]) if it.kind == "commute" else (it.names[0], it.names[2])) for it in report.blocks if it.kind in ("commute", "stable")]
-        return [it for it, both in named if both in ((f, g), (g, f))]
+        found = []
+        for it in report.blocks:
+            both = {"commute": it.names[:2], "stable": it.names[::2]}.get(it.kind)
+            if both in ([f, g], [g, f]):
+                found.append(it)
+        return found
 
     def test_each_cell(self):
         signs = {}
@@ -192,7 +196,9 @@ class Matrices(unittest.TestCase):
                     cells = row.all("td")
                     self.assertEqual(len(cells), len(operations) + 1)
                     own = [it for it in report.blocks if it.kind == "safety" and it.names[0] == f]
-                    self.examine(cells[0], next((it for it in ("refuted", "undecided") if it in {b.verdict for b in own}), "proved"), own, f"alone-{f}", numbers)
+                    verdicts = {it.verdict for it in own}
+                    alone = next((it for it in ("refuted", "undecided") if it in verdicts), "proved")
+                    self.examine(cells[0], alone, own, f"alone-{f}", numbers)
                     for g, cell in zip(operations, cells[1:]):
                         blocks = self.about(report, f, g)
                         state = self.expected(spec, blocks, f, g)
@@ -324,14 +330,15 @@ class Refusals(unittest.TestCase):
             with open(plan, "w") as file:
                 file.write("{")
             good = "examples/bank/refuted.cise"
-            for words, status in ((["page", path], 3), (["page", missing], 6), (["page", good, plan], 4), (["page", good, missing], 6), (["page", folder], 6)):
+            for words, status in (([path], 3), ([missing], 6), ([folder], 6), ([good, plan], 4), ([good, missing], 6), ([path, plan], 3)):
                 with self.subTest(words=words):
-                    expected = program.run("check" if len(words) == 2 else "replay", *words[1:])
-                    self.assertEqual(self.answered(*words), expected)
+                    expected = program.run("check" if len(words) == 1 else "replay", *words)
+                    self.assertEqual(self.answered("page", *words), expected)
                     self.assertEqual(expected[0], status)
 
     def test_a_whole_page(self):
-        for words, status in ((["examples/bank/refuted.cise"], 1), (["examples/bank/accepted.cise"], 0), (["examples/bank/refuted.cise", "examples/bank/two_branches.json"], 1)):
+        refuted, accepted, plan = [f"examples/bank/{it}" for it in ("refuted.cise", "accepted.cise", "two_branches.json")]
+        for words, status in (([refuted], 1), ([accepted], 0), ([refuted, plan], 1), ([accepted, plan], 4)):
             found, text = self.answered("page", *words)
             self.assertEqual(found, status)
             self.assertTrue(text.startswith("<!doctype html>\n") and text.endswith("</html>\n"))

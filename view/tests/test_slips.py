@@ -126,6 +126,25 @@ class Grammars(unittest.TestCase):
                 self.assertIsNone(at, text)
         self.assertGreater(refused, 80)
 
+    def test_each_word_behind_each_beginning(self):
+        """Something is said wherever the grammar refuses a word, also of texts that nobody writes."""
+        beginnings = ["", "cise", "cise 1", "cise 2", "sort", "const", "const c", "relation r", "counter c (", "initially", "initially c", "token t ( A", "conflict",
+                      "conflict t (", "invariant", "invariant i", "invariant i forall", "invariant i forall x : A", "invariant i (", "invariant i ( n >=", "invariant i not",
+                      "operation", "operation f", "operation f (", "operation f ( x :", "operation f requires", "operation f requires ( r ( x )", "operation f insert",
+                      "operation f insert r (", "operation f insert r when", "operation f add", "operation f add c", "operation f add c 2", "operation f set c n when (",
+                      "operation f takes", "operation f takes t ( x )", "operation f end"]
+        vocabulary = sorted(RESERVED | RESERVED_IN_2) + list("(),:.*+-=<>") + ["!=", "<=", ">=", "name", "Requires", "7", "by", "if", "int"]
+        chance, told = random.Random(2), 0
+        for beginning in beginnings:
+            for word in ["", *vocabulary]:
+                version = "" if beginning.startswith("cise") or not beginning else chance.choice(("cise 1 ", "cise 2 "))
+                text = f"{version}{beginning} {word} {chance.choice(['', '', *vocabulary])}"
+                at = front_that_goes_on(words(text))
+                if at is not None:
+                    told += 1
+                    self.assertIn(": ", slips.tell("x", text, f"refused specification syntax word {at}").split("\n")[0])
+        self.assertGreater(told, 1500)
+
     def test_each_sample_is_of_the_grammar(self):
         grammar = Grammar(1)
         found = 0
