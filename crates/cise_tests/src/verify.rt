@@ -1,7 +1,7 @@
 // Reports that are refused: the line, and what is wrong with it.
 use crate::examples::RAISED_REPORT;
 use crate::running::{ends_with, replaced, run_on};
-use example_specs::{FLAG, NO_FLAG, RAISED};
+use example_specs::{FLAG, NO_FLAG, PURSES, RAISED};
 use std::alloc::{AllocError, Global};
 
 const VERIFY: &[&str] = &["verify", "s.cise", "s.report"];
@@ -140,6 +140,33 @@ fn names_the_line_and_the_rule(rt: HostRuntime) {
         let refused = is_refused(rt.alloc(), change).expect(&rt, "memory");
         assert!(rt; refused);
     }
+}
+
+/// What is said of the report that `check` writes for the bank with tokens, where the first multiplier of its first log line is -1 in
+/// place of 1. The heading has three lines and the first block two; the second block has its own two, and then its log.
+const OF_MINUS_ONE: &[u8] = b"refused report line 8 multiplier\n";
+
+/// Whether the report that `check` writes for the bank is refused with that multiplier. Its first log line draws from four literals, in
+/// three steps, of which the first one takes row 0 once.
+fn refuses_a_negative_one(alloc: Global) -> Result<bool, AllocError> {
+    let checked = run_on(alloc, &["check", "s.cise"], PURSES, b"")?;
+    let changed = replaced(
+        alloc,
+        &checked.text,
+        b"\nf 4 -3 +2 +1 +6 3 0 1 ",
+        b"\nf 4 -3 +2 +1 +6 3 0 -1 ",
+    );
+    drop(checked);
+    let changed = changed?;
+    let same = ends_with(alloc, VERIFY, PURSES, &changed, 4, OF_MINUS_ONE);
+    drop(changed);
+    same
+}
+
+#[test]
+fn refuses_a_negative_multiplier(rt: HostRuntime) {
+    let refused = refuses_a_negative_one(rt.alloc()).expect(&rt, "memory");
+    assert!(rt; refused);
 }
 
 #[test]
