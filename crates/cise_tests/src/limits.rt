@@ -294,3 +294,63 @@ fn takes_the_largest(rt: HostRuntime) {
         assert!(rt; is_spelled(rt.alloc(), bytes).expect(&rt, "memory"));
     }
 }
+
+/// A text of so many bytes, all spaces but for its front: a specification, or refused for a reason.
+#[derive(Clone, Copy)]
+struct Spaced {
+    front: &'static [u8],
+    bytes: usize,
+    refused: Option<&'static [u8]>,
+}
+
+/// Texts of 65,536 bytes, and of one more. Spaces alone have no word, so they are refused at the first one that is missing.
+const SPACED: [Spaced; 4] = [
+    Spaced {
+        front: b"",
+        bytes: 65_536,
+        refused: Some(b"syntax word 0"),
+    },
+    Spaced {
+        front: b"",
+        bytes: 65_537,
+        refused: Some(b"long"),
+    },
+    Spaced {
+        front: b"cise 1",
+        bytes: 65_536,
+        refused: None,
+    },
+    Spaced {
+        front: b"cise 1",
+        bytes: 65_537,
+        refused: Some(b"long"),
+    },
+];
+
+/// The front and the spaces behind it.
+fn with_spaces(alloc: Global, form: &Spaced) -> Result<Vec<u8>, AllocError> {
+    let mut text = Vec::from_slice(alloc, form.front)?;
+    for _ in form.front.len()..form.bytes {
+        text.push(b' ')?;
+    }
+    Ok(text)
+}
+
+/// Whether the text is read or refused as it is to be.
+fn is_kept_so(alloc: Global, form: &Spaced) -> Result<bool, AllocError> {
+    let text = with_spaces(alloc, form)?;
+    let kept = match form.refused {
+        Some(reason) => refuses(alloc, text.as_slice(), reason),
+        None => is_spelled(alloc, text.as_slice()),
+    };
+    drop(text);
+    kept
+}
+
+#[test]
+fn keeps_texts_short(rt: HostRuntime) {
+    for form in &SPACED {
+        let kept = is_kept_so(rt.alloc(), form).expect(&rt, "memory");
+        assert!(rt; kept);
+    }
+}
