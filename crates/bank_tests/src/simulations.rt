@@ -8,6 +8,19 @@ const GRANTED: &[u8] = b"{\"sizes\":{\"Account\":1},\"constants\":{},\"replicas\
 {\"replica\":0,\"call\":\"withdraw\",\"args\":[0,60]},
 {\"replica\":1,\"call\":\"withdraw\",\"args\":[0,30]},{\"replica\":1,\"take\":1}]}";
 
+/// The same, but that withdrawal is of more than the other one leaves.
+const TOO_MUCH: &[u8] = b"{\"sizes\":{\"Account\":1},\"constants\":{},\"replicas\":2,\"steps\":[
+{\"replica\":0,\"call\":\"deposit\",\"args\":[0,100]},{\"replica\":1,\"take\":0},
+{\"replica\":0,\"call\":\"withdraw\",\"args\":[0,60]},
+{\"replica\":1,\"call\":\"withdraw\",\"args\":[0,70]},{\"replica\":1,\"take\":1}]}";
+
+/// The first one again, and then an event is taken a second time.
+const TAKEN_AGAIN: &[u8] = b"{\"sizes\":{\"Account\":1},\"constants\":{},\"replicas\":2,\"steps\":[
+{\"replica\":0,\"call\":\"deposit\",\"args\":[0,100]},{\"replica\":1,\"take\":0},
+{\"replica\":0,\"call\":\"withdraw\",\"args\":[0,60]},
+{\"replica\":1,\"call\":\"withdraw\",\"args\":[0,30]},{\"replica\":1,\"take\":1},
+{\"replica\":1,\"take\":0}]}";
+
 /// A withdrawal of more than there is, a deposit of less than nothing, and a withdrawal that leaves nothing.
 const VOID_CALLS: &[u8] = b"{\"sizes\":{\"Account\":1},\"constants\":{},\"replicas\":2,\"steps\":[
 {\"replica\":0,\"call\":\"deposit\",\"args\":[0,5]},
@@ -20,7 +33,7 @@ const NO_REPLICA: &[u8] = b"{\"sizes\":{\"Account\":1},\"constants\":{},\"replic
 {\"replica\":0,\"call\":\"deposit\",\"args\":[0,5]},
 {\"replica\":1,\"call\":\"deposit\",\"args\":[0,7]}]}";
 
-const ROWS: [Row; 8] = [
+const ROWS: [Row; 10] = [
     Row {
         schedule: GRANTED,
         status: 0,
@@ -32,6 +45,41 @@ step 3 replica 1 awaits 0 1
 step 4 replica 1 take 1
 step 4 replica 1 call 2
 done 5
+replica 0 taken 2
+count balance 0 40
+replica 1 taken 3
+count balance 0 10
+",
+    },
+    Row {
+        schedule: TOO_MUCH,
+        status: 0,
+        text: b"cise simulate 1
+step 0 replica 0 call 0
+step 1 replica 1 take 0
+step 2 replica 0 call 1
+step 3 replica 1 awaits 0 1
+step 4 replica 1 take 1
+step 4 replica 1 void precondition 2
+done 5
+replica 0 taken 2
+count balance 0 40
+replica 1 taken 2
+count balance 0 40
+",
+    },
+    Row {
+        schedule: TAKEN_AGAIN,
+        status: 0,
+        text: b"cise simulate 1
+step 0 replica 0 call 0
+step 1 replica 1 take 0
+step 2 replica 0 call 1
+step 3 replica 1 awaits 0 1
+step 4 replica 1 take 1
+step 4 replica 1 call 2
+step 5 replica 1 old 0
+done 6
 replica 0 taken 2
 count balance 0 40
 replica 1 taken 3
