@@ -139,6 +139,22 @@ operation less
 end
 ";
 
+/// A call whose requires line is broken by a call on the same element, and by one on another element only from values that no state
+/// has.
+pub const KEPT: &[u8] = b"cise 1
+sort A
+relation up ( A )
+counter c
+counter d
+operation keep ( x : A )
+  requires ( up ( x ) or ( ( c >= 1000000000 ) and ( d >= 1000000000 * c ) ) )
+end
+operation lower ( y : A )
+  remove up ( y )
+  add d - 1
+end
+";
+
 /// Names like those of the tokens to be, of a sort and of a parameter.
 pub const NAMED: &[u8] = b"cise 1
 sort t0
@@ -310,6 +326,29 @@ free order order
 free order note
 free note note
 summary needed 2 free 4 unknown 0
+complete
+";
+
+/// What is suggested for these, up to the log of the obligation that stays open where equal elements conflict.
+pub const KEPT_BEFORE: &[u8] = b"cise suggest 1
+pairs 3
+free keep keep
+needed keep lower
+stable keep 1 lower
+refuted
+size A 1
+true up 0
+call keep 0
+call lower 0
+at
+openby x y
+stable keep 1 lower
+undecided range ";
+
+/// And from the end of that log on.
+pub const KEPT_BEHIND: &[u8] = b"
+free lower lower
+summary needed 1 free 2 unknown 0
 complete
 ";
 

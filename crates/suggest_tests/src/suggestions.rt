@@ -1,7 +1,7 @@
 // What is suggested for specifications, and what the bare ones are.
 use crate::examples::{
-    BANK_SUGGESTION, NAMED, NAMED_SUGGESTION, PURSES, SETS, SETS_SUGGESTION, SHOP, SHOP_SUGGESTION,
-    TOURNAMENTS, TOURNAMENTS_SUGGESTION, VAST, WITHDRAWALS,
+    BANK_SUGGESTION, KEPT, KEPT_BEFORE, KEPT_BEHIND, NAMED, NAMED_SUGGESTION, PURSES, SETS,
+    SETS_SUGGESTION, SHOP, SHOP_SUGGESTION, TOURNAMENTS, TOURNAMENTS_SUGGESTION, VAST, WITHDRAWALS,
 };
 use crate::running::{spec, suggested};
 use keyed_specs::bare;
@@ -85,6 +85,19 @@ fn leaves_a_pair_unknown(rt: HostRuntime) {
         && found.as_slice().ends_with(
             b"\nfree less less\nsummary needed 0 free 2 unknown 1\nundecided\n",
         );
+    drop(found);
+    assert!(rt; good);
+}
+
+#[test]
+fn leaves_it_open_whether_parameters_are_enough(rt: HostRuntime) {
+    let alloc = rt.alloc();
+    let spec = spec(&rt, alloc, KEPT);
+    let (found, tally) = suggested(&rt, alloc, &spec, 10_000);
+    drop(spec);
+    let good = tally == ONE_OF_THREE
+        && found.as_slice().starts_with(KEPT_BEFORE)
+        && found.as_slice().ends_with(KEPT_BEHIND);
     drop(found);
     assert!(rt; good);
 }
