@@ -87,7 +87,10 @@ pub fn answer_bytes(
     ensures { IfOk result (λ answer. IsAnswer (Some command) bytes.now answer.status answer.text.items) }
 {
     match read_schedule(alloc, spec, bytes) {
-        Ok(schedule) => carried_out(alloc, spec, command, &schedule),
+        Ok(schedule) => {
+            let report = carried_out(alloc, spec, command, &schedule)?;
+            Ok(report)
+        }
         Err(refused) => {
             let text = refusal_text(alloc, &refused)?;
             Ok(Answer {

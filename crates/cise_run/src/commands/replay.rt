@@ -16,7 +16,8 @@ fn replayed(alloc: Global, spec: &Spec, bytes: &[u8]) -> Result<Answer, AllocErr
     requires { length bytes.now ≤ most_schedule_bytes }
     ensures { IfOk result (λ answer. IsReplayed spec.now bytes.now answer.status answer.text.items) }
 {
-    replay_bytes(alloc, spec, bytes)
+    let report = replay_bytes(alloc, spec, bytes)?;
+    Ok(report)
 }
 
 /// Replays the schedule that a source gives: 0 where all steps were accepted and no state broke, 1 where a state broke, 4 where the

@@ -16,7 +16,8 @@ fn simulated(alloc: Global, spec: &Spec, bytes: &[u8]) -> Result<Answer, AllocEr
     requires { length bytes.now ≤ most_schedule_bytes }
     ensures { IfOk result (λ answer. IsSimulated spec.now bytes.now answer.status answer.text.items) }
 {
-    simulate_bytes(alloc, spec, bytes)
+    let report = simulate_bytes(alloc, spec, bytes)?;
+    Ok(report)
 }
 
 /// Runs the token protocol over the schedule that a source gives: 0 where all steps were carried out and no state broke, 1 where a state
