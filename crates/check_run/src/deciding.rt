@@ -4,8 +4,10 @@ ghost use Rattle.obligation_list.specs.Obligations.{IsObligation};
 ghost use Rattle.obligation_list.specs.Refuting.{IsRefutation};
 ghost use Rattle.ground_numbers.specs.Problem.{problem_of};
 ghost use Rattle.sat_core.specs.Answers.{IsAnswer, IsModelOf};
+ghost use Rattle.proof_report.specs.declared.verdict.Cause.TheVariants.{Instances};
+ghost use Rattle.proof_report.specs.declared.verdict.Verdict.TheVariants.{Undecided};
 ghost use Rattle.report_text.specs.Showing.{shown_verdict, IsFit};
-ghost use Rattle.check_run.specs.Good.{HasFew, IsGood};
+ghost use Rattle.check_run.specs.Good.{HasFew, HasMany, IsGood};
 ghost use Rattle.check_run.specs.Fitting.{HasShown};
 ghost use Rattle.check_run.specs.Decided.{IsDecided};
 ghost use Rattle.diff_bounds.specs.Differences.{problem_fits};
@@ -112,8 +114,9 @@ fn decide_grounded(
 }
 
 /// Decides an obligation of the specification, with logs of at most `budget` lines: it is proved, with a log that the kernel accepts
-/// on its problem; or refuted, with values that break it; or undecided, with evidence of the cause. The verdict can stand in a report.
-/// Where all rows of its problem are differences, it is proved or refuted, unless the budget is too small.
+/// on its problem; or refuted, with values that break it; or undecided, with evidence of the cause. That there are too many formulas is
+/// the cause exactly where there are. The verdict can stand in a report. Where all rows of its problem are differences, it is proved or
+/// refuted, unless the budget is too small.
 pub fn decide(
     alloc: Global,
     spec: &Spec,
@@ -124,6 +127,7 @@ pub fn decide(
     requires budget { 1 ≤ budget }
     ensures good { IfOk result (λ v. IsGood spec.now budget ob.now (shown_verdict spec.now v)) }
     ensures fit { IfOk result (λ v. IsFit spec.now written_version ob.now v) }
+    ensures many { HasMany spec.now ob.now → IfOk result (λ v. v ≡ Undecided Instances) }
     ensures decided { HasFew spec.now ob.now → problem_fits (problem_of spec.now ob.now) ≡ true → IfOk result (λ v. IsDecided (length (problem_of spec.now ob.now).atoms) budget v) }
 {
     match ground(alloc, spec, ob) {

@@ -1,5 +1,5 @@
 -- Two answers to the same words and bytes agree.
-use Rattle.std.proofs.Common.{◌≡◌, ℕ, ◌≤◌, ◌<◌, true, List, Option, Some, None, refl, sym, subst, ap, ◌∙◌, inl, inr, arith}
+use Rattle.std.proofs.Common.{◌≡◌, ℕ, ◌≤◌, ◌<◌, true, List, Option, Some, None, IfSome, refl, sym, subst, ap, ◌∙◌, inl, inr, arith}
 use Rattle.std.specs.Prelude.{Result, Ok, Err}
 use Rattle.byte_ports.specs.Ending.{IsOne}
 use Rattle.spec_core.specs.Specification.{Specification}
@@ -19,7 +19,7 @@ use Rattle.cise_run.specs.declared.words.Task.{Task}
 use Rattle.cise_run.specs.declared.words.Task.TheVariants.{Check, Verify, Upgrade, Replay, Simulate, Suggest, Spell}
 use Rattle.cise_run.specs.declared.words.Job.{Job}
 use Rattle.cise_run.specs.declared.words.Job.TheVariants.{OfSpec, Sample}
-use Rattle.cise_run.specs.Words.{job_of}
+use Rattle.cise_run.specs.Words.{is_job, job_of}
 use Rattle.cise_run.specs.commands.Verify.{status_said, text_said, IsVerdict}
 use Rattle.cise_run.specs.commands.Upgrade.{IsUpgraded}
 use Rattle.cise_run.specs.Answer.{IsOutcome, IsAnswerOf, IsAnswerFor, IsAnswerTo, IsAnswer, AgreeOf, Agree}
@@ -27,6 +27,8 @@ use Rattle.cise_run.proofs.Laws.{TypesWell}
 use Rattle.report_upgrader.proofs.Accepted.{one_upgraded}
 use Rattle.cise_run.proofs.Reports.{is_specification-read}
 use Rattle.cise_run.proofs.Upgrades.{as_verdict}
+use Rattle.cise_run.proofs.Jobs.{is_job-job_of}
+use Rattle.cise_run.proofs.Samples.{OfSamples, samples_agree}
 
 -- two statuses with texts that are one answer
 one_of_two : (s t : ℕ) (x y : List ℕ) (n : ℕ) (z : List ℕ) → s ≡ n → x ≡ z → t ≡ n → y ≡ z → IsOne s x t y
@@ -91,7 +93,7 @@ verdicts_agree d bytes s t a b one is x y = (y.status_is ∙ sym (ap status_said
 
 -- ---- upgraded reports
 
-no_four : (o : Outcome) → status_of o ≡ 4 → ⊥
+pub no_four : (o : Outcome) → status_of o ≡ 4 → ⊥
 no_four Accepted e = omega (arith, e)
 no_four Rejected e = omega (arith, e)
 no_four Undecided e = omega (arith, e)
@@ -138,20 +140,21 @@ tasks_agree task bytes more s t x y well only (inr (tree, d, read, done)) (inr (
     outcomes_agree task tree d more s t x y only (is_specification-read bytes tree d well read) done (subst (λ (f : Specification). IsOutcome task tree f more t y) same at_tree)
 
 -- two answers to a job
-answers_agree : (job : Job) (bytes more : List ℕ) (s t : ℕ) (x y : List ℕ) → TypesWell → SaysOne
+answers_agree : (job : Job) (bytes more : List ℕ) (s t : ℕ) (x y : List ℕ) → TypesWell → SaysOne → OfSamples → is_job job ≡ true
     → IsAnswerFor job bytes more s x → IsAnswerFor job bytes more t y → Agree (Some job) s x t y
-answers_agree (OfSpec task) bytes more s t x y well only a b = tasks_agree task bytes more s t x y well only a b
-answers_agree (Sample n) bytes more s t x y well only a b = (a, b)
+answers_agree (OfSpec task) bytes more s t x y well only samples j a b = tasks_agree task bytes more s t x y well only a b
+answers_agree (Sample n) bytes more s t x y well only samples j a b = (a, b, samples_agree n s t x y samples j a b)
 
-told_agree : (job : Option Job) (spec extra : List ℕ) (s t : ℕ) (x y : List ℕ) → TypesWell → SaysOne
+told_agree : (job : Option Job) (spec extra : List ℕ) (s t : ℕ) (x y : List ℕ) → TypesWell → SaysOne → OfSamples → IfSome job (λ j. is_job j ≡ true)
     → IsAnswerTo job (Some spec) (Some extra) s x → IsAnswerTo job (Some spec) (Some extra) t y → Agree job s x t y
-told_agree None spec extra s t x y well only a b = one_of_two s t x y _ _ a.0 a.1 b.0 b.1
-told_agree (Some job) spec extra s t x y well only (bytes, more, told, also, a) (others, rest, as_well, too, b) =
+told_agree None spec extra s t x y well only samples j a b = one_of_two s t x y _ _ a.0 a.1 b.0 b.1
+told_agree (Some job) spec extra s t x y well only samples j (bytes, more, told, also, a) (others, rest, as_well, too, b) =
     let A = subst (λ bs. IsAnswerFor job bs more s x) (sym told) a in
     let B = subst (λ bs. IsAnswerFor job bs rest t y) (sym as_well) b in
-    answers_agree job spec extra s t x y well only (subst (λ bs. IsAnswerFor job spec bs s x) (sym also) A) (subst (λ bs. IsAnswerFor job spec bs t y) (sym too) B)
+    answers_agree job spec extra s t x y well only samples j (subst (λ bs. IsAnswerFor job spec bs s x) (sym also) A) (subst (λ bs. IsAnswerFor job spec bs t y) (sym too) B)
 
-pub answers_to_one_agree : (words : List (List ℕ)) (spec extra : List ℕ) (status other_status : ℕ) (text other_text : List ℕ) → TypesWell → SaysOne
+pub answers_to_one_agree : (words : List (List ℕ)) (spec extra : List ℕ) (status other_status : ℕ) (text other_text : List ℕ) → TypesWell → SaysOne → OfSamples
     → IsAnswer words (Some spec) (Some extra) status text → IsAnswer words (Some spec) (Some extra) other_status other_text
     → Agree (job_of words) status text other_status other_text
-answers_to_one_agree words spec extra status other_status text other_text well only a b = told_agree (job_of words) spec extra status other_status text other_text well only a b
+answers_to_one_agree words spec extra status other_status text other_text well only samples a b =
+    told_agree (job_of words) spec extra status other_status text other_text well only samples (is_job-job_of words) a b

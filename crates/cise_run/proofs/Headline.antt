@@ -22,7 +22,7 @@ use Rattle.cise_run.specs.Answer.{IsOutcome, IsAnswerOf, IsAnswerTo, IsAnswer}
 use Rattle.cise_run.specs.Headline.{IsProved, is_outcome, IsRefutedRightly, RefutesOf, Refutes, IsReplayedSafely, IsSimulatedSafely}
 use Rattle.cise_run.proofs.Laws.{TypesWell, OfChecks, OfReports}
 use Rattle.cise_run.proofs.Jobs.{is_job-job_of}
-use Rattle.cise_run.proofs.Reports.{is_specification-read, safe_checked, right_checked, safe_verified, right_verified}
+use Rattle.cise_run.proofs.Reports.{is_specification-read, safe_checked, right_checked, safe_verified, right_accepted, right_verified, not_four}
 use Rattle.cise_run.proofs.Upgrades.{as_verdict}
 
 -- ---- status 0
@@ -37,7 +37,7 @@ IsProved-safe bytes tree d read safe = record {
 }
 
 -- a check or a verified report with status 0 shows that the specification is safe
-safe_outcome : (task : Task) (tree : TreeForm) (d : Specification) (more text : List ℕ) → OfChecks → OfReports → is_judging task ≡ true → is_specification d ≡ true
+pub safe_outcome : (task : Task) (tree : TreeForm) (d : Specification) (more text : List ℕ) → OfChecks → OfReports → is_judging task ≡ true → is_specification d ≡ true
     → IsOutcome task tree d more 0 text → Safe d
 safe_outcome (Check budget) tree d more text checks reports j is r = safe_checked d budget text checks is r
 safe_outcome Verify tree d more text checks reports j is v = safe_verified d more text reports is v
@@ -81,6 +81,12 @@ refutes_upgraded bytes more status text reports o (inl (why, is, one)) = absurd 
 refutes_upgraded bytes more status text reports o (inr (tree, d, read, v)) =
     let said = as_verdict d more status text v in right_verified bytes d more status said.0 reports (tree, read) o said.1
 
+-- what was written of it
+refutes_written : (bytes more : List ℕ) (status : ℕ) (text : List ℕ) → OfReports → is_outcome status ≡ true → IsAnswerOf Upgrade bytes more status text → IsRefutedRightly bytes text
+refutes_written bytes more status text reports o (inl (why, is, one)) = absurd (not_three status o one.0)
+refutes_written bytes more status text reports o (inr (tree, d, read, inl u)) = right_accepted bytes d text u.tally reports (tree, read) (reports.keeps d more u.tally text u.short u.upgraded)
+refutes_written bytes more status text reports o (inr (tree, d, read, inr (four, v))) = absurd (not_four status o four)
+
 refutes_told : (task : Task) (told extra : Option (List ℕ)) (status : ℕ) (text : List ℕ) (before after : Option (List ℕ)) → TypesWell → OfChecks → OfReports → is_task task ≡ true → is_outcome status ≡ true
     → IsAnswerTo (Some (OfSpec task)) told extra status text → Appends before after text → RefutesOf task told extra before after
 refutes_told (Check budget) None extra status text before after well checks reports t o a w = tt
@@ -90,10 +96,13 @@ refutes_told Verify None extra status text before after well checks reports t o 
 refutes_told Verify (Some bytes) None status text before after well checks reports t o a w = tt
 refutes_told Verify (Some bytes) (Some report) status text before after well checks reports t o (given, more, told, also, a) w =
     subst (λ bs. IsRefutedRightly bs report) (sym told) (subst (IsRefutedRightly given) (sym also) (refutes_verified given more status text reports o a))
-refutes_told Upgrade None extra status text before after well checks reports t o a w = tt
-refutes_told Upgrade (Some bytes) None status text before after well checks reports t o a w = tt
-refutes_told Upgrade (Some bytes) (Some report) status text before after well checks reports t o (given, more, told, also, a) w =
-    subst (λ bs. IsRefutedRightly bs report) (sym told) (subst (IsRefutedRightly given) (sym also) (refutes_upgraded given more status text reports o a))
+refutes_told Upgrade None extra status text before after well checks reports t o a w = (tt, tt)
+refutes_told Upgrade (Some bytes) None status text before after well checks reports t o (given, more, told, also, a) w =
+    (tt, (text, w, subst (λ bs. IsRefutedRightly bs text) (sym told) (refutes_written given more status text reports o a)))
+refutes_told Upgrade (Some bytes) (Some report) status text before after well checks reports t o (given, more, told, also, a) w = (
+  subst (λ bs. IsRefutedRightly bs report) (sym told) (subst (IsRefutedRightly given) (sym also) (refutes_upgraded given more status text reports o a)),
+  (text, w, subst (λ bs. IsRefutedRightly bs text) (sym told) (refutes_written given more status text reports o a)),
+)
 refutes_told Replay told extra status text before after well checks reports t o a w = tt
 refutes_told Simulate told extra status text before after well checks reports t o a w = tt
 refutes_told Suggest told extra status text before after well checks reports t o a w = tt

@@ -23,7 +23,7 @@ use Rattle.check_run.specs.Shown.{listing_of}
 use Rattle.check_run.specs.Good.{IsGood, AreGood}
 use Rattle.check_run.specs.Reports.{tally_of, written_version, IsChecked}
 use Rattle.report_verifier.specs.Rules.{verdict_fault}
-use Rattle.report_verifier.specs.Verified.{most_report_bytes, IsAccepted}
+use Rattle.report_verifier.specs.Verified.{most_report_bytes, IsVerified, IsAccepted}
 use Rattle.report_upgrader.specs.Upgrading.{IsUpgradedText}
 
 -- a typed tree is a specification
@@ -37,12 +37,18 @@ pub record OfChecks : Type 0 where
   pub is_read : (d : Specification) (budget : ℕ) (tally : Tally) (text : List ℕ) → is_specification d ≡ true → 1 ≤ budget → budget ≤ 1000000 → (checked : IsChecked d budget tally text)
       → (is_report d (report_on d written_version budget checked.verdicts) ≡ true) × (text ≡ report_bytes d (report_on d written_version budget checked.verdicts)) × (first_fault d text ≡ None)
 
+-- of upgraded reports
+abbrev pub KeepsVerdicts : Type 0
+KeepsVerdicts = (d : Specification) (bytes : List ℕ) (tally : Tally) (text : List ℕ) → length bytes ≤ most_report_bytes → IsUpgradedText d bytes tally text → IsAccepted d text tally
+
+-- of reports of checks that are verified
+abbrev pub AcceptsChecked : Type 0
+AcceptsChecked = (d : Specification) (budget : ℕ) (tally : Tally) (text : List ℕ) → is_specification d ≡ true → 1 ≤ budget → budget ≤ 1000000 → IsChecked d budget tally text
+    → length text ≤ most_report_bytes → IsVerified d text (Ok tally)
+
 -- of verified reports
 pub record OfReports : Type 0 where
   pub safe : (d : Specification) (bytes : List ℕ) (tally : Tally) → is_specification d ≡ true → IsAccepted d bytes tally → outcome_of tally ≡ Accepted → Safe d
   pub breaks : (d : Specification) (r : ReportForm) (i : ℕ) (p : PartialWitness) (es : List ℕ) → is_report d r ≡ true → verdict_fault d r ≡ None
       → slice_get r.verdicts i ≡ Some (refuted p es) → (s : Listing) × (reads s ≡ reads_of p) × Breaks d (obligation_at d i) p.world s p.calls es
-
--- of upgraded reports
-abbrev pub KeepsVerdicts : Type 0
-KeepsVerdicts = (d : Specification) (bytes : List ℕ) (tally : Tally) (text : List ℕ) → length bytes ≤ most_report_bytes → IsUpgradedText d bytes tally text → IsAccepted d text tally
+  pub keeps : KeepsVerdicts

@@ -7,10 +7,13 @@ mod Laws
 mod Outcomes
 mod Reports
 mod Upgrades
+mod Samples
 mod Agreement
-mod Upgraded
+mod Written
 mod Suggestions
 mod Headline
+mod Stopped
+mod Contradictions
 mod Complete
 mod Refusals
 mod CheckedStates

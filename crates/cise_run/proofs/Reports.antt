@@ -29,13 +29,13 @@ use Rattle.cise_run.proofs.Outcomes.{accepted_zero, good_at}
 pub is_specification-read : (bytes : List ℕ) (tree : TreeForm) (d : Specification) → TypesWell → IsReadAs bytes tree d → is_specification d ≡ true
 is_specification-read bytes tree d well read = well tree d read.is_tree.read.0 read.typed
 
-not_four : (status : ℕ) → is_outcome status ≡ true → status ≡ 4 → ⊥
+pub not_four : (status : ℕ) → is_outcome status ≡ true → status ≡ 4 → ⊥
 not_four status o e = absurd (cc (subst (λ n. is_outcome n ≡ true) e o))
 
-least : (n : ℕ) → nat_le 1 n ≡ true → 1 ≤ n
+pub least : (n : ℕ) → nat_le 1 n ≡ true → 1 ≤ n
 least n h = grind (arith, nat_tests)
 
-most : (n : ℕ) → nat_le n most_budget ≡ true → n ≤ 1000000
+pub most : (n : ℕ) → nat_le n most_budget ≡ true → n ≤ 1000000
 most n h = grind (arith, nat_tests)
 
 -- ---- checks
@@ -50,11 +50,12 @@ pub right_checked : (bytes : List ℕ) (d : Specification) (budget status : ℕ)
 right_checked bytes d budget status text laws read is within r =
     let vs = r.checked.verdicts in
     let limits = and_parts (nat_le 1 budget) (nat_le budget most_budget) within in
+    let read_as = laws.is_read d budget r.tally text is (least budget limits.0) (most budget limits.1) r.checked in
     record {
       specification = d;
       read = read;
       verdicts = report_on d written_version budget vs;
-      written = (laws.is_read d budget r.tally text is (least budget limits.0) (most budget limits.1) r.checked).1;
+      written = record { can_stand = read_as.0; same = read_as.1 };
       right = λ i p es e. record {
         state = listing_of d p;
         shown = inl refl;
@@ -70,7 +71,7 @@ pub record IsAcceptedAs (d : Specification) (bytes : List ℕ) (status : ℕ) : 
   pub accepted : IsAccepted d bytes tally
   pub status_is : status ≡ status_of (outcome_of tally)
 
-accepted_as : (d : Specification) (bytes : List ℕ) (status : ℕ) (said : Result Tally VerifyRefused) → is_outcome status ≡ true → IsVerified d bytes said → status ≡ status_said said → IsAcceptedAs d bytes status
+pub accepted_as : (d : Specification) (bytes : List ℕ) (status : ℕ) (said : Result Tally VerifyRefused) → is_outcome status ≡ true → IsVerified d bytes said → status ≡ status_said said → IsAcceptedAs d bytes status
 accepted_as d bytes status (Ok tally) o v e = record { tally = tally; accepted = v.1; status_is = e }
 accepted_as d bytes status (Err why) o v e = absurd (not_four status o e)
 
@@ -79,17 +80,18 @@ safe_verified d bytes text laws is v =
     let a = accepted_as d bytes 0 v.said refl v.verified v.status_is in
     laws.safe d bytes a.tally is a.accepted (accepted_zero (outcome_of a.tally) a.status_is)
 
+pub right_accepted : (bytes : List ℕ) (d : Specification) (report : List ℕ) (tally : Tally) → OfReports → IsSpecificationOf bytes d → IsAccepted d report tally → IsRefutedRightly bytes report
+right_accepted bytes d report tally laws is a = record {
+  specification = d;
+  read = is;
+  verdicts = a.report;
+  written = a.bytes_of;
+  right = λ i p es e.
+      let broken = laws.breaks d a.report i p es a.bytes_of.can_stand a.sound e in
+      record { state = broken.0; shown = inr broken.1; breaks = broken.2 };
+}
+
 pub right_verified : (bytes : List ℕ) (d : Specification) (report : List ℕ) (status : ℕ) (text : List ℕ) → OfReports → IsSpecificationOf bytes d → is_outcome status ≡ true
     → IsVerdict d report status text → IsRefutedRightly bytes report
 right_verified bytes d report status text laws is o v =
-    let a = accepted_as d report status v.said o v.verified v.status_is in
-    let r = a.accepted.report in
-    record {
-      specification = d;
-      read = is;
-      verdicts = r;
-      written = a.accepted.bytes_of.same;
-      right = λ i p es e.
-          let broken = laws.breaks d r i p es a.accepted.bytes_of.can_stand a.accepted.sound e in
-          record { state = broken.0; shown = inr broken.1; breaks = broken.2 };
-    }
+    let a = accepted_as d report status v.said o v.verified v.status_is in right_accepted bytes d report a.tally laws is a.accepted

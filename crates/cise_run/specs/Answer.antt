@@ -1,10 +1,11 @@
 -- What the program answers: which status and which text belong to its words and to the bytes of its inputs.
-use Rattle.std.specs.Prelude.{◌⊎◌, ℕ, List, [], ◌∷◌, Option, None, Some, codes}
+use Rattle.std.specs.Prelude.{◌⊎◌, ◌≡◌, ℕ, ◌<◌, List, [], ◌∷◌, Option, None, Some, codes}
 use Rattle.std.specs.Io.KnownBytes.{Appends}
 use Rattle.byte_ports.specs.Told.{Tells}
 use Rattle.byte_ports.specs.Ending.{IsOne, IsFrontOf, IsBroken, Ends}
 use Rattle.spec_core.specs.Specification.{Specification}
 use Rattle.spec_reader.specs.Form.{TreeForm}
+use Rattle.report_lines.specs.declared.head.Tally.{Tally}
 use Rattle.spec_from_bytes.specs.Lines.{line}
 use Rattle.spec_from_bytes.specs.Refusal.{IsReadAs, Refusal, IsRefusal, refusal_text}
 use Rattle.cise_run.specs.declared.words.Task.{Task}
@@ -19,7 +20,7 @@ use Rattle.cise_run.specs.commands.Replay.{IsReplayed, IsReplayFront}
 use Rattle.cise_run.specs.commands.Simulate.{IsSimulated, IsSimulationFront}
 use Rattle.cise_run.specs.commands.Suggest.{IsSuggested, IsSuggestionFront}
 use Rattle.cise_run.specs.commands.Spell.{IsSpelled, IsSpellFront}
-use Rattle.cise_run.specs.commands.Sample.{IsSampled, IsSampleFront}
+use Rattle.cise_run.specs.commands.Sample.{sample_text, IsSampled, IsSampleFront}
 
 -- ---- the tasks
 
@@ -128,8 +129,14 @@ AgreeOf Suggest status text other_status other_text =
     ⊎ ((d : Specification) × IsSuggested d status text × IsSuggested d other_status other_text)
 AgreeOf Spell status text other_status other_text = IsOne status text other_status other_text
 
--- So do two answers to the same words: they are the same, or both count verdicts on the same sample.
+-- a sample's text counts an undecided verdict
+abbrev pub CountsUndecided : ℕ → List ℕ → Type 0
+CountsUndecided n text = (tally : Tally) × (0 < tally.undecided) × (text ≡ sample_text n tally)
+
+-- So do two answers to the same words: they are the same, or both count verdicts on the same sample, some of them undecided.
 abbrev pub Agree : Option Job → ℕ → List ℕ → ℕ → List ℕ → Type 0
 Agree None status text other_status other_text = IsOne status text other_status other_text
 Agree (Some (OfSpec task)) status text other_status other_text = AgreeOf task status text other_status other_text
-Agree (Some (Sample n)) status text other_status other_text = IsSampled n status text × IsSampled n other_status other_text
+Agree (Some (Sample n)) status text other_status other_text =
+    IsSampled n status text × IsSampled n other_status other_text
+    × (IsOne status text other_status other_text ⊎ (CountsUndecided n text ⊎ CountsUndecided n other_text))

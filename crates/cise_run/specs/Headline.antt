@@ -1,7 +1,9 @@
--- What status 0 of a check, or of a report that is verified or upgraded, says, what a refutation says, what a replay or a simulation of a
--- safe specification keeps, what a suggestion says, for what bytes are refused, and which statuses may come at all.
-use Rattle.std.specs.Prelude.{◌≡◌, ◌⊎◌, ℕ, ◌≤◌, length, Bool, true, ◌||◌, ◌==◌, List, Option, None, Some, IfSome, Ok, slice_get}
+-- What status 0 of a check, or of a report that is verified or upgraded, says, what a refutation says, also in a report that was stopped, what a
+-- replay or a simulation of a safe specification keeps, how a written report is verified, what a suggestion says, for what bytes are
+-- refused, and which statuses may come at all.
+use Rattle.std.specs.Prelude.{◌≡◌, ◌⊎◌, ℕ, ◌≤◌, length, Bool, true, ◌||◌, ◌==◌, List, ◌∷◌, Option, None, Some, IfSome, Ok, slice_get, codes}
 use Rattle.std.specs.Io.KnownBytes.{Appends}
+use Rattle.byte_ports.specs.Ending.{IsFrontOf, IsBroken}
 use Rattle.spec_core.specs.Specification.{Specification}
 use Rattle.spec_core.specs.State.{Listing, reads}
 use Rattle.spec_reader.specs.Form.{TreeForm}
@@ -9,11 +11,12 @@ use Rattle.obligation_list.specs.declared.obligation.Obligation.{Obligation}
 use Rattle.obligation_list.specs.Breaking.{Breaks, Safe}
 use Rattle.executions.specs.Convergence.{Converges}
 use Rattle.proof_report.specs.declared.place.PartialWitness.{PartialWitness}
-use Rattle.proof_report.specs.Verdicts.{refuted, obligation_at, ReportForm}
+use Rattle.proof_report.specs.declared.verdict.Verdict.{Verdict}
+use Rattle.proof_report.specs.Verdicts.{VerdictForm, refuted, obligation_at, ReportForm}
 use Rattle.proof_report.specs.Reader.{reads_of}
-use Rattle.report_text.specs.Bytes.{report_bytes}
 use Rattle.typing_rules.specs.Fault.{Fault}
 use Rattle.typing_faults.specs.Faults.{IsLeastFault}
+use Rattle.spec_from_bytes.specs.Lines.{line}
 use Rattle.spec_from_bytes.specs.Refusal.{IsTreeOf, IsSpecificationOf, Refusal, faulty, IsRefusal, refusal_text}
 use Rattle.schedule_json.specs.declared.schedule.Schedule.{Schedule}
 use Rattle.schedule_json.specs.Schedules.{schedule_from}
@@ -22,7 +25,8 @@ use Rattle.replay_text.specs.Safely.{PrintAlike}
 use Rattle.simulate_text.specs.Course.{course as simulated}
 use Rattle.simulate_text.specs.Safely.{PrintAlike as SimulatedAlike}
 use Rattle.check_run.specs.Shown.{listing_of}
-use Rattle.report_verifier.specs.Verified.{most_report_bytes}
+use Rattle.check_run.specs.Reports.{forms_of, opening_text}
+use Rattle.report_verifier.specs.Verified.{most_report_bytes, AreBytesOf}
 use Rattle.suggest.specs.declared.answer.PairAnswer.{PairAnswer}
 use Rattle.suggest.specs.Pairs.{IsEnough}
 use Rattle.suggest.specs.Answers.{is_needed}
@@ -57,13 +61,17 @@ pub record IsRight (d : Specification) (ob : Obligation) (p : PartialWitness) (e
   pub shown : IsShown d p state
   pub breaks : Breaks d ob p.world state p.calls es
 
--- Some bytes are a specification, and others a report on it, in which each refutation is right.
+-- Each refutation among verdicts on the first obligations is right.
+abbrev pub AreRight : Specification → List VerdictForm → Type 0
+AreRight d verdicts = (i : ℕ) (p : PartialWitness) (es : List ℕ) → slice_get verdicts i ≡ Some (refuted p es) → IsRight d (obligation_at d i) p es
+
+-- Some bytes are a specification, and others those of a report on it, in which each refutation is right.
 pub record IsRefutedRightly (bytes report : List ℕ) : Type 0 where
   pub specification : Specification
   pub read : IsSpecificationOf bytes specification
   pub verdicts : ReportForm
-  pub written : report ≡ report_bytes specification verdicts
-  pub right : (i : ℕ) (p : PartialWitness) (es : List ℕ) → slice_get verdicts.verdicts i ≡ Some (refuted p es) → IsRight specification (obligation_at specification i) p es
+  pub written : AreBytesOf specification report verdicts
+  pub right : AreRight specification verdicts.verdicts
 
 -- What was written is a report in which each refutation is right, on the specification that the first source told.
 abbrev pub WritesRightly : Option (List ℕ) → Option (List ℕ) → Option (List ℕ) → Type 0
@@ -76,7 +84,7 @@ VerifiesRightly spec extra = IfSome spec (λ bytes. IfSome extra (λ report. IsR
 abbrev pub RefutesOf : Task → Option (List ℕ) → Option (List ℕ) → Option (List ℕ) → Option (List ℕ) → Type 0
 RefutesOf (Check budget) spec extra held_before held_after = WritesRightly spec held_before held_after
 RefutesOf Verify spec extra held_before held_after = VerifiesRightly spec extra
-RefutesOf Upgrade spec extra held_before held_after = VerifiesRightly spec extra
+RefutesOf Upgrade spec extra held_before held_after = VerifiesRightly spec extra × WritesRightly spec held_before held_after
 RefutesOf Replay spec extra held_before held_after = Unit {0}
 RefutesOf Simulate spec extra held_before held_after = Unit {0}
 RefutesOf Suggest spec extra held_before held_after = Unit {0}
@@ -88,6 +96,33 @@ Refutes None spec extra held_before held_after = Unit {0}
 Refutes (Some (OfSpec task)) spec extra held_before held_after = RefutesOf task spec extra held_before held_after
 Refutes (Some (Sample n)) spec extra held_before held_after = Unit {0}
 
+-- ---- stopped reports
+
+-- Some bytes are a specification, and others a front of the head and the first blocks of a report on it, in which each refutation is right.
+pub record IsOpenedRightly (bytes front : List ℕ) : Type 0 where
+  pub specification : Specification
+  pub read : IsSpecificationOf bytes specification
+  pub budget : ℕ
+  pub verdicts : List Verdict
+  pub written : IsFrontOf (opening_text specification budget verdicts) front
+  pub right : AreRight specification (forms_of specification verdicts)
+
+-- a line that begins with the word `refused`
+abbrev pub IsRefusalLine : List ℕ → Type 0
+IsRefusalLine text = (words : List (List ℕ)) × (text ≡ line (codes "refused" ∷ words))
+
+-- What a stopped run may leave: a front of a refusal; of a report in which each refutation is right; or of the head and the first blocks of
+-- one, in which each is right too. So each whole block of a refutation that was written is right.
+abbrev pub IsRightFront : List ℕ → List ℕ → Type 0
+IsRightFront bytes front =
+    ((text : List ℕ) × IsRefusalLine text × IsFrontOf text front)
+    ⊎ (((report : List ℕ) × IsRefutedRightly bytes report × IsFrontOf report front)
+    ⊎ IsOpenedRightly bytes front)
+
+-- Nothing was written, or such a front, for the specification that the first source told.
+abbrev pub StopsRightly : Option (List ℕ) → Option (List ℕ) → Option (List ℕ) → Type 0
+StopsRightly spec held_before held_after = IfSome spec (λ bytes. IsBroken (IsRightFront bytes) held_before held_after)
+
 -- ---- replays
 
 -- Where the bytes are a safe specification, no replay of it ends with status 1. And in the replay of the schedule that the second source
@@ -97,15 +132,15 @@ pub record IsReplayedSafely (bytes : List ℕ) (told : Option (List ℕ)) (statu
   pub alike : (d : Specification) (more : List ℕ) (s : Schedule) → IsSpecificationOf bytes d → Safe d → told ≡ Some more → schedule_from d more ≡ Ok s
       → PrintAlike d s.world (course d s.world s.replicas s.steps)
 
--- ---- upgrades
+-- ---- reports verified anew
 
 -- Each verification of a text as a report on the specification that some bytes are ends with this status, where it has at most 64 MiB.
 abbrev pub IsVerifiedAs : List ℕ → List ℕ → ℕ → Type 0
 IsVerifiedAs bytes text status = length text ≤ most_report_bytes → (other : ℕ) (said : List ℕ) → IsAnswerOf Verify bytes text other said → other ≡ status
 
 -- So does each verification of what was written, on the specification that the first source told.
-abbrev pub UpgradesAlike : Option (List ℕ) → Option (List ℕ) → Option (List ℕ) → ℕ → Type 0
-UpgradesAlike spec held_before held_after status = IfSome spec (λ bytes. (text : List ℕ) × Appends held_before held_after text × IsVerifiedAs bytes text status)
+abbrev pub VerifiesAlike : Option (List ℕ) → Option (List ℕ) → Option (List ℕ) → ℕ → Type 0
+VerifiesAlike spec held_before held_after status = IfSome spec (λ bytes. (text : List ℕ) × Appends held_before held_after text × IsVerifiedAs bytes text status)
 
 -- ---- simulations
 

@@ -143,20 +143,20 @@ is_replay None = false
 is_replay (Some (OfSpec task)) = is_replaying task
 is_replay (Some (Sample n)) = false
 
--- they ask for an upgrade
-abbrev pub is_upgrading : Task → Bool
-is_upgrading (Check budget) = false
-is_upgrading Verify = false
-is_upgrading Upgrade = true
-is_upgrading Replay = false
-is_upgrading Simulate = false
-is_upgrading Suggest = false
-is_upgrading Spell = false
+-- they ask for a report that is written: for a check, or for an upgrade
+abbrev pub is_reporting : Task → Bool
+is_reporting (Check budget) = true
+is_reporting Verify = false
+is_reporting Upgrade = true
+is_reporting Replay = false
+is_reporting Simulate = false
+is_reporting Suggest = false
+is_reporting Spell = false
 
-abbrev pub is_upgrade : Option Job → Bool
-is_upgrade None = false
-is_upgrade (Some (OfSpec task)) = is_upgrading task
-is_upgrade (Some (Sample n)) = false
+abbrev pub writes_report : Option Job → Bool
+writes_report None = false
+writes_report (Some (OfSpec task)) = is_reporting task
+writes_report (Some (Sample n)) = false
 
 -- they ask for a simulation
 abbrev pub is_simulating : Task → Bool

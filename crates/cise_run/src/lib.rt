@@ -2,8 +2,8 @@
 //
 // `run::run` is the whole, and its clauses say what each status means. `words` has the accepted words, `commands` a file for each
 // command, which writes its text to the sink and answers the status, `outcome` the status that verdicts come to. `law` says what the
-// answers say of a specification, and that two answers to the same words and bytes agree, and `checked` that what a check wrote is
-// verified alike.
+// answers say of a specification, that two answers to the same words and bytes agree, and that none contradicts another, and `checked`
+// that what a check wrote is verified alike.
 //
 // It stands on `byte_ports`, which says how the writing of a text ends and answers the bytes of a source, on `spec_from_bytes`, which reads the
 // specification, on `check_run`, which decides its obligations and writes the report, on `report_verifier`, which verifies one, on
@@ -25,5 +25,5 @@ mod words;
 pub use checked::{law_checked_has_one_answer, law_checked_is_verified};
 pub use law::{
     law_answers_agree, law_headline, law_least_fault_is_answered, law_refused_for_all,
-    law_upgrades_are_verified,
+    law_reports_are_verified, law_verdicts_never_contradict,
 };

@@ -6,9 +6,9 @@ ghost use Rattle.byte_ports.specs.Ending.{Ends};
 ghost use Rattle.spec_reader.specs.Form.{tree_of};
 ghost use Rattle.spec_from_bytes.specs.Reading.{IsReadingOf};
 ghost use Rattle.cise_run.specs.declared.words.Job.TheVariants.{OfSpec};
-ghost use Rattle.cise_run.specs.Words.{job_of, is_task, judges, is_replay, is_upgrade, is_simulation, is_suggestion, takes_extra, reads_spec, reads_extra, IsInputFault};
+ghost use Rattle.cise_run.specs.Words.{job_of, is_task, judges, is_replay, writes_report, is_simulation, is_suggestion, takes_extra, reads_spec, reads_extra, IsInputFault};
 ghost use Rattle.cise_run.specs.Answer.{IsOutcome, IsOutcomeFront, IsAnswerOf, IsFrontOfAnswer, IsAnswerTo, IsFrontTo, EndsWith, IsAnswered, IsStopped};
-ghost use Rattle.cise_run.specs.Headline.{IsProved, is_outcome, Refutes, IsReplayedSafely, IsSimulatedSafely, UpgradesAlike, SuggestsRightly, RefusesRightly, IsComplete};
+ghost use Rattle.cise_run.specs.Headline.{IsProved, is_outcome, Refutes, StopsRightly, IsReplayedSafely, IsSimulatedSafely, VerifiesAlike, SuggestsRightly, RefusesRightly, IsComplete};
 
 use crate::commands::check::check;
 use crate::commands::replay::replay_schedule;
@@ -18,7 +18,7 @@ use crate::commands::spell::spell_tree;
 use crate::commands::suggestion::suggest_pairs;
 use crate::commands::upgrade::upgrade;
 use crate::commands::verify::verify;
-use crate::law::{law_headline, law_least_fault_is_answered, law_upgrades_are_verified};
+use crate::law::{law_headline, law_least_fault_is_answered, law_reports_are_verified};
 use crate::words::{Job, Task, job_asked};
 use byte_ports::{MEMORY, READ_FAULT, SPECIFICATION, Sink, Source, Stopped, WORDS, write_answer};
 use spec_core::Spec;
@@ -121,8 +121,9 @@ pub fn run<S: Source, E: Source, K: Sink>(
     // The headline: a specification converges where its check, or the verification or the upgrade of a report on it, ends with status 0.
     ensures proved { result ≡ 0 → judges (job_of (map string_bytes words.now)) ≡ true → IfSome (S.left spec.old) IsProved }
 
-    // Each refutation that is written or verified breaks its obligation.
+    // Each refutation that is written or verified breaks its obligation, also in what a stopped check or upgrade has written.
     ensures refuted { is_outcome result ≡ true → Refutes (job_of (map string_bytes words.now)) (S.left spec.old) (E.left extra.old) (K.held out.old) (K.held out.new) }
+    ensures stopped { 6 < result → writes_report (job_of (map string_bytes words.now)) ≡ true → StopsRightly (S.left spec.old) (K.held out.old) (K.held out.new) }
 
     // And a safe specification is never replayed to a state that breaks an invariant, nor simulated to one.
     ensures safe { is_replay (job_of (map string_bytes words.now)) ≡ true → IfSome (S.left spec.old) (λ bytes. IsReplayedSafely bytes (E.left extra.old) result) }
@@ -136,8 +137,8 @@ pub fn run<S: Source, E: Source, K: Sink>(
     // Bytes that are no specification are refused for one reason, which is written; where that is a fault of their tree, it is the least.
     ensures least { reads_spec (job_of (map string_bytes words.now)) ≡ true → result ≡ 3 → RefusesRightly (S.left spec.old) (K.held out.old) (K.held out.new) }
 
-    // What an upgrade wrote is verified with the status that the upgrade ended with.
-    ensures upgraded { is_outcome result ≡ true → is_upgrade (job_of (map string_bytes words.now)) ≡ true → UpgradesAlike (S.left spec.old) (K.held out.old) (K.held out.new) result }
+    // What a check or an upgrade wrote is verified with the status that it ended with.
+    ensures verified { is_outcome result ≡ true → writes_report (job_of (map string_bytes words.now)) ≡ true → VerifiesAlike (S.left spec.old) (K.held out.old) (K.held out.new) result }
 
     // Where the specification is read, and no input and no write fails, there is an answer, or memory ran out.
     ensures complete { (IsInputFault (job_of (map string_bytes words.now)) (S.faults spec.old) (S.faults spec.new) (E.faults extra.old) (E.faults extra.new) → ⊥) → (IsFault (K.faults out.old) (K.faults out.new) → ⊥) → IsComplete (job_of (map string_bytes words.now)) (S.left spec.old) result }
@@ -147,7 +148,7 @@ pub fn run<S: Source, E: Source, K: Sink>(
     ensures unread_extra { reads_extra (job_of (map string_bytes words.now)) ≡ false → extra.new ≡ extra.old }
 {
     law_headline();
-    law_upgrades_are_verified();
+    law_reports_are_verified();
     law_least_fault_is_answered();
     match job_asked(words) {
         Some(Job::OfSpec(task)) => answer_task(alloc, task, spec, extra, out),

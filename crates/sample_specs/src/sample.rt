@@ -1,6 +1,6 @@
 // The generated specification of a number.
 
-ghost use Rattle.std.specs.Prelude.{◌≡◌, ◌≤◌, true, IfOk};
+ghost use Rattle.std.specs.Prelude.{◌≡◌, ◌≤◌, ℕ, true, IfOk};
 ghost use Rattle.spec_core.specs.Typed.{is_specification};
 ghost use Rattle.sample_specs.specs.Sample.{sample};
 
@@ -38,8 +38,6 @@ pub fn sample_spec(alloc: Global, n: u8) -> Result<Spec, AllocError>
 
 /// The generated specifications are well formed.
 #[tactic(auto, using(crate::proofs::WellFormed::well_formed))]
-pub fn law_sample_is_well_formed(n: u8)
-    requires some { 1 ≤ n }
-    requires few { n ≤ 12 }
-    ensures { is_specification (sample n) ≡ true }
+pub fn law_sample_is_well_formed()
+    ensures { (n : ℕ) → 1 ≤ n → n ≤ 12 → is_specification (sample n) ≡ true }
 {}

@@ -44,11 +44,16 @@ returns-in-Some-OfSpec-clause-safe g c = λ replay.
     replayed_safely (job_of (map string_bytes c.args.words.now)) (g.S.Source.left c.args.spec.now) (g.E.Source.left c.args.extra.now) c.answer_task.result replay
     (λ below. let a = returns-in-Some-OfSpec-clause-answered g c below in (a.0, a.1))
 
-pub returns-in-Some-OfSpec-clause-upgraded : goal.returns-in-Some-OfSpec-clause-upgraded
-returns-in-Some-OfSpec-clause-upgraded g c = λ outcome upgrade.
+pub returns-in-Some-OfSpec-clause-stopped : goal.returns-in-Some-OfSpec-clause-stopped
+returns-in-Some-OfSpec-clause-stopped g c = λ high writes.
+    c.law_headline.ensures.stopped (map string_bytes c.args.words.now) (g.S.Source.left c.args.spec.now) (g.E.Source.left c.args.extra.now) (g.K.Sink.held c.args.out.now) (g.K.Sink.held c.answer_task.new.out) writes
+    (returns-in-Some-OfSpec-clause-front g c high)
+
+pub returns-in-Some-OfSpec-clause-verified : goal.returns-in-Some-OfSpec-clause-verified
+returns-in-Some-OfSpec-clause-verified g c = λ outcome writes.
     let answer = returns-in-Some-OfSpec-clause-answered g c (is_outcome-low c.answer_task.result outcome) in
-    c.law_upgrades_are_verified.ensures (map string_bytes c.args.words.now) (g.S.Source.left c.args.spec.now) (g.E.Source.left c.args.extra.now) c.answer_task.result answer.0
-    (g.K.Sink.held c.args.out.now) (g.K.Sink.held c.answer_task.new.out) outcome upgrade answer.1 answer.2
+    c.law_reports_are_verified.ensures (map string_bytes c.args.words.now) (g.S.Source.left c.args.spec.now) (g.E.Source.left c.args.extra.now) c.answer_task.result answer.0
+    (g.K.Sink.held c.args.out.now) (g.K.Sink.held c.answer_task.new.out) outcome writes answer.1 answer.2
 
 pub returns-in-Some-OfSpec-clause-simulated : goal.returns-in-Some-OfSpec-clause-simulated
 returns-in-Some-OfSpec-clause-simulated g c = λ simulation.
