@@ -9,7 +9,8 @@ mod bank;
 #[cfg(test)]
 mod code;
 pub mod evaluated;
-pub mod memory;
+#[cfg(test)]
+mod memory;
 #[cfg(test)]
 mod running;
 #[cfg(test)]

@@ -9,13 +9,16 @@
 
 #[cfg(test)]
 mod clauses;
-pub mod constants;
+#[cfg(test)]
+mod constants;
 pub mod known;
 #[cfg(test)]
 mod refuting;
 #[cfg(test)]
 mod rows;
-pub mod solvers;
+#[cfg(test)]
+mod solvers;
 #[cfg(test)]
 mod summaries;
-pub mod watched;
+#[cfg(test)]
+mod watched;

@@ -4,12 +4,9 @@
 // memory. They stand in a crate of their own so that the solvers stay small. `asked` makes rows and asks the elimination solver,
 // `singles` has single systems worked by hand, `systems` a table of small systems with what another program says of them, and
 // `searches` gives systems to the search. `differences` asks the solver of difference rows, and `bounds` has systems for it.
-pub mod asked;
-#[cfg(test)]
+mod asked;
 mod bounds;
-pub mod differences;
-pub mod searches;
-#[cfg(test)]
+mod differences;
+mod searches;
 mod singles;
-#[cfg(test)]
 mod systems;

@@ -3,9 +3,7 @@
 // The contract of both searches is one, and says what each answer promises, but not which of them comes. Here both are asked of
 // problems as text, and it is seen that they answer the same one of Unsat and Sat. `problems` reads a text, `asked` asks both searches;
 // `early` has problems whose rows are refuted before all atoms have values.
-#[cfg(test)]
 mod agreement;
-pub mod asked;
-#[cfg(test)]
+mod asked;
 mod early;
-pub mod problems;
+mod problems;

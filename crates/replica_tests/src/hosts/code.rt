@@ -1,5 +1,8 @@
 // A host asks the application's code: where that lacks memory, so does a step that fits.
 
+ghost use Rattle.std.specs.Prelude.{◌≡◌, true};
+ghost use Rattle.spec_core.specs.Fits.{world_fits};
+
 use crate::hosts::bank::TWO_DEPOSITS;
 use crate::hosts::evaluated::Evaluated;
 use crate::hosts::memory::NoMemory;
@@ -7,6 +10,7 @@ use crate::hosts::running::bank;
 use replica_host::{Effect, Guard, Host, Native};
 use replica_replay::{Step, StepRefused};
 use schedule_json::{Schedule, read_schedule};
+use spec_core::Spec;
 use std::alloc::Global;
 use std::process::Abort;
 
@@ -21,10 +25,31 @@ fn lacks_memory<'a, E: Effect, G: Guard>(
     let Some(step) = schedule.steps.as_slice().first() else {
         panic!(rt; "no step");
     };
-    match host.step(step) {
-        Err(StepRefused::Memory) => true,
-        _ => false,
-    }
+    let answer = host.step(step);
+    let lacks = matches!(answer, Err(StepRefused::Memory));
+    drop(answer);
+    drop(host);
+    lacks
+}
+
+/// Whether a step lacks memory where the effect does.
+fn effect_lacks(rt: &impl Abort, alloc: Global, spec: &Spec, schedule: &Schedule) -> bool
+    requires { world_fits spec.now schedule.now.world ≡ true }
+{
+    let world = &schedule.world;
+    let guard = Evaluated { alloc, spec, world };
+    let native = Native::new(spec, world, NoMemory {}, guard);
+    lacks_memory(rt, alloc, native, schedule)
+}
+
+/// Whether a step lacks memory where the guard does.
+fn guard_lacks(rt: &impl Abort, alloc: Global, spec: &Spec, schedule: &Schedule) -> bool
+    requires { world_fits spec.now schedule.now.world ≡ true }
+{
+    let world = &schedule.world;
+    let effect = Evaluated { alloc, spec, world };
+    let native = Native::new(spec, world, effect, NoMemory {});
+    lacks_memory(rt, alloc, native, schedule)
 }
 
 #[test]
@@ -34,11 +59,10 @@ fn the_effect_is_called(rt: HostRuntime) {
     let Ok(schedule) = read_schedule(alloc, &spec, TWO_DEPOSITS) else {
         panic!(&rt; "no schedule");
     };
-    let spec = &spec;
-    let world = &schedule.world;
-    let guard = Evaluated { alloc, spec, world };
-    let native = Native::new(spec, world, NoMemory {}, guard);
-    assert!(&rt; lacks_memory(&rt, alloc, native, &schedule));
+    let lacks = effect_lacks(&rt, alloc, &spec, &schedule);
+    drop(schedule);
+    drop(spec);
+    assert!(&rt; lacks);
 }
 
 #[test]
@@ -48,9 +72,8 @@ fn the_guard_is_asked(rt: HostRuntime) {
     let Ok(schedule) = read_schedule(alloc, &spec, TWO_DEPOSITS) else {
         panic!(&rt; "no schedule");
     };
-    let spec = &spec;
-    let world = &schedule.world;
-    let effect = Evaluated { alloc, spec, world };
-    let native = Native::new(spec, world, effect, NoMemory {});
-    assert!(&rt; lacks_memory(&rt, alloc, native, &schedule));
+    let lacks = guard_lacks(&rt, alloc, &spec, &schedule);
+    drop(schedule);
+    drop(spec);
+    assert!(&rt; lacks);
 }

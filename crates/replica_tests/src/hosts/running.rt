@@ -36,14 +36,15 @@ fn report_of<'a, E: Effect, G: Guard>(
     requires some { 1 ≤ schedule.now.replicas }
 {
     let mut host = Host::new(alloc, native, schedule.replicas).expect(rt, "memory");
-    replay_by(
+    let report = replay_by(
         alloc,
         spec,
         &mut host,
         schedule.replicas,
         schedule.steps.as_slice(),
-    )
-    .expect(rt, "memory")
+    );
+    drop(host);
+    report.expect(rt, "memory")
 }
 
 /// A specification in a world, with code that evaluates it.
@@ -67,5 +68,8 @@ pub fn hosted(rt: &impl Abort, alloc: Global, text: &[u8]) -> Answer {
         panic!(rt; "no schedule");
     };
     let native = evaluating(alloc, &spec, &schedule.world);
-    report_of(rt, alloc, &spec, native, &schedule)
+    let report = report_of(rt, alloc, &spec, native, &schedule);
+    drop(schedule);
+    drop(spec);
+    report
 }

@@ -2,11 +2,19 @@
 
 use crate::hosts::bank::{TAKEN_TOO_EARLY, TWO_DEPOSITS, TWO_WITHDRAWALS};
 use crate::hosts::running::hosted;
+use std::alloc::Global;
+use std::process::Abort;
+
+/// A schedule of the bank comes to this status and this text.
+fn check(rt: &impl Abort, alloc: Global, schedule: &[u8], status: u8, text: &[u8]) {
+    let report = hosted(rt, alloc, schedule);
+    let so = report.status == status && report.text.as_slice() == text;
+    drop(report);
+    assert!(rt; so);
+}
 
 #[test]
 fn a_withdrawal_that_knows_too_little(rt: HostRuntime) {
-    let report = hosted(&rt, rt.alloc(), TWO_WITHDRAWALS);
-    assert!(&rt; report.status == 4);
     let text = b"cise replay 1
 step 0 replica 0 call 0
 step 1 replica 1 take 0
@@ -17,13 +25,11 @@ count balance 0 40
 replica 1 taken 1
 count balance 0 100
 ";
-    assert!(&rt; report.text.as_slice() == text.as_slice());
+    check(&rt, rt.alloc(), TWO_WITHDRAWALS, 4, text);
 }
 
 #[test]
 fn two_deposits_in_two_orders(rt: HostRuntime) {
-    let report = hosted(&rt, rt.alloc(), TWO_DEPOSITS);
-    assert!(&rt; report.status == 0);
     let text = b"cise replay 1
 step 0 replica 0 call 0
 step 1 replica 1 call 1
@@ -38,13 +44,11 @@ count balance 0 5
 count balance 1 7
 replica 2 taken 0
 ";
-    assert!(&rt; report.text.as_slice() == text.as_slice());
+    check(&rt, rt.alloc(), TWO_DEPOSITS, 0, text);
 }
 
 #[test]
 fn an_event_before_what_it_has_seen(rt: HostRuntime) {
-    let report = hosted(&rt, rt.alloc(), TAKEN_TOO_EARLY);
-    assert!(&rt; report.status == 4);
     let text = b"cise replay 1
 step 0 replica 0 call 0
 step 1 replica 1 call 1
@@ -60,5 +64,5 @@ count balance 0 2
 count balance 1 7
 replica 2 taken 0
 ";
-    assert!(&rt; report.text.as_slice() == text.as_slice());
+    check(&rt, rt.alloc(), TAKEN_TOO_EARLY, 4, text);
 }

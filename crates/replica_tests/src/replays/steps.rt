@@ -99,6 +99,24 @@ static STEPS: [(StepOutline, Answer); 20] = [
     (StepOutline::Take(0, 5), Answer::Event(5)),
 ];
 
+fn check_steps(rt: &impl Abort, alloc: Global, replay: &mut Replay) {
+    for (place, (outline, want)) in STEPS.iter().enumerate() {
+        let found = tell(rt, alloc, replay, outline);
+        assert!(rt; found == *want, "at step {place}");
+    }
+}
+
+/// What is in stock at both replicas after the steps, and what the second has seen.
+fn check_end(rt: &impl Abort, replay: &Replay) {
+    assert!(rt; replay.replica_count() == 2);
+    let stocks = (
+        replay.state_of(0).count(0, &[]),
+        replay.state_of(1).count(0, &[]),
+    );
+    let seen = replay.seen_by(1) == [0, 1, 5].as_slice();
+    assert!(rt; stocks == (1, 4) && seen);
+}
+
 #[test]
 fn each_step_is_accepted_or_refused_for_its_first_cause(rt: HostRuntime) {
     let alloc = rt.alloc();
@@ -109,17 +127,8 @@ fn each_step_is_accepted_or_refused_for_its_first_cause(rt: HostRuntime) {
     };
     assert!(rt; world.fits(&spec));
     let mut replay = Replay::new(alloc, &spec, world, 2).expect(&rt, "memory");
-    for (place, (outline, want)) in STEPS.iter().enumerate() {
-        let found = tell(&rt, alloc, &mut replay, outline);
-        assert!(rt; found == *want, "at step {place}");
-    }
-    assert!(rt; replay.replica_count() == 2);
-    let stocks = (
-        replay.state_of(0).count(0, &[]),
-        replay.state_of(1).count(0, &[]),
-    );
-    let seen = replay.seen_by(1) == [0, 1, 5].as_slice();
+    check_steps(&rt, alloc, &mut replay);
+    check_end(&rt, &replay);
     drop(replay);
     drop(spec);
-    assert!(rt; stocks == (1, 4) && seen);
 }

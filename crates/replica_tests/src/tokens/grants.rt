@@ -2,7 +2,7 @@
 
 use crate::tokens::examples::purses;
 use crate::tokens::setting::{is_id, items, spec};
-use spec_core::{Call, World};
+use spec_core::{Call, Spec, World};
 use std::alloc::Global;
 use std::process::Abort;
 use token_core::Manager;
@@ -54,6 +54,34 @@ fn request(rt: &impl Abort, alloc: Global, replica: u32, turn: u32, account: i64
     }
 }
 
+/// Whether the manager grants a request as it is to.
+fn is_granted(
+    rt: &impl Abort,
+    alloc: Global,
+    spec: &Spec,
+    world: &World,
+    manager: &mut Manager,
+    asked: &Asked,
+) -> bool {
+    let (replica, turn, account, wanted) = asked;
+    let request = request(rt, alloc, *replica, *turn, *account);
+    let message = manager.ask(spec, world, &request);
+    drop(request);
+    let message = message.expect(rt, "memory");
+    let so = is_grant(&message, *replica, *turn, wanted);
+    drop(message);
+    so
+}
+
+fn check_requests(rt: &impl Abort, alloc: Global, spec: &Spec, world: &World) {
+    let mut manager = Manager::new(alloc);
+    for asked in REQUESTS {
+        let so = is_granted(rt, alloc, spec, world, &mut manager, asked);
+        assert!(rt; so, "the grant of {} {}", asked.0, asked.1);
+    }
+    drop(manager);
+}
+
 #[test]
 fn the_manager_names_what_was_granted_before(rt: HostRuntime) {
     let alloc = rt.alloc();
@@ -62,17 +90,7 @@ fn the_manager_names_what_was_granted_before(rt: HostRuntime) {
         sizes: items(&rt, alloc, &[2]),
         consts: items(&rt, alloc, &[]),
     };
-    let mut manager = Manager::new(alloc);
-    for (replica, turn, account, wanted) in REQUESTS {
-        let request = request(&rt, alloc, *replica, *turn, *account);
-        let message = manager.ask(&spec, &world, &request);
-        drop(request);
-        let message = message.expect(&rt, "memory");
-        let so = is_grant(&message, *replica, *turn, wanted);
-        drop(message);
-        assert!(&rt; so, "the grant of {replica} {turn}");
-    }
-    drop(manager);
+    check_requests(&rt, alloc, &spec, &world);
     drop(spec);
     drop(world);
 }

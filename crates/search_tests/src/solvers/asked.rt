@@ -70,7 +70,9 @@ pub fn row_with(alloc: Global, terms: &[RowTerm], bound: i128) -> Result<Row, Al
 /// The row of a line.
 pub fn row(alloc: Global, line: &Line) -> Result<Row, AllocError> {
     let terms = terms_of(alloc, line.0)?;
-    row_with(alloc, terms.as_slice(), line.1)
+    let row = row_with(alloc, terms.as_slice(), line.1);
+    drop(terms);
+    row
 }
 
 /// The rows of lines.
@@ -117,7 +119,18 @@ fn in_short(answer: &TheoryAnswer) -> Told {
     }
 }
 
-/// Whether the elimination solver refutes the rows of lines by these used rows and these steps.
+// Whether the elimination solver refutes rows by these used rows and these steps.
+fn refutes_rows(alloc: Global, rows: &[Row], ints: u32, used: &[u32], steps: &[RowStep]) -> bool {
+    if !all_within(rows, ints) {
+        return false;
+    }
+    let answer = Eliminator::new().check(alloc, rows, ints);
+    let refuted = is_conflict_by(&answer, used, steps);
+    drop(answer);
+    refuted
+}
+
+/// The same of the rows of lines.
 pub fn refutes_by(
     alloc: Global,
     lines: &[Line],
@@ -126,11 +139,12 @@ pub fn refutes_by(
     steps: &[RowStep],
 ) -> bool {
     match rows_of(alloc, lines) {
-        Ok(rows) if all_within(rows.as_slice(), ints) => {
-            let answer = Eliminator::new().check(alloc, rows.as_slice(), ints);
-            is_conflict_by(&answer, used, steps)
+        Ok(rows) => {
+            let refuted = refutes_rows(alloc, rows.as_slice(), ints, used, steps);
+            drop(rows);
+            refuted
         }
-        _ => false,
+        Err(_) => false,
     }
 }
 
@@ -152,13 +166,19 @@ pub fn ask<T: Theory>(theory: &mut T, alloc: Global, rows: &[Row], ints: u32) ->
         return Told::Nothing;
     }
     let answer = theory.check(alloc, rows, ints);
-    in_short(&answer)
+    let told = in_short(&answer);
+    drop(answer);
+    told
 }
 
 /// What the elimination solver says of the rows of lines.
 pub fn tell(alloc: Global, lines: &[Line], ints: u32) -> Told {
     match rows_of(alloc, lines) {
-        Ok(rows) => ask(&mut Eliminator::new(), alloc, rows.as_slice(), ints),
+        Ok(rows) => {
+            let told = ask(&mut Eliminator::new(), alloc, rows.as_slice(), ints);
+            drop(rows);
+            told
+        }
         Err(_) => Told::Nothing,
     }
 }

@@ -35,13 +35,19 @@ pub fn say(alloc: Global, rows: &[Row], ints: u32) -> Said {
         return Said::Nothing;
     }
     let answer = DiffBounds::new().check(alloc, rows, ints);
-    in_short(&answer)
+    let said = in_short(&answer);
+    drop(answer);
+    said
 }
 
 /// What the solver says of the rows of lines.
 pub fn say_lines(alloc: Global, lines: &[Line], ints: u32) -> Said {
     match rows_of(alloc, lines) {
-        Ok(rows) => say(alloc, rows.as_slice(), ints),
+        Ok(rows) => {
+            let said = say(alloc, rows.as_slice(), ints);
+            drop(rows);
+            said
+        }
         Err(_) => Said::Nothing,
     }
 }
@@ -74,7 +80,11 @@ fn round(alloc: Global) -> Result<Vec<Row>, AllocError> {
 /// What the solver says of a thousand rows that go round.
 pub fn say_round(alloc: Global) -> Said {
     match round(alloc) {
-        Ok(rows) => say(alloc, rows.as_slice(), 1000),
+        Ok(rows) => {
+            let said = say(alloc, rows.as_slice(), 1000);
+            drop(rows);
+            said
+        }
         Err(_) => Said::Nothing,
     }
 }

@@ -44,24 +44,35 @@ fn atoms_of(alloc: Global, lines: &[Line]) -> Result<Items<AtomKind>, AllocError
 }
 
 fn problem_of(alloc: Global, lines: &[Line], ints: u32) -> Result<Option<Problem>, AllocError> {
-    match (atoms_of(alloc, lines), clauses_of(alloc, lines)) {
-        (Ok(atoms), Ok(clauses)) => Ok(Problem::new(atoms, ints, clauses)),
-        _ => Err(AllocError),
+    let atoms = atoms_of(alloc, lines)?;
+    match clauses_of(alloc, lines) {
+        Ok(clauses) => Ok(Problem::new(atoms, ints, clauses)),
+        Err(error) => {
+            drop(atoms);
+            Err(error)
+        }
     }
 }
 
 fn search(alloc: Global, problem: &Problem) -> Found {
-    match solve_plain(alloc, problem, &mut Eliminator::new(), 1000) {
+    let answer = solve_plain(alloc, problem, &mut Eliminator::new(), 1000);
+    let found = match &answer {
         Answer::Unsat(_) => Found::Unsat,
         Answer::Sat(_) => Found::Sat,
         _ => Found::Nothing,
-    }
+    };
+    drop(answer);
+    found
 }
 
 /// What the search, with the elimination solver, says of the rows of lines.
 pub fn find(alloc: Global, lines: &[Line], ints: u32) -> Found {
     match problem_of(alloc, lines, ints) {
-        Ok(Some(problem)) => search(alloc, &problem),
+        Ok(Some(problem)) => {
+            let found = search(alloc, &problem);
+            drop(problem);
+            found
+        }
         _ => Found::Nothing,
     }
 }

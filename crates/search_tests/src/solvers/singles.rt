@@ -103,7 +103,11 @@ fn opposite(coefs: &[i128; 3]) -> [i128; 3] {
 
 fn tell_family(alloc: Global) -> Told {
     match family(alloc) {
-        Ok(rows) => ask(&mut Eliminator::new(), alloc, rows.as_slice(), 3),
+        Ok(rows) => {
+            let told = ask(&mut Eliminator::new(), alloc, rows.as_slice(), 3);
+            drop(rows);
+            told
+        }
         Err(_) => Told::Nothing,
     }
 }

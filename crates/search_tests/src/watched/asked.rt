@@ -48,8 +48,10 @@ pub fn said_by_watching(alloc: Global, problem: &Problem, budget: u32) -> Said {
 pub fn both_say(alloc: Global, text: &str, what: Said) -> bool {
     match problem(alloc, text) {
         Ok(Some(problem)) => {
-            said_plainly(alloc, &problem, 1000) == what
-                && said_by_watching(alloc, &problem, 1000) == what
+            let same = said_plainly(alloc, &problem, 1000) == what
+                && said_by_watching(alloc, &problem, 1000) == what;
+            drop(problem);
+            same
         }
         _ => false,
     }

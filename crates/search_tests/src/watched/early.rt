@@ -17,10 +17,14 @@ const FAR: &str = "3 1:-1 <= -1000000000000001;1;2 3;2 -3;-2 3;-2 -3";
 // What both searches say of the circle with a budget of lines, the one on watched literals first.
 fn said_of_the_circle(alloc: Global, budget: u32) -> Option<(Said, Said)> {
     match problem(alloc, CIRCLE) {
-        Ok(Some(problem)) => Some((
-            said_by_watching(alloc, &problem, budget),
-            said_plainly(alloc, &problem, budget),
-        )),
+        Ok(Some(problem)) => {
+            let said = (
+                said_by_watching(alloc, &problem, budget),
+                said_plainly(alloc, &problem, budget),
+            );
+            drop(problem);
+            Some(said)
+        }
         _ => None,
     }
 }

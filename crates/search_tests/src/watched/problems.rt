@@ -66,7 +66,9 @@ fn row(alloc: Global, words: &str, bound: &str) -> Result<Row, AllocError> {
         return Err(AllocError);
     };
     let terms = terms(alloc, words)?;
-    row_with(alloc, terms.as_slice(), bound)
+    let row = row_with(alloc, terms.as_slice(), bound);
+    drop(terms);
+    row
 }
 
 fn kinds(alloc: Global, atoms: usize, parts: &str) -> Result<Items<AtomKind>, AllocError> {
@@ -109,11 +111,12 @@ pub fn problem(alloc: Global, text: &str) -> Result<Option<Problem>, AllocError>
     let Some((atoms, ints)) = counts.split_once(' ') else {
         return Ok(None);
     };
-    match (
-        kinds(alloc, count(atoms) as usize, parts),
-        clauses(alloc, parts),
-    ) {
-        (Ok(kinds), Ok(clauses)) => Ok(Problem::new(kinds, count(ints), clauses)),
-        _ => Err(AllocError),
+    let kinds = kinds(alloc, count(atoms) as usize, parts)?;
+    match clauses(alloc, parts) {
+        Ok(clauses) => Ok(Problem::new(kinds, count(ints), clauses)),
+        Err(error) => {
+            drop(kinds);
+            Err(error)
+        }
     }
 }
