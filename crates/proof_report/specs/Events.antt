@@ -24,21 +24,27 @@ use Rattle.proof_report.specs.Verdicts.{VerdictForm, proved, refuted, instances,
 
 -- ---- how many verdicts of each kind there are
 
+-- how many verdicts there are
 abbrev pub told : Tally → ℕ
 told t = t.proved + (t.refuted + t.undecided)
 
+-- none so far
 abbrev pub no_verdicts : Tally
 no_verdicts = record { proved = 0; refuted = 0; undecided = 0 }
 
+-- one more that is proved
 abbrev pub with_proved : Tally → Tally
 with_proved t = record { proved = suc t.proved; refuted = t.refuted; undecided = t.undecided }
 
+-- one more that is refuted
 abbrev pub with_refuted : Tally → Tally
 with_refuted t = record { proved = t.proved; refuted = suc t.refuted; undecided = t.undecided }
 
+-- one more that is undecided
 abbrev pub with_undecided : Tally → Tally
 with_undecided t = record { proved = t.proved; refuted = t.refuted; undecided = suc t.undecided }
 
+-- one more of this kind
 abbrev pub with_verdict : VerdictForm → Tally → Tally
 with_verdict (proved log) t = with_proved t
 with_verdict (refuted p es) t = with_refuted t
@@ -53,34 +59,42 @@ outcome_of t = if nat_lt 0 t.refuted then outcomes.Rejected else (if nat_lt 0 t.
 
 -- ---- the lines of a block, before those behind it
 
+-- the lines of a log, and what follows them
 abbrev pub log_lines : List Line → List Event → List Event
 log_lines [] es = es
 log_lines (l ∷ ls) es = events.Log l ∷ log_lines ls es
 
+-- the sizes of the sorts from one on
 abbrev pub size_lines : ℕ → List ℕ → List Event → List Event
 size_lines i [] es = es
 size_lines i (n ∷ ns) es = events.Size i n ∷ size_lines (suc i) ns es
 
+-- the elements of the constants from one on
 abbrev pub const_lines : ℕ → List ℕ → List Event → List Event
 const_lines j [] es = es
 const_lines j (x ∷ xs) es = events.Const j x ∷ const_lines (suc j) xs es
 
+-- the tuples that are true
 abbrev pub fact_lines : List Fact → List Event → List Event
 fact_lines [] es = es
 fact_lines (f ∷ fs) es = events.Shown (shown.Fact f) ∷ fact_lines fs es
 
+-- the values that aren't 0
 abbrev pub reading_lines : List Reading → List Event → List Event
 reading_lines [] es = es
 reading_lines (r ∷ rs) es = events.Shown (shown.Reading r) ∷ reading_lines rs es
 
+-- the calls
 abbrev pub call_lines : List Call → List Event → List Event
 call_lines [] es = es
 call_lines (c ∷ cs) es = events.Shown (shown.Call c) ∷ call_lines cs es
 
+-- a witness: its world, what is true, the values, the calls, and the elements
 abbrev pub witness_lines : PartialWitness → List ℕ → List Event → List Event
 witness_lines p xs es =
     size_lines 0 p.world.sizes (const_lines 0 p.world.consts (fact_lines p.facts (reading_lines p.readings (call_lines p.calls (events.Shown (shown.At xs) ∷ es)))))
 
+-- a verdict: its word, and what shows it
 abbrev pub verdict_lines : VerdictForm → List Event → List Event
 verdict_lines (proved log) es = events.Begin (word.Proved (length log)) ∷ log_lines log es
 verdict_lines (refuted p xs) es = events.Begin word.Refuted ∷ witness_lines p xs es
@@ -102,6 +116,7 @@ report_lines d r = events.Title r.version ∷ events.Budget r.budget ∷ events.
 
 -- ---- their words
 
+-- the words of a line of a witness
 abbrev pub shown_words : Specification → Shown → List (List ℕ)
 shown_words d (shown.Fact f) = codes "true" ∷ get_or (relation_names d) f.relation [] ∷ map decimal f.tuple
 shown_words d (shown.Reading r) = codes "count" ∷ get_or (counter_names d) r.counter [] ∷ (map decimal r.key ++ signed_decimal r.value ∷ [])

@@ -40,94 +40,120 @@ use Rattle.proof_report.specs.Events.{told, no_verdicts, with_proved, with_refut
 
 -- ---- what may be said in a line of one kind
 
+-- the version, where the line is the title
 abbrev pub from_title : Event → Option ℕ
 from_title (events.Title v) = Some v
 from_title _ = None
 
+-- the budget, where it is stated
 abbrev pub from_budget : Event → Option ℕ
 from_budget (events.Budget n) = Some n
 from_budget _ = None
 
+-- the number of obligations, where it is stated
 abbrev pub from_count : Event → Option ℕ
 from_count (events.Count n) = Some n
 from_count _ = None
 
+-- whether a block of this obligation begins
 abbrev pub from_opened : ℕ → Event → Option (Unit {0})
 from_opened i (events.Opened j) = if j == i then Some tt else None
 from_opened i _ = None
 
+-- the word of the verdict, where one begins
 abbrev pub from_begin : Event → Option VerdictWord
 from_begin (events.Begin b) = Some b
 from_begin _ = None
 
+-- the line of a log
 abbrev pub from_log : Event → Option Line
 from_log (events.Log l) = Some l
 from_log _ = None
 
+-- the size of this sort, where it is shown
 abbrev pub from_size : ℕ → Event → Option ℕ
 from_size i (events.Size j n) = if j == i then Some n else None
 from_size i _ = None
 
+-- the element of this constant, where it is shown
 abbrev pub from_const : ℕ → Event → Option ℕ
 from_const i (events.Const j e) = if j == i then Some e else None
 from_const i _ = None
 
+-- what a witness shows after its world
 abbrev pub from_shown : Event → Option Shown
 from_shown (events.Shown s) = Some s
 from_shown _ = None
 
+-- the evidence of too many rows
 abbrev pub from_rows : Event → Option RowsLine
 from_rows (events.Rows r) = Some r
 from_rows _ = None
 
+-- the evidence of a number beyond its range
 abbrev pub from_range : Event → Option RangeLine
 from_range (events.Range r) = Some r
 from_range _ = None
 
+-- the counts of the summary
 abbrev pub from_summary : Event → Option Tally
 from_summary (events.Summary t) = Some t
 from_summary _ = None
 
+-- the last word
 abbrev pub from_last : Event → Option Outcome
 from_last (events.Last o) = Some o
 from_last _ = None
 
+-- the title
 abbrev pub title_line : Format Event
 title_line = case (record { to = events.Title; from = from_title }) title_format
 
+-- the line of the budget
 abbrev pub budget_line : Format Event
 budget_line = case (record { to = events.Budget; from = from_budget }) budget_format
 
+-- the line of the number of obligations
 abbrev pub count_line : Format Event
 count_line = case (record { to = events.Count; from = from_count }) obligations_format
 
+-- the first line of the block of this obligation
 abbrev pub opened_line : Specification → ℕ → Format Event
 opened_line d i = case (record { to = λ u. events.Opened i; from = from_opened i }) (obligation_format d (obligation_at d i))
 
+-- the line of a verdict
 abbrev pub begin_line : Format Event
 begin_line = case (record { to = events.Begin; from = from_begin }) verdict_format
 
+-- a line of a log, where clauses may be dropped or not
 abbrev pub log_line : Bool → Format Event
 log_line drops = case (record { to = events.Log; from = from_log }) (log_format drops)
 
+-- the line of this sort's size
 abbrev pub size_line : Specification → ℕ → Format Event
 size_line d i = case (record { to = events.Size i; from = from_size i }) (size_format (get_or d.sorts i []))
 
+-- the line of this constant's element
 abbrev pub const_line : Specification → World → ℕ → Format Event
 const_line d w j = case (record { to = events.Const j; from = from_const j }) (const_format (const_at d j).name (size_of w (const_at d j).sort))
 
+-- a line of a witness after its world, from where on things may come
 abbrev pub shown_line : Specification → World → Due → Format Event
 shown_line d w due = case (record { to = events.Shown; from = from_shown }) (shown_format d w due)
 
+-- the line of the evidence of rows
 abbrev pub rows_line : Format Event
 rows_line = case (record { to = events.Rows; from = from_rows }) rows_format
 
+-- the line of the evidence of a range
 abbrev pub range_line : Format Event
 range_line = case (record { to = events.Range; from = from_range }) range_format
 
+-- the summary
 abbrev pub summary_line : Format Event
 summary_line = case (record { to = events.Summary; from = from_summary }) summary_format
 
+-- the last line
 abbrev pub last_line : Format Event
 last_line = case (record { to = events.Last; from = from_last }) outcome_format
 
@@ -144,6 +170,7 @@ last_of [] = None
 last_of (x ∷ []) = Some x
 last_of (x ∷ y ∷ xs) = last_of (y ∷ xs)
 
+-- whether a line of this log may drop clauses: in version 2, in logs that prove
 abbrev pub drops_in : ℕ → LogOf → Bool
 drops_in version log_of.Proved = may_drop version
 drops_in version log_of.Lines = false
@@ -154,12 +181,15 @@ drops_in version log_of.Range = false
 abbrev pub due_facts : Specification → Obligation → PartialWitness → Due
 due_facts d ob p = record { relation = relation_due (last_of p.facts); counter = counter_due (last_of p.readings); elements = element_count d ob }
 
+-- before its first call, where values were shown
 abbrev pub due_readings : Specification → Obligation → PartialWitness → Due
 due_readings d ob p = record { relation = length d.relations; counter = counter_due (last_of p.readings); elements = element_count d ob }
 
+-- where calls were shown
 abbrev pub due_calls : Specification → Obligation → Due
 due_calls d ob = record { relation = length d.relations; counter = length d.counters; elements = element_count d ob }
 
+-- The format of the line that may come at a place. None may come after the last.
 abbrev pub place_line : Specification → ℕ → Tally → Place → Format Event
 place_line d version t places.Title = title_line
 place_line d version t places.Budget = budget_line
@@ -178,20 +208,24 @@ place_line d version t (places.Showing stages.Calls p) = shown_line d p.world (d
 place_line d version t places.Last = last_line
 place_line d version t places.Over = none
 
+-- the same of a state
 abbrev pub line_at : Specification → State → Format Event
 line_at d s = place_line d s.version s.tally s.place
 
 -- ---- what it must say
 
+-- the same counts
 abbrev pub same_tally : Tally → Tally → Bool
 same_tally t u = (t.proved == u.proved) && ((t.refuted == u.refuted) && (t.undecided == u.undecided))
 
+-- the same last word
 abbrev pub same_outcome : Outcome → Outcome → Bool
 same_outcome outcomes.Accepted outcomes.Accepted = true
 same_outcome outcomes.Rejected outcomes.Rejected = true
 same_outcome outcomes.Undecided outcomes.Undecided = true
 same_outcome _ _ = false
 
+-- the next call, while calls are left, and then the elements
 abbrev pub call_or_end : Obligation → PartialWitness → Shown → Bool
 call_or_end ob p (shown.Fact f) = false
 call_or_end ob p (shown.Reading r) = false
@@ -208,6 +242,7 @@ may_show ob (places.Showing stages.Readings p) s = call_or_end ob p s
 may_show ob (places.Showing stages.Calls p) s = call_or_end ob p s
 may_show ob _ s = false
 
+-- What a line says is true at its place: numbers are those that are due, and the summary counts the verdicts.
 abbrev pub says : Specification → State → Event → Bool
 says d s (events.Count n) = n == obligation_count d
 says d s (events.Size i n) = nat_lt i (length d.sorts)
@@ -219,9 +254,11 @@ says d s _ = true
 
 -- ---- the place behind it
 
+-- the state at another place
 abbrev pub put_at : State → Place → State
 put_at s p = record { version = s.version; place = p; tally = s.tally }
 
+-- the state between two blocks
 abbrev pub closed : ℕ → Tally → State
 closed version t = record { version = version; place = places.Due; tally = t }
 
@@ -237,6 +274,7 @@ abbrev pub log_left : LogOf → ℕ → ℕ → Tally → State
 log_left k zero version t = log_ended k version t
 log_left k (suc n) version t = record { version = version; place = places.Log k (suc n); tally = t }
 
+-- a witness of this world that shows nothing yet
 abbrev pub no_witness : World → PartialWitness
 no_witness w = record { world = w; facts = []; readings = []; calls = [] }
 
@@ -244,12 +282,15 @@ no_witness w = record { world = w; facts = []; readings = []; calls = [] }
 abbrev pub at_consts : Specification → World → Place
 at_consts d w = if length w.consts == length d.consts then places.Showing stages.Facts (no_witness w) else places.Consts w
 
+-- where the world has its sizes, if all were shown
 abbrev pub at_sizes : Specification → World → Place
 at_sizes d w = if length w.sizes == length d.sorts then at_consts d w else places.Sizes w
 
+-- the world of which nothing was shown
 abbrev pub no_world : World
 no_world = record { sizes = []; consts = [] }
 
+-- the state after the line of a verdict
 abbrev pub begun : Specification → VerdictWord → ℕ → Tally → State
 begun d (word.Proved n) version t = log_left log_of.Proved n version t
 begun d word.Refuted version t = record { version = version; place = at_sizes d no_world; tally = t }
@@ -258,30 +299,38 @@ begun d (word.Lines n) version t = log_left log_of.Lines n version t
 begun d (word.Rows n) version t = log_left log_of.Rows n version t
 begun d (word.Range n) version t = log_left log_of.Range n version t
 
+-- the state after a line of a log
 abbrev pub one_less : Place → ℕ → Tally → State
 one_less (places.Log k (suc n)) version t = log_left k n version t
 one_less p version t = record { version = version; place = p; tally = t }
 
+-- the world with the size of one more sort
 abbrev pub with_size : ℕ → World → World
 with_size n w = record { sizes = w.sizes ++ n ∷ []; consts = w.consts }
 
+-- the world with the element of one more constant
 abbrev pub with_const : ℕ → World → World
 with_const e w = record { sizes = w.sizes; consts = w.consts ++ e ∷ [] }
 
+-- the place after a size
 abbrev pub sized : Specification → ℕ → Place → Place
 sized d n (places.Sizes w) = at_sizes d (with_size n w)
 sized d n p = p
 
+-- the place after an element
 abbrev pub named : Specification → ℕ → Place → Place
 named d e (places.Consts w) = at_consts d (with_const e w)
 named d e p = p
 
+-- what was shown, with one more tuple
 abbrev pub with_fact : Fact → PartialWitness → PartialWitness
 with_fact f p = record { world = p.world; facts = p.facts ++ f ∷ []; readings = p.readings; calls = p.calls }
 
+-- with one more value
 abbrev pub with_reading : Reading → PartialWitness → PartialWitness
 with_reading r p = record { world = p.world; facts = p.facts; readings = p.readings ++ r ∷ []; calls = p.calls }
 
+-- with one more call
 abbrev pub with_call : Call → PartialWitness → PartialWitness
 with_call c p = record { world = p.world; facts = p.facts; readings = p.readings; calls = p.calls ++ c ∷ [] }
 
@@ -290,25 +339,30 @@ abbrev pub shown_at : Place → PartialWitness
 shown_at (places.Showing stage p) = p
 shown_at _ = no_witness no_world
 
+-- the place after a tuple
 abbrev pub fact_at : Fact → Place → Place
 fact_at f (places.Showing stages.Facts p) = places.Showing stages.Facts (with_fact f p)
 fact_at f p = p
 
+-- the place after a value, after which no tuple comes
 abbrev pub reading_at : Reading → Place → Place
 reading_at r (places.Showing stages.Facts p) = places.Showing stages.Readings (with_reading r p)
 reading_at r (places.Showing stages.Readings p) = places.Showing stages.Readings (with_reading r p)
 reading_at r p = p
 
+-- the place after a call, after which no value comes
 abbrev pub call_at : Call → Place → Place
 call_at c (places.Showing stage p) = places.Showing stages.Calls (with_call c p)
 call_at c p = p
 
+-- The state after a line of a witness. The elements end it.
 abbrev pub showed : Shown → State → State
 showed (shown.Fact f) s = put_at s (fact_at f s.place)
 showed (shown.Reading r) s = put_at s (reading_at r s.place)
 showed (shown.Call c) s = put_at s (call_at c s.place)
 showed (shown.At es) s = closed s.version (with_refuted s.tally)
 
+-- The state after a line that says this.
 abbrev pub after : Specification → State → Event → State
 after d s (events.Title v) = record { version = v; place = places.Budget; tally = s.tally }
 after d s (events.Budget n) = put_at s places.Count
@@ -331,6 +385,7 @@ abbrev pub unread_due : Bool → ReportKind
 unread_due true = kinds.Form
 unread_due false = kinds.Obligation
 
+-- the same of a place
 abbrev pub unread : Specification → Tally → Place → ReportKind
 unread d t places.Due = unread_due (told t == obligation_count d)
 unread d t _ = kinds.Form
@@ -342,6 +397,7 @@ untrue (events.Summary t) = kinds.Summary
 untrue (events.Last o) = kinds.Summary
 untrue _ = kinds.Form
 
+-- what was read, where it is true, with the state after it
 abbrev pub judged : Specification → State → Option Event → Result (Event × State) ReportKind
 judged d s None = Err (unread d s.tally s.place)
 judged d s (Some e) = if says d s e then Ok (e, after d s e) else Err (untrue e)
@@ -350,15 +406,18 @@ judged d s (Some e) = if says d s e then Ok (e, after d s e) else Err (untrue e)
 abbrev pub fed : Specification → State → List (List ℕ) → Result (Event × State) ReportKind
 fed d s words = judged d s (read (line_at d s) words)
 
+-- before the first line
 abbrev pub start : State
 start = record { version = 1; place = places.Title; tally = no_verdicts }
 
+-- whether the report has ended
 abbrev pub is_over : Place → Bool
 is_over places.Over = true
 is_over _ = false
 
 -- ---- many lines
 
+-- goes on with what was read, or stops at the fault
 infixl 10 ◌>>=◌
 abbrev pub ◌>>=◌ : {A B : Type 0} → Result A ReportKind → (A → Result B ReportKind) → Result B ReportKind
 (Ok x) >>= f = f x
@@ -375,6 +434,7 @@ IsFed d lines es = (u : State) × (fed_all d start lines ≡ Ok (es, u)) × (is_
 
 -- ---- the same of what lines say
 
+-- whether something may be said in a state, and is true there
 abbrev pub goes : Specification → State → Event → Bool
 goes d s e = (line_at d s).fits e && says d s e
 

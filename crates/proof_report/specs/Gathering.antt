@@ -31,9 +31,11 @@ pub record Gathered : Type 0 where
   pub range_line : RangeLine
   pub verdicts : List VerdictForm
 
+-- the witness that was gathered
 abbrev pub gathered_witness : Gathered → PartialWitness
 gathered_witness g = record { world = record { sizes = g.sizes; consts = g.consts }; facts = g.facts; readings = g.readings; calls = g.calls }
 
+-- the verdict of this word, with what was gathered
 abbrev pub gathered_verdict : VerdictWord → Gathered → VerdictForm
 gathered_verdict (word.Proved n) g = proved g.log
 gathered_verdict word.Refuted g = refuted (gathered_witness g) g.elements
@@ -42,6 +44,7 @@ gathered_verdict (word.Lines n) g = lines g.log
 gathered_verdict (word.Rows n) g = rows g.log g.rows_line
 gathered_verdict (word.Range n) g = range g.log g.range_line
 
+-- one more line of a witness
 abbrev pub with_shown : Shown → Gathered → Gathered
 with_shown (shown.Fact f) g = record g { facts = f ∷ g.facts }
 with_shown (shown.Reading r) g = record g { readings = r ∷ g.readings }
@@ -61,6 +64,7 @@ with_event (events.Rows r) g = record g { log = []; rows_line = r }
 with_event (events.Range r) g = record g { log = []; range_line = r }
 with_event _ g = g
 
+-- before the first line
 abbrev pub nothing_gathered : Gathered
 nothing_gathered = record {
   version = 0;
@@ -77,6 +81,7 @@ nothing_gathered = record {
   verdicts = [];
 }
 
+-- What lines say, from the last one back to the first.
 abbrev pub gather : List Event → Gathered
 gather [] = nothing_gathered
 gather (e ∷ es) = with_event e (gather es)

@@ -78,6 +78,7 @@ log_end log_of.Proved (suc zero) = Some end_proved
 log_end log_of.Lines (suc zero) = Some end_lines
 log_end _ _ = None
 
+-- the same of a place
 abbrev pub log_end_at : Place → Option EndForm
 log_end_at (places.Log k n) = log_end k n
 log_end_at _ = None
@@ -98,6 +99,7 @@ abbrev pub with_facts : Reads → List Fact → Reads
 with_facts r [] = r
 with_facts r (f ∷ fs) = with_facts (with_has r f.relation f.tuple true) fs
 
+-- readings with these values
 abbrev pub with_readings : Reads → List Reading → Reads
 with_readings r [] = r
 with_readings r (q ∷ qs) = with_readings (with_count r q.counter q.key q.value) qs
@@ -114,6 +116,7 @@ pub record IsShownBy (d : Specification) (p : PartialWitness) (es : List ℕ) (w
   pub calls : w.calls ≡ p.calls
   pub elements : w.elements ≡ es
 
+-- What was told of the end of a block is what ended there.
 abbrev pub IsEnd : Specification → Option EndForm → Option Ended → Type 0
 IsEnd d None None = Unit {0}
 IsEnd d (Some end_proved) (Some ended.Proved) = Unit {0}
@@ -132,9 +135,11 @@ pub record Tells (d : Specification) (s : State) (e : Event) (f : Fed) : Type 0 
 
 -- ---- what is kept
 
+-- a tuple fits the world
 abbrev pub fact_fits : Specification → World → Fact → Bool
 fact_fits d w f = nat_lt f.relation (length d.relations) && fits_places w (relation_places d f.relation) f.tuple
 
+-- so do a key and its value
 abbrev pub reading_fits : Specification → World → Reading → Bool
 reading_fits d w r = nat_lt r.counter (length d.counters) && (fits_places w (counter_keys d r.counter) r.key && in_state_range r.value)
 
@@ -195,14 +200,17 @@ pub record ReaderForm : Type 0 where
   pub budget : Option ℕ
   pub fault : Option Fault
 
+-- the budget, once it was stated
 abbrev pub stated : Option ℕ → Option ℕ → Option ℕ
 stated None before = before
 stated (Some n) before = Some n
 
+-- the reader after a line that was read, or the line's fault
 abbrev pub read_on : ReaderForm → Result (Event × State) ReportKind → Result (Event × ReaderForm) Fault
 read_on r (Ok x) = Ok (x.0, record { spec = r.spec; state = x.1; number = suc r.number; budget = stated (budget_of x.0) r.budget; fault = None })
 read_on r (Err k) = Err (record { number = suc r.number; kind = k })
 
+-- the same of a reader that has met a fault already, which stays
 abbrev pub read_behind : ReaderForm → List (List ℕ) → Option Fault → Result (Event × ReaderForm) Fault
 read_behind r words (Some f) = Err f
 read_behind r words None = read_on r (fed r.spec r.state words)
@@ -223,9 +231,11 @@ end_fault r over (Some f) = Some f
 end_fault r true None = None
 end_fault r false None = Some (record { number = suc r.number; kind = kinds.Form })
 
+-- what is wrong where the lines of a reader end
 abbrev pub fault_at_end : ReaderForm → Option Fault
 fault_at_end r = end_fault r (is_over r.state.place) r.fault
 
+-- What is answered where the lines end. A line's number has at most 32 bits.
 abbrev pub IsFinished : ReaderForm → Result (Unit {0}) ReportRefused → Type 0
 IsFinished r (Ok u) = fault_at_end r ≡ None
 IsFinished r (Err (refused.Line n k)) = fault_at_end r ≡ Some (record { number = n; kind = k })

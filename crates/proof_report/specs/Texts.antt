@@ -37,10 +37,12 @@ abbrev pub sizes_text : Specification → ℕ → List ℕ → List ℕ
 sizes_text d i [] = []
 sizes_text d i (n ∷ ns) = line_text ((size_format (get_or d.sorts i [])).put n) ++ sizes_text d (suc i) ns
 
+-- the elements of the constants from one on
 abbrev pub consts_text : Specification → ℕ → List ℕ → List ℕ
 consts_text d j [] = []
 consts_text d j (e ∷ es) = line_text (codes "const" ∷ (const_at d j).name ∷ decimal e ∷ []) ++ consts_text d (suc j) es
 
+-- the calls
 abbrev pub calls_text : Specification → List Call → List ℕ
 calls_text d cs = flat_map (λ c. line_text (codes "call" ∷ (call_format d).put c)) cs
 
@@ -58,12 +60,14 @@ rows_text e = line_text (verdict_format.put (word.Rows (length e.log))) ++ (log_
 abbrev pub range_text : RangeEvidence → List ℕ
 range_text e = line_text (verdict_format.put (word.Range (length e.log))) ++ (log_text e.log ++ line_text (range_format.put (record { used = e.used; steps = e.steps; what = e.what })))
 
+-- why an obligation is undecided, with the evidence
 abbrev pub cause_text : Cause → List ℕ
 cause_text causes.Instances = line_text (verdict_format.put word.Instances)
 cause_text (causes.Lines log) = line_text (verdict_format.put (word.Lines (length log))) ++ log_text log
 cause_text (causes.Rows e) = rows_text e
 cause_text (causes.Range e) = range_text e
 
+-- a verdict with what shows it
 abbrev pub verdict_text : Specification → Verdict → List ℕ
 verdict_text d (verdicts.Proved log) = line_text (verdict_format.put (word.Proved (length log))) ++ log_text log
 verdict_text d (verdicts.Refuted w) = line_text (verdict_format.put word.Refuted) ++ witness_text d w
@@ -87,6 +91,7 @@ pub record WitnessFits (d : Specification) (w : Witness) : Type 0 where
   pub state : is_state d w.world w.state ≡ true
   pub calls : list_all (call_fits d w.world) w.calls ≡ true
 
+-- A verdict can stand in a report: the witness, where there is one, fits.
 abbrev pub CanStand : Specification → Verdict → Type 0
 CanStand d (verdicts.Proved log) = Unit {0}
 CanStand d (verdicts.Refuted w) = WitnessFits d w

@@ -36,6 +36,7 @@ pub data VerdictForm : Type 0 where
 
 -- ---- the obligations, in their order
 
+-- how many obligations there are
 abbrev pub obligation_count : Specification → ℕ
 obligation_count d = length (obligations_of d)
 
@@ -57,11 +58,13 @@ element_count d ob = length (elements_of d ob)
 abbrev pub is_log : Bool → List Line → Bool
 is_log drops log = nat_le (length log) most_count && list_all (log_format drops).fits log
 
+-- logs of version 2 may drop clauses
 abbrev pub may_drop : ℕ → Bool
 may_drop version = version == 2
 
 -- ---- witnesses
 
+-- what stands for a constant that isn't there
 abbrev pub no_const : Const
 no_const = record { name = []; sort = 0 }
 
@@ -70,6 +73,7 @@ abbrev pub are_sizes : Specification → ℕ → List ℕ → Bool
 are_sizes d i [] = i == length d.sorts
 are_sizes d i (n ∷ ns) = nat_lt i (length d.sorts) && ((size_format (get_or d.sorts i [])).fits n && are_sizes d (suc i) ns)
 
+-- the constant at a place
 abbrev pub const_at : Specification → ℕ → Const
 const_at d j = get_or d.consts j no_const
 
@@ -82,6 +86,7 @@ are_consts d w j (e ∷ es) = nat_lt j (length d.consts) && ((const_format (cons
 abbrev pub stands_before : ℕ → List ℕ → ℕ → List ℕ → Bool
 stands_before k t j u = is_lt (slice_cmp nat_cmp (k ∷ t) (j ∷ u))
 
+-- a tuple comes after the last one
 abbrev pub fact_behind : Option Fact → Fact → Bool
 fact_behind None g = true
 fact_behind (Some f) g = stands_before f.relation f.tuple g.relation g.tuple
@@ -96,6 +101,7 @@ abbrev pub are_facts : Specification → World → Option Fact → List Fact →
 are_facts d w last [] = true
 are_facts d w last (f ∷ fs) = ((fact_format d w (relation_due last)).fits f && fact_behind last f) && are_facts d w (Some f) fs
 
+-- so a value, by its counter and key
 abbrev pub reading_behind : Option Reading → Reading → Bool
 reading_behind None r = true
 reading_behind (Some q) r = stands_before q.counter q.key r.counter r.key
@@ -115,6 +121,7 @@ abbrev pub are_calls : Specification → Obligation → ℕ → List Call → Bo
 are_calls d ob n [] = n == call_count ob
 are_calls d ob n (c ∷ cs) = ((call_format d).fits c && nat_lt n (call_count ob)) && are_calls d ob (suc n) cs
 
+-- as many elements as the obligation asks for
 abbrev pub are_elements : Specification → Obligation → List ℕ → Bool
 are_elements d ob es = (at_format (element_count d ob)).fits es
 

@@ -14,12 +14,15 @@ use Rattle.report_lines.specs.Fields.{count_format}
 
 -- ---- the obligation
 
+-- the name of an invariant
 abbrev pub invariant_name : Specification → ℕ → List ℕ
 invariant_name d i = (get_or d.invariants i no_invariant).name
 
+-- the name of an operation
 abbrev pub operation_name : Specification → ℕ → List ℕ
 operation_name d o = (op_of d o).name
 
+-- the name of a relation or a counter
 abbrev pub thing_name : Specification → Thing → List ℕ
 thing_name d (thing.Relation k) = (get_or d.relations k no_relation).name
 thing_name d (thing.Counter k) = (get_or d.counters k no_counter).name
@@ -31,6 +34,7 @@ obligation_words d (Safety o i) = codes "safety" ∷ operation_name d o ∷ inva
 obligation_words d (Commute o p x) = codes "commute" ∷ operation_name d o ∷ operation_name d p ∷ thing_name d x ∷ []
 obligation_words d (Stable o l p) = codes "stable" ∷ operation_name d o ∷ decimal (l + 1) ∷ operation_name d p ∷ []
 
+-- the words of this obligation, and no others
 abbrev pub obligation_format : Specification → Obligation → Format (Unit {0})
 obligation_format d ob = these (obligation_words d ob)
 
@@ -43,11 +47,13 @@ to_cause (inr (inl n)) = words.Lines n
 to_cause (inr (inr (inl n))) = words.Rows n
 to_cause (inr (inr (inr n))) = words.Range n
 
+-- a verdict's word of its parts
 abbrev pub to_verdict : ℕ ⊎ (Unit {0} ⊎ (Unit {0} ⊎ (ℕ ⊎ (ℕ ⊎ ℕ)))) → VerdictWord
 to_verdict (inl n) = words.Proved n
 to_verdict (inr (inl u)) = words.Refuted
 to_verdict (inr (inr c)) = to_cause c
 
+-- the parts of a verdict's word
 abbrev pub of_verdict : VerdictWord → ℕ ⊎ (Unit {0} ⊎ (Unit {0} ⊎ (ℕ ⊎ (ℕ ⊎ ℕ))))
 of_verdict (words.Proved n) = inl n
 of_verdict words.Refuted = inr (inl tt)
@@ -56,12 +62,15 @@ of_verdict (words.Lines n) = inr (inr (inr (inl n)))
 of_verdict (words.Rows n) = inr (inr (inr (inr (inl n))))
 of_verdict (words.Range n) = inr (inr (inr (inr (inr n))))
 
+-- the word of a cause, with the number of log lines where there is a log
 abbrev pub cause_words : Format (Unit {0} ⊎ (ℕ ⊎ (ℕ ⊎ ℕ)))
 cause_words = or_else (codes "instances") nothing (or_else (codes "lines") count_format (or_else (codes "rows") count_format (behind (codes "range") count_format)))
 
+-- `undecided` and a cause
 abbrev pub undecided_words : Format (Unit {0} ⊎ (ℕ ⊎ (ℕ ⊎ ℕ)))
 undecided_words = behind (codes "undecided") cause_words
 
+-- the words of a verdict, by the first
 abbrev pub verdict_words : Format (ℕ ⊎ (Unit {0} ⊎ (Unit {0} ⊎ (ℕ ⊎ (ℕ ⊎ ℕ)))))
 verdict_words = or_else (codes "proved") count_format (or_else (codes "refuted") nothing undecided_words)
 

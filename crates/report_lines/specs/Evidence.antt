@@ -13,9 +13,11 @@ use Rattle.report_lines.specs.Logs.{used_words, decision_words}
 
 -- ---- too many rows
 
+-- the evidence of rows of its parts
 abbrev pub to_rows : List Lit × List RowStep → RowsLine
 to_rows x = record { used = x.0; steps = x.1 }
 
+-- and the parts of it
 abbrev pub of_rows : RowsLine → List Lit × List RowStep
 of_rows r = (r.used, r.steps)
 
@@ -33,22 +35,27 @@ product_words = both used_words (both count_format (both count_format count_form
 abbrev pub values_words : Format ((List Lit × List RowStep) × (ℕ × (ℕ × List ℤ)))
 values_words = both used_words decision_words
 
+-- the parts of the evidence of a range, by its first word
 abbrev pub RangeParts : Type 0
 RangeParts = ((List Lit × List RowStep) × (ℕ × (ℕ × ℕ))) ⊎ (((List Lit × List RowStep) × (ℕ × (ℕ × List ℤ))) ⊎ ((List Lit × List RowStep) × (ℕ × (ℕ × List ℤ))))
 
+-- the evidence of these parts
 abbrev pub to_range : RangeParts → RangeLine
 to_range (inl x) = record { used = x.0.0; steps = x.0.1; what = Product x.1.0 x.1.1.0 x.1.1.1 }
 to_range (inr (inl x)) = record { used = x.0.0; steps = x.0.1; what = Value x.1.0 x.1.1.0 x.1.1.1 }
 to_range (inr (inr x)) = record { used = x.0.0; steps = x.0.1; what = Sum x.1.0 x.1.1.0 x.1.1.1 }
 
+-- the parts, by what leaves the range
 abbrev pub of_what : List Lit × List RowStep → RangeWhat → RangeParts
 of_what rows (Product left right place) = inl (rows, (left, (right, place)))
 of_what rows (Value row place values) = inr (inl (rows, (row, (place, values))))
 of_what rows (Sum row place values) = inr (inr (rows, (row, (place, values))))
 
+-- and the parts of the evidence
 abbrev pub of_range : RangeLine → RangeParts
 of_range r = of_what (r.used, r.steps) r.what
 
+-- the words of the evidence of a range
 abbrev pub range_words : Format RangeParts
 range_words = or_else (codes "product") product_words (or_else (codes "value") values_words (behind (codes "sum") values_words))
 

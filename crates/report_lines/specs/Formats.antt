@@ -21,6 +21,7 @@ Read A = Option (A × List (List ℕ))
 abbrev pub mapped : {A B : Type 0} → (A → B) → Read A → Read B
 mapped to r = r >>= λ x. Some (to x.0, x.1)
 
+-- A format: the writer of a value, its reader, and the values that it holds.
 pub record Format (A : Type 0) : Type 0 where
   -- the words of a value
   pub put : A → List (List ℕ)
@@ -35,6 +36,7 @@ pub record Format (A : Type 0) : Type 0 where
 abbrev pub nothing : Format (Unit {0})
 nothing = record { put = λ u. []; get = λ ws. Some (tt, ws); fits = λ u. true }
 
+-- reads this word
 abbrev pub key_at : List ℕ → List (List ℕ) → Read (Unit {0})
 key_at k [] = None
 key_at k (w ∷ ws) = if bytes_eq w k then Some (tt, ws) else None
@@ -79,6 +81,7 @@ chain f g = record {
   fits = λ x. f.fits x.0 && (g x.0).fits x.1;
 }
 
+-- a value, and then another
 abbrev pub both : {A B : Type 0} → Format A → Format B → Format (A × B)
 both f g = chain f (λ a. g)
 
@@ -90,6 +93,7 @@ behind k f = record {
   fits = f.fits;
 }
 
+-- reads these words
 abbrev pub these_at : List (List ℕ) → List (List ℕ) → Read (Unit {0})
 these_at [] ws = Some (tt, ws)
 these_at (k ∷ ks) ws = key_at k ws >>= λ x. these_at ks x.1
@@ -121,10 +125,12 @@ pub record Case (B A : Type 0) : Type 0 where
   pub to : A → B
   pub from : B → Option A
 
+-- the words of a value that is there
 abbrev pub put_some : {A : Type 0} → Format A → Option A → List (List ℕ)
 put_some f None = []
 put_some f (Some a) = f.put a
 
+-- a value is there, and fits
 abbrev pub fits_some : {A : Type 0} → Format A → Option A → Bool
 fits_some f None = false
 fits_some f (Some a) = f.fits a
@@ -143,14 +149,17 @@ none = record { put = λ a. []; get = λ ws. None; fits = λ a. false }
 
 -- ---- one or the other
 
+-- reads the one form where this word stands, and else the other
 abbrev pub or_at : {A B : Type 0} → List ℕ → Format A → Format B → List (List ℕ) → Read (A ⊎ B)
 or_at k f g [] = g.get [] >>= λ x. Some (inr x.0, x.1)
 or_at k f g (w ∷ ws) = if bytes_eq w k then (f.get ws >>= λ x. Some (inl x.0, x.1)) else (g.get (w ∷ ws) >>= λ x. Some (inr x.0, x.1))
 
+-- writes either form
 abbrev pub or_put : {A B : Type 0} → List ℕ → Format A → Format B → A ⊎ B → List (List ℕ)
 or_put k f g (inl a) = k ∷ f.put a
 or_put k f g (inr b) = g.put b
 
+-- either form fits
 abbrev pub or_fits : {A B : Type 0} → Format A → Format B → A ⊎ B → Bool
 or_fits f g (inl a) = f.fits a
 or_fits f g (inr b) = g.fits b
@@ -183,25 +192,30 @@ list_put f [] xs = []
 list_put f (k ∷ ks) [] = []
 list_put f (k ∷ ks) (x ∷ xs) = (f k).put x ++ list_put f ks xs
 
+-- reads one value for each of a list
 abbrev pub list_at : {K A : Type 0} → (K → Format A) → List K → List (List ℕ) → Read (List A)
 list_at f [] ws = Some ([], ws)
 list_at f (k ∷ ks) ws = (f k).get ws >>= λ x. list_at f ks x.1 >>= λ y. Some (x.0 ∷ y.0, y.1)
 
+-- as many values as the list has, each of which fits
 abbrev pub list_fits : {K A : Type 0} → (K → Format A) → List K → List A → Bool
 list_fits f [] [] = true
 list_fits f [] (x ∷ xs) = false
 list_fits f (k ∷ ks) [] = false
 list_fits f (k ∷ ks) (x ∷ xs) = (f k).fits x && list_fits f ks xs
 
+-- one value for each of a list
 abbrev pub each_of : {K A : Type 0} → (K → Format A) → List K → Format (List A)
 each_of f ks = record { put = list_put f ks; get = list_at f ks; fits = list_fits f ks }
 
 -- ---- a line
 
+-- no word is left
 abbrev pub is_empty : List (List ℕ) → Bool
 is_empty [] = true
 is_empty (w ∷ ws) = false
 
+-- the value, where no word is left
 abbrev pub whole_of : {A : Type 0} → Read A → Option A
 whole_of r = r >>= λ x. if is_empty x.1 then Some x.0 else None
 

@@ -27,12 +27,15 @@ obligations_format = behind (codes "obligations") count_format
 abbrev pub to_tally : ℕ × (ℕ × ℕ) → Tally
 to_tally x = record { proved = x.0; refuted = x.1.0; undecided = x.1.1 }
 
+-- the counts as numbers
 abbrev pub of_tally : Tally → ℕ × (ℕ × ℕ)
 of_tally t = (t.proved, (t.refuted, t.undecided))
 
+-- the counts of verdicts, each with its word
 abbrev pub counts_format : Format (ℕ × (ℕ × ℕ))
 counts_format = behind (codes "proved") (both count_format (behind (codes "refuted") (both count_format (behind (codes "undecided") count_format))))
 
+-- `summary` and the counts
 abbrev pub summary_format : Format Tally
 summary_format = behind (codes "summary") (seen to_tally of_tally counts_format)
 
@@ -42,13 +45,16 @@ to_outcome (inl u) = outcomes.Accepted
 to_outcome (inr (inl u)) = outcomes.Rejected
 to_outcome (inr (inr u)) = outcomes.Undecided
 
+-- which of the three last words it is
 abbrev pub of_outcome : Outcome → Unit {0} ⊎ (Unit {0} ⊎ Unit {0})
 of_outcome outcomes.Accepted = inl tt
 of_outcome outcomes.Rejected = inr (inl tt)
 of_outcome outcomes.Undecided = inr (inr tt)
 
+-- one of three words
 abbrev pub outcome_words : Format (Unit {0} ⊎ (Unit {0} ⊎ Unit {0}))
 outcome_words = or_else (codes "accepted") nothing (or_else (codes "rejected") nothing (key (codes "undecided")))
 
+-- the last word
 abbrev pub outcome_format : Format Outcome
 outcome_format = seen to_outcome of_outcome outcome_words

@@ -16,10 +16,12 @@ use Rattle.report_lines.specs.Fields.{most_count, count_format, integer_format}
 abbrev pub literal_text : Lit → List ℕ
 literal_text l = (if l.positive then 43 else 45) ∷ decimal l.atom
 
+-- a literal of this sign, where its atom is a number
 abbrev pub with_sign : Bool → Option ℕ → Option Lit
 with_sign sign None = None
 with_sign sign (Some n) = Some (record { atom = n; positive = sign })
 
+-- the literal that a word spells: a sign and a number
 abbrev pub literal_of : List ℕ → Option Lit
 literal_of [] = None
 literal_of (b ∷ bs) = if b == 43 then with_sign true (size_read bs) else (if b == 45 then with_sign false (size_read bs) else None)
@@ -29,6 +31,7 @@ abbrev pub small_literal : Option Lit → Option Lit
 small_literal None = None
 small_literal (Some l) = if nat_le l.atom most_count then Some l else None
 
+-- a literal as a word
 abbrev pub literal_format : Format Lit
 literal_format = word literal_text literal_of (λ l. nat_le l.atom most_count)
 
@@ -36,12 +39,15 @@ literal_format = word literal_text literal_of (λ l. nat_le l.atom most_count)
 abbrev pub to_step : ℕ × (ℤ × (ℕ × ℤ)) → RowStep
 to_step x = record { left = x.0; first = x.1.0; right = x.1.1.0; second = x.1.1.1 }
 
+-- the parts of a step
 abbrev pub of_step : RowStep → ℕ × (ℤ × (ℕ × ℤ))
 of_step s = (s.left, (s.first, (s.right, s.second)))
 
+-- the words of a step
 abbrev pub step_words : Format (ℕ × (ℤ × (ℕ × ℤ)))
 step_words = both count_format (both integer_format (both count_format integer_format))
 
+-- a step
 abbrev pub step_format : Format RowStep
 step_format = seen to_step of_step step_words
 
@@ -67,21 +73,25 @@ split_words = both count_format (both integer_format (both used_words decision_w
 abbrev pub drop_words : Format (List ℕ)
 drop_words = counted most_count count_format
 
+-- the parts of a line of a log, by its first word
 abbrev pub LineParts : Type 0
 LineParts = (ℕ × (ℕ × ℕ)) ⊎ ((List Lit × List RowStep) ⊎ ((ℕ × (ℤ × ((List Lit × List RowStep) × (ℕ × (ℕ × List ℤ))))) ⊎ List ℕ))
 
+-- the line of these parts
 abbrev pub to_line : LineParts → Line
 to_line (inl x) = Resolve x.0 x.1.0 x.1.1
 to_line (inr (inl x)) = Farkas x.0 x.1
 to_line (inr (inr (inl x))) = Split x.0 x.1.0 x.1.1.0.0 x.1.1.0.1 x.1.1.1.0 x.1.1.1.1.0 x.1.1.1.1.1
 to_line (inr (inr (inr cs))) = Drop cs
 
+-- and the parts of a line
 abbrev pub of_line : Line → LineParts
 of_line (Resolve left right pivot) = inl (left, (right, pivot))
 of_line (Farkas used steps) = inr (inl (used, steps))
 of_line (Split place at used steps low high values) = inr (inr (inl (place, (at, ((used, steps), (low, (high, values)))))))
 of_line (Drop clauses) = inr (inr (inr clauses))
 
+-- the words of a line, by its first
 abbrev pub line_words : Format LineParts
 line_words = or_else (codes "r") resolve_words (or_else (codes "f") used_words (or_else (codes "s") split_words (behind (codes "d") drop_words)))
 

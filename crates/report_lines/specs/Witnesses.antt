@@ -33,18 +33,23 @@ const_format name size = behind (codes "const") (behind name (element_format siz
 abbrev pub tuple_words : World → List ℕ → Format (List ℕ)
 tuple_words w sorts = each_of (λ s. element_format (size_of w s)) sorts
 
+-- the names of the relations
 abbrev pub relation_names : Specification → List (List ℕ)
 relation_names d = map (λ r. r.name) d.relations
 
+-- those of the counters
 abbrev pub counter_names : Specification → List (List ℕ)
 counter_names d = map (λ c. c.name) d.counters
 
+-- those of the operations
 abbrev pub operation_names : Specification → List (List ℕ)
 operation_names d = map (λ o. o.name) d.operations
 
+-- a tuple of its relation and its elements
 abbrev pub to_fact : ℕ × List ℕ → Fact
 to_fact x = record { relation = x.0; tuple = x.1 }
 
+-- and the parts of it
 abbrev pub of_fact : Fact → ℕ × List ℕ
 of_fact f = (f.relation, f.tuple)
 
@@ -52,12 +57,15 @@ of_fact f = (f.relation, f.tuple)
 abbrev pub fact_words : Specification → World → ℕ → Format (ℕ × List ℕ)
 fact_words d w from = chain (among from (relation_names d)) (λ k. tuple_words w (relation_places d k))
 
+-- a tuple that is true
 abbrev pub fact_format : Specification → World → ℕ → Format Fact
 fact_format d w from = seen to_fact of_fact (fact_words d w from)
 
+-- a value of its counter, its key and itself
 abbrev pub to_reading : ℕ × (List ℕ × ℤ) → Reading
 to_reading x = record { counter = x.0; key = x.1.0; value = x.1.1 }
 
+-- and the parts of it
 abbrev pub of_reading : Reading → ℕ × (List ℕ × ℤ)
 of_reading r = (r.counter, (r.key, r.value))
 
@@ -69,6 +77,7 @@ is_other v = not (int_eq v (pos 0))
 abbrev pub reading_words : Specification → World → ℕ → Format (ℕ × (List ℕ × ℤ))
 reading_words d w from = chain (among from (counter_names d)) (λ k. both (tuple_words w (counter_keys d k)) (only is_other value_format))
 
+-- a value that isn't 0
 abbrev pub reading_format : Specification → World → ℕ → Format Reading
 reading_format d w from = seen to_reading of_reading (reading_words d w from)
 
@@ -79,6 +88,7 @@ abbrev pub natural_of : ℤ → Option ℕ
 natural_of (pos n) = Some n
 natural_of (negsuc n) = None
 
+-- a whole number that isn't negative, as a number
 abbrev pub natural : Case ℤ ℕ
 natural = record { to = pos; from = natural_of }
 
@@ -91,9 +101,11 @@ argument_format Int = value_format
 abbrev pub arguments_words : List Parameter → Format (List ℤ)
 arguments_words params = each_of (λ p. argument_format p.kind) params
 
+-- a call of its operation and its arguments
 abbrev pub to_call : ℕ × List ℤ → Call
 to_call x = record { op = x.0; args = x.1 }
 
+-- and the parts of it
 abbrev pub of_call : Call → ℕ × List ℤ
 of_call c = (c.op, c.args)
 
@@ -101,6 +113,7 @@ of_call c = (c.op, c.args)
 abbrev pub call_words : Specification → Format (ℕ × List ℤ)
 call_words d = chain (among 0 (operation_names d)) (λ o. arguments_words (op_of d o).params)
 
+-- a call
 abbrev pub call_format : Specification → Format Call
 call_format d = seen to_call of_call (call_words d)
 
@@ -110,21 +123,25 @@ at_format count = times count_format count
 
 -- ---- one line behind those of the world
 
+-- the parts of a line of a witness, by its first word
 abbrev pub ShownParts : Type 0
 ShownParts = Fact ⊎ (Reading ⊎ (Call ⊎ List ℕ))
 
+-- what these parts show
 abbrev pub to_shown : ShownParts → Shown
 to_shown (inl f) = shown.Fact f
 to_shown (inr (inl r)) = shown.Reading r
 to_shown (inr (inr (inl c))) = shown.Call c
 to_shown (inr (inr (inr es))) = shown.At es
 
+-- and the parts of it
 abbrev pub of_shown : Shown → ShownParts
 of_shown (shown.Fact f) = inl f
 of_shown (shown.Reading r) = inr (inl r)
 of_shown (shown.Call c) = inr (inr (inl c))
 of_shown (shown.At es) = inr (inr (inr es))
 
+-- the words of a line of a witness, by its first
 abbrev pub shown_words : Specification → World → Due → Format ShownParts
 shown_words d w due = or_else (codes "true") (fact_format d w due.relation) (or_else (codes "count") (reading_format d w due.counter) (or_else (codes "call") (call_format d) (behind (codes "at") (at_format due.elements))))
 

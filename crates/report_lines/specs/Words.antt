@@ -40,6 +40,7 @@ abbrev pub Fails : {Y : Type 0} → ReadError → Option Y → Type 0
 Fails errors.Memory read = Unit {0}
 Fails errors.Form read = read ≡ None
 
+-- The code gives what the definition reads, or fails where that does.
 abbrev pub Gives : {X Y : Type 0} → (X → Y) → Result X ReadError → Option Y → Type 0
 Gives view (Ok x) read = read ≡ Some (view x)
 Gives view (Err e) read = Fails e read

@@ -31,14 +31,17 @@ verdict_of ended.Lines log = verdicts.Undecided (causes.Lines log)
 verdict_of (ended.Rows used steps) log = verdicts.Undecided (causes.Rows (record { log = log; used = used; steps = steps }))
 verdict_of (ended.Range used steps what) log = verdicts.Undecided (causes.Range (record { log = log; used = used; steps = steps; what = what }))
 
+-- the number of a verdict's first line, where one begins
 abbrev pub with_begin : ℕ → Option VerdictWord → Collected → Collected
 with_begin n None c = c
 with_begin n (Some b) c = record { line = n; log = c.log; blocks = c.blocks }
 
+-- one more line of the log
 abbrev pub with_line : Option Line → Collected → Collected
 with_line None c = c
 with_line (Some l) c = record { line = c.line; log = c.log ++ l ∷ []; blocks = c.blocks }
 
+-- one more block, where one ends
 abbrev pub with_end : Option Ended → Collected → Collected
 with_end None c = c
 with_end (Some e) c = record { line = c.line; log = []; blocks = c.blocks ++ record { line = c.line; verdict = verdict_of e c.log } ∷ [] }
@@ -56,9 +59,11 @@ pub record Kept : Type 0 where
   pub blocks : List BlockForm
   pub budget : Option ℕ
 
+-- before the first line
 abbrev pub nothing_kept : Kept
 nothing_kept = record { line = 0; log = []; blocks = []; budget = None }
 
+-- the verdict of a block that ends so
 abbrev pub end_verdict : EndForm → List Line → VerdictForm
 end_verdict end_proved log = proved log
 end_verdict (end_refuted p es) log = refuted p es
@@ -67,18 +72,22 @@ end_verdict end_lines log = lines log
 end_verdict (end_rows r) log = rows log r
 end_verdict (end_range r) log = range log r
 
+-- the number of a verdict's first line, where one begins
 abbrev pub kept_begin : ℕ → Option VerdictWord → Kept → Kept
 kept_begin n None k = k
 kept_begin n (Some b) k = record { line = n; log = k.log; blocks = k.blocks; budget = k.budget }
 
+-- one more line of the log
 abbrev pub kept_line : Option Line → Kept → Kept
 kept_line None k = k
 kept_line (Some l) k = record { line = k.line; log = k.log ++ l ∷ []; blocks = k.blocks; budget = k.budget }
 
+-- one more block, where one ends
 abbrev pub kept_end : Option EndForm → Kept → Kept
 kept_end None k = k
 kept_end (Some e) k = record { line = k.line; log = []; blocks = k.blocks ++ record { line = k.line; verdict = end_verdict e k.log } ∷ []; budget = k.budget }
 
+-- the budget, as far as it is known
 abbrev pub with_budget : Option ℕ → Kept → Kept
 with_budget b k = record { line = k.line; log = k.log; blocks = k.blocks; budget = b }
 
@@ -114,6 +123,7 @@ IsTaken r c line q k (Err refused.Memory) = Unit {0}
 abbrev pub AreTaken : ReaderForm → Kept → List ℕ → ReaderForm → Collected → List ℕ → Type 0
 AreTaken r k bytes q c rest = (l : Kept) × Holds q.spec l c × (read_kept r k (lines_of bytes) ≡ Ok (q, l)) × (unended bytes ≡ rest) × (q.spec ≡ r.spec)
 
+-- The refusal is the first fault of the lines, or for want of memory.
 abbrev pub IsRefused : ReaderForm → List ℕ → ReportRefused → Type 0
 IsRefused r bytes (refused.Line n x) = read_lines r (lines_of bytes) ≡ Err (record { number = n; kind = x })
 IsRefused r bytes refused.Memory = Unit {0}

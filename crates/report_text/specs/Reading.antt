@@ -54,6 +54,7 @@ blocks_behind n (v ∷ vs) = record { line = n + 2; verdict = v } ∷ blocks_beh
 abbrev pub blocks_of : ReportForm → List BlockForm
 blocks_of r = blocks_behind 3 r.verdicts
 
+-- the cause that the code holds is the one that was read
 abbrev pub IsCause : VerdictForm → Cause → Type 0
 IsCause instances causes.Instances = Unit {0}
 IsCause (lines log) (causes.Lines l) = l ≡ log

@@ -25,9 +25,11 @@ use Rattle.proof_report.specs.Texts.{head_text, block_text, end_text, CanStand, 
 
 -- ---- what is shown of a state
 
+-- a tuple of a relation
 abbrev pub fact_of : ℕ → List ℕ → Fact
 fact_of k t = record { relation = k; tuple = t }
 
+-- a value of a counter
 abbrev pub reading_of : Reads → ℕ → List ℕ → Reading
 reading_of r k t = record { counter = k; key = t; value = r.count k t }
 
@@ -52,6 +54,7 @@ shown_by d w = record {
 
 -- ---- what is shown of verdicts
 
+-- why an obligation is undecided, as a report shows it
 abbrev pub shown_cause : Cause → VerdictForm
 shown_cause causes.Instances = instances
 shown_cause (causes.Lines log) = lines log

@@ -24,9 +24,11 @@ abbrev pub IsPosed : Specification → Obligation → Option Standing → Type 0
 IsPosed d ob (Some s) = (has_many d ob ≡ false) × (s ≡ start (problem_of d ob))
 IsPosed d ob None = has_many d ob ≡ true
 
+-- the witness breaks the obligation
 abbrev pub witness_refutes : Specification → Obligation → Witness → Bool
 witness_refutes d ob w = refutes d ob w.world w.state w.calls w.elements
 
+-- what is wrong with a verdict that ends so, as the code holds it
 abbrev pub end_fault_of : Specification → Obligation → ℕ → Judgement → Ended → Option Fault
 end_fault_of d ob budget j ends.Proved = kernel_fault j.line (λ s. unless s.empty (fault_at j.line kinds.NoEmpty)) j.kernel
 end_fault_of d ob budget j (ends.Refuted w) = unless (witness_refutes d ob w) (fault_at j.line (unrefuted j.many))
@@ -35,6 +37,7 @@ end_fault_of d ob budget j ends.Lines = kernel_fault j.line (λ s. unless ((j.lo
 end_fault_of d ob budget j (ends.Rows used steps) = kernel_fault j.line (λ s. unless (is_fresh s && rows_hold s used steps) (fault_at j.line kinds.Evidence)) j.kernel
 end_fault_of d ob budget j (ends.Range used steps what) = kernel_fault j.line (λ s. unless (is_fresh s && range_holds s used steps what) (fault_at j.line kinds.Evidence)) j.kernel
 
+-- one more verdict of this kind
 abbrev pub with_ended_as : Ended → Tally → Tally
 with_ended_as ends.Proved t = with_proved t
 with_ended_as (ends.Refuted w) t = with_refuted t
@@ -43,6 +46,7 @@ with_ended_as ends.Lines t = with_undecided t
 with_ended_as (ends.Rows used steps) t = with_undecided t
 with_ended_as (ends.Range used steps what) t = with_undecided t
 
+-- what is kept after a block that ends so
 abbrev pub ended_as : Specification → ℕ → Option Ended → Judgement → Judgement
 ended_as d budget None j = j
 ended_as d budget (Some e) j = record { tally = with_ended_as e j.tally; line = j.line; many = j.many; kernel = None; log = j.log; fault = or_else j.fault (end_fault_of d (obligation_due d j) budget j e) }

@@ -18,6 +18,7 @@ use Rattle.proof_report.specs.Reader.{reads_of}
 abbrev pub HasFew : Specification → Obligation → Type 0
 HasFew d ob = length (formulas_of d ob) ≤ most_formulas
 
+-- the obligation has too many formulas
 abbrev pub HasMany : Specification → Obligation → Type 0
 HasMany d ob = most_formulas < length (formulas_of d ob)
 

@@ -37,6 +37,7 @@ obligation_due d j = obligation_at d (told j.tally)
 
 -- ---- a verdict begins
 
+-- a log follows the word
 abbrev pub has_log : VerdictWord → Bool
 has_log (word.Proved n) = true
 has_log word.Refuted = false
@@ -54,24 +55,29 @@ posed d ob false = None
 abbrev pub begun_in : Specification → Obligation → ℕ → Bool → Judgement → Judgement
 begun_in d ob n logs j = record { tally = j.tally; line = n; many = has_many d ob; kernel = posed d ob logs; log = 0; fault = j.fault }
 
+-- after a fault no problem is made
 abbrev pub begun_behind : Specification → ℕ → VerdictWord → Judgement → Option Fault → Judgement
 begun_behind d n b j (Some fault) = record { tally = j.tally; line = n; many = false; kernel = None; log = 0; fault = j.fault }
 begun_behind d n b j None = begun_in d (obligation_due d j) n (has_log b) j
 
+-- what is kept where a verdict begins, if one does
 abbrev pub begun : Specification → ℕ → Option VerdictWord → Judgement → Judgement
 begun d n None j = j
 begun d n (Some b) j = begun_behind d n b j j.fault
 
 -- ---- a line of a log
 
+-- what is kept after a line that the kernel took or refused
 abbrev pub after_line : ℕ → Judgement → Result State Why → Judgement
 after_line n j (Ok s) = record { tally = j.tally; line = j.line; many = j.many; kernel = Some s; log = suc j.log; fault = j.fault }
 after_line n j (Err why) = record { tally = j.tally; line = j.line; many = j.many; kernel = None; log = suc j.log; fault = or_else j.fault (fault_at n (kind_of why)) }
 
+-- a line outside a kernel is counted alone
 abbrev pub logged_in : ℕ → Line → Judgement → Option State → Judgement
 logged_in n l j None = record { tally = j.tally; line = j.line; many = j.many; kernel = None; log = suc j.log; fault = j.fault }
 logged_in n l j (Some s) = after_line n j (next s l)
 
+-- what is kept after a line of a log, if it is one
 abbrev pub logged : ℕ → Option Line → Judgement → Judgement
 logged n None j = j
 logged n (Some l) j = logged_in n l j j.kernel
@@ -83,9 +89,11 @@ abbrev pub kernel_fault : ℕ → (State → Option Fault) → Option State → 
 kernel_fault line behind (Some s) = behind s
 kernel_fault line behind None = fault_at line kinds.Evidence
 
+-- the kind of fault of a witness that doesn't break, where there may be too many formulas
 abbrev pub unrefuted : Bool → ReportKind
 unrefuted many = cond many kinds.Evidence kinds.Witness
 
+-- what is wrong with a verdict that ends so
 abbrev pub end_fault : Specification → ℕ → Judgement → EndForm → Option Fault
 end_fault d budget j end_proved = kernel_fault j.line (λ s. unless s.empty (fault_at j.line kinds.NoEmpty)) j.kernel
 end_fault d budget j (end_refuted p es) = unless (refutes_shown d (obligation_due d j) p es) (fault_at j.line (unrefuted j.many))
@@ -94,6 +102,7 @@ end_fault d budget j end_lines = kernel_fault j.line (λ s. unless ((j.log == bu
 end_fault d budget j (end_rows r) = kernel_fault j.line (λ s. unless (is_fresh s && rows_hold s r.used r.steps) (fault_at j.line kinds.Evidence)) j.kernel
 end_fault d budget j (end_range r) = kernel_fault j.line (λ s. unless (is_fresh s && range_holds s r.used r.steps r.what) (fault_at j.line kinds.Evidence)) j.kernel
 
+-- one more verdict of this kind
 abbrev pub with_ended : EndForm → Tally → Tally
 with_ended end_proved t = with_proved t
 with_ended (end_refuted p es) t = with_refuted t
@@ -102,6 +111,7 @@ with_ended end_lines t = with_undecided t
 with_ended (end_rows r) t = with_undecided t
 with_ended (end_range r) t = with_undecided t
 
+-- what is kept after a block, if one ends
 abbrev pub ended : Specification → ℕ → Option EndForm → Judgement → Judgement
 ended d budget None j = j
 ended d budget (Some e) j = record { tally = with_ended e j.tally; line = j.line; many = j.many; kernel = None; log = j.log; fault = or_else j.fault (end_fault d budget j e) }
@@ -176,6 +186,7 @@ IsWithin d j = clauses_in j.kernel ≤ most_kept d j
 abbrev pub unended_fault : VerifierForm → Option Fault
 unended_fault v = or_else v.reader.fault (fault_at (suc v.reader.number) kinds.Form)
 
+-- What is answered where bytes without a line feed stand last.
 abbrev pub IsCutOff : VerifierForm → Result Tally VerifyRefused → Type 0
 IsCutOff v (Ok tally) = ⊥
 IsCutOff v (Err (refused.Line n k)) = (v.failed ≡ false) × (unended_fault v ≡ Some (record { number = n; kind = k }))
@@ -204,6 +215,7 @@ IsJudgement j (Err refused.Long) = ⊥
 IsJudgement j (Err refused.Fault) = ⊥
 IsJudgement j (Err refused.Memory) = ⊥
 
+-- What is answered where the next line is missing.
 abbrev pub IsMissing : ℕ → Result Tally VerifyRefused → Type 0
 IsMissing number (Ok tally) = ⊥
 IsMissing number (Err (refused.Line n k)) = (n ≡ suc number) × (k ≡ kinds.Form)

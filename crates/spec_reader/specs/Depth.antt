@@ -4,6 +4,7 @@ use Rattle.token_readers.specs.declared.token.Version.{Version}
 use Rattle.spec_reader.specs.Form.{Form, true_form, false_form, not_form, connect_form, has_form, compare_form}
 use Rattle.spec_reader.specs.Trees.{ReadingFits, TermFits}
 
+-- the greater of two numbers
 abbrev pub greater : ℕ → ℕ → ℕ
 greater a b = if nat_le a b then b else a
 

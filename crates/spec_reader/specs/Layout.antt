@@ -46,6 +46,7 @@ abbrev pub behind : Version → List Symbol → List ℕ
 behind v [] = codes "\n"
 behind v (s ∷ ss) = before v s ++ (text_of s ++ behind v ss)
 
+-- words with the white space between them that the layout asks for
 abbrev pub laid_out : Version → List Symbol → List ℕ
 laid_out v [] = codes "\n"
 laid_out v (s ∷ ss) = text_of s ++ behind v ss

@@ -33,20 +33,25 @@ use Rattle.spec_reader.specs.Spelling.{tree}
 abbrev pub IsFree : Version → Mark → Type 0
 IsFree v m = is_name v (name_kind m.text) ≡ true
 
+-- its name and those of its arguments are free
 abbrev pub ReadingFits : Version → Reading → Type 0
 ReadingFits v r = IsFree v r.name × AllByRecursion (IsFree v) r.args
 
+-- so is the reading in it, where there is one
 abbrev pub ProductFits : Version → Product → Type 0
 ProductFits v (products.Number f) = Unit {0}
 ProductFits v (products.Times f r) = ReadingFits v r
 ProductFits v (products.Reading r) = ReadingFits v r
 
+-- so are the names in its product
 abbrev pub SummandFits : Version → Summand → Type 0
 SummandFits v s = ProductFits v s.product
 
+-- so are they in the product of a signed summand
 abbrev pub SignedFits : Version → Signed → Type 0
 SignedFits v s = ProductFits v s.summand.product
 
+-- so are they in each summand
 abbrev pub TermFits : Version → Term → Type 0
 TermFits v t = SummandFits v t.first × AllByRecursion (SignedFits v) t.more
 
@@ -61,6 +66,7 @@ FormFits v (suc d) (connect_form w f c g) = FormFits v d f × FormFits v d g
 FormFits v d (has_form w r) = ReadingFits v r
 FormFits v d (compare_form w s c t) = TermFits v s × TermFits v t
 
+-- its name and its sort are free
 abbrev pub VariableFits : Version → Variable → Type 0
 VariableFits v x = IsFree v x.name × IsFree v x.sort
 
@@ -69,16 +75,20 @@ abbrev pub PrefixFits : Version → Option Prefix → Type 0
 PrefixFits v None = Unit {0}
 PrefixFits v (Some p) = NotEmpty p.vars × AllByRecursion (VariableFits v) p.vars
 
+-- its prefix and its body fit
 abbrev pub SentenceFits : Version → ℕ → Sentence → Type 0
 SentenceFits v d s = PrefixFits v s.prefix × FormFits v d s.body
 
+-- the sort, where it is one, is free
 abbrev pub KindFits : Version → ParamKind → Type 0
 KindFits v (kinds.Sort m) = IsFree v m
 KindFits v kinds.Int = Unit {0}
 
+-- its name is free and its kind fits
 abbrev pub ParamFits : Version → Param → Type 0
 ParamFits v p = IsFree v p.name × KindFits v p.kind
 
+-- the element that it names, if any, is free
 abbrev pub SpotFits : Version → Spot → Type 0
 SpotFits v (spots.One m) = IsFree v m
 SpotFits v spots.Every = Unit {0}
@@ -89,6 +99,7 @@ ModeFits v modes.Missing = Unit {0}
 ModeFits v modes.Shared = v ≡ version.Second
 ModeFits v modes.Exclusive = v ≡ version.Second
 
+-- the condition fits, where there is one
 abbrev pub GuardFits : Version → ℕ → Option Form → Type 0
 GuardFits v d None = Unit {0}
 GuardFits v d (Some f) = FormFits v d f
@@ -104,6 +115,7 @@ LineFits v d (takes_form w r m) = ReadingFits v r × ModeFits v m
 LineFits version.First d (observes_form w s) = ⊥
 LineFits version.Second d (observes_form w s) = SentenceFits version.Second d s
 
+-- The names of a declaration are free, and its formulas fit.
 abbrev pub ItemFits : Version → ℕ → ItemForm → Type 0
 ItemFits v d (sort_form w m) = IsFree v m
 ItemFits v d (const_form w m s) = IsFree v m × IsFree v s
@@ -125,30 +137,38 @@ IsTree t = TreeFits 199 t × AreWords (plain (tree t))
 
 -- ---- trees that differ in places alone
 
+-- one name
 abbrev pub SameMark : Mark → Mark → Type 0
 SameMark m n = m.text ≡ n.text
 
+-- one number
 abbrev pub SameFigure : Figure → Figure → Type 0
 SameFigure f g = f.value ≡ g.value
 
+-- one name with the same arguments
 abbrev pub SameReading : Reading → Reading → Type 0
 SameReading r s = SameMark r.name s.name × AllSame SameMark r.args s.args
 
+-- the same numbers and readings, of one form
 abbrev pub SameProduct : Product → Product → Type 0
 SameProduct (products.Number f) (products.Number g) = SameFigure f g
 SameProduct (products.Times f r) (products.Times g s) = SameFigure f g × SameReading r s
 SameProduct (products.Reading r) (products.Reading s) = SameReading r s
 SameProduct _ _ = ⊥
 
+-- the same product
 abbrev pub SameSummand : Summand → Summand → Type 0
 SameSummand s t = SameProduct s.product t.product
 
+-- the same sign and summand
 abbrev pub SameSigned : Signed → Signed → Type 0
 SameSigned s t = (s.sign ≡ t.sign) × SameSummand s.summand t.summand
 
+-- the same summands, both with a `-` before them or both without
 abbrev pub SameTerm : Term → Term → Type 0
 SameTerm s t = (s.minus ≡ t.minus) × SameSummand s.first t.first × AllSame SameSigned s.more t.more
 
+-- The same formula: of one form, with the same parts.
 abbrev pub SameForm : Form → Form → Type 0
 SameForm (true_form w) (true_form x) = Unit {0}
 SameForm (false_form w) (false_form x) = Unit {0}
@@ -158,41 +178,50 @@ SameForm (has_form w r) (has_form x s) = SameReading r s
 SameForm (compare_form w s c t) (compare_form x s' d t') = SameTerm s s' × (c ≡ d) × SameTerm t t'
 SameForm _ _ = ⊥
 
+-- one name of one sort
 abbrev pub SameVariable : Variable → Variable → Type 0
 SameVariable x y = SameMark x.name y.name × SameMark x.sort y.sort
 
+-- the same quantifier with the same variables, or none
 abbrev pub SamePrefix : Option Prefix → Option Prefix → Type 0
 SamePrefix None None = Unit {0}
 SamePrefix (Some p) (Some q) = (p.quantifier ≡ q.quantifier) × AllSame SameVariable p.vars q.vars
 SamePrefix _ _ = ⊥
 
+-- the same prefix and body
 abbrev pub SameSentence : Sentence → Sentence → Type 0
 SameSentence s t = SamePrefix s.prefix t.prefix × SameForm s.body t.body
 
+-- the same value
 abbrev pub SameValue : Value → Value → Type 0
 SameValue values.True values.True = Unit {0}
 SameValue values.False values.False = Unit {0}
 SameValue (values.Number m f) (values.Number n g) = (m ≡ n) × SameFigure f g
 SameValue _ _ = ⊥
 
+-- the same sort, or `int`
 abbrev pub SameKind : ParamKind → ParamKind → Type 0
 SameKind (kinds.Sort m) (kinds.Sort n) = SameMark m n
 SameKind kinds.Int kinds.Int = Unit {0}
 SameKind _ _ = ⊥
 
+-- one name with the same kind
 abbrev pub SameParam : Param → Param → Type 0
 SameParam p q = SameMark p.name q.name × SameKind p.kind q.kind
 
+-- the same element, or `*`
 abbrev pub SameSpot : Spot → Spot → Type 0
 SameSpot (spots.One m) (spots.One n) = SameMark m n
 SameSpot spots.Every spots.Every = Unit {0}
 SameSpot _ _ = ⊥
 
+-- the same condition, or none
 abbrev pub SameGuard : Option Form → Option Form → Type 0
 SameGuard None None = Unit {0}
 SameGuard (Some f) (Some g) = SameForm f g
 SameGuard _ _ = ⊥
 
+-- The same line: of one form, with the same parts.
 abbrev pub SameLine : LineForm → LineForm → Type 0
 SameLine (requires_form w s) (requires_form x t) = SameSentence s t
 SameLine (insert_form w m ss g) (insert_form x n ts h) = SameMark m n × AllSame SameSpot ss ts × SameGuard g h
@@ -203,6 +232,7 @@ SameLine (takes_form w r m) (takes_form x s n) = SameReading r s × (m ≡ n)
 SameLine (observes_form w s) (observes_form x t) = SameSentence s t
 SameLine _ _ = ⊥
 
+-- The same declaration: of one form, with the same parts.
 abbrev pub SameItem : ItemForm → ItemForm → Type 0
 SameItem (sort_form w m) (sort_form x n) = SameMark m n
 SameItem (const_form w m s) (const_form x n t) = SameMark m n × SameMark s t
@@ -215,5 +245,6 @@ SameItem (invariant_form w m s) (invariant_form x n t) = SameMark m n × SameSen
 SameItem (operation_form w m ps ls) (operation_form x n qs ks) = SameMark m n × AllSame SameParam ps qs × AllSame SameLine ls ks
 SameItem _ _ = ⊥
 
+-- The same specification, but for the places of its words: one version, and the same declarations.
 abbrev pub SameTree : TreeForm → TreeForm → Type 0
 SameTree s t = (s.version ≡ t.version) × AllSame SameItem s.items t.items

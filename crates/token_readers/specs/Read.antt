@@ -7,6 +7,7 @@ use Rattle.token_readers.specs.declared.token.Token.{Token}
 use Rattle.token_readers.specs.declared.token.Kind.{Kind}
 use Rattle.token_readers.specs.Words.{next, seen, kind_of, is_key}
 
+-- What a reader gives: a value and the words that are left, or the number of words that were left where none goes on.
 abbrev pub Read : Type 0 → Type 0
 Read A = Result (A × List Token) ℕ
 
@@ -15,18 +16,23 @@ abbrev pub ◌>>=◌ : {A B : Type 0} → Result A ℕ → (A → Result B ℕ) 
 (Ok x) >>= f = f x
 (Err e) >>= f = Err e
 
+-- reads, and sees what was read as another value
 abbrev pub mapped : {A B : Type 0} → (A → B) → (List Token → Read A) → List Token → Read B
 mapped f read ws = read ws >>= λ x. Ok (f x.0, x.1)
 
+-- reads one part, and then another
 abbrev pub both : {A B : Type 0} → (List Token → Read A) → (List Token → Read B) → List Token → Read (A × B)
 both r s ws = r ws >>= λ x. s x.1 >>= λ y. Ok ((x.0, y.0), y.1)
 
+-- reads the one where the next word begins it, and else the other
 abbrev pub either : {A B : Type 0} → (Kind → Bool) → (List Token → Read A) → (List Token → Read B) → List Token → Read (A ⊎ B)
 either starts r s ws = if starts (next (seen ws)) then mapped inl r ws else mapped inr s ws
 
+-- reads a part where the next word begins it
 abbrev pub perhaps : {A : Type 0} → (Kind → Bool) → (List Token → Read A) → List Token → Read (Option A)
 perhaps starts r ws = if starts (next (seen ws)) then mapped Some r ws else Ok (None, ws)
 
+-- reads a part that the next word has to begin
 abbrev pub only : {A : Type 0} → (Kind → Bool) → (List Token → Read A) → List Token → Read A
 only starts r ws = if starts (next (seen ws)) then r ws else Err (length ws)
 
@@ -48,9 +54,11 @@ word_at right make (t ∷ ts) = if right (kind_of t.symbol) then Ok (make t, ts)
 abbrev pub key_at : Key → List Token → Read ℕ
 key_at k = word_at (is_key k) (λ t. t.word)
 
+-- reads this sign
 abbrev pub sign_at : Key → List Token → Read (Unit {0})
 sign_at k = word_at (is_key k) (λ t. tt)
 
+-- the place of the next word, 0 where none is left
 abbrev pub place_of : List Token → ℕ
 place_of [] = 0
 place_of (t ∷ ts) = t.word
@@ -59,9 +67,11 @@ place_of (t ∷ ts) = t.word
 abbrev pub placed : {A : Type 0} → (List Token → Read A) → List Token → Read (ℕ × A)
 placed r ws = r ws >>= λ x. Ok ((place_of ws, x.0), x.1)
 
+-- the second of two
 abbrev pub second : {A B : Type 0} → A × B → B
 second x = x.1
 
+-- the first in front of the others
 abbrev pub cons : {A : Type 0} → A × List A → List A
 cons x = x.0 ∷ x.1
 
@@ -73,10 +83,12 @@ one_more r = mapped second (both (sign_at keys.Comma) r)
 abbrev pub listed_at : {A : Type 0} → (List Token → Read A) → List Token → Read (List A)
 listed_at r = mapped cons (both r (many (is_key keys.Comma) (one_more r)))
 
+-- the list, empty where there is none
 abbrev pub list_of : {A : Type 0} → Option (List A) → List A
 list_of None = []
 list_of (Some xs) = xs
 
+-- what stands in brackets
 abbrev pub between : {A : Type 0} → Unit {0} × (A × Unit {0}) → A
 between x = x.1.0
 

@@ -10,6 +10,7 @@ use Rattle.token_readers.specs.declared.token.Key.TheVariants as keys
 use Rattle.token_readers.specs.declared.token.Symbol.{Symbol}
 use Rattle.token_readers.specs.declared.token.Symbol.TheVariants as symbol
 
+-- the text of a sign or a reserved word
 abbrev pub key_text : Key → List ℕ
 key_text keys.Open = codes "("
 key_text keys.Close = codes ")"
@@ -77,6 +78,7 @@ symbol_by None text = if is_number text then symbol.Number (number_of text) else
 unfoldable pub key_of : List ℕ → Option Key
 key_of text = key_from all_keys text
 
+-- the symbol that a text is
 abbrev pub symbol_of : List ℕ → Symbol
 symbol_of text = symbol_by (key_of text) text
 
@@ -86,6 +88,7 @@ is_word (symbol.Name text) = is_name text && (not (is_reserved text) && not (is_
 is_word (symbol.Number n) = nat_lt n 100000000000000000000000000000000000000
 is_word (symbol.Key k) = true
 
+-- the same as a fact
 abbrev pub IsWord : Symbol → Type 0
 IsWord s = is_word s ≡ true
 

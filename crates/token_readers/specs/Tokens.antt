@@ -14,5 +14,6 @@ abbrev pub tokens_from : ℕ → List ℕ → List Word → List Token
 tokens_from n bytes [] = []
 tokens_from n bytes (w ∷ ws) = token_of bytes w n ∷ tokens_from (n + 1) bytes ws
 
+-- the tokens of all words
 abbrev pub tokens_of : List ℕ → List Word → List Token
 tokens_of bytes words = tokens_from 0 bytes words

@@ -15,6 +15,7 @@ use Rattle.token_readers.specs.declared.token.Version.TheVariants as version
 use Rattle.token_readers.specs.contracts.token.Key.{the_type}
 use denote.Enum.Bare.{sameb}
 
+-- two keys are one
 abbrev pub same_key : Key → Key → Bool
 same_key a b = sameb the_type a b
 
@@ -22,9 +23,11 @@ same_key a b = sameb the_type a b
 abbrev pub shared_text : List ℕ
 shared_text = codes "shared"
 
+-- the word for a token that is taken alone
 abbrev pub exclusive_text : List ℕ
 exclusive_text = codes "exclusive"
 
+-- the word of an observes line
 abbrev pub observes_text : List ℕ
 observes_text = codes "observes"
 
@@ -32,9 +35,11 @@ observes_text = codes "observes"
 abbrev pub name_kind : List ℕ → Kind
 name_kind text = if bytes_eq text shared_text then kind.Shared else (if bytes_eq text exclusive_text then kind.Exclusive else (if bytes_eq text observes_text then kind.Observes else (if (length text == 0) || nat_lt longest_name (length text) then kind.Unnamed else kind.Name)))
 
+-- 1 and 2 stand apart, since versions are numbered by them
 abbrev pub number_kind : ℕ → Kind
 number_kind n = if n == 1 then kind.One else (if n == 2 then kind.Two else kind.Number)
 
+-- the kind of a symbol, by which readers choose
 abbrev pub kind_of : Symbol → Kind
 kind_of (symbol.Name text) = name_kind text
 kind_of (symbol.Number n) = number_kind n
@@ -45,6 +50,7 @@ abbrev pub next : List Symbol → Kind
 next [] = kind.Nothing
 next (s ∷ ss) = kind_of s
 
+-- the symbols of tokens
 abbrev pub seen : List Token → List Symbol
 seen [] = []
 seen (t ∷ ts) = t.symbol ∷ seen ts
@@ -74,6 +80,7 @@ with_place w (s ∷ ss) = record { symbol = s.symbol; claims = w ∷ s.claims } 
 abbrev pub key : Key → ℕ → Spelt
 key k w = record { symbol = symbol.Key k; claims = w ∷ [] }
 
+-- a word that claims no place
 abbrev pub sign : Key → Spelt
 sign k = record { symbol = symbol.Key k; claims = [] }
 
@@ -99,14 +106,17 @@ AllSame S [] (y ∷ ys) = ⊥
 AllSame S (x ∷ xs) [] = ⊥
 AllSame S (x ∷ xs) (y ∷ ys) = S x y × AllSame S xs ys
 
+-- there is one at least
 abbrev pub NotEmpty : {A : Type 0} → List A → Type 0
 NotEmpty [] = ⊥
 NotEmpty (x ∷ xs) = Unit {0}
 
+-- the first version
 abbrev pub is_first : Version → Bool
 is_first version.First = true
 is_first version.Second = false
 
+-- this key
 abbrev pub is_key : Key → Kind → Bool
 is_key k (kind.Key j) = same_key j k
 is_key k _ = false
@@ -119,17 +129,20 @@ is_name v kind.Exclusive = is_first v
 is_name v kind.Observes = is_first v
 is_name v _ = false
 
+-- any number
 abbrev pub is_number : Kind → Bool
 is_number kind.One = true
 is_number kind.Two = true
 is_number kind.Number = true
 is_number _ = false
 
+-- the text of a name
 abbrev pub name_of : Symbol → List ℕ
 name_of (symbol.Name text) = text
 name_of (symbol.Number n) = []
 name_of (symbol.Key k) = []
 
+-- the value of a number
 abbrev pub value_of : Symbol → ℕ
 value_of (symbol.Name text) = 0
 value_of (symbol.Number n) = n

@@ -52,6 +52,7 @@ HasFault t f = (s : Site) × Contains (sites_of t) s × IsWrong s f
 
 -- ---- which fault is answered
 
+-- the word at which a fault stands
 abbrev pub word_of : Fault → ℕ
 word_of (unknown_fault name word) = word
 word_of (twice_fault name word) = word
@@ -76,6 +77,7 @@ pub record IsLeastFault (t : TreeForm) (f : Fault) : Type 0 where
   pub is_fault : HasFault t f
   pub least : (g : Fault) → HasFault t g → (f ≡ g) ⊎ IsBefore f g
 
+-- nothing is wrong with a tree
 abbrev pub HasNoFault : TreeForm → Type 0
 HasNoFault t = (f : Fault) → HasFault t f → ⊥
 

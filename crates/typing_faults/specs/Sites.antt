@@ -36,6 +36,7 @@ use Rattle.typing_rules.specs.Items.{Known, scope_in, first_sort, with_sort, wit
 
 -- ---- what a name has to be where it is used
 
+-- What a name needs to be at its place.
 pub data Need : Type 0 where
   a_sort : Need
   -- a constant, a parameter or a variable of this sort, or of some sort
@@ -47,6 +48,7 @@ pub data Need : Type 0 where
   -- a parameter that is a whole number, or a counter without keys
   a_number : Need
 
+-- the counter, if it is one, has no keys
 abbrev pub has_no_keys : Specification → Option ℕ → Bool
 has_no_keys d None = false
 has_no_keys d (Some k) = length (counter_keys d k) == 0
@@ -63,6 +65,7 @@ meets sc a_number name = is_some (number_named sc name) || has_no_keys sc.design
 
 -- ---- what may stand at a word
 
+-- A place of a tree at which one rule may be broken, with what the rule asks of it.
 pub data Site : Type 0 where
   -- a name is declared, where this is the scope before it
   declared : Scope → Mark → Site
@@ -95,6 +98,7 @@ element_sites sc ss [] = []
 element_sites sc [] (m ∷ ms) = used sc an_element m ∷ element_sites sc [] ms
 element_sites sc (s ∷ ss) (m ∷ ms) = used sc (an_element_of s) m ∷ element_sites sc ss ms
 
+-- the arguments of a name, by the places that it has, if it has any
 abbrev pub argument_sites : Scope → Reading → Option (List ℕ) → List Site
 argument_sites sc r None = element_sites sc [] r.args
 argument_sites sc r (Some places) = applied (length places) (length r.args) r.name ∷ element_sites sc places r.args
@@ -113,6 +117,7 @@ lone_sites sc m None None = used sc a_number m ∷ []
 abbrev pub count_sites : Scope → Reading → List Site
 count_sites sc r = used sc a_counter r.name ∷ argument_sites sc r (option_map (counter_keys sc.design) (counter_meant (sc.names r.name.text)))
 
+-- a name alone, or a counter with its keys
 abbrev pub amount_sites_by : Scope → Reading → List Mark → List Site
 amount_sites_by sc r [] = lone_sites sc r.name (number_named sc r.name.text) (counter_meant (sc.names r.name.text))
 amount_sites_by sc r (m ∷ ms) = count_sites sc r
@@ -121,6 +126,7 @@ amount_sites_by sc r (m ∷ ms) = count_sites sc r
 abbrev pub amount_sites : Scope → Reading → List Site
 amount_sites sc r = amount_sites_by sc r r.args
 
+-- the number and the reading of a product
 abbrev pub product_sites : Scope → Product → List Site
 product_sites sc (products.Number f) = literal f ∷ []
 product_sites sc (products.Times f r) = literal f ∷ amount_sites sc r
@@ -131,6 +137,7 @@ abbrev pub signed_sites : Scope → ℕ → List Signed → List Site
 signed_sites sc n [] = []
 signed_sites sc n (s ∷ ss) = one_more which.Summands most_summands n s.summand.word ∷ (product_sites sc s.summand.product ++ signed_sites sc (n + 1) ss)
 
+-- the summands of a term
 abbrev pub term_sites : Scope → Term → List Site
 term_sites sc t = product_sites sc t.first.product ++ signed_sites sc 1 t.more
 
@@ -142,6 +149,7 @@ compare_sites sc s t (Some a) (Some b) = compared sc a b ∷ []
 compare_sites sc s t (Some a) None = term_sites sc s ++ term_sites sc t
 compare_sites sc s t None b = term_sites sc s ++ term_sites sc t
 
+-- the atoms and comparisons of a formula
 abbrev pub part_sites : Scope → Form → List Site
 part_sites sc (true_form w) = []
 part_sites sc (false_form w) = []
@@ -150,6 +158,7 @@ part_sites sc (connect_form w f c g) = part_sites sc f ++ part_sites sc g
 part_sites sc (has_form w r) = atom_sites sc r
 part_sites sc (compare_form w s c t) = compare_sites sc s t (side_element sc c s) (side_element sc c t)
 
+-- a formula as a whole, and its parts
 abbrev pub formula_sites : Scope → Form → List Site
 formula_sites sc f = formula f ∷ part_sites sc f
 
@@ -166,6 +175,7 @@ sentence_sites sc s = variable_sites sc [] (vars_of s.prefix) ++ formula_sites (
 
 -- ---- lines of an operation
 
+-- the spots at places of these sorts
 abbrev pub spot_sites : Scope → List ℕ → List Spot → List Site
 spot_sites sc ss [] = []
 spot_sites sc [] (spots.Every ∷ xs) = spot_sites sc [] xs
@@ -173,6 +183,7 @@ spot_sites sc (s ∷ ss) (spots.Every ∷ xs) = spot_sites sc ss xs
 spot_sites sc [] (spots.One m ∷ xs) = used sc an_element m ∷ spot_sites sc [] xs
 spot_sites sc (s ∷ ss) (spots.One m ∷ xs) = used sc (an_element_of s) m ∷ spot_sites sc ss xs
 
+-- the name that an update changes, and its spots
 abbrev pub target_sites : Scope → Need → Mark → List Spot → Option (List ℕ) → List Site
 target_sites sc need m xs None = used sc need m ∷ spot_sites sc [] xs
 target_sites sc need m xs (Some places) = used sc need m ∷ applied (length places) (length xs) m ∷ spot_sites sc places xs
@@ -181,9 +192,11 @@ target_sites sc need m xs (Some places) = used sc need m ∷ applied (length pla
 abbrev pub relation_sites : Scope → Mark → List Spot → List Site
 relation_sites sc m xs = target_sites sc a_relation m xs (option_map (relation_places sc.design) (relation_meant (sc.names m.text)))
 
+-- the counter that an update changes, and its spots
 abbrev pub counter_sites : Scope → Mark → List Spot → List Site
 counter_sites sc m xs = target_sites sc a_counter m xs (option_map (counter_keys sc.design) (counter_meant (sc.names m.text)))
 
+-- the condition of an update, where there is one
 abbrev pub guard_sites : Scope → Option Form → List Site
 guard_sites sc None = []
 guard_sites sc (Some f) = formula_sites sc f
@@ -202,6 +215,7 @@ line_sites sc o (set_form w m xs t g) = one_more which.Updates most_updates (len
 line_sites sc o (takes_form w r m) = one_more which.Takes most_takes (length o.takes) w ∷ taking_sites sc r
 line_sites sc o (observes_form w s) = one_more which.Observes (most_observed sc.design) (length o.observes) w ∷ sentence_sites sc s
 
+-- the lines of an operation, each with those before it
 abbrev pub lines_sites : Scope → Operation → List LineForm → List Site
 lines_sites sc o [] = []
 lines_sites sc o (l ∷ ls) = line_sites sc o l ++ lines_sites sc (with_line sc o l) ls
@@ -211,6 +225,7 @@ abbrev pub operation_behind : Scope → Operation → List LineForm → Operatio
 operation_behind sc o [] = o
 operation_behind sc o (l ∷ ls) = operation_behind sc (with_line sc o l) ls
 
+-- the sort of a parameter, where it is one
 abbrev pub kind_sites : Scope → ParamKind → List Site
 kind_sites sc (kinds.Sort m) = used sc a_sort m ∷ []
 kind_sites sc kinds.Int = []
@@ -238,16 +253,19 @@ abbrev pub few_const_sites : Specification → Mark → Option ℕ → List Site
 few_const_sites d m None = []
 few_const_sites d m (Some s) = one_more which.Constants most_constants (count_by (λ c. c.sort == s) d.consts) m.word ∷ []
 
+-- what has an initial value of this kind
 abbrev pub need_of_value : Value → Need
 need_of_value values.True = a_relation
 need_of_value values.False = a_relation
 need_of_value (values.Number minus f) = a_counter
 
+-- the number of an initial value, where it is one
 abbrev pub value_sites : Value → List Site
 value_sites values.True = []
 value_sites values.False = []
 value_sites (values.Number minus f) = literal f ∷ []
 
+-- the sorts of a token's places
 abbrev pub sorts_at : Specification → Option ℕ → List ℕ
 sorts_at d None = []
 sorts_at d (Some t) = token_places d t
@@ -263,6 +281,7 @@ pattern_variable_sites k p q ss [] = []
 pattern_variable_sites k p q [] (m ∷ ms) = rule_variable k m ∷ pattern_variable_sites k p q [] ms
 pattern_variable_sites k p q (s ∷ ss) (m ∷ ms) = rule_variable k m ∷ rule_place k p q s m ∷ pattern_variable_sites k p q ss ms
 
+-- the token of a pattern, and its variables
 abbrev pub pattern_sites_at : Known → Reading → Reading → Reading → Option (List ℕ) → List Site
 pattern_sites_at k p q r None = pattern_variable_sites k p q [] r.args
 pattern_sites_at k p q r (Some places) = applied (length places) (length r.args) r.name ∷ pattern_variable_sites k p q places r.args
@@ -271,10 +290,12 @@ pattern_sites_at k p q r (Some places) = applied (length places) (length r.args)
 abbrev pub pattern_sites : Known → Reading → Reading → Reading → List Site
 pattern_sites k p q r = used (scope_in k) a_token r.name ∷ pattern_sites_at k p q r (option_map (token_places k.design) (token_meant (k.names r.name.text)))
 
+-- an invariant that begins with `exists`
 abbrev pub some_sites : ℕ → Quantifier → List Site
 some_sites w quantifiers.Forall = []
 some_sites w quantifiers.Exists = claimed_exists w ∷ []
 
+-- the quantifier of an invariant
 abbrev pub exists_sites : Option Prefix → List Site
 exists_sites None = []
 exists_sites (Some p) = some_sites p.word p.quantifier
@@ -295,9 +316,11 @@ item_sites k (conflict_form w p q) = one_more which.Conflicts most_rules (length
 item_sites k (invariant_form w m s) = heading_sites k which.Invariants most_invariants (length k.design.invariants) m ++ (exists_sites s.prefix ++ sentence_sites (scope_in (with_heading k m meaning.Invariant)) s)
 item_sites k (operation_form w m ps ls) = heading_sites k which.Operations most_operations (length k.design.operations) m ++ operation_sites (with_heading k m meaning.Operation) m ps ls
 
+-- one more operation
 abbrev pub with_operation : Known → Operation → Known
 with_operation k o = record k { design = record k.design { operations = k.design.operations ++ o ∷ [] } }
 
+-- the operation with all of its lines
 abbrev pub with_lines : Known → Mark → List Param → List LineForm → Known
 with_lines k m ps ls = with_operation k (operation_behind (with_params (scope_in k) ps) (without_lines k m ps) ls)
 
@@ -313,10 +336,12 @@ known_behind k (conflict_form w p q) = with_rule k p q
 known_behind k (invariant_form w m s) = with_invariant (with_heading k m meaning.Invariant) m s
 known_behind k (operation_form w m ps ls) = with_lines (with_heading k m meaning.Operation) m ps ls
 
+-- the items, each with what is known before it
 abbrev pub items_sites : Known → List ItemForm → List Site
 items_sites k [] = []
 items_sites k (i ∷ is) = item_sites k i ++ items_sites (known_behind k i) is
 
+-- what is known after all items
 abbrev pub known_behind_all : Known → List ItemForm → Known
 known_behind_all k [] = k
 known_behind_all k (i ∷ is) = known_behind_all (known_behind k i) is

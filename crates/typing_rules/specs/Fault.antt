@@ -27,15 +27,19 @@ first_fault fault n (x ∷ xs) = fault n x otherwise first_fault fault (n + 1) x
 
 -- ---- a fault at a name
 
+-- the name isn't in scope
 abbrev pub unknown_at : Mark → Option Fault
 unknown_at m = Some (unknown_fault m.text m.word)
 
+-- the name is in scope already
 abbrev pub twice_at : Mark → Option Fault
 twice_at m = Some (twice_fault m.text m.word)
 
+-- the name isn't what its place needs
 abbrev pub kind_at : Mark → Option Fault
 kind_at m = Some (kind_fault m.text m.word)
 
+-- the name has another number of arguments than it has places
 abbrev pub count_at : Mark → Option Fault
 count_at m = Some (count_fault m.text m.word)
 

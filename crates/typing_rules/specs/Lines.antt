@@ -34,24 +34,30 @@ abbrev pub spot_fault : Scope → ℕ → Spot → Option Fault
 spot_fault sc s (spots.One m) = elem_fault sc s m
 spot_fault sc s spots.Every = None
 
+-- the spots at places of these sorts
 abbrev pub spots_fault : Scope → List ℕ → List Spot → Option Fault
 spots_fault sc (s ∷ ss) (x ∷ xs) = spot_fault sc s x otherwise spots_fault sc ss xs
 spots_fault sc ss xs = None
 
+-- a spot
 abbrev pub spot_of : Scope → Spot → CoreSpot
 spot_of sc (spots.One m) = spot.One (elem_of sc m)
 spot_of sc spots.Every = spot.Every
 
+-- and all of them
 abbrev pub spots_of : Scope → List Spot → List CoreSpot
 spots_of sc xs = map (spot_of sc) xs
 
+-- a name needs as many spots as it has places
 abbrev pub target_fault_at : Scope → Mark → List Spot → List ℕ → Option Fault
 target_fault_at sc m xs places = places_fault m places (length xs) otherwise spots_fault sc places xs
 
+-- the same of a relation, where it is known which one the name is
 abbrev pub relation_fault_at : Scope → Mark → List Spot → Option ℕ → Option Fault
 relation_fault_at sc m xs (Some k) = target_fault_at sc m xs (relation_places sc.design k)
 relation_fault_at sc m xs None = stranger_fault sc m
 
+-- the same of a counter
 abbrev pub counter_fault_at : Scope → Mark → List Spot → Option ℕ → Option Fault
 counter_fault_at sc m xs (Some k) = target_fault_at sc m xs (counter_keys sc.design k)
 counter_fault_at sc m xs None = stranger_fault sc m
@@ -64,6 +70,7 @@ relation_target_fault sc m xs = relation_fault_at sc m xs (relation_meant (sc.na
 abbrev pub counter_target_fault : Scope → Mark → List Spot → Option Fault
 counter_target_fault sc m xs = counter_fault_at sc m xs (counter_meant (sc.names m.text))
 
+-- what is wrong with a condition, where there is one
 abbrev pub guard_fault : Scope → Option Form → Option Fault
 guard_fault sc None = None
 guard_fault sc (Some f) = formula_fault sc f
@@ -73,17 +80,21 @@ abbrev pub guard_formula : Scope → Option Form → core.Form
 guard_formula sc None = true_of
 guard_formula sc (Some f) = formula_of sc f
 
+-- the relation that a name is; what is none stands for the first one, and is refused
 abbrev pub relation_target : Scope → Mark → Thing
 relation_target sc m = thing.Relation (unwrap_or (relation_meant (sc.names m.text)) 0)
 
+-- so the counter
 abbrev pub counter_target : Scope → Mark → Thing
 counter_target sc m = thing.Counter (unwrap_or (counter_meant (sc.names m.text)) 0)
 
+-- an update of its parts
 abbrev pub update_of : Scope → Thing → List Spot → Change → Option Form → UpdateLine
 update_of sc t xs c g = record { thing = t; at = spots_of sc xs; change = c; guard = guard_formula sc g }
 
 -- ---- takings
 
+-- the same, where it is known which token the name is
 abbrev pub taking_fault_at : Scope → Reading → Option ℕ → Option Fault
 taking_fault_at sc r (Some k) = args_fault sc r (token_places sc.design k)
 taking_fault_at sc r None = stranger_fault sc r.name
@@ -92,6 +103,7 @@ taking_fault_at sc r None = stranger_fault sc r.name
 abbrev pub taking_fault : Scope → Reading → Option Fault
 taking_fault sc r = taking_fault_at sc r (token_meant (sc.names r.name.text))
 
+-- the token is taken shared
 abbrev pub is_shared : Mode → Bool
 is_shared modes.Missing = false
 is_shared modes.Shared = true
@@ -117,6 +129,7 @@ line_fault sc o (set_form w m xs t g) = limit_at Updates most_updates (length o.
 line_fault sc o (takes_form w r m) = limit_at Takes most_takes (length o.takes) w otherwise taking_fault sc r
 line_fault sc o (observes_form w s) = limit_at Observes (most_observed sc.design) (length o.observes) w otherwise sentence_fault sc s
 
+-- the operation with one more update
 abbrev pub with_update : Operation → UpdateLine → Operation
 with_update o u = record o { updates = o.updates ++ u ∷ [] }
 

@@ -36,12 +36,15 @@ pub record Scope : Type 0 where
   pub params : List Param
   pub vars : List Variable
 
+-- the name of a parameter
 abbrev pub is_param : List ℕ → List Param → Bool
 is_param name ps = list_any (λ p. bytes_eq p.name.text name) ps
 
+-- the name of a variable
 abbrev pub is_var : List ℕ → List Variable → Bool
 is_var name vs = list_any (λ v. bytes_eq v.name.text name) vs
 
+-- A name is in scope where it is declared for the whole specification, or is a parameter or a variable.
 abbrev pub in_scope : Scope → List ℕ → Bool
 in_scope sc name = is_some (sc.names name) || is_param name sc.params || is_var name sc.vars
 
@@ -55,22 +58,27 @@ declared_fault sc m = if in_scope sc m.text then twice_at m else None
 
 -- ---- what a name of the whole specification is
 
+-- the sort that it is, where it is one
 abbrev pub sort_meant : Option Meaning → Option ℕ
 sort_meant (Some (meaning.Sort k)) = Some k
 sort_meant _ = None
 
+-- the constant that it is
 abbrev pub const_meant : Option Meaning → Option ℕ
 const_meant (Some (meaning.Const k)) = Some k
 const_meant _ = None
 
+-- the relation that it is
 abbrev pub relation_meant : Option Meaning → Option ℕ
 relation_meant (Some (meaning.Relation k)) = Some k
 relation_meant _ = None
 
+-- the counter that it is
 abbrev pub counter_meant : Option Meaning → Option ℕ
 counter_meant (Some (meaning.Counter k)) = Some k
 counter_meant _ = None
 
+-- the token that it is
 abbrev pub token_meant : Option Meaning → Option ℕ
 token_meant (Some (meaning.Token k)) = Some k
 token_meant _ = None
@@ -86,6 +94,7 @@ abbrev pub sort_fault_at : Scope → List ℕ → Mark → Option ℕ → Option
 sort_fault_at sc own m (Some k) = None
 sort_fault_at sc own m None = if bytes_eq m.text own then kind_at m else stranger_fault sc m
 
+-- the same of the name as it is in scope
 abbrev pub sort_fault : Scope → List ℕ → Mark → Option Fault
 sort_fault sc own m = sort_fault_at sc own m (sort_meant (sc.names m.text))
 
@@ -93,6 +102,7 @@ sort_fault sc own m = sort_fault_at sc own m (sort_meant (sc.names m.text))
 abbrev pub var_sort : Names → Variable → ℕ
 var_sort names v = sort_number names v.sort
 
+-- and of all of them
 abbrev pub var_sorts : Names → List Variable → List ℕ
 var_sorts names vs = map (var_sort names) vs
 
@@ -101,8 +111,10 @@ abbrev pub kind_of : Names → ParamKind → Kind
 kind_of names (kinds.Sort m) = kind.Sort (sort_number names m)
 kind_of names kinds.Int = kind.Int
 
+-- a parameter with its kind
 abbrev pub param_of : Names → Param → Parameter
 param_of names p = record { name = p.name.text; kind = kind_of names p.kind }
 
+-- and all of them
 abbrev pub params_of : Names → List Param → List Parameter
 params_of names ps = map (param_of names) ps

@@ -44,6 +44,7 @@ elem_by None None const = option_map elem.Const const
 abbrev pub elem_named : Scope → List ℕ → Option Elem
 elem_named sc name = elem_by (small (position (λ v. bytes_eq v.name.text name) sc.vars)) (small (position (λ p. bytes_eq p.name.text name) sc.params)) (const_meant (sc.names name))
 
+-- the sort of an element
 abbrev pub sort_of_elem : Scope → Option Elem → Option ℕ
 sort_of_elem sc None = None
 sort_of_elem sc (Some e) = sort_of sc.design (params_of sc.names sc.params) (var_sorts sc.names sc.vars) e
@@ -65,6 +66,7 @@ abbrev pub elems_fault : Scope → List ℕ → List Mark → Option Fault
 elems_fault sc (s ∷ ss) (m ∷ ms) = elem_fault sc s m otherwise elems_fault sc ss ms
 elems_fault sc ss ms = None
 
+-- the elements that names stand for
 abbrev pub elems_of : Scope → List Mark → List Elem
 elems_of sc ms = map (elem_of sc) ms
 
@@ -86,6 +88,7 @@ literal_fault f = if nat_le f.value greatest_literal then None else Some (limit_
 abbrev pub literal_of : Bool → Figure → ℤ
 literal_of minus f = if nat_le f.value greatest_literal then (if minus then pos 0 -ℤ pos f.value else pos f.value) else pos 0
 
+-- a parameter of this kind is a whole number
 abbrev pub is_whole : ParamKind → Bool
 is_whole (kinds.Sort m) = false
 is_whole kinds.Int = true
@@ -105,6 +108,7 @@ lone_fault sc m (Some n) counter = None
 lone_fault sc m None (Some k) = if length (counter_keys sc.design k) == 0 then None else kind_at m
 lone_fault sc m None None = stranger_fault sc m
 
+-- a name alone, or a counter with its keys
 abbrev pub amount_fault_by : Scope → Reading → List Mark → Option Fault
 amount_fault_by sc r [] = lone_fault sc r.name (number_named sc r.name.text) (counter_meant (sc.names r.name.text))
 amount_fault_by sc r (m ∷ ms) = counter_fault sc r (counter_meant (sc.names r.name.text))
@@ -113,6 +117,7 @@ amount_fault_by sc r (m ∷ ms) = counter_fault sc r (counter_meant (sc.names r.
 abbrev pub amount_fault : Scope → Reading → Option Fault
 amount_fault sc r = amount_fault_by sc r r.args
 
+-- what is wrong with a product: its number, and then its reading
 abbrev pub product_fault : Scope → Product → Option Fault
 product_fault sc (products.Number f) = literal_fault f
 product_fault sc (products.Times f r) = literal_fault f otherwise amount_fault sc r
@@ -122,14 +127,17 @@ product_fault sc (products.Reading r) = amount_fault sc r
 abbrev pub signed_fault : Scope → ℕ → Signed → Option Fault
 signed_fault sc n s = limit_at Summands most_summands (n + 1) s.summand.word otherwise product_fault sc s.summand.product
 
+-- what is wrong with a term: its summands, in their order
 abbrev pub term_fault : Scope → Term → Option Fault
 term_fault sc t = product_fault sc t.first.product otherwise first_fault (signed_fault sc) 0 t.more
 
 -- ---- the term that a tree's term is
 
+-- the coefficient of a reading without a number
 abbrev pub unit_of : Bool → ℤ
 unit_of minus = if minus then pos 0 -ℤ pos 1 else pos 1
 
+-- the coefficient of a product, by the sign before it
 abbrev pub coef_of : Bool → Product → ℤ
 coef_of minus (products.Number f) = literal_of minus f
 coef_of minus (products.Times f r) = literal_of minus f
@@ -139,31 +147,39 @@ coef_of minus (products.Reading r) = unit_of minus
 abbrev pub count_of : Scope → Reading → Body
 count_of sc r = body.Count (unwrap_or (counter_meant (sc.names r.name.text)) 0) (elems_of sc r.args)
 
+-- a parameter where the name is one, and else a counter without keys
 abbrev pub lone_body : Scope → Reading → Option ℕ → Body
 lone_body sc r (Some n) = body.Param n
 lone_body sc r None = count_of sc r
 
+-- a name alone, or a counter with its keys
 abbrev pub amount_by : Scope → Reading → List Mark → Body
 amount_by sc r [] = lone_body sc r (number_named sc r.name.text)
 amount_by sc r (m ∷ ms) = count_of sc r
 
+-- what a reading in a term stands for
 abbrev pub amount_of : Scope → Reading → Body
 amount_of sc r = amount_by sc r r.args
 
+-- what the coefficient of a product multiplies
 abbrev pub body_of : Scope → Product → Body
 body_of sc (products.Number f) = body.One
 body_of sc (products.Times f r) = amount_of sc r
 body_of sc (products.Reading r) = amount_of sc r
 
+-- the summand of a product, by the sign before it
 abbrev pub summand_of : Scope → Bool → Product → CoreSummand
 summand_of sc minus p = record { coef = coef_of minus p; body = body_of sc p }
 
+-- the sign is `-`
 abbrev pub is_minus : Sign → Bool
 is_minus signs.Plus = false
 is_minus signs.Minus = true
 
+-- the summand of a signed one
 abbrev pub signed_of : Scope → Signed → CoreSummand
 signed_of sc s = summand_of sc (is_minus s.sign) s.summand.product
 
+-- The term that a tree's term is: its summands, in their order.
 abbrev pub term_of : Scope → Term → CoreTerm
 term_of sc t = record { summands = summand_of sc t.minus t.first.product ∷ map (signed_of sc) t.more }
