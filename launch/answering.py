@@ -16,9 +16,11 @@ COMMANDS = (
     "check SPEC [--budget N], verify SPEC REPORT, upgrade SPEC REPORT, replay SPEC SCHEDULE, simulate SPEC SCHEDULE, "
     "suggest SPEC, spell SPEC, sample N"
 )
+# How many of the words behind a command are paths. Each command has one word behind it at least.
+PATHS = {"check": 1, "suggest": 1, "spell": 1, "verify": 2, "upgrade": 2, "replay": 2, "simulate": 2, "sample": 0}
 # What these statuses of the program mean, which it doesn't say itself.
 MEANINGS = {6: "an input couldn't be read", 9: "the words couldn't be had from the system, or one of them isn't UTF-8"}
-REFUSED_INPUT = (3, 4)
+REFUSED_INPUT, NOT_READ = (3, 4), 6
 
 
 def main(words):
@@ -58,9 +60,23 @@ def tell(program, words, status):
     if status == BAD_WORDS:
         list_commands()
     elif status in MEANINGS:
-        say(MEANINGS[status])
+        found = unread(words) if status == NOT_READ else []
+        say(MEANINGS[status] + (": " if found else "") + ", ".join(found))
     elif status in REFUSED_INPUT and os.path.isfile(VIEW):
         view().places(program, words, status)
+
+
+def unread(words):
+    """The inputs of a command that can't be read, each with the reason."""
+    found = []
+    for it in words[1 : PATHS.get(words[0], 0) + 1]:
+        try:
+            os.close(os.open(it, os.O_RDONLY | os.O_NONBLOCK))
+            if os.path.isdir(it):
+                found.append(f"{it} (it is a folder)")
+        except OSError as error:
+            found.append(f"{it} ({error.strerror})")
+    return found
 
 
 def list_commands():

@@ -9,7 +9,15 @@ def is_here():
     return shutil.which("rt") is not None
 
 
+class Broken(Exception):
+    """There is an `rt` that doesn't say its version."""
+
+
 def line():
     """The kit's line."""
-    ran = subprocess.run(["rt", "version"], stdin=subprocess.DEVNULL, stdout=subprocess.PIPE, check=True)
+    try:
+        ran = subprocess.run(["rt", "version"], stdin=subprocess.DEVNULL, capture_output=True, check=True)
+    except (OSError, subprocess.CalledProcessError) as error:
+        said = (getattr(error, "stderr", None) or b"").decode(errors="replace").strip().split("\n")[-1]
+        raise Broken(f"{shutil.which('rt')} doesn't say its version ({said or error})") from error
     return ran.stdout.decode().strip()

@@ -6,7 +6,7 @@ import time
 
 from launch import kit, record
 from launch.choosing import HOME, named, why_not
-from launch.paths import BAD_WORDS, HOME_PROGRAM, HOME_RECORD, INTERRUPTED, KEPT_PROGRAM, KEPT_RECORD, NO_PROGRAM, OTHER_THAN_KEPT, OUT, at, say
+from launch.paths import BAD_WORDS, CRATES, HOME_PROGRAM, HOME_RECORD, INTERRUPTED, KEPT_PROGRAM, KEPT_RECORD, NO_PROGRAM, OTHER_THAN_KEPT, OUT, TOP, at, say
 from launch.seen import Looks
 from launch.sources import PROGRAM_CRATE, Sources, below
 from launch.stopping import Stopped, end_all, stop_by_signals
@@ -29,6 +29,12 @@ def main(words):
     except Stopped:
         say("stopped; what is proved stays, and ./cise prove goes on from there")
         return INTERRUPTED
+    except kit.Broken as broken:
+        say(str(broken))
+    except OSError as error:
+        which = os.path.relpath(error.filename, TOP) if error.filename else "the repository"
+        say(f"{which} can't be used: {error.strerror}; nothing more was proved")
+    return NO_PROGRAM
 
 
 class Alone:
@@ -55,13 +61,16 @@ def prove():
     if not why_not(HOME, sources, looks):
         say("the program of these sources is proved and built here already")
         return compare(sources, looks)
+    if PROGRAM_CRATE not in sources.rows:
+        say(f"{CRATES} has no row for {PROGRAM_CRATE}, the program's crate")
+        return NO_PROGRAM
+    kit_line, start = kit.line(), time.monotonic()
     for it in (HOME_RECORD, HOME_PROGRAM):
         if os.path.lexists(at(it)):
             os.remove(at(it))
-    kit_line, start = kit.line(), time.monotonic()
     failed = Proofs(sources, kit_line).run()
     if failed:
-        say(f"{failed[0]} couldn't be proved; what was said stands in {log_of(failed[0])}")
+        say(f"{' and '.join(failed)} couldn't be proved; what was said stands in {' and '.join(map(log_of, failed))}")
         return NO_PROGRAM
     looks = Looks()
     if Sources(looks).total() != sources.total():
@@ -151,7 +160,7 @@ class Proofs:
             while len(self.done) < len(self.rows) and (self.running or not self.failed):
                 self.begin_more()
                 self.take_one()
-        except Stopped:
+        except (Stopped, OSError):
             end_all(self.running.values())
             raise
         self.plan.keep(self.done)
@@ -184,6 +193,8 @@ class Proofs:
         process.returncode = status >> 8 if not status & 127 else -(status & 127)
         if not self.is_built(crate, process.returncode):
             self.failed.append(crate)
+            if self.running:
+                say(f"{crate} couldn't be proved; those that are being proved are waited for ({', '.join(self.running)})")
             return
         self.done.add(crate)
         self.plan.took(crate, used.ru_utime + used.ru_stime)

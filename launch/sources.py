@@ -9,9 +9,12 @@ PARTS = ("src", "specs", "proofs")
 
 
 def rows():
-    """The row of each crate, without comments and with single spaces."""
-    with open(at(CRATES), encoding="utf-8") as file:
-        found = [" ".join(it.partition("#")[0].split()) for it in file]
+    """The row of each crate, without comments and with single spaces. None where the file can't be read."""
+    try:
+        with open(at(CRATES), encoding="utf-8", errors="surrogateescape") as file:
+            found = [" ".join(it.partition("#")[0].split()) for it in file]
+    except OSError:
+        return {}
     return {it.split()[0].rstrip(":"): it for it in found if it}
 
 
@@ -20,7 +23,7 @@ def rows_of_program():
     every, found, left = rows(), {}, [PROGRAM_CRATE]
     while left:
         crate = left.pop()
-        if crate not in found:
+        if crate in every and crate not in found:
             found[crate] = every[crate]
             left += below(every, crate)
     return dict(sorted(found.items()))

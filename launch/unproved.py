@@ -7,12 +7,12 @@ import subprocess
 import tempfile
 
 from launch import kit
-from launch.paths import INTERRUPTED, NO_PROGRAM, at, say
-from launch.answering import VIEWS
+from launch.paths import BAD_WORDS, INTERRUPTED, NO_PROGRAM, at, say
+from launch.answering import MEANINGS, NOT_READ, PATHS, VIEWS
 from launch.stopping import Stopped, end_all, stop_by_signals
 
-# How many of the words behind a command are paths.
-PATHS = {"check": 1, "suggest": 1, "spell": 1, "verify": 2, "upgrade": 2, "replay": 2, "simulate": 2}
+# The program reads no more than this of any input, and one byte to see whether there is more.
+MOST_BYTES = 1 << 26
 NOT_WRITTEN = 7
 SECONDS = 600
 ENDED = re.compile(r"run=ended status=([0-9]+) .*proved=no")
@@ -22,27 +22,43 @@ PROVE = "./cise prove proves the program and builds it"
 def answer(words, reasons, list_commands):
     """Answers, and returns the program's status, or the script's where there is no answer."""
     say("; ".join(reasons))
-    needs_proof = not words or words[0] in VIEWS
-    if needs_proof:
+    if words and words[0] in VIEWS:
+        say(f"no program was run, since {words[0]} needs a proved one")
+    elif not is_command(words):
         list_commands()
-        say("no program was run, since these words need a proved one")
-    if not kit.is_here():
-        say(f"{PROVE}; {kit.LACKING}")
-        return NO_PROGRAM
-    if needs_proof:
-        say(PROVE)
-        return NO_PROGRAM
+        say("no program was run, since the words are none of these")
+    elif kit.is_here():
+        with tempfile.TemporaryDirectory(prefix="cise-") as room:
+            stop_by_signals()
+            try:
+                return answer_unproved(words, room, list_commands)
+            except Stopped:
+                return INTERRUPTED
+    say(PROVE if kit.is_here() else f"{PROVE}; {kit.LACKING}")
+    return NO_PROGRAM
+
+
+def is_command(words):
+    """Whether the words can be those of a command, by their first one and by how many there are."""
+    return bool(words) and words[0] in PATHS and len(words) > max(1, PATHS[words[0]])
+
+
+def answer_unproved(words, room, list_commands):
+    """Answers by a program that isn't proved, with what it reads and writes in the room."""
+    try:
+        words, given = with_copies(words, room)
+    except OSError as error:
+        say(f"no program was run, since {error.filename or 'an input'} can't be read: {error.strerror}")
+        return NOT_READ
     say(f"so an unproved program answers, by rt try, which takes some minutes and 3 GB of memory; {PROVE}")
-    with tempfile.TemporaryDirectory(prefix="cise-") as room:
-        try:
-            status = tried(words, room)
-        except Stopped:
-            return INTERRUPTED
-        if status is not None:
-            say(f"an unproved program gives this answer, with status {status}")
-            return status if is_written(f"{room}/stdout") else NOT_WRITTEN
-        with open(f"{room}/stderr", encoding="utf-8", errors="replace") as text:
-            lines = text.read().strip().split("\n")
+    status, lines = tried(words, given, room)
+    if status is not None:
+        say(f"an unproved program gives this answer, with status {status}")
+        if status == BAD_WORDS:
+            list_commands()
+        elif status in MEANINGS:
+            say(MEANINGS[status])
+        return status if is_written(f"{room}/stdout") else NOT_WRITTEN
     say(f"the unproved program didn't come to an end: {' | '.join(lines[-3:])}")
     say(f"{PROVE}, which has no such limits")
     return NO_PROGRAM
@@ -58,12 +74,10 @@ def is_written(path):
         return False
 
 
-def tried(words, room):
-    """The status with which the unproved program ended, or None. What was printed is left in the room."""
-    words, given = with_copies(words, room)
+def tried(words, given, room):
+    """The status with which the unproved program ended, or None, and the kit's lines. What was printed is left in the room."""
     command = ["rt", "try", "--seconds", str(SECONDS), *given, "--", *words]
     with open(f"{room}/stdout", "wb") as out, open(f"{room}/stderr", "wb") as err:
-        stop_by_signals()
         running = subprocess.Popen(command, cwd=at("crates/cise_cli"), stdin=subprocess.DEVNULL, stdout=out, stderr=err)
         try:
             running.wait()
@@ -73,19 +87,16 @@ def tried(words, room):
     with open(f"{room}/stderr", encoding="utf-8", errors="replace") as text:
         lines = text.read().strip().split("\n")
     ended = ENDED.fullmatch(lines[-1])
-    return int(ended[1]) if ended else None
+    return (int(ended[1]) if ended else None), lines
 
 
 def with_copies(words, room):
-    """The words with a plain name for each path, and the flags that give the file of that name: a copy, so that a path may also be a pipe. A path
-    that can't be read gets no file, and the program says so by its status."""
+    """The words with a plain name for each path, and the flags that give the file of that name: a copy, so that a path may also be a pipe."""
     words, given = list(words), []
-    for place in range(1, min(len(words), PATHS.get(words[0], 0) + 1)):
+    for place in range(1, PATHS[words[0]] + 1):
         name = f"input{place}"
-        try:
-            shutil.copyfile(words[place], f"{room}/{name}")
-            given += ["--data", f"{name}={room}/{name}"]
-        except OSError:
-            pass
+        with open(words[place], "rb") as source, open(f"{room}/{name}", "wb") as target:
+            target.write(source.read(MOST_BYTES + 1))
+        given += ["--data", f"{name}={room}/{name}"]
         words[place] = name
     return words, given
