@@ -51,3 +51,4 @@ pub mod take;
 pub mod trim;
 
 pub use eliminator::Eliminator;
+pub use trim::{Conflict, conflict_in};

@@ -7,7 +7,7 @@
 //
 // Whether what is left is a conflict is tested by the rule of a Farkas line itself; where it isn't, or memory runs out, the conflict
 // stays as it was. So nothing has to be believed of the marks and the new numbers.
-ghost use Rattle.std.specs.Prelude.{◌≡◌, true, nat_lt, IfOk};
+ghost use Rattle.std.specs.Prelude.{◌≡◌, true, nat_lt, IfOk, IfSome};
 ghost use Rattle.std.specs.List.{list_all};
 ghost use Rattle.theory_api.specs.Laws.{are_given, rows_at, IsConflict};
 
@@ -152,16 +152,27 @@ fn rested_on(alloc: Global, used: &[u32], steps: &[RowStep]) -> Result<Conflict,
     Ok(Conflict { used, steps })
 }
 
+/// What the last row of a line rests on, where the rule of a Farkas line says that this is a conflict; nothing else has to be known of
+/// the line.
+pub fn conflict_in(alloc: Global, rows: &[Row], used: &[u32], steps: &[RowStep]) -> Option<Conflict>
+    ensures { IfSome result (λ short. IsConflict rows.now short.used short.steps) }
+{
+    let Ok(short) = rested_on(alloc, used, steps) else {
+        return None;
+    };
+    match is_conflict(alloc, rows, short.used.as_slice(), short.steps.as_slice()) {
+        Ok(true) => Some(short),
+        _ => None,
+    }
+}
+
 /// A conflict of the given rows, without what its contradiction doesn't rest on.
 pub fn trimmed(alloc: Global, rows: &[Row], used: Items<u32>, steps: Items<RowStep>) -> Conflict
     requires { IsConflict rows.now used steps }
     ensures { IsConflict rows.now result.used result.steps }
 {
-    let Ok(short) = rested_on(alloc, used.as_slice(), steps.as_slice()) else {
-        return Conflict { used, steps };
-    };
-    match is_conflict(alloc, rows, short.used.as_slice(), short.steps.as_slice()) {
-        Ok(true) => short,
-        _ => Conflict { used, steps },
+    match conflict_in(alloc, rows, used.as_slice(), steps.as_slice()) {
+        Some(short) => short,
+        None => Conflict { used, steps },
     }
 }

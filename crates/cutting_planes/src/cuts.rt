@@ -1,0 +1,181 @@
+// Gomory's cuts, as steps of a Farkas line.
+//
+// The equation of a basic name x says d * x = the sum of n * s over the columns, each s the sum of a row's terms, at most its bound b and
+// now equal to it. Take each row with the multiplier n mod d. What is added up is the sum of n * s less d times a sum of whole multiples of
+// terms; the first part is d * x, so each coefficient of the result is a multiple of d. Its bound is congruent to d * x modulo d, where x
+// has the value of the vertex; as x isn't whole there, it isn't a multiple of d. So tightening, which divides by d at least, rounds the
+// bound down, and the vertex, which satisfies the sum with equality, breaks the tightened row. All whole points of the rows satisfy it.
+// The multipliers of -n mod d give a second cut. A cut needs no Split, and what it is made of is what any Farkas line is made of.
+use crate::combining::{Derivation, Multiple, combine, is_contradiction, row_at};
+use crate::joining::join;
+use crate::number::at;
+use crate::tableau::{Equation, Tableau, numerator, slack_of};
+use lin_rows::{Row, same_row};
+use std::alloc::Global;
+
+/// The most cuts at a time.
+const MOST_AT_ONCE: usize = 4;
+
+/// Cuts with greater coefficients aren't taken.
+const GREATEST_COEFFICIENT: u128 = 1_099_511_627_776;
+
+/// What looking for cuts gave.
+#[derive(Clone, Copy)]
+pub enum Cutting {
+    /// So many rows joined the tableau.
+    Made(usize),
+    /// The row with this number is a contradiction.
+    Contradiction(u32),
+}
+
+// The multiple of the row of a column's slack, where there is one; nothing where a multiple is needed and the column has no row.
+fn multiple_at(
+    tableau: &Tableau,
+    equation: &Equation,
+    column: usize,
+    sign: i128,
+) -> Option<Option<Multiple>> {
+    let by = at(equation.numerators.as_slice(), column)
+        .checked_mul(sign)?
+        .checked_rem_euclid(equation.denominator)?;
+    if by == 0 {
+        return Some(None);
+    }
+    let variable = tableau.columns.get(column).copied()?;
+    let row = slack_of(tableau, variable)?.row?;
+    Some(Some(Multiple { row, by }))
+}
+
+// The multiples of a cut.
+fn multiples_of(
+    tableau: &Tableau,
+    alloc: Global,
+    equation: &Equation,
+    sign: i128,
+) -> Option<Vec<Multiple>> {
+    let mut multiples = Vec::new(alloc);
+    for column in 0..tableau.columns.len() {
+        if let Some(multiple) = multiple_at(tableau, equation, column, sign)? {
+            multiples.push(multiple).ok()?;
+        }
+    }
+    Some(multiples)
+}
+
+// Whether an equation is that of a name whose value isn't whole.
+fn is_fractional(tableau: &Tableau, equation: &Equation) -> Option<bool> {
+    if equation.basic >= tableau.names || equation.denominator == 1 {
+        return Some(false);
+    }
+    let rest = numerator(tableau, equation)?.checked_rem_euclid(equation.denominator)?;
+    Some(rest != 0)
+}
+
+fn is_small(row: &Row) -> bool {
+    !row.terms().is_empty()
+        && row
+            .terms()
+            .iter()
+            .all(|term| term.coef.unsigned_abs() < GREATEST_COEFFICIENT)
+}
+
+// Whether the tableau has a row already.
+fn has_row(tableau: &Tableau, derivation: &Derivation, row: &Row) -> bool {
+    for slack in tableau.slacks.as_slice() {
+        if let Some(number) = slack.row {
+            if let Some(other) = row_at(derivation, number) {
+                if same_row(other, row) {
+                    return true;
+                }
+            }
+        }
+    }
+    false
+}
+
+// Whether a row is to join the tableau.
+fn is_wanted(tableau: &Tableau, derivation: &Derivation, number: u32) -> bool {
+    match row_at(derivation, number) {
+        Some(row) => is_small(row) && !has_row(tableau, derivation, row),
+        None => false,
+    }
+}
+
+// The number of a cut's row.
+fn cut(
+    tableau: &Tableau,
+    alloc: Global,
+    derivation: &mut Derivation,
+    number: usize,
+    sign: i128,
+) -> Option<u32> {
+    let multiples = multiples_of(tableau, alloc, tableau.equations.get(number)?, sign)?;
+    let made = combine(derivation, alloc, multiples.as_slice());
+    drop(multiples);
+    made
+}
+
+// The cuts of an equation, of which those that are wanted are listed.
+fn cut_both(
+    tableau: &Tableau,
+    alloc: Global,
+    derivation: &mut Derivation,
+    number: usize,
+    cuts: &mut Vec<u32>,
+) -> Option<Cutting> {
+    for sign in [1i128, -1] {
+        if let Some(made) = cut(tableau, alloc, derivation, number, sign) {
+            if is_contradiction(derivation, made) {
+                return Some(Cutting::Contradiction(made));
+            }
+            if is_wanted(tableau, derivation, made) {
+                cuts.push(made).ok()?;
+            }
+        }
+    }
+    Some(Cutting::Made(cuts.len()))
+}
+
+// The cuts of all equations of names, up to a limit.
+fn cut_all(
+    tableau: &Tableau,
+    alloc: Global,
+    derivation: &mut Derivation,
+    cuts: &mut Vec<u32>,
+) -> Option<Cutting> {
+    for number in 0..tableau.equations.len() {
+        if cuts.len() < MOST_AT_ONCE && is_fractional(tableau, tableau.equations.get(number)?)? {
+            match cut_both(tableau, alloc, derivation, number, cuts)? {
+                Cutting::Made(_) => {}
+                Cutting::Contradiction(row) => return Some(Cutting::Contradiction(row)),
+            }
+        }
+    }
+    Some(Cutting::Made(cuts.len()))
+}
+
+fn join_all(
+    tableau: &mut Tableau,
+    alloc: Global,
+    derivation: &Derivation,
+    cuts: &[u32],
+) -> Option<()> {
+    for number in cuts {
+        join(tableau, alloc, derivation, *number)?;
+    }
+    Some(())
+}
+
+/// Makes cuts of a vertex that isn't whole, and joins them to the tableau.
+pub fn add_cuts(
+    tableau: &mut Tableau,
+    alloc: Global,
+    derivation: &mut Derivation,
+) -> Option<Cutting> {
+    let mut cuts = Vec::new(alloc);
+    let cutting = cut_all(tableau, alloc, derivation, &mut cuts);
+    let joined = join_all(tableau, alloc, derivation, cuts.as_slice());
+    drop(cuts);
+    joined?;
+    cutting
+}

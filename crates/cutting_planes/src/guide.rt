@@ -1,0 +1,279 @@
+// The guide: what it proposes of rows.
+use crate::combining::{Derivation, Multiple, combine, is_contradiction, no_rows, take};
+use crate::cuts::{Cutting, add_cuts};
+use crate::joining::{bound_names, join_broken};
+use crate::number::at;
+use crate::pivoting::{Pivoted, solve};
+use crate::repairing::{Attempt, are_in_state, attempt_at, mend};
+use crate::tableau::{Tableau, slack_of, start};
+use crate::vertex::{Rounding, Vertex, is_whole, round, vertex_of};
+use items::Items;
+use lin_rows::Row;
+use proof_lines::RowStep;
+use std::alloc::Global;
+
+/// The most turns of the guide, in each of which rows join, names get bounds, or cuts are made.
+const TURN_LIMIT: u32 = 400;
+
+/// The most turns in which cuts are made.
+const CUT_LIMIT: u32 = 20;
+
+/// The most turns in which names get bounds.
+const BOUND_LIMIT: u32 = 4;
+
+/// The most moves of a local search, and after how many turns of cuts there is one.
+const MOVE_LIMIT: u32 = 100;
+
+const MOVE_EVERY: u32 = 8;
+
+/// What is proposed. Nobody has tested it.
+#[derive(Drop)]
+pub enum Proposal {
+    /// Numbers for the names, which may satisfy all rows.
+    Numbers(Vec<i128>),
+    /// The last row of the line may be a contradiction.
+    Refutation {
+        used: Items<u32>,
+        steps: Items<RowStep>,
+    },
+}
+
+/// What stands while the guide works.
+#[derive(Drop)]
+struct Guide {
+    derivation: Derivation,
+    tableau: Tableau,
+    joined: Vec<bool>,
+    cuts: u32,
+    bounds: u32,
+}
+
+/// How a turn ends.
+#[derive(Drop)]
+enum Turn {
+    Again,
+    Numbers(Vec<i128>),
+    Refuted,
+}
+
+// Takes the given rows; whether one is a contradiction.
+fn take_all(derivation: &mut Derivation, alloc: Global, rows: &[Row]) -> Option<bool> {
+    for (i, row) in rows.iter().enumerate() {
+        if take(derivation, alloc, u32::try_from(i).ok()?, row)? {
+            return Some(true);
+        }
+    }
+    Some(false)
+}
+
+// The multiples by which an infeasible equation refutes the rows; nothing where a bound of our own is among them.
+fn multiples_of(tableau: &Tableau, alloc: Global, number: usize) -> Option<Vec<Multiple>> {
+    let equation = tableau.equations.get(number)?;
+    let row = slack_of(tableau, equation.basic)?.row?;
+    let mut multiples = Vec::new(alloc);
+    multiples
+        .push(Multiple {
+            row,
+            by: equation.denominator,
+        })
+        .ok()?;
+    for (column, variable) in tableau.columns.iter().enumerate() {
+        let by = at(equation.numerators.as_slice(), column).checked_neg()?;
+        if by != 0 {
+            let row = slack_of(tableau, *variable)?.row?;
+            multiples.push(Multiple { row, by }).ok()?;
+        }
+    }
+    Some(multiples)
+}
+
+// Adds the multiples up.
+fn refute(guide: &mut Guide, alloc: Global, number: usize) -> Option<Turn> {
+    let multiples = multiples_of(&guide.tableau, alloc, number)?;
+    let sum = combine(&mut guide.derivation, alloc, multiples.as_slice());
+    drop(multiples);
+    if is_contradiction(&guide.derivation, sum?) {
+        return Some(Turn::Refuted);
+    }
+    None
+}
+
+fn values_of(attempt: Attempt) -> Vec<i128> {
+    let Attempt {
+        values,
+        sums,
+        moved,
+    } = attempt;
+    drop(sums);
+    drop(moved);
+    values
+}
+
+// Whole numbers near a vertex, mended by some moves, where all rows then hold.
+fn try_rounding(
+    derivation: &Derivation,
+    alloc: Global,
+    vertex: &Vertex,
+    way: Rounding,
+    moves: u32,
+) -> Option<Vec<i128>> {
+    let values = round(vertex, alloc, way)?;
+    let mut attempt = attempt_at(derivation, alloc, values)?;
+    let mended = mend(derivation, &mut attempt, moves);
+    let values = values_of(attempt);
+    match mended {
+        Some(true) if are_in_state(values.as_slice()) => Some(values),
+        _ => {
+            drop(values);
+            None
+        }
+    }
+}
+
+// The same in three ways; a vertex that is whole has one.
+fn try_all(
+    derivation: &Derivation,
+    alloc: Global,
+    vertex: &Vertex,
+    moves: u32,
+) -> Option<Vec<i128>> {
+    for way in [Rounding::Nearest, Rounding::Down, Rounding::Up] {
+        if let Some(values) = try_rounding(derivation, alloc, vertex, way, moves) {
+            return Some(values);
+        }
+        if is_whole(vertex) {
+            return None;
+        }
+    }
+    None
+}
+
+// Whole numbers near a vertex that satisfies all rows, or cuts where there are none.
+fn settle(guide: &mut Guide, alloc: Global, vertex: &Vertex) -> Option<Turn> {
+    let moves = if guide.cuts % MOVE_EVERY == 0 {
+        MOVE_LIMIT
+    } else {
+        0
+    };
+    if let Some(values) = try_all(&guide.derivation, alloc, vertex, moves) {
+        return Some(Turn::Numbers(values));
+    }
+    if guide.cuts >= CUT_LIMIT {
+        return None;
+    }
+    guide.cuts = guide.cuts.saturating_add(1);
+    match add_cuts(&mut guide.tableau, alloc, &mut guide.derivation)? {
+        Cutting::Made(0) => None,
+        Cutting::Made(_) => Some(Turn::Again),
+        Cutting::Contradiction(_) => Some(Turn::Refuted),
+    }
+}
+
+// What follows from a vertex.
+fn go_on(guide: &mut Guide, alloc: Global, vertex: &Vertex) -> Option<Turn> {
+    if join_broken(
+        &mut guide.tableau,
+        alloc,
+        &guide.derivation,
+        guide.joined.as_mut_slice(),
+        vertex,
+    )? {
+        return Some(Turn::Again);
+    }
+    if guide.bounds < BOUND_LIMIT && bound_names(&mut guide.tableau, alloc, vertex)? {
+        guide.bounds = guide.bounds.saturating_add(1);
+        return Some(Turn::Again);
+    }
+    settle(guide, alloc, vertex)
+}
+
+fn take_turn(guide: &mut Guide, alloc: Global) -> Option<Turn> {
+    match solve(&mut guide.tableau, alloc)? {
+        Pivoted::Infeasible(number) => refute(guide, alloc, number),
+        Pivoted::Feasible => {
+            let vertex = vertex_of(&guide.tableau, alloc)?;
+            let turn = go_on(guide, alloc, &vertex);
+            drop(vertex);
+            turn
+        }
+    }
+}
+
+fn turn_on(guide: &mut Guide, alloc: Global) -> Option<Turn> {
+    for _turn in 0..TURN_LIMIT {
+        match take_turn(guide, alloc)? {
+            Turn::Again => {}
+            Turn::Numbers(values) => return Some(Turn::Numbers(values)),
+            Turn::Refuted => return Some(Turn::Refuted),
+        }
+    }
+    None
+}
+
+// The line of a derivation.
+fn refutation(derivation: Derivation) -> Proposal {
+    let Derivation { rows, used, steps } = derivation;
+    drop(rows);
+    Proposal::Refutation { used, steps }
+}
+
+// What a guide ends with.
+fn ended(guide: Guide, turn: Option<Turn>) -> Option<Proposal> {
+    let Guide {
+        derivation,
+        tableau,
+        joined,
+        cuts: _,
+        bounds: _,
+    } = guide;
+    drop(tableau);
+    drop(joined);
+    match turn {
+        Some(Turn::Refuted) => Some(refutation(derivation)),
+        Some(Turn::Numbers(values)) => {
+            drop(derivation);
+            Some(Proposal::Numbers(values))
+        }
+        _ => {
+            drop(derivation);
+            None
+        }
+    }
+}
+
+// The guide of given rows, none of which has joined.
+fn guide_of(derivation: Derivation, alloc: Global, ints: u32) -> Option<Guide> {
+    let Some(tableau) = start(alloc, ints as usize) else {
+        drop(derivation);
+        return None;
+    };
+    let Ok(joined) = vec![in alloc; false; derivation.used.len()] else {
+        drop(derivation);
+        drop(tableau);
+        return None;
+    };
+    Some(Guide {
+        derivation,
+        tableau,
+        joined,
+        cuts: 0,
+        bounds: 0,
+    })
+}
+
+/// Numbers that may satisfy all rows, or a line that may refute them; nothing where a number has no room, where a limit is met, or for
+/// want of memory.
+pub fn propose(alloc: Global, rows: &[Row], ints: u32) -> Option<Proposal> {
+    let mut derivation = no_rows(alloc);
+    match take_all(&mut derivation, alloc, rows) {
+        Some(false) => {}
+        Some(true) => return Some(refutation(derivation)),
+        None => {
+            drop(derivation);
+            return None;
+        }
+    }
+    let mut guide = guide_of(derivation, alloc, ints)?;
+    let turn = turn_on(&mut guide, alloc);
+    ended(guide, turn)
+}

@@ -1,0 +1,168 @@
+// Rows that join the tableau late: only those that a vertex breaks, the worst of them first.
+use crate::combining::{Derivation, row_at};
+use crate::number::at;
+use crate::tableau::{Slack, Tableau, add_row};
+use crate::vertex::{Vertex, over_one_denominator};
+use lin_rows::{Row, RowTerm};
+use std::alloc::Global;
+
+/// The most rows that join at a time.
+const MOST_AT_ONCE: u32 = 10;
+
+/// How far names may go.
+const FARTHEST: i128 = 1_000_000_000_000_000;
+
+// The sum of a row's terms.
+pub fn sum_at(row: &Row, values: &[i128]) -> Option<i128> {
+    let mut sum = 0i128;
+    for term in row.terms() {
+        let product = term.coef.checked_mul(at(values, term.place as usize))?;
+        sum = sum.checked_add(product)?;
+    }
+    Some(sum)
+}
+
+// The sum of the squares of a row's coefficients; the greatest number where it has no room.
+fn square_length(terms: &[RowTerm]) -> u128 {
+    let mut sum = 0u128;
+    for term in terms {
+        let size = term.coef.unsigned_abs();
+        sum = sum.saturating_add(size.saturating_mul(size));
+    }
+    sum
+}
+
+// How far values, over a denominator, are beyond a row, in its own length; 0 where they satisfy it.
+fn excess(row: &Row, numerators: &[i128], denominator: i128) -> Option<u128> {
+    let sum = sum_at(row, numerators)?;
+    let beyond = sum.checked_sub(row.bound().checked_mul(denominator)?)?;
+    if beyond <= 0 {
+        return Some(0);
+    }
+    let length = square_length(row.terms()).isqrt();
+    let scaled = beyond.unsigned_abs().saturating_mul(1024);
+    Some(scaled.checked_div(length).unwrap_or(0).saturating_add(1))
+}
+
+// For each given row how far a vertex is beyond it; 0 for one that has joined.
+fn excesses(
+    derivation: &Derivation,
+    alloc: Global,
+    joined: &[bool],
+    numerators: &[i128],
+    denominator: i128,
+) -> Option<Vec<u128>> {
+    let mut list = Vec::new(alloc);
+    for (row, has_joined) in derivation.rows.as_slice().iter().zip(joined.iter()) {
+        let beyond = if *has_joined {
+            0
+        } else {
+            excess(row, numerators, denominator)?
+        };
+        list.push(beyond).ok()?;
+    }
+    Some(list)
+}
+
+// The place of the greatest number above 0.
+fn greatest(numbers: &[u128]) -> Option<usize> {
+    let mut most = 0;
+    let mut found = None;
+    for (i, number) in numbers.iter().enumerate() {
+        if *number > most {
+            most = *number;
+            found = Some(i);
+        }
+    }
+    found
+}
+
+// A row of the derivation joins the tableau.
+pub fn join(
+    tableau: &mut Tableau,
+    alloc: Global,
+    derivation: &Derivation,
+    number: u32,
+) -> Option<()> {
+    let row = row_at(derivation, number)?;
+    let slack = Slack {
+        bound: row.bound(),
+        row: Some(number),
+    };
+    add_row(tableau, alloc, row.terms(), slack)
+}
+
+// The worst rows join; whether there was one.
+fn join_worst(
+    tableau: &mut Tableau,
+    alloc: Global,
+    derivation: &Derivation,
+    joined: &mut [bool],
+    excesses: &mut [u128],
+) -> Option<bool> {
+    let mut any = false;
+    for _join in 0..MOST_AT_ONCE {
+        let Some(worst) = greatest(excesses) else {
+            return Some(any);
+        };
+        join(tableau, alloc, derivation, u32::try_from(worst).ok()?)?;
+        any = true;
+        if worst < joined.len() {
+            joined[worst] = true;
+        }
+        if worst < excesses.len() {
+            excesses[worst] = 0;
+        }
+    }
+    Some(any)
+}
+
+/// The worst of the given rows that a vertex breaks join the tableau; whether there was one.
+pub fn join_broken(
+    tableau: &mut Tableau,
+    alloc: Global,
+    derivation: &Derivation,
+    joined: &mut [bool],
+    vertex: &Vertex,
+) -> Option<bool> {
+    let (numerators, denominator) = over_one_denominator(vertex, alloc)?;
+    let list = excesses(
+        derivation,
+        alloc,
+        joined,
+        numerators.as_slice(),
+        denominator,
+    );
+    drop(numerators);
+    let mut list = list?;
+    let any = join_worst(tableau, alloc, derivation, joined, list.as_mut_slice());
+    drop(list);
+    any
+}
+
+// A name may go no further than a state's numbers, up or down.
+fn bound_name(tableau: &mut Tableau, alloc: Global, name: u32, coef: i128) -> Option<()> {
+    let terms = [RowTerm { place: name, coef }];
+    let slack = Slack {
+        bound: FARTHEST,
+        row: None,
+    };
+    add_row(tableau, alloc, &terms, slack)
+}
+
+/// Names that a vertex puts beyond a state's numbers get a bound; whether there was one. Such a bound isn't given, so what rests on it
+/// is no proposal.
+pub fn bound_names(tableau: &mut Tableau, alloc: Global, vertex: &Vertex) -> Option<bool> {
+    let mut any = false;
+    for (name, numerator) in vertex.numerators.as_slice().iter().enumerate() {
+        let farthest = at(vertex.denominators.as_slice(), name).checked_mul(FARTHEST)?;
+        if *numerator > farthest {
+            bound_name(tableau, alloc, u32::try_from(name).ok()?, 1)?;
+            any = true;
+        } else if *numerator < farthest.checked_neg()? {
+            bound_name(tableau, alloc, u32::try_from(name).ok()?, -1)?;
+            any = true;
+        }
+    }
+    Some(any)
+}
