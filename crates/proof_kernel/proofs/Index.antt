@@ -1,18 +1,18 @@
 use Rattle.std.proofs.Common.{◌≡◌, ℕ, zero, suc, ◌<◌, Bool, true, false, cond, ◌&&◌, ◌||◌, ◌==◌, inl, inr, List, [], ◌∷◌, ◌++◌, length, map, set, get_or, refl, sym, ◌∙◌, ap, subst, arith, Option, Some, None, take, drop, drop-cons, append-nil}
 use Rattle.std.specs.Prelude.{slice_index_or}
-use Rattle.std.specs.List.{list_any}
+use Rattle.std.specs.List.{list_any, list_all}
 use Rattle.std.proofs.lemmas.Bool.Decides.{nat_tests}
 use Rattle.std.proofs.lemmas.List.Folds.{list_any-append}
 use Rattle.std.proofs.lemmas.List.{length-set, get_or_default}
 use Rattle.std.proofs.lemmas.Nat.{mod_below}
 use Rattle.proof_lines.specs.declared.clause.Lit.{Lit}
 use Rattle.proof_kernel.specs.declared.freshness.Entry.{Entry}
-use Rattle.proof_lines.specs.Clauses.{has, sub}
+use Rattle.proof_lines.specs.Clauses.{has, sub, flip, holds_both_ways}
 use Rattle.proof_kernel.specs.Rules.{live_of}
 use Rattle.proof_lines.specs.Numbers.{stands_in}
 use Rattle.proof_kernel.specs.Evidence.{is_new, each_new}
-use Rattle.proof_kernel.specs.Index.{spot, spots, HasNoEntry, slot_new, slot_within, entry_within, finds, IsIndex, PutsOne, with_marks, marked, finds_marked, HasNoMark}
-use Rattle.std.proofs.lemmas.Bool.{and_parts, or_left, or_right, eqb-true}
+use Rattle.proof_kernel.specs.Index.{spot, spots, HasNoEntry, slot_new, slot_within, entry_within, finds, IsIndex, PutsOne, with_marks, marked, marked_both_ways, marked_slot_within, finds_marked, HasNoMark}
+use Rattle.std.proofs.lemmas.Bool.{and_parts, and_from, or_left, or_right, eqb-true}
 use Rattle.proof_lines.proofs.Sets.{has-cases, same_nat-refl}
 use Rattle.proof_kernel.proofs.States.{live_of-next}
 
@@ -142,13 +142,54 @@ marks-set m c marks k some sized clear = marks-at m c marks true k some sized �
     itself true = refl
     itself false = refl
 
+-- what lies within a clause has its spots among the clause's, so to ask for that besides changes nothing
+sub-among : (m : ℕ) (d c : List Lit) → sub d c ≡ true → list_all (λ l. stands_in (spots m c) (spot m l)) d ≡ true
+sub-among m [] c h = refl
+sub-among m (x ∷ d) c h =
+    let p = and_parts (has c x) (sub d c) h in
+    and_from (stands_in (spots m c) (spot m x)) (list_all (λ l. stands_in (spots m c) (spot m l)) d)
+    (or_right (0 == spot m x) (stands_in (map (spot m) c) (spot m x)) (has-spot m c x p.0)) (sub-among m d c p.1)
+
+and_given : (a b : Bool) → (b ≡ true → a ≡ true) → (a && b) ≡ b
+and_given a true h = ap (λ z. z && true) (h refl)
+and_given a false h = none a
+  where
+    none : (a : Bool) → (a && false) ≡ false
+    none true = refl
+    none false = refl
+
+-- so with an atom that stands in it both ways
+both-among : (m : ℕ) (d c : List Lit) → list_any (λ l. has c (flip l)) d ≡ true → list_any (λ l. stands_in (spots m c) (spot m (flip l))) d ≡ true
+both-among m [] c h = absurd cc
+both-among m (x ∷ d) c h = by_case (both-among m d c) (has c (flip x)) refl h
+  where
+    by_case : (list_any (λ l. has c (flip l)) d ≡ true → list_any (λ l. stands_in (spots m c) (spot m (flip l))) d ≡ true) → (b : Bool) → has c (flip x) ≡ b → (b || list_any (λ l. has c (flip l)) d) ≡ true → list_any (λ l. stands_in (spots m c) (spot m (flip l))) (x ∷ d) ≡ true
+    by_case ih true e k =
+        or_left (stands_in (spots m c) (spot m (flip x))) (list_any (λ l. stands_in (spots m c) (spot m (flip l))) d)
+        (or_right (0 == spot m (flip x)) (stands_in (map (spot m) c) (spot m (flip x))) (has-spot m c (flip x) e))
+    by_case ih false e k = or_right (stands_in (spots m c) (spot m (flip x))) (list_any (λ l. stands_in (spots m c) (spot m (flip l))) d) (ih k)
+
+-- marks on the spots of a clause are its spots
+marked-among : (m : ℕ) (marks : List Bool) (c : List Lit) (k : ℕ) → 0 < m → length marks ≡ m → HasNoMark marks → marked (with_marks m marks c true) k ≡ stands_in (spots m c) k
+marked-among m marks c k some sized clear = ap (λ b. (0 == k) || b) (marks-set m c marks k some sized clear)
+
+pub both-marked : (m : ℕ) (marks : List Bool) (c : List Lit) → 0 < m → length marks ≡ m → HasNoMark marks
+    → marked_both_ways m (with_marks m marks c true) c ≡ holds_both_ways c
+both-marked m marks c some sized clear =
+    (λ i. list_any (λ l. marked-among m marks c (spot m (flip l)) some sized clear i) c && holds_both_ways c)
+    ∙ and_given (list_any (λ l. stands_in (spots m c) (spot m (flip l))) c) (holds_both_ways c) (both-among m c c)
+
 pub finds-marked : (m : ℕ) (marks : List Bool) (slots : List (Option (List Lit))) (lists : List (List Entry)) (c : List Lit) → 0 < m → length marks ≡ m → HasNoMark marks
     → finds_marked m (with_marks m marks c true) slots lists c ≡ finds m slots lists c
 finds-marked m marks slots lists c some sized clear =
-    λ i. list_any (λ k. list_any (λ (e : Entry). (same e.second i && (same e.third i && same e.fourth i)) && slot_within c (slice_index_or slots e.number None)) (slice_index_or lists k [])) (spots m c)
+    λ i. list_any (λ k. list_any (λ (e : Entry). (same e.second i && (same e.third i && same e.fourth i)) && same_slot (slice_index_or slots e.number None) i) (slice_index_or lists k [])) (spots m c)
   where
     same : (k : ℕ) → marked (with_marks m marks c true) k ≡ stands_in (spots m c) k
-    same k = ap (λ b. (0 == k) || b) (marks-set m c marks k some sized clear)
+    same k = marked-among m marks c k some sized clear
+
+    same_slot : (o : Option (List Lit)) → marked_slot_within m (with_marks m marks c true) c o ≡ slot_within c o
+    same_slot (Some d) = (λ i. list_all (λ l. same (spot m l) i) d && sub d c) ∙ and_given (list_all (λ l. stands_in (spots m c) (spot m l)) d) (sub d c) (sub-among m d c)
+    same_slot None = refl
 
 pub marks-taken : (m : ℕ) (marks set_so left : List Bool) (c : List Lit) → 0 < m → length marks ≡ m → HasNoMark marks → set_so ≡ with_marks m marks c true → length set_so ≡ m → left ≡ with_marks m set_so c false → HasNoMark left
 marks-taken m marks set_so left c some sized clear is so end k =

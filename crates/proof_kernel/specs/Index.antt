@@ -1,9 +1,9 @@
 -- A private index of literals by which freshness is checked; it mirrors src/freshness.rt, and a reader of the rules passes it by.
 use Rattle.std.specs.Prelude.{◌≡◌, ℕ, ◌+◌, ◌*◌, ◌%◌, ◌<◌, ◌==◌, Bool, true, false, ◌&&◌, ◌||◌, List, [], ◌∷◌, ◌++◌, length, map, slice_index_or, slice_set, Option, Some, None}
-use Rattle.std.specs.List.{list_any, fold}
+use Rattle.std.specs.List.{list_any, list_all, fold}
 use Rattle.proof_lines.specs.declared.clause.Lit.{Lit}
 use Rattle.proof_kernel.specs.declared.freshness.Entry.{Entry}
-use Rattle.proof_lines.specs.Clauses.{sub}
+use Rattle.proof_lines.specs.Clauses.{sub, flip, holds_both_ways}
 use Rattle.proof_lines.specs.Numbers.{stands_in}
 use Rattle.proof_kernel.specs.Evidence.{is_new}
 
@@ -65,11 +65,27 @@ marked marks k = (0 == k) || slice_index_or marks k false
 abbrev pub all_marked : List Bool → Entry → Bool
 all_marked marks e = marked marks e.second && (marked marks e.third && marked marks e.fourth)
 
-abbrev pub marked_within : List Bool → List (Option (List Lit)) → List Lit → Entry → Bool
-marked_within marks slots c e = all_marked marks e && slot_within c (slice_index_or slots e.number None)
+-- the spots of all literals are marked
+abbrev pub lits_marked : ℕ → List Bool → List Lit → Bool
+lits_marked m marks d = list_all (λ l. marked marks (spot m l)) d
+
+-- the spot of some literal's opposite is
+abbrev pub any_opposite_marked : ℕ → List Bool → List Lit → Bool
+any_opposite_marked m marks c = list_any (λ l. marked marks (spot m (flip l))) c
+
+abbrev pub marked_both_ways : ℕ → List Bool → List Lit → Bool
+marked_both_ways m marks c = any_opposite_marked m marks c && holds_both_ways c
+
+-- the clause of a slot has marked spots alone, and lies within another one
+abbrev pub marked_slot_within : ℕ → List Bool → List Lit → Option (List Lit) → Bool
+marked_slot_within m marks c (Some d) = lits_marked m marks d && sub d c
+marked_slot_within m marks c None = false
+
+abbrev pub marked_within : ℕ → List Bool → List (Option (List Lit)) → List Lit → Entry → Bool
+marked_within m marks slots c e = all_marked marks e && marked_slot_within m marks c (slice_index_or slots e.number None)
 
 abbrev pub finds_marked : ℕ → List Bool → List (Option (List Lit)) → List (List Entry) → List Lit → Bool
-finds_marked m marks slots lists c = list_any (λ k. list_any (marked_within marks slots c) (slice_index_or lists k [])) (spots m c)
+finds_marked m marks slots lists c = list_any (λ k. list_any (marked_within m marks slots c) (slice_index_or lists k [])) (spots m c)
 
 abbrev pub HasNoMark : List Bool → Type 0
 HasNoMark marks = (k : ℕ) → slice_index_or marks k false ≡ false

@@ -4,15 +4,19 @@
 // An index finds the earlier clauses that lie within a clause. A literal has a spot, and each earlier clause stands in the list
 // of the spot of one of its literals: the shortest of those lists. A clause that lies within another shares that literal with
 // it, so it stands in a list of the other's spots. Its entry has the spots of up to three more literals too, so that a look at
-// some marks passes over nearly all entries, without a look at their clauses. Clauses without literals stand in the list of spot 0, which is always looked through. Where there is
-// no memory for the index, each clause is compared with each earlier one.
+// some marks passes over nearly all entries, without a look at their clauses. Clauses without literals stand in the list of spot 0,
+// which is always looked through. Where there is no memory for the index, each clause is compared with each earlier one.
+//
+// The spots of a clause are marked while it is looked at. So whether an earlier clause may lie within it is one pass over the earlier
+// one, up to a literal without a mark, and whether it may hold an atom both ways is one pass over its own literals. Where all are
+// marked the lists are compared, once for a log that isn't fresh.
 ghost use Rattle.std.specs.Prelude.{◌≡◌, ◌+◌, ◌*◌, ◌^◌, ◌<◌, ◌≤◌, ◌++◌, ◌∷◌, true, cond, IfOk, OnOk, drop, take, length, is_some, map, slice_index_or, slice_set, Some, None, []};
 ghost use Rattle.std.specs.List.{list_all, list_any};
-ghost use Rattle.proof_lines.specs.Clauses.{sub};
+ghost use Rattle.proof_lines.specs.Clauses.{sub, holds_both_ways};
 ghost use Rattle.proof_kernel.specs.Rules.{live_of};
 ghost use Rattle.proof_lines.specs.Numbers.{stands_in};
 ghost use Rattle.proof_kernel.specs.Evidence.{is_new, each_new};
-ghost use Rattle.proof_kernel.specs.Index.{HasNoEntry, HasNoMark, slot_new, IsIndex, PutsOne, finds, finds_marked, marked, all_marked, marked_within, slot_within, sign_number, spot, spots, with_marks};
+ghost use Rattle.proof_kernel.specs.Index.{HasNoEntry, HasNoMark, slot_new, IsIndex, PutsOne, finds, finds_marked, marked, all_marked, lits_marked, any_opposite_marked, marked_both_ways, marked_within, marked_slot_within, sign_number, spot, spots, with_marks};
 
 use items::Items;
 use proof_lines::clause::{Clause, Lit, holds_both_ways, is_within};
@@ -40,15 +44,11 @@ fn spot(count: usize, lit: Lit) -> usize
     ensures is { result ≡ spot count lit }
     ensures below { result < count }
 {
-    (2 * lit.atom as usize + sign_number(lit.positive)) % count
-}
-
-fn slot_within(slots: &[Option<Clause>], number: usize, lits: &[Lit]) -> bool
-    ensures { result ≡ slot_within lits.now (slice_index_or slots.now number None) }
-{
-    match slots.get(number) {
-        Some(Some(clause)) => is_within(clause.lits(), lits),
-        _ => false,
+    let number = 2 * lit.atom as usize + sign_number(lit.positive);
+    if number < count {
+        number
+    } else {
+        number % count
     }
 }
 
@@ -64,6 +64,50 @@ fn all_marked(marks: &[bool], entry: Entry) -> bool
 {
     is_marked(marks, entry.second)
         && (is_marked(marks, entry.third) && is_marked(marks, entry.fourth))
+}
+
+// Whether the spots of all literals are marked.
+fn lits_marked(count: usize, marks: &[bool], lits: &[Lit]) -> bool
+    requires { 0 < count }
+    ensures { result ≡ lits_marked count marks.now lits.now }
+{
+    lits.iter().all(|lit| is_marked(marks, spot(count, *lit)))
+}
+
+// Whether the spot of some literal's opposite is marked.
+fn any_opposite_marked(count: usize, marks: &[bool], lits: &[Lit]) -> bool
+    requires { 0 < count }
+    ensures { result ≡ any_opposite_marked count marks.now lits.now }
+{
+    lits.iter()
+        .any(|lit| is_marked(marks, spot(count, lit.opposite())))
+}
+
+// Whether a clause has a marked opposite and holds an atom both ways.
+fn marked_both_ways(count: usize, marks: &[bool], lits: &[Lit]) -> bool
+    requires { 0 < count }
+    ensures { result ≡ marked_both_ways count marks.now lits.now }
+{
+    any_opposite_marked(count, marks, lits) && holds_both_ways(lits)
+}
+
+// Whether the clause of a number has marked spots alone and lies within another.
+fn marked_slot_within(
+    count: usize,
+    marks: &[bool],
+    slots: &[Option<Clause>],
+    number: usize,
+    lits: &[Lit],
+) -> bool
+    requires { 0 < count }
+    ensures { result ≡ marked_slot_within count marks.now lits.now (slice_index_or slots.now number None) }
+{
+    match slots.get(number) {
+        Some(Some(clause)) => {
+            lits_marked(count, marks, clause.lits()) && is_within(clause.lits(), lits)
+        }
+        _ => false,
+    }
 }
 
 // Sets marks on the spots of literals, or takes them away.
@@ -87,10 +131,18 @@ fn list_at(lists: &[Items<Entry>], at: usize) -> &[Entry]
     }
 }
 
-fn any_within(marks: &[bool], slots: &[Option<Clause>], lits: &[Lit], entries: &[Entry]) -> bool
-    ensures { result ≡ list_any (marked_within marks.now slots.now lits.now) entries.now }
+fn any_within(
+    count: usize,
+    marks: &[bool],
+    slots: &[Option<Clause>],
+    lits: &[Lit],
+    entries: &[Entry],
+) -> bool
+    requires { 0 < count }
+    ensures { result ≡ list_any (marked_within count marks.now slots.now lits.now) entries.now }
 {
-    entries.iter().any(|entry| all_marked(marks, *entry) && slot_within(slots, entry.number, lits))
+    entries.iter().any(|entry| all_marked(marks, *entry)
+        && marked_slot_within(count, marks, slots, entry.number, lits))
 }
 
 // Whether a marked entry of a list of a clause's spots names a clause that lies within it.
@@ -104,7 +156,7 @@ fn finds_marked(
     requires { 0 < count }
     ensures { result ≡ finds_marked count marks.now slots.now lists.now lits.now }
 {
-    any_within(marks, slots, lits, list_at(lists, 0))
+    any_within(count, marks, slots, lits, list_at(lists, 0))
         || finds_at_literals(count, marks, slots, lists, lits)
 }
 
@@ -116,10 +168,10 @@ fn finds_at_literals(
     lits: &[Lit],
 ) -> bool
     requires { 0 < count }
-    ensures { result ≡ list_any (λ k. list_any (marked_within marks.now slots.now lits.now) (slice_index_or lists.now k [])) (map (spot count) lits.now) }
+    ensures { result ≡ list_any (λ k. list_any (marked_within count marks.now slots.now lits.now) (slice_index_or lists.now k [])) (map (spot count) lits.now) }
 {
     for lit in lits {
-        if any_within(marks, slots, lits, list_at(lists, spot(count, *lit))) {
+        if any_within(count, marks, slots, lits, list_at(lists, spot(count, *lit))) {
             return true;
         }
     }
@@ -145,6 +197,21 @@ fn finds(
     let found = finds_marked(count, marks.as_slice(), slots, lists, lits);
     mark(marks, count, lits, false);
     found
+}
+
+// Whether a clause holds an atom both ways.
+fn is_both_ways(count: usize, marks: &mut Vec<bool>, lits: &[Lit]) -> bool
+    requires some { 0 < count }
+    requires sized { length marks.old.items ≡ count }
+    requires clear { HasNoMark marks.old.items }
+    ensures is { result ≡ holds_both_ways lits.now }
+    ensures sized { length marks.new.items ≡ count }
+    ensures clear { HasNoMark marks.new.items }
+{
+    mark(marks, count, lits, true);
+    let both = marked_both_ways(count, marks.as_slice(), lits);
+    mark(marks, count, lits, false);
+    both
 }
 
 // Whether a spot is none of three.
@@ -279,7 +346,8 @@ fn is_slot_new(
     match &slots[number] {
         Some(clause) => {
             let found = finds(count, marks, slots, lists, clause.lits());
-            !found && !holds_both_ways(clause.lits()) && !clause.is_empty()
+            let both = is_both_ways(count, marks, clause.lits());
+            !found && !both && !clause.is_empty()
         }
         None => true,
     }
