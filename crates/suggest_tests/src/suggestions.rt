@@ -1,11 +1,16 @@
-// What is suggested for specifications, and what the bare ones are.
+// What is suggested for specifications, and what the bare and the keyed ones are.
+
+ghost use Rattle.std.specs.Prelude.{◌≡◌};
+ghost use Rattle.spec_core.specs.Typed.{same_sort as same_sort_of, sort_of_kind as sort_of_kind_of};
+ghost use Rattle.keyed_specs.specs.Keyed.{sort_of_parameter as sort_of_parameter_of};
+
 use crate::examples::{
     BANK_SUGGESTION, KEPT, KEPT_BEFORE, KEPT_BEHIND, NAMED, NAMED_SUGGESTION, PURSES, SETS,
     SETS_SUGGESTION, SHOP, SHOP_SUGGESTION, TOURNAMENTS, TOURNAMENTS_SUGGESTION, VAST, WITHDRAWALS,
 };
 use crate::running::{spec, suggested};
-use keyed_specs::bare;
-use spec_core::Spec;
+use keyed_specs::{bare, keyed};
+use spec_core::{Elem, Kind, Spec};
 use std::alloc::Global;
 use std::process::Abort;
 use suggest::{PairAnswer, SuggestTally, pairs};
@@ -145,4 +150,82 @@ fn makes_bare_specifications(rt: HostRuntime) {
         && has_lines(&none, 2, 0, 1);
     drop(none);
     assert!(rt; is_bare);
+}
+
+fn sort_of_kind(kind: Kind) -> Option<u8>
+    ensures { result ≡ sort_of_kind_of kind }
+{
+    match kind {
+        Kind::Sort(sort) => Some(sort),
+        Kind::Int => None,
+    }
+}
+
+/// The sort of a parameter of an operation; none where there is no such parameter or it is a number.
+fn sort_of_parameter(spec: &Spec, op: u8, param: u8) -> Option<u8>
+    ensures { result ≡ sort_of_parameter_of spec.now op param }
+{
+    match spec.operations.as_slice().get(op as usize) {
+        Some(operation) => match operation.params.as_slice().get(param as usize) {
+            Some(found) => sort_of_kind(found.kind),
+            None => None,
+        },
+        None => None,
+    }
+}
+
+/// Whether there is a first sort, and it is the second.
+fn same_sort(one: Option<u8>, other: Option<u8>) -> bool
+    ensures { result ≡ same_sort_of one other }
+{
+    match one {
+        Some(sort) => match other {
+            Some(found) => found == sort,
+            None => false,
+        },
+        None => false,
+    }
+}
+
+/// Whether the first parameters of two operations have one sort.
+fn have_one_sort(spec: &Spec, first: u8, second: u8) -> bool
+    ensures { result ≡ same_sort_of (sort_of_parameter_of spec.now first 0) (sort_of_parameter_of spec.now second 0) }
+{
+    same_sort(
+        sort_of_parameter(spec, first, 0),
+        sort_of_parameter(spec, second, 0),
+    )
+}
+
+/// Whether the operation at a place has one takes line: this token, alone, at the first parameter.
+fn takes_first(spec: &Spec, place: usize, token: u8) -> bool {
+    let Some(operation) = spec.operations.as_slice().get(place) else {
+        return false;
+    };
+    match operation.takes.as_slice() {
+        [take] => {
+            let at_first = match take.args.as_slice() {
+                [Elem::Param(param)] => *param == 0,
+                _ => false,
+            };
+            at_first && take.token == token && !take.shared
+        }
+        _ => false,
+    }
+}
+
+#[test]
+fn makes_keyed_specifications(rt: HostRuntime) {
+    let alloc = rt.alloc();
+    let bank = spec(&rt, alloc, PURSES);
+    assert!(rt; 1 < bank.operations.len());
+    assert!(rt; have_one_sort(&bank, 0, 1));
+    let both = keyed(alloc, &bank, 0, 0, 1, 0).expect(&rt, "memory");
+    drop(bank);
+    let is_keyed = both.tokens.len() == 2
+        && both.rules.len() == 1
+        && takes_first(&both, 0, 0)
+        && takes_first(&both, 1, 1);
+    drop(both);
+    assert!(rt; is_keyed);
 }
