@@ -2,10 +2,11 @@
 use Rattle.std.proofs.Common.{◌≡◌, ℕ, zero, suc, ◌<◌, List, [], ◌∷◌, length, Option, None, Some, IfSome, Result, Ok, Bool, true, false, refl, subst, ◌≤◌, arith}
 use Rattle.std.specs.Prelude.{nat_le}
 use Rattle.std.proofs.lemmas.Bool.Decides.{nat_tests}
+use Rattle.std.specs.Io.KnownBytes.{IsAtEnd}
 use Rattle.std.specs.declared.alloc.AllocError.{AllocError}
 use Rattle.byte_ports.specs.declared.ending.Answer.{Answer}
 use Rattle.byte_ports.specs.Ending.{EndsIn}
-use Rattle.byte_ports.specs.Told.{Tells, IsAnswerWithin}
+use Rattle.byte_ports.specs.Told.{Tells, IsReadWithin, IsAnswerWithin}
 use Rattle.byte_ports.proofs.Endings.{EndsIn-map}
 
 -- some bytes that are more than so many
@@ -24,6 +25,15 @@ pub read_told : (P : List ℕ → Type 0) (told : Option (List ℕ)) (bytes : Li
     → (given : List ℕ) × Tells told given × P given
 read_told P None bytes h p = (bytes, tt, p)
 read_told P (Some given) bytes h p = (given, refl, subst P h p)
+
+-- A source that is at its end was read to it, and so was one that told too many bytes.
+pub read_at_end : (most : ℕ) (before after : Option (List ℕ)) → IsAtEnd after → IsReadWithin most before after
+read_at_end most None after e = tt
+read_at_end most (Some bytes) after e = λ few. e
+
+pub read_of_many : (most : ℕ) (before after : Option (List ℕ)) → IfSome before (λ bytes. most < length bytes) → IsReadWithin most before after
+read_of_many most None after many = tt
+read_of_many most (Some bytes) after many = λ few. absurd (omega (arith, many, few))
 
 -- bytes that a source tells, where it tells them
 pub some_told : (told : Option (List ℕ)) → (bytes : List ℕ) × Tells told bytes

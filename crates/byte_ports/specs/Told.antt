@@ -1,5 +1,6 @@
 -- Which bytes a source tells, and what is answered to them.
-use Rattle.std.specs.Prelude.{◌≡◌, ℕ, ◌≤◌, ◌<◌, List, length, Option, None, Some, Result, Ok}
+use Rattle.std.specs.Prelude.{◌≡◌, ℕ, ◌≤◌, ◌<◌, List, length, Option, None, Some, IfSome, Result, Ok}
+use Rattle.std.specs.Io.KnownBytes.{IsAtEnd}
 use Rattle.std.specs.declared.alloc.AllocError.{AllocError}
 use Rattle.byte_ports.specs.declared.ending.Answer.{Answer}
 use Rattle.byte_ports.specs.Ending.{IsOne}
@@ -8,6 +9,10 @@ use Rattle.byte_ports.specs.Ending.{IsOne}
 abbrev pub Tells : Option (List ℕ) → List ℕ → Type 0
 Tells None bytes = Unit {0}
 Tells (Some told) bytes = told ≡ bytes
+
+-- A source that told at most so many bytes was read to its end: by what it had left before and after.
+abbrev pub IsReadWithin : ℕ → Option (List ℕ) → Option (List ℕ) → Type 0
+IsReadWithin most left_before left_after = IfSome left_before (λ bytes. length bytes ≤ most → IsAtEnd left_after)
 
 -- the status and the text that a job may give for some bytes
 abbrev pub IsGiven : (List ℕ → Result Answer AllocError → Type 0) → List ℕ → ℕ → List ℕ → Type 0

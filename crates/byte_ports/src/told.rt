@@ -1,10 +1,10 @@
 // What is answered to the bytes that a source gives.
-ghost use Rattle.std.specs.Prelude.{◌≡◌, ℕ, List, ◌<◌, ◌≤◌, length, Ok, IfOk, IsErrOf};
+ghost use Rattle.std.specs.Prelude.{◌≡◌, ℕ, List, ◌<◌, ◌≤◌, length, Ok, IfOk, OnOk, IsErrOf};
 ghost use Rattle.std.specs.Fn.{FnReturnsAt};
 ghost use Rattle.byte_ports.specs.Faults.{IsFault};
 ghost use Rattle.byte_ports.specs.declared.ending.Answer.{Answer};
 ghost use Rattle.byte_ports.specs.Ending.{EndsIn};
-ghost use Rattle.byte_ports.specs.Told.{Tells, IsAnswerWithin, IsAnswerFrom};
+ghost use Rattle.byte_ports.specs.Told.{Tells, IsReadWithin, IsAnswerWithin, IsAnswerFrom};
 
 use crate::ending::{Answer, write_answer};
 use crate::sink::Sink;
@@ -44,6 +44,7 @@ pub fn answer_source<S: Source, F: Fn(&[u8]) -> Result<Answer, AllocError>>(
     requires { (bytes : _) → length bytes.now ≤ most → F.pre job bytes }
     ensures ok { IfOk result (λ answer. IsAnswerFrom (S.left source.old) most long.now (FnReturnsAt F.Fn job) answer.status answer.text.items) }
     ensures fault { IsErrOf result Stopped.Fault → IsFault (S.faults source.old) (S.faults source.new) }
+    ensures end { OnOk result (IsReadWithin most (S.left source.old) (S.left source.new)) }
 {
     match read_up_to(alloc, source, most) {
         Ok(bytes) => match job(bytes.as_slice()) {
@@ -74,6 +75,7 @@ pub fn write_answer_from<S: Source, K: Sink, F: Fn(&[u8]) -> Result<Answer, Allo
     ensures ends { (bytes : List ℕ) × Tells (S.left source.old) bytes × EndsIn (IsAnswerWithin most long.now (FnReturnsAt F.Fn job) bytes) result (K.held out.old) (K.held out.new) (K.faults out.old) (K.faults out.new) }
     ensures read_fault { result ≡ 6 → IsFault (S.faults source.old) (S.faults source.new) }
     ensures unwritten { result ≡ 6 → out.new ≡ out.old }
+    ensures end { result < 6 → IsReadWithin most (S.left source.old) (S.left source.new) }
 {
     match answer_source(alloc, source, most, long, job) {
         Ok(answer) => write_answer(out, answer.status, answer.text.as_slice()),

@@ -1,4 +1,5 @@
 mod Endings
+mod Ends
 mod Texts
 mod Replays
 mod Simulations

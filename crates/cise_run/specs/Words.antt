@@ -2,8 +2,11 @@
 use Rattle.std.specs.Prelude.{◌≡◌, ◌⊎◌, ℕ, Bool, true, false, ◌&&◌, nat_le, if◌then◌else◌, List, [], ◌∷◌, Option, None, Some, codes}
 use Rattle.std.specs.Str.{bytes_eq}
 use Rattle.byte_ports.specs.Faults.{IsFault}
+use Rattle.byte_ports.specs.Told.{IsReadWithin}
 use Rattle.word_cut.specs.Whole.{size_read}
 use Rattle.report_lines.specs.Heads.{most_budget}
+use Rattle.report_verifier.specs.Verified.{most_report_bytes}
+use Rattle.schedule_json.specs.Texts.{most_schedule_bytes}
 use Rattle.cise_run.specs.declared.words.Task.{Task}
 use Rattle.cise_run.specs.declared.words.Task.TheVariants.{Check, Verify, Upgrade, Replay, Simulate, Suggest, Spell}
 use Rattle.cise_run.specs.declared.words.Job.{Job}
@@ -107,6 +110,28 @@ abbrev pub reads_extra : Option Job → Bool
 reads_extra None = false
 reads_extra (Some (OfSpec task)) = takes_extra task
 reads_extra (Some (Sample n)) = false
+
+-- the most bytes that are read of the first input, and of the second one: 64 KiB of a specification, 64 MiB of a report, 16 MiB of a schedule
+abbrev pub most_specification_bytes : ℕ
+most_specification_bytes = 65536
+
+abbrev pub most_extra_bytes : Task → ℕ
+most_extra_bytes (Check budget) = 0
+most_extra_bytes Verify = most_report_bytes
+most_extra_bytes Upgrade = most_report_bytes
+most_extra_bytes Replay = most_schedule_bytes
+most_extra_bytes Simulate = most_schedule_bytes
+most_extra_bytes Suggest = 0
+most_extra_bytes Spell = 0
+
+-- The inputs that are read for the job were read to their ends, by what they had left before and after, where there were at most so many
+-- bytes: the first one, and the second one too, unless the specification is refused.
+abbrev pub AreRead : Option Job → ℕ → Option (List ℕ) → Option (List ℕ) → Option (List ℕ) → Option (List ℕ) → Type 0
+AreRead None status spec_before spec_after extra_before extra_after = Unit {0}
+AreRead (Some (OfSpec task)) status spec_before spec_after extra_before extra_after =
+    IsReadWithin most_specification_bytes spec_before spec_after
+    × (takes_extra task ≡ true → (status ≡ 3 → ⊥) → IsReadWithin (most_extra_bytes task) extra_before extra_after)
+AreRead (Some (Sample n)) status spec_before spec_after extra_before extra_after = Unit {0}
 
 -- An input that is read for the job has failed, by the faults of the specification's source and then of the second one.
 abbrev pub IsInputFault : Option Job → ℕ → ℕ → ℕ → ℕ → Type 0

@@ -1,12 +1,12 @@
 // The program but for its edge: from words, sources and a sink to a status.
 ghost use Rattle.std.specs.Prelude.{◌≡◌, ◌⊎◌, ◌<◌, true, false, List, ℕ, Option, Some, map, string_bytes, IfSome};
 ghost use Rattle.byte_ports.specs.Faults.{IsFault};
-ghost use Rattle.byte_ports.specs.Told.{Tells};
+ghost use Rattle.byte_ports.specs.Told.{Tells, IsReadWithin};
 ghost use Rattle.byte_ports.specs.Ending.{Ends};
 ghost use Rattle.spec_reader.specs.Form.{tree_of};
 ghost use Rattle.spec_from_bytes.specs.Reading.{IsReadingOf};
 ghost use Rattle.cise_run.specs.declared.words.Job.TheVariants.{OfSpec};
-ghost use Rattle.cise_run.specs.Words.{job_of, is_task, judges, is_replay, writes_report, is_simulation, is_suggestion, takes_extra, reads_spec, reads_extra, IsInputFault};
+ghost use Rattle.cise_run.specs.Words.{job_of, is_task, judges, is_replay, writes_report, is_simulation, is_suggestion, takes_extra, reads_spec, reads_extra, most_extra_bytes, AreRead, IsInputFault};
 ghost use Rattle.cise_run.specs.Answer.{IsOutcome, IsOutcomeFront, IsAnswerOf, IsFrontOfAnswer, IsAnswerTo, IsFrontTo, EndsWith, IsAnswered, IsStopped};
 ghost use Rattle.cise_run.specs.Headline.{IsProved, is_outcome, Refutes, StopsRightly, IsReplayedSafely, IsSimulatedSafely, VerifiesAlike, SuggestsRightly, RefusesRightly, IsComplete};
 
@@ -40,6 +40,7 @@ fn do_task<E: Source, K: Sink>(
     ensures read_fault { result ≡ 6 → (takes_extra task ≡ true) × IsFault (E.faults extra.old) (E.faults extra.new) }
     ensures unwritten { result ≡ 6 → out.new ≡ out.old }
     ensures unread { takes_extra task ≡ false → extra.new ≡ extra.old }
+    ensures end { result < 6 → takes_extra task ≡ true → IsReadWithin (most_extra_bytes task) (E.left extra.old) (E.left extra.new) }
 {
     match task {
         Task::Check(budget) => check(alloc, budget, spec, out),
@@ -65,6 +66,7 @@ fn answer_reading<E: Source, K: Sink>(
     ensures read_fault { result ≡ 6 → (takes_extra task ≡ true) × IsFault (E.faults extra.old) (E.faults extra.new) }
     ensures unwritten { result ≡ 6 → out.new ≡ out.old }
     ensures unread { takes_extra task ≡ false → extra.new ≡ extra.old }
+    ensures end { result < 6 → takes_extra task ≡ true → (result ≡ 3 → ⊥) → IsReadWithin (most_extra_bytes task) (E.left extra.old) (E.left extra.new) }
 {
     match reading {
         Reading::Specified(tree, spec) => do_task(alloc, task, tree, spec, extra, out),
@@ -85,6 +87,7 @@ fn answer_task<S: Source, E: Source, K: Sink>(
     ensures read_fault { result ≡ 6 → IsInputFault (Some (OfSpec task)) (S.faults spec.old) (S.faults spec.new) (E.faults extra.old) (E.faults extra.new) }
     ensures unwritten { result ≡ 6 → out.new ≡ out.old }
     ensures unread { takes_extra task ≡ false → extra.new ≡ extra.old }
+    ensures read { result < 6 → AreRead (Some (OfSpec task)) result (S.left spec.old) (S.left spec.new) (E.left extra.old) (E.left extra.new) }
 {
     match read_specification(alloc, spec) {
         Ok(reading) => {
@@ -143,7 +146,8 @@ pub fn run<S: Source, E: Source, K: Sink>(
     // Where the specification is read, and no input and no write fails, there is an answer, or memory ran out.
     ensures complete { (IsInputFault (job_of (map string_bytes words.now)) (S.faults spec.old) (S.faults spec.new) (E.faults extra.old) (E.faults extra.new) → ⊥) → (IsFault (K.faults out.old) (K.faults out.new) → ⊥) → IsComplete (job_of (map string_bytes words.now)) (S.left spec.old) result }
 
-    // What isn't read for the job stays as it was.
+    // What is read for the job was read to its end, and what isn't stays as it was.
+    ensures read { result < 6 → AreRead (job_of (map string_bytes words.now)) result (S.left spec.old) (S.left spec.new) (E.left extra.old) (E.left extra.new) }
     ensures unread { reads_spec (job_of (map string_bytes words.now)) ≡ false → spec.new ≡ spec.old }
     ensures unread_extra { reads_extra (job_of (map string_bytes words.now)) ≡ false → extra.new ≡ extra.old }
 {

@@ -1,6 +1,7 @@
 // From bytes to a specification, or to the text that says why they are none.
-ghost use Rattle.std.specs.Prelude.{◌≡◌, ℕ, ◌++◌, ◌≤◌, ◌<◌, List, length, IfOk, IsErrOf, codes, decimal, [], ◌∷◌};
+ghost use Rattle.std.specs.Prelude.{◌≡◌, ℕ, ◌++◌, ◌≤◌, ◌<◌, List, length, IfOk, OnOk, IsErrOf, codes, decimal, [], ◌∷◌};
 ghost use Rattle.byte_ports.specs.Faults.{IsFault};
+ghost use Rattle.byte_ports.specs.Told.{IsReadWithin};
 ghost use Rattle.word_cut.specs.Words.{IsCut};
 ghost use Rattle.spec_reader.specs.Form.{TreeForm, tree_of};
 ghost use Rattle.spec_reader.specs.Trees.{IsTree};
@@ -141,6 +142,7 @@ fn too_long(alloc: Global) -> Result<Vec<u8>, AllocError>
 pub fn read_specification<S: Source>(alloc: Global, spec: &mut S) -> Result<Reading, Stopped>
     ensures ok { IfOk result (IsReadingFrom (S.left spec.old)) }
     ensures fault { IsErrOf result Stopped.Fault → IsFault (S.faults spec.old) (S.faults spec.new) }
+    ensures end { OnOk result (IsReadWithin 65536 (S.left spec.old) (S.left spec.new)) }
 {
     match read_up_to(alloc, spec, SPECIFICATION_LIMIT) {
         Ok(bytes) => match read_bytes(alloc, bytes.as_slice()) {

@@ -1,7 +1,9 @@
 // The command `upgrade`: a report that stands, in version 2 of the format.
-ghost use Rattle.std.specs.Prelude.{◌≡◌, ◌≢◌, List, ℕ, Some, Err};
+ghost use Rattle.std.specs.Prelude.{◌≡◌, ◌≢◌, ◌<◌, List, ℕ, Some, Err};
 ghost use Rattle.byte_ports.specs.Faults.{IsFault};
 ghost use Rattle.byte_ports.specs.Ending.{IsOne, IsFrontOf, Ends};
+ghost use Rattle.byte_ports.specs.Told.{IsReadWithin};
+ghost use Rattle.report_verifier.specs.Verified.{most_report_bytes};
 ghost use Rattle.cise_run.specs.Answer.{EndsWith};
 ghost use Rattle.cise_run.specs.commands.Verify.{text_said};
 ghost use Rattle.cise_run.specs.commands.Upgrade.{IsUpgraded, IsUpgradeFront};
@@ -31,6 +33,7 @@ pub fn upgrade<E: Source, K: Sink>(alloc: Global, spec: &Spec, extra: &mut E, ou
     ensures ends { EndsWith (E.left extra.old) (IsUpgraded spec.now) (IsUpgradeFront spec.now) result (K.held out.old) (K.held out.new) (K.faults out.old) (K.faults out.new) }
     ensures read_fault { result ≡ 6 → IsFault (E.faults extra.old) (E.faults extra.new) }
     ensures unwritten { result ≡ 6 → out.new ≡ out.old }
+    ensures end { result < 6 → IsReadWithin most_report_bytes (E.left extra.old) (E.left extra.new) }
 {
     match upgrade_all(alloc, spec, extra, out) {
         Ok(tally) => status_of(tally),

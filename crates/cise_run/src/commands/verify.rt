@@ -1,6 +1,8 @@
 // The command `verify`: whether a report on a specification stands.
 ghost use Rattle.std.specs.Prelude.{◌≡◌, ◌<◌, ◌∷◌, [], Some, Err, IfOk, IsErrOf, codes, decimal};
 ghost use Rattle.byte_ports.specs.Faults.{IsFault};
+ghost use Rattle.byte_ports.specs.Told.{IsReadWithin};
+ghost use Rattle.report_verifier.specs.Verified.{most_report_bytes};
 ghost use Rattle.report_verifier.specs.declared.refused.VerifyRefused.TheVariants as refused;
 ghost use Rattle.cise_run.specs.Answer.{EndsWith};
 ghost use Rattle.cise_run.specs.commands.Verify.{kind_word, verified_text, refused_report, status_said, text_said, IsVerdict, IsVerdictFront};
@@ -89,6 +91,7 @@ pub fn verify<E: Source, K: Sink>(alloc: Global, spec: &Spec, extra: &mut E, out
     ensures ends { EndsWith (E.left extra.old) (IsVerdict spec.now) (IsVerdictFront spec.now) result (K.held out.old) (K.held out.new) (K.faults out.old) (K.faults out.new) }
     ensures read_fault { result ≡ 6 → IsFault (E.faults extra.old) (E.faults extra.new) }
     ensures unwritten { result ≡ 6 → out.new ≡ out.old }
+    ensures end { result < 6 → IsReadWithin most_report_bytes (E.left extra.old) (E.left extra.new) }
 {
     let said = verify_all(alloc, spec, extra);
     match text_said(alloc, said) {

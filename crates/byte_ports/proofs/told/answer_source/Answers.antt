@@ -2,7 +2,7 @@ use Rattle.std.proofs.Common.{ap, refl, subst, length, ◌≤◌, Ok, arith, rul
 use Rattle.std.specs.Prelude.{Err}
 use Rattle.std.specs.Fn.{FnReturnsAt}
 use Rattle.byte_ports.specs.Told.{IsAnswerWithin}
-use Rattle.byte_ports.proofs.Sources.{long_told, read_told}
+use Rattle.byte_ports.proofs.Sources.{long_told, read_told, read_at_end, read_of_many}
 use Rattle.byte_ports.proofs.told.answer_source.Goals as goal
 
 pub returns-in-Ok-too_long-clause-ok : goal.returns-in-Ok-too_long-clause-ok
@@ -21,3 +21,10 @@ returns-in-Ok-job-clause-ok g c =
     c.in-Ok.bytes.items c.in-Ok.ensures.ok
     (subst (λ bytes. IsAnswerWithin c.args.most c.args.long.now (FnReturnsAt g.F.Fn c.args.job) bytes answer.status answer.text.items) c.as_slice.ensures.value
     (record { given = λ few. (answer, gives, (refl, refl)); too_many = λ over. absurd (omega (arith, over, within)) }))
+
+pub returns-in-Ok-job-clause-end : goal.returns-in-Ok-job-clause-end
+returns-in-Ok-job-clause-end g c = read_at_end c.args.most (g.S.Source.left c.args.source.now) (g.S.Source.left c.read_up_to.new.src) c.in-Ok.ensures.end
+
+pub returns-in-Ok-too_long-clause-end : goal.returns-in-Ok-too_long-clause-end
+returns-in-Ok-too_long-clause-end g c =
+    read_of_many c.args.most (g.S.Source.left c.args.source.now) (g.S.Source.left c.read_up_to.new.src) (c.in-Err-TooLong.ensures.too_long (ap Err c.in-Err-TooLong.field-0-is))

@@ -31,3 +31,9 @@ returns-in-Refused-clause-ends g c = λ bytes h.
       Ends-map (IsOne 3 text) (IsAnswerOf task bytes given.0) (IsFrontOf text) (IsFrontOfAnswer task bytes given.0) c.write_answer.result _ _ _ _
           (λ s t one. inl (said.0, said.1, (one.0, one.1 ∙ text_is))) (λ front left. inl (said.0, said.1, (left.0, left.1 ∙ ap (take left.0) text_is))) c.write_answer.ensures.ends,
     )
+
+pub returns-in-Refused-clause-end : goal.returns-in-Refused-clause-end
+returns-in-Refused-clause-end g c = λ below takes other. absurd (other (c.write_answer.ensures.ends.answered below).1.0)
+
+pub returns-in-Specified-clause-end : goal.returns-in-Specified-clause-end
+returns-in-Specified-clause-end g c = λ below takes other. c.do_task.ensures.end below takes

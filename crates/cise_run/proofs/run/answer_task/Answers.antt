@@ -14,3 +14,6 @@ returns-in-Ok-clause-ends g c =
     Ends-map (IsAnswerOf task given.0 ends.0) (IsAnswerTo (Some (OfSpec task)) told extra) (IsFrontOfAnswer task given.0 ends.0) (IsFrontTo (Some (OfSpec task)) told extra)
     c.answer_reading-status.result _ _ _ _
     (λ s t a. (given.0, ends.0, given.1, ends.1, a)) (λ front a. (given.0, ends.0, given.1, ends.1, a)) ends.2
+
+pub returns-in-Ok-clause-read : goal.returns-in-Ok-clause-read
+returns-in-Ok-clause-read g c = λ below. (c.in-Ok.ensures.end, λ takes other. c.answer_reading-status.ensures.end below takes other)

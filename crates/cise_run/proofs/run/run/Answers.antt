@@ -1,8 +1,10 @@
-use Rattle.std.proofs.Common.{Some, subst, map, string_bytes, sym, ap, ◌∙◌, arith}
-use Rattle.cise_run.specs.declared.words.Job.TheVariants.{OfSpec}
+use Rattle.std.proofs.Common.{Option, Some, None, subst, map, string_bytes, sym, ap, ◌∙◌, arith}
+use Rattle.cise_run.specs.declared.words.Job.{Job}
+use Rattle.cise_run.specs.declared.words.Job.TheVariants.{OfSpec, Sample}
 use Rattle.cise_run.specs.Words.{job_of}
 use Rattle.cise_run.specs.Answer.{IsAnswerTo}
 use Rattle.cise_run.proofs.Endings.{Ends-asked, Ends-sample, IsInputFault-asked}
+use Rattle.cise_run.proofs.Ends.{AreRead-asked}
 use Rattle.cise_run.proofs.Complete.{IsComplete-run}
 use Rattle.cise_run.proofs.Headline.{replayed_safely, simulated_safely}
 use Rattle.cise_run.proofs.Outcomes.{is_outcome-low}
@@ -24,6 +26,11 @@ pub returns-in-Some-OfSpec-clause-read_fault : goal.returns-in-Some-OfSpec-claus
 returns-in-Some-OfSpec-clause-read_fault g c = λ six.
     IsInputFault-asked (OfSpec c.in-Some-OfSpec.task) (job_of (map string_bytes c.args.words.now)) _ _ _ _
     (ap Some (sym c.in-Some-OfSpec.field-0-is) ∙ c.in-Some-OfSpec.ensures) (c.answer_task.ensures.read_fault six)
+
+pub returns-in-Some-OfSpec-clause-read : goal.returns-in-Some-OfSpec-clause-read
+returns-in-Some-OfSpec-clause-read g c = λ below.
+    AreRead-asked (Some (OfSpec c.in-Some-OfSpec.task)) (job_of (map string_bytes c.args.words.now)) c.answer_task.result _ _ _ _
+    (ap Some (sym c.in-Some-OfSpec.field-0-is) ∙ c.in-Some-OfSpec.ensures) (c.answer_task.ensures.read below)
 
 pub returns-in-Some-OfSpec-clause-proved : goal.returns-in-Some-OfSpec-clause-proved
 returns-in-Some-OfSpec-clause-proved g c = λ zero judged.
@@ -92,3 +99,15 @@ pub returns-in-Some-Sample-clause-front : goal.returns-in-Some-Sample-clause-fro
 returns-in-Some-Sample-clause-front g c =
     (Ends-sample c.in-Some-Sample.number (job_of (map string_bytes c.args.words.now)) (g.S.Source.left c.args.spec.now) (g.E.Source.left c.args.extra.now) c.sample.result _ _ _ _
     (ap Some (sym c.in-Some-Sample.field-0-is) ∙ c.in-Some-Sample.ensures) c.sample.ensures.ends).front
+
+pub returns-in-Some-Sample-clause-read : goal.returns-in-Some-Sample-clause-read
+returns-in-Some-Sample-clause-read g c = λ below.
+    AreRead-asked (Some (Sample c.in-Some-Sample.number)) (job_of (map string_bytes c.args.words.now)) c.sample.result _ _ _ _
+    (ap Some (sym c.in-Some-Sample.field-0-is) ∙ c.in-Some-Sample.ensures) tt
+
+-- ---- other words
+
+pub returns-in-None-clause-read : goal.returns-in-None-clause-read
+returns-in-None-clause-read g c = λ below.
+    let none : Option Job = None in
+    AreRead-asked none (job_of (map string_bytes c.args.words.now)) c.write_answer.result _ _ _ _ (sym c.in-None.is ∙ c.job_asked.ensures) tt

@@ -1,4 +1,7 @@
 use Rattle.cise_run.proofs.Upgrades.{ok_ends, long_ends, line_ends, fault_ends, write_fault_ends, memory_ends}
+use Rattle.byte_ports.proofs.Sources.{read_at_end}
+use Rattle.report_verifier.specs.Verified.{most_report_bytes}
+use Rattle.cise_run.proofs.Ends.{long_upgrade}
 use Rattle.cise_run.proofs.commands.upgrade.upgrade.Goals as goal
 
 pub returns-in-Ok-clause-ends : goal.returns-in-Ok-clause-ends
@@ -26,3 +29,18 @@ returns-in-Err-WriteFault-clause-ends g c =
 
 pub returns-in-Err-Memory-clause-ends : goal.returns-in-Err-Memory-clause-ends
 returns-in-Err-Memory-clause-ends g c = let is = c.in-Err-Memory.field-0-is in memory_ends c.args.spec.now (g.E.Source.left c.args.extra.now) _ _ _ _ (rw is at c.in-Err-Memory.ensures.upgraded)
+
+-- ---- that the source was read to its end
+
+pub returns-in-Ok-clause-end : goal.returns-in-Ok-clause-end
+returns-in-Ok-clause-end g c = λ below. read_at_end most_report_bytes (g.E.Source.left c.args.extra.now) (g.E.Source.left c.upgrade_all.new.report) (c.in-Ok.ensures.end tt)
+
+pub returns-in-Err-Long-clause-end : goal.returns-in-Err-Long-clause-end
+returns-in-Err-Long-clause-end g c = λ below.
+    long_upgrade c.args.spec.now (g.E.Source.left c.args.extra.now) (g.K.Sink.held c.args.out.now) (g.K.Sink.held c.upgrade_all.new.out) (g.E.Source.left c.upgrade_all.new.report) c.in-Err-Long.field-0
+    c.in-Err-Long.field-0-is c.in-Err-Long.ensures.upgraded
+
+pub returns-in-Err-Line-clause-end : goal.returns-in-Err-Line-clause-end
+returns-in-Err-Line-clause-end g c = λ below.
+    let is = c.in-Err-Line.field-0-is in
+    read_at_end most_report_bytes (g.E.Source.left c.args.extra.now) (g.E.Source.left c.upgrade_all.new.report) (rw is at c.in-Err-Line.ensures.end tt)
