@@ -1,6 +1,7 @@
 -- What a command answers to the bytes of a schedule.
-use Rattle.std.proofs.Common.{◌≡◌, ◌≢◌, ℕ, ◌<◌, ◌≤◌, Bool, true, false, List, length, Option, Some, Ok, Err, ◌⊎◌, inl, inr, refl, sym, ap, ◌∙◌, subst, arith}
+use Rattle.std.proofs.Common.{◌≡◌, ◌≢◌, ℕ, ◌<◌, ◌≤◌, Bool, true, false, List, length, Option, None, Some, Ok, Err, ◌⊎◌, inl, inr, refl, sym, ap, ◌∙◌, subst, arith}
 use Rattle.std.specs.Prelude.{nat_le, if◌then◌else◌}
+use Rattle.std.specs.Option.{is_some}
 use Rattle.std.proofs.lemmas.Bool.Decides.{nat_tests}
 use Rattle.spec_core.specs.Specification.{Specification}
 use Rattle.schedule_json.specs.Checks.{Checked}
@@ -128,3 +129,8 @@ long_answer command bytes h = record { status_is = long_status command bytes h; 
 pub EndsIn-asked : (a b : Option Command) (bytes : List ℕ) (status : ℕ) (before after : Option (List ℕ)) (m n : ℕ) → a ≡ b
     → EndsIn (IsAnswer a bytes) status before after m n → EndsIn (IsAnswer b bytes) status before after m n
 EndsIn-asked a b bytes status before after m n e x = subst (λ (asked : Option Command). EndsIn (IsAnswer asked bytes) status before after m n) e x
+
+-- words that aren't accepted name no command
+pub not_asked : (asked : Option Command) → None ≡ asked → is_some asked ≡ true → ⊥
+not_asked None e some = absurd (cc some)
+not_asked (Some command) e some = absurd (cc e)

@@ -1,10 +1,11 @@
 // The program of the bank but for its edge: from words, a source and a sink to a status.
 
-ghost use Rattle.std.specs.Prelude.{◌≡◌, ℕ, List, true, Some, map, string_bytes};
+ghost use Rattle.std.specs.Prelude.{◌≡◌, ◌<◌, ℕ, List, true, Some, map, string_bytes};
 ghost use Rattle.std.specs.Option.{is_some};
 ghost use Rattle.byte_ports.specs.Faults.{IsFault};
 ghost use Rattle.byte_ports.specs.Ending.{EndsIn};
-ghost use Rattle.byte_ports.specs.Told.{Tells};
+ghost use Rattle.byte_ports.specs.Told.{Tells, IsReadWithin};
+ghost use Rattle.schedule_json.specs.Texts.{most_schedule_bytes};
 ghost use Rattle.bank_host.specs.Running.{command_of as asked_of, IsAnswer};
 
 use crate::hosting::answer_bytes;
@@ -24,6 +25,7 @@ fn run_command<S: Source, K: Sink>(
     ensures ends { (bytes : List ℕ) × Tells (S.left schedule.old) bytes × EndsIn (IsAnswer (Some command) bytes) result (K.held out.old) (K.held out.new) (K.faults out.old) (K.faults out.new) }
     ensures read_fault { result ≡ 6 → IsFault (S.faults schedule.old) (S.faults schedule.new) }
     ensures unwritten { result ≡ 6 → out.new ≡ out.old }
+    ensures end { result < 6 → IsReadWithin most_schedule_bytes (S.left schedule.old) (S.left schedule.new) }
 {
     let Ok(spec) = bank_spec(alloc) else {
         return MEMORY;
@@ -50,6 +52,7 @@ pub fn run_bank<S: Source, K: Sink>(
     ensures ends { (bytes : List ℕ) × Tells (S.left schedule.old) bytes × EndsIn (IsAnswer (asked_of (map string_bytes words.now)) bytes) result (K.held out.old) (K.held out.new) (K.faults out.old) (K.faults out.new) }
     ensures read_fault { result ≡ 6 → (is_some (asked_of (map string_bytes words.now)) ≡ true) × IsFault (S.faults schedule.old) (S.faults schedule.new) }
     ensures unwritten { result ≡ 6 → out.new ≡ out.old }
+    ensures end { result < 6 → is_some (asked_of (map string_bytes words.now)) ≡ true → IsReadWithin most_schedule_bytes (S.left schedule.old) (S.left schedule.new) }
 {
     match command_of(words) {
         Some(command) => run_command(alloc, command, schedule, out),

@@ -22,3 +22,6 @@ pub returns-in_default-clause-ends : goal.returns-in_default-clause-ends
 returns-in_default-clause-ends g c =
     let given = some_told (g.S.Source.left c.args.schedule.now) in let Whole = IsAnswer (Some c.args.command) given.0 in
     (given.0, given.1, Ends-stopped Whole (IsFrontOfOne Whole) 8 _ _ (omega arith) (omega arith) (omega arith))
+
+pub returns-clause-end : goal.returns-clause-end
+returns-clause-end g c = c.write_answer_from.ensures.end
