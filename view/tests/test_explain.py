@@ -101,13 +101,13 @@ STORIES = {
 
   Note. The witness need not keep what write observes: no obligation asks it.
 """,
-    ("examples/undecided/meals.cise", "stable cook 5 cook"): """1. whether another cook leaves standing what cook requires
-   [stable cook 5 cook, report line 43]
+    ("examples/undecided/meals.cise", "stable cook 7 cook"): """1. whether another cook leaves standing what cook requires
+   [stable cook 7 cook, report line 57]
 
   The search for whole numbers reached 10,000 rows.
   Fewer numbers that stand together in one comparison make it smaller.
 
-     14 | requires ( store >= rice + beans + kale )
+     16 | requires ( store >= rice + beans + kale + eggs + corn )
 """,
     ("SILENT", "safety fall alive"): """1. fall breaks alive
    [safety fall alive, report line 6]

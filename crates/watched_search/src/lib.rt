@@ -24,7 +24,7 @@
 // is forced that they don't satisfy. Where the solver would split or stop, the search goes on: that is answered of a whole trail alone.
 //
 // `search` chooses the solver. A problem without rows has the solver of no rows. One whose rows are differences has the solver of such
-// rows, which is fast and always decides. Any other has elimination, which decides all rows that don't become too many or too large.
+// rows, which is fast and always decides. Any other has that of cutting planes, behind which stands elimination.
 // Whoever asks sees one search: its answer is one that may have split and may have been stopped by rows, and where the problem fits the
 // solver of difference rows it neither did nor was.
 //

@@ -5,8 +5,8 @@ ghost use Rattle.diff_bounds.specs.Differences.{problem_fits};
 ghost use Rattle.sat_core.specs.Answers.{IsAnswer};
 
 use crate::solving::solve;
+use cutting_planes::CuttingPlanes;
 use diff_bounds::{DiffBounds, fits, law_fits};
-use linear_ints::Eliminator;
 use proof_lines::{AtomKind, Problem};
 use sat_core::Answer;
 use std::alloc::Global;
@@ -52,7 +52,7 @@ fn search_differences(alloc: Global, problem: &Problem, budget: u32) -> Answer
 fn search_rows(alloc: Global, problem: &Problem, budget: u32) -> Answer
     ensures { IsAnswer true true problem.now budget result }
 {
-    solve(alloc, problem, &mut Eliminator::new(), budget)
+    solve(alloc, problem, &mut CuttingPlanes::new(), budget)
 }
 
 /// Searches for an interpretation that makes all clauses of a problem true, or for a log of at most `budget` lines that shows that
