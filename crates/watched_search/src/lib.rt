@@ -28,6 +28,8 @@
 // Whoever asks sees one search: its answer is one that may have split and may have been stopped by rows, and where the problem fits the
 // solver of difference rows it neither did nor was.
 //
+// Plain atoms are decided before rows: what is asked of the solver then follows from fewer guesses.
+//
 // Definitions, in the order in which a reader needs them: specs/Watches (clauses at rest, what is watched), specs/Ready (where the
 // watched literals stand between the steps of a search), specs/Early (what is known of the rows that are asked about early).
 #![tactic(auto)]

@@ -199,7 +199,7 @@ fn advance<T: Theory>(
     match found {
         Found::Conflict(start) => meet(alloc, grown, trail, log, knowledge, start, budget),
         Found::Forced(reason, lit) => take(alloc, grown, trail, knowledge, lit, Some(reason)),
-        Found::Nothing => match knowledge.hints.undecided(trail, atom_count(grown)) {
+        Found::Nothing => match knowledge.hints.undecided(grown, trail, atom_count(grown)) {
             Some(atom) => {
                 let Ok(clash) = consult(alloc, theory, grown, trail, &mut knowledge.hints.held)
                 else {
