@@ -14,7 +14,7 @@ use lin_rows::{Row, same_row};
 use std::alloc::Global;
 
 /// The most cuts at a time.
-const MOST_AT_ONCE: usize = 4;
+const MOST_AT_ONCE: usize = 2;
 
 /// Cuts with greater coefficients aren't taken.
 const GREATEST_COEFFICIENT: u128 = 1_099_511_627_776;

@@ -16,7 +16,7 @@ use std::alloc::Global;
 const TURN_LIMIT: u32 = 400;
 
 /// The most turns in which cuts are made.
-const CUT_LIMIT: u32 = 20;
+const CUT_LIMIT: u32 = 15;
 
 /// The most turns in which names get bounds.
 const BOUND_LIMIT: u32 = 4;

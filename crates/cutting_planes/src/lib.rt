@@ -1,10 +1,8 @@
-// A solver of linear rows over whole numbers, by the simplex method and Gomory's cuts, with elimination behind it.
+// What to answer of linear rows over whole numbers, by the simplex method and Gomory's cuts.
 //
-// What it does. The guide looks for numbers that satisfy all rows, or for multiples of rows that add up to a contradiction. What it
-// proposes is tested by the rows themselves and by the rule of a Farkas line, and a conflict is trimmed. Where the test says no, or
-// nothing is proposed, elimination answers. So a conflict and a model may come from the guide; a split and the reasons to stop come from
-// elimination alone, with its certificates. Nothing is proved of the guide but that it is safe and ends; all that its answers promise
-// is proved of the tests.
+// What it does. The guide looks for numbers that satisfy all rows, or for multiples of rows that add up to a contradiction. Nothing is proved of
+// it but that it is safe and ends: what it proposes is to be tested, and where it proposes nothing, another solver is to answer
+// (`guided_ints` does both).
 //
 // The simplex method. Each row is a sum of terms, its slack, that is at most a bound. The tableau has an equation for each basic variable, which
 // says what it is in terms of the others; those are the columns. A slack that is a column is at its bound, and a name that is a
@@ -24,13 +22,13 @@
 // thin slabs are decided without a split. A name that the vertex puts beyond the numbers of a state gets a bound there; what rests on such
 // a bound is no proposal, since it wasn't given.
 //
-// What it costs. A pivot takes as long as the tableau is large; there are 2,000 at most, which look at a million numbers at most. 20 times
-// cuts are made, up to four at a time. Few rows join, so most of the time goes into reading the rows once for each vertex.
+// What it costs. A pivot takes as long as the tableau is large; there are 2,000 at most, which look at a million numbers at most. 15 times
+// cuts are made, up to two at a time. Few rows join, so most of the time goes into reading the rows once for each vertex.
 //
-// The layer stands on `theory_api`, whose trait it keeps, on `linear_ints`, which answers where the guide doesn't, and on `indexed_rows`.
+// The layer stands on `lin_rows` and `proof_lines`, whose rows and steps it makes, and on `indexed_rows`.
 // Files, in the order in which a reader needs them: src/number (numbers that may have no room), src/tableau and src/pivoting (the simplex
 // method), src/combining (sums of multiples as steps), src/vertex and src/repairing (whole numbers near a vertex), src/joining (rows that
-// join late), src/cuts, src/guide (what is proposed), src/solver (the tests, and the solver).
+// join late), src/cuts, src/guide (what is proposed).
 #![tactic(auto)]
 
 mod combining;
@@ -40,9 +38,7 @@ mod joining;
 mod number;
 mod pivoting;
 mod repairing;
-mod solver;
 mod tableau;
 mod vertex;
 
 pub use guide::{Proposal, propose};
-pub use solver::CuttingPlanes;

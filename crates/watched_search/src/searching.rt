@@ -5,8 +5,8 @@ ghost use Rattle.diff_bounds.specs.Differences.{problem_fits};
 ghost use Rattle.sat_core.specs.Answers.{IsAnswer};
 
 use crate::solving::solve;
-use cutting_planes::CuttingPlanes;
 use diff_bounds::{DiffBounds, fits, law_fits};
+use guided_ints::CuttingPlanes;
 use proof_lines::{AtomKind, Problem};
 use sat_core::Answer;
 use std::alloc::Global;

@@ -6,7 +6,7 @@ ghost use Rattle.proof_lines.specs.Evidence.{in_state};
 ghost use Rattle.proof_lines.specs.Problems.{row_true};
 ghost use Rattle.theory_api.specs.Laws.{IsAnswer, IsModel, all_satisfied};
 
-use crate::guide::{Proposal, propose};
+use cutting_planes::{Proposal, propose};
 use items::Items;
 use lin_rows::{Row, truth_at};
 use linear_ints::{Conflict, Eliminator, conflict_in};
