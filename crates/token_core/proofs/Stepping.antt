@@ -47,16 +47,16 @@ held_still replicas r at next here same =
     ∙ ap (set (map held_replica replicas) r) same
     ∙ set_same (map held_replica replicas) r (held_replica at) (get_map held_replica replicas r at here)
 
-module _ (d : Specification) (w : World) where
+module _ (d : Specification) (w : World) (count : ℕ) where
   abbrev held_with : List HeldReplica → List Granted → Lists → HeldNet
-  held_with replicas granted lists = record { spec = d; world = w; replicas = replicas; granted = granted; requests = lists.requests; messages = lists.messages; happened = lists.happened }
+  held_with replicas granted lists = record { spec = d; world = w; steps = count; replicas = replicas; granted = granted; requests = lists.requests; messages = lists.messages; happened = lists.happened }
 
   module _ (replicas : List Replica) (granted : List Granted) (log : Log) (is : IsNet d w replicas granted log) where
     abbrev net : Network
     net = network_in replicas granted log
 
     abbrev old : HeldNet
-    old = held_in d w replicas granted log
+    old = held_in d w count replicas granted log
 
     -- ---- a replica, where there is one
     module _ (r : ℕ) (at next : Replica) (after : Log) (s : NetStep) (o : Outcome) (result : Result NetDid NetRefused)
@@ -66,7 +66,7 @@ module _ (d : Specification) (w : World) where
         (err : OnErr result ((held_replica next ≡ held_replica at) × (lists_of after ≡ lists_of log)))
         (fits : is_state d w next.node.state ≡ true) where
       abbrev new : HeldNet
-      new = held_in d w (set replicas r next) granted after
+      new = held_in d w count (set replicas r next) granted after
 
       reached : network_with (set (replicas_in replicas) r (replica_at next)) granted (lists_of after) ≡ network_after net o → network_held new ≡ network_after net (outcome d w net s)
       reached e = ap (λ l. network_with l granted (lists_of after)) (replicas_set replicas r next) ∙ e ∙ ap (network_after net) (sym comes)
@@ -90,6 +90,7 @@ module _ (d : Specification) (w : World) where
         ok = on_ok result ok;
         spec = refl;
         world = refl;
+        steps = refl;
         err = on_err result err;
       }
 
@@ -113,7 +114,7 @@ module _ (d : Specification) (w : World) where
         (ok : OnOk result (network_with (replicas_in replicas) granted_after (lists_of after) ≡ network_after net o))
         (err : OnErr result ((granted_after ≡ granted) × (lists_of after ≡ lists_of log))) where
       abbrev new_asked : HeldNet
-      new_asked = held_in d w replicas granted_after after
+      new_asked = held_in d w count replicas granted_after after
 
       asked_ok : (x : Result NetDid NetRefused) → OnOk x (network_with (replicas_in replicas) granted_after (lists_of after) ≡ network_after net o) → OnOk x (network_held new_asked ≡ network_after net (outcome d w net s))
       asked_ok (Ok a) e = e ∙ ap (network_after net) (sym comes)
@@ -131,6 +132,7 @@ module _ (d : Specification) (w : World) where
         ok = asked_ok result ok;
         spec = refl;
         world = refl;
+        steps = refl;
         err = asked_err result err;
       }
 
@@ -143,4 +145,4 @@ module _ (d : Specification) (w : World) where
 
     -- ---- no such replica
     pub none_stepped : (s : NetStep) → outcome d w net s ≡ rejected unable.Replica → IsStepped old old s (let x : Result NetDid NetRefused = Err unable.Replica in x)
-    none_stepped s comes = record { answer = inr (ap answer (sym comes)); ok = tt; spec = refl; world = refl; err = refl }
+    none_stepped s comes = record { answer = inr (ap answer (sym comes)); ok = tt; spec = refl; world = refl; steps = refl; err = refl }

@@ -27,10 +27,11 @@ abbrev pub network_in : List Replica → List Granted → Log → Network
 network_in replicas granted log = network_with (replicas_in replicas) granted (lists_of log)
 
 -- the same, as contracts see it
-abbrev pub held_in : Specification → World → List Replica → List Granted → Log → HeldNet
-held_in d w replicas granted log = record {
+abbrev pub held_in : Specification → World → ℕ → List Replica → List Granted → Log → HeldNet
+held_in d w steps replicas granted log = record {
   spec = d;
   world = w;
+  steps = steps;
   replicas = map held_replica replicas;
   granted = granted;
   requests = log.requests.items;

@@ -17,10 +17,11 @@ pub record HeldReplica : Type 0 where
 abbrev pub replica_of : HeldReplica → Replica
 replica_of r = record { node = node_of r.node; taken = r.taken }
 
--- A network of a specification in a world.
+-- A network of a specification in a world, and how many steps of it were carried out.
 pub record HeldNet : Type 0 where
   pub spec : Specification
   pub world : World
+  pub steps : ℕ
   pub replicas : List HeldReplica
   pub granted : List Granted
   pub requests : List Request

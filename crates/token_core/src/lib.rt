@@ -29,5 +29,8 @@ pub use manager::Manager;
 pub use net::Net;
 pub use node::Node;
 pub use runner::{Plain, Runner};
-pub use token_protocol::{EventId, Granted, Message, Request, WhyVoid};
+pub use token_protocol::{
+    Begun, EventId, Granted, Heard, Message, NetDid, NetRefused, NetStep, NodeRefused, Request,
+    WhyVoid,
+};
 pub use trying::{Tried, try_call};

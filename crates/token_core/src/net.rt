@@ -1,6 +1,6 @@
 // A network: its replicas, its manager, and what was sent.
 
-ghost use Rattle.std.specs.Prelude.{◌≡◌, ℕ, ◌<◌, ◌⊎◌, true, [], Some, Err, List, length, map, get_or, slice_get, All, IfOk, OnOk, OnErr};
+ghost use Rattle.std.specs.Prelude.{◌≡◌, ℕ, ◌+◌, ◌<◌, ◌⊎◌, true, [], Some, Err, List, length, map, get_or, slice_get, All, IfOk, OnOk, OnErr};
 ghost use Rattle.std.specs.Option.{is_some};
 ghost use Rattle.spec_core.specs.State.{reads};
 ghost use Rattle.spec_core.specs.Fits.{is_state};
@@ -21,6 +21,9 @@ use std::alloc::{AllocError, Global};
 use std::marker::Model;
 use token_protocol::{Message, NetDid, NetRefused, NetStep};
 
+/// A network carries out no more steps.
+const MOST_STEPS: u32 = 4000000000;
+
 /// A network in which every message that was ever sent can be delivered to any replica at any step, any number of times, in any
 /// order, or never. Its events form an execution, what each replica has taken is a delivery order of it, and the state of each
 /// replica is the state after that.
@@ -28,6 +31,7 @@ use token_protocol::{Message, NetDid, NetRefused, NetStep};
 pub struct Net<R: Runner + Drop> {
     alloc: Global,
     runner: R,
+    steps: u32,
     replicas: Vec<Replica>,
     manager: Manager,
     log: Log,
@@ -43,7 +47,7 @@ impl<R: Runner + Drop> Model for Net<R> {
 
     ghost coded = { Prim.hlevel (codes, coded_form) };
 
-    ghost view = { λ a. held_in (R.specification a.runner) (R.setting a.runner) a.replicas.items a.manager a.log };
+    ghost view = { λ a. held_in (R.specification a.runner) (R.setting a.runner) a.steps a.replicas.items a.manager a.log };
 
     ghost invariant = { λ a. IsNet (R.specification a.runner) (R.setting a.runner) a.replicas.items a.manager a.log };
 }
@@ -73,11 +77,13 @@ impl<R: Runner + Drop> Net<R> {
         ensures spec { IfOk result (λ net. net.spec ≡ R.specification runner) }
         ensures world { IfOk result (λ net. net.world ≡ R.setting runner) }
         ensures network { IfOk result (λ net. network_held net ≡ first_network net.spec net.world replicas) }
+        ensures steps { IfOk result (λ net. net.steps ≡ 0) }
     {
         let replicas = first_replicas(alloc, &runner, replicas)?;
         Ok(Net {
             alloc,
             runner,
+            steps: 0,
             replicas,
             manager: Manager::new(alloc),
             log: Log::new(alloc),
@@ -90,6 +96,13 @@ impl<R: Runner + Drop> Net<R> {
         ensures world { R.setting result.now ≡ self.now.world }
     {
         &self.runner
+    }
+
+    /// How many steps were carried out.
+    pub fn steps(&self) -> u32
+        ensures { result ≡ self.now.steps }
+    {
+        self.steps
     }
 
     /// How many replicas there are.
@@ -172,22 +185,52 @@ impl<R: Runner + Drop> Net<R> {
         hear_at(self.alloc, &self.runner, &mut self.log, at, message)
     }
 
+    // Carries a step out, which isn't counted yet.
+    fn go(&mut self, step: &NetStep) -> Result<NetDid, NetRefused>
+        ensures { IsStepped self.old self.new step.now result }
+    {
+        match step {
+            NetStep::Begin { replica, call } => self.begin(*replica, call),
+            NetStep::Ask { request } => self.ask(*request),
+            NetStep::Hear { replica, message } => self.hear(*replica, *message),
+        }
+    }
+
+    // Carries a step out, and counts it.
+    fn go_on(&mut self, step: &NetStep) -> Result<NetDid, NetRefused>
+        ensures answer { (result ≡ Err NetRefused.Memory) ⊎ (result ≡ answer (outcome self.old.spec self.old.world (network_held self.old) step.now)) }
+        ensures ok { OnOk result (network_held self.new ≡ network_after (network_held self.old) (outcome self.old.spec self.old.world (network_held self.old) step.now)) }
+        ensures spec { self.new.spec ≡ self.old.spec }
+        ensures world { self.new.world ≡ self.old.world }
+        ensures steps { OnOk result ((self.old.steps < 4000000000) × (self.new.steps ≡ self.old.steps + 1)) }
+        ensures err { OnErr result (self.new ≡ self.old) }
+    {
+        if self.steps >= MOST_STEPS {
+            return Err(NetRefused::Memory);
+        }
+        match self.go(step) {
+            Ok(did) => {
+                self.steps += 1;
+                Ok(did)
+            }
+            Err(why) => Err(why),
+        }
+    }
+
     /// Carries a step out, or says why not. Of a call the causes come in this order: no such replica, arguments, a waiting call. Of a
     /// request: it wasn't sent. Of a message: no such replica, it wasn't sent, range. A refusal changes nothing. Where a number would
-    /// have more than 32 bits, or a replica would have used up 4,000,000,000 turns, the answer is want of memory.
+    /// have more than 32 bits, a replica would have used up 4,000,000,000 turns, or the network has carried out 4,000,000,000 steps, the
+    /// answer is want of memory.
     pub fn step(&mut self, step: &NetStep) -> Result<NetDid, NetRefused>
         ensures answer { (result ≡ Err NetRefused.Memory) ⊎ (result ≡ answer (outcome self.old.spec self.old.world (network_held self.old) step.now)) }
         ensures ok { OnOk result (network_held self.new ≡ network_after (network_held self.old) (outcome self.old.spec self.old.world (network_held self.old) step.now)) }
         ensures spec { self.new.spec ≡ self.old.spec }
         ensures world { self.new.world ≡ self.old.world }
+        ensures steps { OnOk result ((self.old.steps < 4000000000) × (self.new.steps ≡ self.old.steps + 1)) }
         ensures err { OnErr result (self.new ≡ self.old) }
         ensures executed { IsExecuted self.new.spec self.new.world (network_held self.new) }
     {
-        let answer = match step {
-            NetStep::Begin { replica, call } => self.begin(*replica, call),
-            NetStep::Ask { request } => self.ask(*request),
-            NetStep::Hear { replica, message } => self.hear(*replica, *message),
-        };
+        let answer = self.go_on(step);
         self.is_executed();
         answer
     }

@@ -8,8 +8,7 @@ use spec_core::{Call, Spec, World};
 use spec_from_bytes::{Reading, SPECIFICATION_LIMIT, read_bytes};
 use std::alloc::Global;
 use std::process::Abort;
-use token_core::{Net, Plain};
-use token_protocol::{EventId, NetDid, NetRefused, NetStep, WhyVoid};
+use token_core::{EventId, Net, NetDid, NetRefused, NetStep, Plain, WhyVoid};
 
 /// A step of a table: replicas, requests and messages by their numbers, a call by its operation and its arguments.
 #[derive(Clone, Copy, Debug)]
@@ -109,13 +108,15 @@ fn net_step(rt: &impl Abort, alloc: Global, step: Step) -> NetStep {
     }
 }
 
-fn take_step(rt: &impl Abort, alloc: Global, net: &mut Net<Plain>, step: Step, want: Want) {
+// Takes a step, and says whether it was carried out.
+fn take_step(rt: &impl Abort, alloc: Global, net: &mut Net<Plain>, step: Step, want: Want) -> bool {
     let made = net_step(rt, alloc, step);
     let answer = net.step(&made);
     drop(made);
-    let so = answers_so(&answer, want);
+    let (so, done) = (answers_so(&answer, want), answer.is_ok());
     drop(answer);
     assert!(rt; so, "{step:?} is to answer {want:?}");
+    done
 }
 
 /// The specification that a text says.
@@ -148,9 +149,16 @@ fn go(
 {
     let runner = Plain::new(alloc, spec, world);
     let mut net = Net::new(alloc, runner, replicas).expect(rt, "memory");
+    let mut accepted = 0;
     for (step, want) in table {
-        take_step(rt, alloc, &mut net, *step, *want);
+        if take_step(rt, alloc, &mut net, *step, *want) {
+            accepted = 1u32.saturating_add(accepted);
+        }
     }
+    assert!(rt;
+        net.steps() == accepted,
+        "{accepted} steps were carried out"
+    );
     for replica in 0..replicas {
         if let Some(value) = values.get(replica as usize) {
             check_value(rt, &net, replica, *value);

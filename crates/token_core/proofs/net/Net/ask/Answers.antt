@@ -14,7 +14,7 @@ invariant_of-self g c =
     let w = g.R.Runner.setting c.self.inside.runner in
     let rs = c.self.inside.replicas.items in let gr = c.self.inside.manager in let log = c.self.inside.log in
     let o : Outcome = asks d w (network_in rs gr log) (slice_get log.requests.items c.args.request) in
-    manager_kept d w rs gr log c.self.invariant c.ask_at.new.manager c.ask_at.new.log (step.Ask c.args.request) o c.ask_at.result refl
+    manager_kept d w c.self.inside.steps rs gr log c.self.invariant c.ask_at.new.manager c.ask_at.new.log (step.Ask c.args.request) o c.ask_at.result refl
     (c.ask_at.ensures.answer (replicas_in rs)) (c.ask_at.ensures.ok (replicas_in rs)) c.ask_at.ensures.err
 
 pub returns : goal.returns
@@ -23,6 +23,6 @@ returns g c =
     let w = g.R.Runner.setting c.self.inside.runner in
     let rs = c.self.inside.replicas.items in let gr = c.self.inside.manager in let log = c.self.inside.log in
     let o : Outcome = asks d w (network_in rs gr log) (slice_get log.requests.items c.args.request) in
-    subst (λ (n : HeldNet). IsStepped n (held_in d w rs c.ask_at.new.manager c.ask_at.new.log) (step.Ask c.args.request) c.ask_at.result) c.self.view_is
-    (manager_stepped d w rs gr log c.self.invariant c.ask_at.new.manager c.ask_at.new.log (step.Ask c.args.request) o c.ask_at.result refl
+    subst (λ (n : HeldNet). IsStepped n (held_in d w c.self.inside.steps rs c.ask_at.new.manager c.ask_at.new.log) (step.Ask c.args.request) c.ask_at.result) c.self.view_is
+    (manager_stepped d w c.self.inside.steps rs gr log c.self.invariant c.ask_at.new.manager c.ask_at.new.log (step.Ask c.args.request) o c.ask_at.result refl
     (c.ask_at.ensures.answer (replicas_in rs)) (c.ask_at.ensures.ok (replicas_in rs)) c.ask_at.ensures.err)

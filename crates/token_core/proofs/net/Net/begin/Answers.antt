@@ -19,7 +19,7 @@ invariant_of-self g c =
     let here = read_at rs c.args.replica at lt c.index_mut-at.ensures.value in
     let there = replica_there rs c.args.replica at here in
     let o : Outcome = begin_at (network_in rs gr log) c.args.replica (replica_at at) (begin d w (replica_at at).node c.args.call.now) in
-    replica_kept d w rs gr log c.self.invariant c.args.replica at c.begin_at.new.at c.begin_at.new.log (step.Begin c.args.replica c.args.call.now) o c.begin_at.result here
+    replica_kept d w c.self.inside.steps rs gr log c.self.invariant c.args.replica at c.begin_at.new.at c.begin_at.new.log (step.Begin c.args.replica c.args.call.now) o c.begin_at.result here
     (ap (begins d w (network_in rs gr log) c.args.replica c.args.call.now) there)
     (c.begin_at.ensures.answer (replicas_in rs) gr c.args.replica) (c.begin_at.ensures.ok (replicas_in rs) gr c.args.replica there) c.begin_at.ensures.err c.begin_at.ensures.fits
 
@@ -33,7 +33,7 @@ returns g c =
     let here = read_at rs c.args.replica at lt c.index_mut-at.ensures.value in
     let there = replica_there rs c.args.replica at here in
     let o : Outcome = begin_at (network_in rs gr log) c.args.replica (replica_at at) (begin d w (replica_at at).node c.args.call.now) in
-    subst (λ (n : HeldNet). IsStepped n (held_in d w (set rs c.args.replica c.begin_at.new.at) gr c.begin_at.new.log) (step.Begin c.args.replica c.args.call.now) c.begin_at.result) c.self.view_is
-    (replica_stepped d w rs gr log c.self.invariant c.args.replica at c.begin_at.new.at c.begin_at.new.log (step.Begin c.args.replica c.args.call.now) o c.begin_at.result here
+    subst (λ (n : HeldNet). IsStepped n (held_in d w c.self.inside.steps (set rs c.args.replica c.begin_at.new.at) gr c.begin_at.new.log) (step.Begin c.args.replica c.args.call.now) c.begin_at.result) c.self.view_is
+    (replica_stepped d w c.self.inside.steps rs gr log c.self.invariant c.args.replica at c.begin_at.new.at c.begin_at.new.log (step.Begin c.args.replica c.args.call.now) o c.begin_at.result here
     (ap (begins d w (network_in rs gr log) c.args.replica c.args.call.now) there)
     (c.begin_at.ensures.answer (replicas_in rs) gr c.args.replica) (c.begin_at.ensures.ok (replicas_in rs) gr c.args.replica there) c.begin_at.ensures.err c.begin_at.ensures.fits)

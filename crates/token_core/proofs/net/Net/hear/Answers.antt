@@ -19,7 +19,7 @@ invariant_of-self g c =
     let here = read_at rs c.args.replica at lt c.index_mut-at.ensures.value in
     let there = replica_there rs c.args.replica at here in
     let o : Outcome = hears_message d w (network_in rs gr log) c.args.replica (replica_at at) (slice_get log.messages.items c.args.message) in
-    replica_kept d w rs gr log c.self.invariant c.args.replica at c.hear_at.new.at c.hear_at.new.log (step.Hear c.args.replica c.args.message) o c.hear_at.result here
+    replica_kept d w c.self.inside.steps rs gr log c.self.invariant c.args.replica at c.hear_at.new.at c.hear_at.new.log (step.Hear c.args.replica c.args.message) o c.hear_at.result here
     (ap (hears d w (network_in rs gr log) c.args.replica (slice_get log.messages.items c.args.message)) there)
     (c.hear_at.ensures.answer (replicas_in rs) gr c.args.replica there) (c.hear_at.ensures.ok (replicas_in rs) gr c.args.replica there) c.hear_at.ensures.err c.hear_at.ensures.fits
 
@@ -33,8 +33,8 @@ returns g c =
     let here = read_at rs c.args.replica at lt c.index_mut-at.ensures.value in
     let there = replica_there rs c.args.replica at here in
     let o : Outcome = hears_message d w (network_in rs gr log) c.args.replica (replica_at at) (slice_get log.messages.items c.args.message) in
-    subst (λ (n : HeldNet). IsStepped n (held_in d w (set rs c.args.replica c.hear_at.new.at) gr c.hear_at.new.log) (step.Hear c.args.replica c.args.message) c.hear_at.result) c.self.view_is
-    (replica_stepped d w rs gr log c.self.invariant c.args.replica at c.hear_at.new.at c.hear_at.new.log (step.Hear c.args.replica c.args.message) o c.hear_at.result here
+    subst (λ (n : HeldNet). IsStepped n (held_in d w c.self.inside.steps (set rs c.args.replica c.hear_at.new.at) gr c.hear_at.new.log) (step.Hear c.args.replica c.args.message) c.hear_at.result) c.self.view_is
+    (replica_stepped d w c.self.inside.steps rs gr log c.self.invariant c.args.replica at c.hear_at.new.at c.hear_at.new.log (step.Hear c.args.replica c.args.message) o c.hear_at.result here
     (ap (hears d w (network_in rs gr log) c.args.replica (slice_get log.messages.items c.args.message)) there)
     (c.hear_at.ensures.answer (replicas_in rs) gr c.args.replica there) (c.hear_at.ensures.ok (replicas_in rs) gr c.args.replica there) c.hear_at.ensures.err c.hear_at.ensures.fits)
 
