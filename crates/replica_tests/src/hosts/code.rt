@@ -1,5 +1,6 @@
-// A host asks the application's code: where that lacks memory, so does a step that fits.
+// A host and the nodes of a network ask the application's code: where that lacks memory, so does a step that fits.
 
+ghost use Rattle.std.specs.Prelude.{◌≡◌, ◌≤◌};
 ghost use Rattle.std.specs.Prelude.{◌≡◌, true};
 ghost use Rattle.spec_core.specs.Fits.{world_fits};
 
@@ -10,6 +11,7 @@ use crate::hosts::running::bank;
 use replica_host::{Effect, Guard, Host, Native};
 use replica_replay::{Step, StepRefused};
 use schedule_json::{Schedule, read_schedule};
+use simulate_text::simulate_by;
 use spec_core::Spec;
 use std::alloc::Global;
 use std::process::Abort;
@@ -76,4 +78,52 @@ fn the_guard_is_asked(rt: HostRuntime) {
     drop(schedule);
     drop(spec);
     assert!(&rt; lacks);
+}
+
+/// Whether a network that runs a schedule of the bank with an application's code lacks memory.
+fn network_lacks_memory<'a, E: Effect, G: Guard>(
+    alloc: Global,
+    spec: &Spec,
+    native: Native<'a, E, G>,
+    schedule: &Schedule,
+) -> bool
+    requires spec { native.spec ≡ spec.now }
+    requires some { 1 ≤ schedule.now.replicas }
+{
+    let steps = schedule.steps.as_slice();
+    simulate_by(alloc, spec, native, schedule.replicas, steps).is_err()
+}
+
+#[test]
+fn the_effect_is_called_by_a_network(rt: HostRuntime) {
+    let alloc = rt.alloc();
+    let spec = bank(&rt, alloc);
+    let Ok(schedule) = read_schedule(alloc, &spec, TWO_DEPOSITS) else {
+        panic!(&rt; "no schedule");
+    };
+    let world = &schedule.world;
+    let guard = Evaluated {
+        alloc,
+        spec: &spec,
+        world,
+    };
+    let native = Native::new(&spec, world, NoMemory {}, guard);
+    assert!(&rt; network_lacks_memory(alloc, &spec, native, &schedule));
+}
+
+#[test]
+fn the_guard_is_asked_by_a_network(rt: HostRuntime) {
+    let alloc = rt.alloc();
+    let spec = bank(&rt, alloc);
+    let Ok(schedule) = read_schedule(alloc, &spec, TWO_DEPOSITS) else {
+        panic!(&rt; "no schedule");
+    };
+    let world = &schedule.world;
+    let effect = Evaluated {
+        alloc,
+        spec: &spec,
+        world,
+    };
+    let native = Native::new(&spec, world, effect, NoMemory {});
+    assert!(&rt; network_lacks_memory(alloc, &spec, native, &schedule));
 }
