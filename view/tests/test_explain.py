@@ -85,7 +85,7 @@ STORIES = {
       9 | requires exists r : Room . free ( r )
 """,
     ("WRITTEN", "stable write 1 purge"): """1. purge takes away what write requires
-   [stable write 1 purge, report line 103]
+   [stable write 1 purge, report line 96]
 
   Both replicas hold:
       granted(User#0, draft)
@@ -124,7 +124,7 @@ STORIES = {
   where up is false
 """,
     ("SETTLED", "commute join leave sum"): """2. join and leave leave sum different
-   [commute join leave sum, report line 126]
+   [commute join leave sum, report line 116]
 
   Both replicas hold:
       (nothing: every fact is false, every counter 0)
@@ -192,12 +192,10 @@ STORIES = {
   After it the invariant {i} is false for
   {x} = {c},
   {y} = {T}#0,
-  {z} = {S}#1.
+  {z} = {c}.
       9 | {line}
   where {k}({c},
           {T}#0) is -1
-        {k}({S}#1,
-          {T}#0) is 0
 """.format(line=KINDS["LONG"].split("\n")[8], **{it: it * 32 for it in "STcrktixyzfgpqn"}),
 }
 
