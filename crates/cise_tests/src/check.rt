@@ -6,7 +6,7 @@ use example_specs::{
 };
 use std::alloc::{AllocError, Global};
 
-const CHECK: &[&str] = &["check", "s.cise"];
+pub const CHECK: &[&str] = &["check", "s.cise"];
 
 const CHECK_LONG: &[&str] = &["check", "s.cise", "--budget", "1000000"];
 
@@ -175,7 +175,7 @@ fn is_verified(alloc: Global, spec: &[u8], report: &[u8], status: u8) -> Result<
 }
 
 /// Whether a check ends with this status and writes these lines, and its report is verified.
-fn is_checked(
+pub fn is_checked(
     alloc: Global,
     words: &[&str],
     spec: &[u8],

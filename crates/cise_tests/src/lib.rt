@@ -4,8 +4,9 @@
 // Each test is a table. It stands in a crate of its own so that no library is proved again with tests.
 //
 // `ports` has the sources and sinks. `printing` and `running` run the program on words and bytes and say what it prints; `check`,
-// `verify`, `upgrade`, `sample`, `replay`, `simulate`, `suggestions` and `spell` have the commands, with the texts of `examples`; `words` has the
-// words, `refusals` what is no specification, `limits` the limits of the language, and `statuses` and `failing` what stops a run.
+// `verify`, `upgrade`, `sample`, `replay`, `simulate`, `suggestions` and `spell` have the commands, with the texts of `examples`;
+// `whole_numbers` has what is decided of numbers, `words` the words, `refusals` what is no specification, `limits` the limits of the
+// language, and `statuses` and `failing` what stops a run.
 #![tactic(auto)]
 
 #[cfg(test)]
@@ -40,5 +41,7 @@ mod suggestions;
 mod upgrade;
 #[cfg(test)]
 mod verify;
+#[cfg(test)]
+mod whole_numbers;
 #[cfg(test)]
 mod words;

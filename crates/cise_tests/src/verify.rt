@@ -147,14 +147,14 @@ fn names_the_line_and_the_rule(rt: HostRuntime) {
 const OF_MINUS_ONE: &[u8] = b"refused report line 8 multiplier\n";
 
 /// Whether the report that `check` writes for the bank is refused with that multiplier. Its first log line draws from four literals, in
-/// three steps, of which the first one takes row 0 once.
+/// three steps, of which the first one takes row 2 once.
 fn refuses_a_negative_one(alloc: Global) -> Result<bool, AllocError> {
     let checked = run_on(alloc, &["check", "s.cise"], PURSES, b"")?;
     let changed = replaced(
         alloc,
         &checked.text,
-        b"\nf 4 -3 +2 +1 +6 3 0 1 ",
-        b"\nf 4 -3 +2 +1 +6 3 0 -1 ",
+        b"\nf 4 -3 +2 +1 +6 3 2 1 ",
+        b"\nf 4 -3 +2 +1 +6 3 2 -1 ",
     );
     drop(checked);
     let changed = changed?;

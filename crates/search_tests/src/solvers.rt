@@ -3,10 +3,12 @@
 // The contract of a solver says what each answer promises; here it is seen which answer comes, and that it isn't always want of
 // memory. They stand in a crate of their own so that the solvers stay small. `asked` makes rows and asks the elimination solver,
 // `singles` has single systems worked by hand, `systems` a table of small systems with what another program says of them, and
-// `searches` gives systems to the search. `differences` asks the solver of difference rows, and `bounds` has systems for it.
+// `searches` gives systems to the search. `planes` has systems for the solver that cutting planes guide. `differences` asks the solver of
+// difference rows, and `bounds` has systems for it.
 mod asked;
 mod bounds;
 mod differences;
+mod planes;
 mod searches;
 mod singles;
 mod systems;

@@ -147,7 +147,7 @@ relation up ( A )
 counter c
 counter d
 operation keep ( x : A )
-  requires ( up ( x ) or ( ( c >= 1000000000 ) and ( d >= 1000000000 * c ) ) )
+  requires ( up ( x ) or ( ( d >= 1000000000 * c ) or ( c <= 1000000 ) ) )
 end
 operation lower ( y : A )
   remove up ( y )
@@ -338,6 +338,7 @@ stable keep 1 lower
 refuted
 size A 1
 true up 0
+count c 1000001
 call keep 0
 call lower 0
 at

@@ -4,6 +4,7 @@ ghost use Rattle.lin_rows.specs.Numbers.{in_range};
 ghost use Rattle.lin_rows.specs.Rows.{all_in_range};
 ghost use Rattle.theory_api.specs.Laws.{all_below};
 
+use guided_ints::CuttingPlanes;
 use lin_rows::{Row, RowTerm, row_of};
 use linear_ints::Eliminator;
 use proof_lines::{RangeWhat, RowStep};
@@ -179,6 +180,14 @@ pub fn tell(alloc: Global, lines: &[Line], ints: u32) -> Told {
             drop(rows);
             told
         }
+        Err(_) => Told::Nothing,
+    }
+}
+
+/// What the solver that cutting planes guide says of the rows of lines.
+pub fn tell_planes(alloc: Global, lines: &[Line], ints: u32) -> Told {
+    match rows_of(alloc, lines) {
+        Ok(rows) => ask(&mut CuttingPlanes::new(), alloc, rows.as_slice(), ints),
         Err(_) => Told::Nothing,
     }
 }

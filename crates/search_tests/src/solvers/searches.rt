@@ -5,6 +5,7 @@ use linear_ints::Eliminator;
 use proof_lines::{AtomKind, Clause, Lit, Problem};
 use sat_core::{Answer, solve_plain};
 use std::alloc::{AllocError, Global};
+use watched_search::search;
 
 /// What the search found.
 #[derive(Clone, Copy, Debug, PartialEq)]
@@ -54,8 +55,8 @@ fn problem_of(alloc: Global, lines: &[Line], ints: u32) -> Result<Option<Problem
     }
 }
 
-fn search(alloc: Global, problem: &Problem) -> Found {
-    let answer = solve_plain(alloc, problem, &mut Eliminator::new(), 1000);
+// Lets go of an answer, and says what it was.
+fn told(answer: Answer) -> Found {
     let found = match &answer {
         Answer::Unsat(_) => Found::Unsat,
         Answer::Sat(_) => Found::Sat,
@@ -65,13 +66,25 @@ fn search(alloc: Global, problem: &Problem) -> Found {
     found
 }
 
-/// What the search, with the elimination solver, says of the rows of lines.
+/// What the plain search, with the elimination solver, says of the rows of lines.
 pub fn find(alloc: Global, lines: &[Line], ints: u32) -> Found {
     match problem_of(alloc, lines, ints) {
         Ok(Some(problem)) => {
-            let found = search(alloc, &problem);
+            let answer = solve_plain(alloc, &problem, &mut Eliminator::new(), 1000);
             drop(problem);
-            found
+            told(answer)
+        }
+        _ => Found::Nothing,
+    }
+}
+
+/// What the search with the solver of its choice says of the rows of lines, in as many lines of a log at most.
+pub fn find_within(alloc: Global, lines: &[Line], ints: u32, budget: u32) -> Found {
+    match problem_of(alloc, lines, ints) {
+        Ok(Some(problem)) => {
+            let answer = search(alloc, &problem, budget);
+            drop(problem);
+            told(answer)
         }
         _ => Found::Nothing,
     }

@@ -3,8 +3,8 @@
 // A program in Python wrote them, with coefficients at random, and tried all triples of numbers from the least to the greatest. In each
 // the second row is the opposite of the first, or is that a little apart, so that many have points over fractions and none over whole
 // numbers.
-use crate::solvers::asked::{Line, Told, tell};
-use crate::solvers::searches::{Found, find};
+use crate::solvers::asked::{Line, Told, tell, tell_planes};
+use crate::solvers::searches::{Found, find, find_within};
 
 // Three names from -`below` to `above`, and three rows: coefficients, then the bound.
 struct System {
@@ -347,6 +347,16 @@ fn small_systems_are_decided(rt: HostRuntime) {
         let lines = lines_of(system);
         let told = tell(rt.alloc(), &lines, 3);
         let found = find(rt.alloc(), &lines, 3);
+        assert!(rt; is_right(system.has_model, told, found));
+    }
+}
+
+#[test]
+fn small_systems_are_decided_by_cutting_planes(rt: HostRuntime) {
+    for system in SYSTEMS {
+        let lines = lines_of(system);
+        let told = tell_planes(rt.alloc(), &lines, 3);
+        let found = find_within(rt.alloc(), &lines, 3, 100);
         assert!(rt; is_right(system.has_model, told, found));
     }
 }
