@@ -4,7 +4,7 @@ import os
 import subprocess
 import time
 
-from launch import kit, record
+from launch import kit, lanes, record
 from launch.choosing import HOME, named, why_not
 from launch.paths import BAD_WORDS, CRATES, HOME_PROGRAM, HOME_RECORD, INTERRUPTED, KEPT_PROGRAM, KEPT_RECORD, NO_PROGRAM, OTHER_THAN_KEPT, OUT, TOP, at, say
 from launch.seen import Looks
@@ -13,6 +13,8 @@ from launch.stopping import Stopped, end_all, stop_by_signals
 from launch.times import Plan
 
 PROVED_BY = "./cise prove"
+# By one call, which began with nothing that was kept of an earlier one.
+PROVED_FROM_NOTHING = "./cise prove, from nothing"
 
 
 def main(words):
@@ -68,7 +70,8 @@ def prove():
     for it in (HOME_RECORD, HOME_PROGRAM):
         if os.path.lexists(at(it)):
             os.remove(at(it))
-    failed = Proofs(sources, kit_line).run()
+    proofs = Proofs(sources, kit_line)
+    failed = proofs.run()
     if failed:
         say(f"{' and '.join(failed)} couldn't be proved; what was said stands in {' and '.join(map(log_of, failed))}")
         return NO_PROGRAM
@@ -76,7 +79,8 @@ def prove():
     if Sources(looks).total() != sources.total():
         say("a source was changed meanwhile, so the program that was built is of no use: call ./cise prove again")
         return NO_PROGRAM
-    record.Record(kit_line, PROVED_BY, sources.rows, looks.sum_of(HOME_PROGRAM), sources.sums).write(HOME_RECORD, HOME_PROGRAM)
+    proved_by = PROVED_FROM_NOTHING if proofs.is_from_nothing else PROVED_BY
+    record.Record(kit_line, proved_by, sources.rows, looks.sum_of(HOME_PROGRAM), sources.sums).write(HOME_RECORD, HOME_PROGRAM)
     minutes, seconds = divmod(int(time.monotonic() - start), 60)
     say(f"the program is proved and built, after {minutes} minutes and {seconds} seconds; from now on it answers")
     return compare(sources, looks)
@@ -124,14 +128,17 @@ class Proofs:
     next call; `rt run` of the program looks at all libraries once more, and proves those anew whose kept work doesn't fit."""
 
     def __init__(self, sources, kit_line):
-        self.rows = sources.rows
+        self.sources, self.rows = sources, sources.rows
         self.sums = {}
         for crate in self.rows:
             self.sum_with_below(crate, sources, kit_line)
         self.most = most_at_once()
         self.done = {it for it in self.rows if self.is_marked(it)}
+        lanes.clear()
+        self.is_from_nothing = not any(os.path.exists(at(f"crates/{it}/{kept}")) for it in self.rows for kept in (lanes.LIBRARY, lanes.SO_FAR))
         self.plan = Plan(sources, self.most)
         self.running, self.failed = {}, []
+        self.free_lanes, self.lane_of = [], {}
 
     def sum_with_below(self, crate, sources, kit_line):
         """The sum of what a crate and all that it is made over are made of."""
@@ -163,6 +170,8 @@ class Proofs:
         except (Stopped, OSError):
             end_all(self.running.values())
             raise
+        finally:
+            lanes.clear()
         self.plan.keep(self.done)
         return self.failed
 
@@ -177,11 +186,22 @@ class Proofs:
             self.plan.begins(crate)
 
     def begin(self, crate, jobs):
-        """Begins to prove and build a crate."""
+        """Begins to prove and build a crate: a library in a lane, and the program, which comes last, beside its sources."""
         os.makedirs(os.path.dirname(at(log_of(crate))), exist_ok=True)
-        words = ["rt", "run" if crate == PROGRAM_CRATE else "lib", "--jobs", str(jobs)]
+        verb, folder = "run", at(f"crates/{crate}")
+        if crate != PROGRAM_CRATE:
+            lane = self.free_lanes.pop() if self.free_lanes else lanes.Lane(len(self.lane_of), self.sources)
+            self.lane_of[crate] = lane
+            verb, folder = "lib", lane.take(crate, self.all_below(crate))
         with open(at(log_of(crate)), "wb") as log:
-            return subprocess.Popen(words, cwd=at(f"crates/{crate}"), stdin=subprocess.DEVNULL, stdout=log, stderr=subprocess.STDOUT)
+            return subprocess.Popen(["rt", verb, "--jobs", str(jobs)], cwd=folder, stdin=subprocess.DEVNULL, stdout=log, stderr=subprocess.STDOUT)
+
+    def all_below(self, crate):
+        found, left = set(), [crate]
+        while left:
+            left += (more := [it for it in below(self.rows, left.pop()) if it not in found])
+            found.update(more)
+        return sorted(found)
 
     def take_one(self):
         """Waits until one of those that run has ended, and takes what came of it."""
@@ -191,7 +211,12 @@ class Proofs:
             return
         process = self.running.pop(crate)
         process.returncode = status >> 8 if not status & 127 else -(status & 127)
-        if not self.is_built(crate, process.returncode):
+        is_built = self.is_built(crate, process.returncode)
+        if crate in self.lane_of:
+            lane = self.lane_of.pop(crate)
+            lane.give_back(crate, is_built)
+            self.free_lanes.append(lane)
+        if not is_built:
             self.failed.append(crate)
             if self.running:
                 say(f"{crate} couldn't be proved; those that are being proved are waited for ({', '.join(self.running)})")

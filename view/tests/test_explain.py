@@ -32,11 +32,11 @@ STORIES = {
       (nothing: every fact is false, every counter 0)
 
   There, this call is allowed:
-      undo(d = draft)
+      undo(d = Document#1)
 
-  After it the invariant counted is false for d = draft.
+  After it the invariant counted is false for d = Document#1.
       8 | invariant counted forall d : Document . ( edits ( d ) >= 0 )
-  where edits(draft) is -1
+  where edits(Document#1) is -1
 """,
     ("examples/cart/refuted.cise", "commute put take_out in_cart"): """1. put and take_out leave in_cart different
    [commute put take_out in_cart, report line 35]
@@ -56,7 +56,7 @@ STORIES = {
      14 | remove in_cart ( c , i )
 """,
     ("examples/seats/refuted.cise", "stable book 1 book"): """1. another book takes away what book requires
-   [stable book 1 book, report line 229]
+   [stable book 1 book, report line 220]
 
   Both replicas hold:
       (nothing: every fact is false, every counter 0)
@@ -102,7 +102,7 @@ STORIES = {
   Note. The witness need not keep what write observes: no obligation asks it.
 """,
     ("examples/undecided/meals.cise", "stable cook 7 cook"): """1. whether another cook leaves standing what cook requires
-   [stable cook 7 cook, report line 57]
+   [stable cook 7 cook, report line 53]
 
   The search for whole numbers reached 10,000 rows.
   Fewer numbers that stand together in one comparison make it smaller.
@@ -124,7 +124,7 @@ STORIES = {
   where up is false
 """,
     ("SETTLED", "commute join leave sum"): """2. join and leave leave sum different
-   [commute join leave sum, report line 116]
+   [commute join leave sum, report line 121]
 
   Both replicas hold:
       (nothing: every fact is false, every counter 0)
@@ -185,16 +185,16 @@ STORIES = {
 
   There, this call is allowed:
       {f}(
-        {p} = {c},
+        {p} = {S}#1,
         {q} = {T}#0,
         {n} = 1)
 
   After it the invariant {i} is false for
-  {x} = {c},
+  {x} = {S}#1,
   {y} = {T}#0,
-  {z} = {c}.
+  {z} = {S}#1.
       9 | {line}
-  where {k}({c},
+  where {k}({S}#1,
           {T}#0) is -1
 """.format(line=KINDS["LONG"].split("\n")[8], **{it: it * 32 for it in "STcrktixyzfgpqn"}),
 }
@@ -348,7 +348,7 @@ class Reports(Folder):
         text = KINDS["COUNTED"].replace("initially", "counter pool initially").replace(">= 0", "<= 1")
         text = text.replace("add edits ( d ) - 1", "add edits ( d ) - pool")
         report = report_on(text)
-        changed = re.sub(r"const draft 0\n(count .*\n)*", f"const draft 0\ncount edits 0 1\ncount pool {-(10**15)}\n", report)
+        changed = re.sub(r"const draft 0\n(count .*\n)*", f"const draft 0\ncount edits 1 1\ncount pool {-(10**15)}\n", report)
         self.assertNotEqual(changed, report)
         status, said = self.explained(text, changed)
         self.assertEqual(status, 1)
@@ -376,7 +376,7 @@ class Refusals(Folder):
         self.refused(6, "", design, os.path.join(self.folder, "none"))
         self.refused(4, "refused report line 1 form\n", design, self.file("report", "cise report 9\n"))
         line = report.split("\n").index("refuted") + 1
-        self.refused(4, f"refused report line {line} witness\n", design, self.file("report", report.replace("call undo 0", "call undo 1")))
+        self.refused(4, f"refused report line {line} witness\n", design, self.file("report", report.replace("call undo 1", "call undo 0")))
         self.refused(4, "refused report line 3 obligation\n", self.file("rooms.cise", KINDS["ROOMS"]), self.file("report", report))
 
 

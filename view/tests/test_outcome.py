@@ -89,7 +89,7 @@ class Confirmed(unittest.TestCase):
         spec, block = found_in(text_of("examples/bank/refuted.cise"), "stable withdraw 2 withdraw")
         self.assertEqual([it.count for it in outcome.outcome(spec, block).states], [{}, {}])
         spec, block = found_in(KINDS["COUNTED"], "safety undo counted")
-        self.assertEqual(outcome.outcome(spec, block).states[0].count, {("edits", (0,)): -1})
+        self.assertEqual(outcome.outcome(spec, block).states[0].count, {("edits", (1,)): -1})
 
 
 class Refused(unittest.TestCase):
@@ -103,8 +103,8 @@ class Refused(unittest.TestCase):
         ("examples/seats/refuted.cise", "stable book 1 book", lambda it: it.state.true.add(("holds", (0, 0)))),
         ("examples/auction/forgotten.cise", "safety offer highest", lambda it: it.at.__setitem__(2, 1)),
         ("examples/auction/forgotten.cise", "safety offer highest", lambda it: it.state.true.discard(("won", (0, 1)))),
-        ("COUNTED", "safety undo counted", lambda it: it.state.count.update({("edits", (0,)): 1})),
-        ("COUNTED", "safety undo counted", lambda it: it.state.count.update({("edits", (0,)): -1})),
+        ("COUNTED", "safety undo counted", lambda it: it.state.count.update({("edits", (1,)): 1})),
+        ("COUNTED", "safety undo counted", lambda it: it.state.count.update({("edits", (1,)): -1})),
         ("SETTLED", "commute join leave sum", lambda it: it.at.__setitem__(0, 1)),
         ("ROOMS", "stable start 1 shut", lambda it: it.state.true.clear()),
         ("SILENT", "safety fall alive", lambda it: it.consts.update(back=0, front=1) or it.sizes.update(Key=2)),

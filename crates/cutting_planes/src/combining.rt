@@ -4,11 +4,11 @@
 // ones. A sum of multiples of many rows is made row by row. Tightening divides a partial sum, so what was added so far is a multiple of
 // it, the scale: to add m times a row, the partial sum is taken scale / g times and the row m / g times, where g is their greatest
 // common divisor, and the new scale is g times what tightening divided by.
-use crate::number::{divisor, sum_of_products};
 use indexed_rows::Held;
 use items::Items;
 use lin_rows::{Row, sum_of_multiples, tighten};
 use proof_lines::RowStep;
+use simplex::number::{divisor, sum_of_products};
 use std::alloc::Global;
 
 /// The rows of a line. Those of the steps stand behind the given ones.

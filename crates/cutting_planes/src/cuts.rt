@@ -8,9 +8,9 @@
 // The multipliers of -n mod d give a second cut. A cut needs no Split, and what it is made of is what any Farkas line is made of.
 use crate::combining::{Derivation, Multiple, combine, is_contradiction, row_at};
 use crate::joining::join;
-use crate::number::at;
-use crate::tableau::{Equation, Tableau, numerator, slack_of};
 use lin_rows::{Row, same_row};
+use simplex::number::at;
+use simplex::{Equation, Tableau, numerator, slack_of};
 use std::alloc::Global;
 
 /// The most cuts at a time.

@@ -2,14 +2,13 @@
 use crate::combining::{Derivation, Multiple, combine, is_contradiction, no_rows, take};
 use crate::cuts::{Cutting, add_cuts};
 use crate::joining::{bound_names, join_broken};
-use crate::number::at;
-use crate::pivoting::{Pivoted, solve};
 use crate::repairing::{Attempt, are_in_state, attempt_at, mend};
-use crate::tableau::{Tableau, slack_of, start};
-use crate::vertex::{Rounding, Vertex, is_whole, round, vertex_of};
+use crate::rounding::{Rounding, is_whole, round};
 use items::Items;
 use lin_rows::Row;
 use proof_lines::RowStep;
+use simplex::number::at;
+use simplex::{Pivoted, Tableau, Vertex, slack_of, solve, start, vertex_of};
 use std::alloc::Global;
 
 /// The most turns of the guide, in each of which rows join, names get bounds, or cuts are made.

@@ -1,9 +1,9 @@
 // Rows that join the tableau late: only those that a vertex breaks, the worst of them first.
 use crate::combining::{Derivation, row_at};
-use crate::number::at;
-use crate::tableau::{Slack, Tableau, add_row};
-use crate::vertex::{Vertex, over_one_denominator};
+use crate::rounding::over_one_denominator;
 use lin_rows::{Row, RowTerm};
+use simplex::number::{at, product};
+use simplex::{Slack, Tableau, Vertex, add_row};
 use std::alloc::Global;
 
 /// The most rows that join at a time.
@@ -16,8 +16,8 @@ const FARTHEST: i128 = 1_000_000_000_000_000;
 pub fn sum_at(row: &Row, values: &[i128]) -> Option<i128> {
     let mut sum = 0i128;
     for term in row.terms() {
-        let product = term.coef.checked_mul(at(values, term.place as usize))?;
-        sum = sum.checked_add(product)?;
+        let more = product(term.coef, at(values, term.place as usize))?;
+        sum = sum.checked_add(more)?;
     }
     Some(sum)
 }
@@ -32,45 +32,66 @@ fn square_length(terms: &[RowTerm]) -> u128 {
     sum
 }
 
+// The length of a row, rounded down. Most rows have small coefficients.
+fn length(terms: &[RowTerm]) -> u128 {
+    match square_length(terms) {
+        0 => 0,
+        1..4 => 1,
+        4..9 => 2,
+        square => square.isqrt(),
+    }
+}
+
 // How far values, over a denominator, are beyond a row, in its own length; 0 where they satisfy it.
 fn excess(row: &Row, numerators: &[i128], denominator: i128) -> Option<u128> {
     let sum = sum_at(row, numerators)?;
-    let beyond = sum.checked_sub(row.bound().checked_mul(denominator)?)?;
+    let beyond = sum.checked_sub(product(row.bound(), denominator)?)?;
     if beyond <= 0 {
         return Some(0);
     }
-    let length = square_length(row.terms()).isqrt();
     let scaled = beyond.unsigned_abs().saturating_mul(1024);
-    Some(scaled.checked_div(length).unwrap_or(0).saturating_add(1))
+    Some(
+        scaled
+            .checked_div(length(row.terms()))
+            .unwrap_or(0)
+            .saturating_add(1),
+    )
 }
 
-// For each given row how far a vertex is beyond it; 0 for one that has joined.
-fn excesses(
+/// A given row that a vertex breaks, and how far the vertex is beyond it; 0 once the row has joined.
+#[derive(Clone, Copy)]
+struct Broken {
+    number: usize,
+    excess: u128,
+}
+
+// The given rows that a vertex breaks.
+fn broken_rows(
     derivation: &Derivation,
     alloc: Global,
     joined: &[bool],
     numerators: &[i128],
     denominator: i128,
-) -> Option<Vec<u128>> {
+) -> Option<Vec<Broken>> {
     let mut list = Vec::new(alloc);
-    for (row, has_joined) in derivation.rows.as_slice().iter().zip(joined.iter()) {
-        let beyond = if *has_joined {
-            0
-        } else {
-            excess(row, numerators, denominator)?
-        };
-        list.push(beyond).ok()?;
+    for (number, row) in derivation.rows.as_slice().iter().enumerate() {
+        if !joined.get(number).copied().unwrap_or(true) {
+            let excess = excess(row, numerators, denominator)?;
+            if excess > 0 {
+                list.push(Broken { number, excess }).ok()?;
+            }
+        }
     }
     Some(list)
 }
 
-// The place of the greatest number above 0.
-fn greatest(numbers: &[u128]) -> Option<usize> {
+// The place of the one that is broken most.
+fn worst(list: &[Broken]) -> Option<usize> {
     let mut most = 0;
     let mut found = None;
-    for (i, number) in numbers.iter().enumerate() {
-        if *number > most {
-            most = *number;
+    for (i, broken) in list.iter().enumerate() {
+        if broken.excess > most {
+            most = broken.excess;
             found = Some(i);
         }
     }
@@ -98,20 +119,21 @@ fn join_worst(
     alloc: Global,
     derivation: &Derivation,
     joined: &mut [bool],
-    excesses: &mut [u128],
+    list: &mut [Broken],
 ) -> Option<bool> {
     let mut any = false;
     for _join in 0..MOST_AT_ONCE {
-        let Some(worst) = greatest(excesses) else {
+        let Some(place) = worst(list) else {
             return Some(any);
         };
-        join(tableau, alloc, derivation, u32::try_from(worst).ok()?)?;
+        let number = list.get(place)?.number;
+        join(tableau, alloc, derivation, u32::try_from(number).ok()?)?;
         any = true;
-        if worst < joined.len() {
-            joined[worst] = true;
+        if number < joined.len() {
+            joined[number] = true;
         }
-        if worst < excesses.len() {
-            excesses[worst] = 0;
+        if place < list.len() {
+            list[place].excess = 0;
         }
     }
     Some(any)
@@ -126,7 +148,7 @@ pub fn join_broken(
     vertex: &Vertex,
 ) -> Option<bool> {
     let (numerators, denominator) = over_one_denominator(vertex, alloc)?;
-    let list = excesses(
+    let list = broken_rows(
         derivation,
         alloc,
         joined,

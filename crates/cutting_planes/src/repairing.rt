@@ -5,8 +5,8 @@
 // fro.
 use crate::combining::{Derivation, row_at};
 use crate::joining::sum_at;
-use crate::number::{at, put};
 use lin_rows::{Row, RowTerm};
+use simplex::number::{at, put};
 use std::alloc::Global;
 
 /// How far a number of a state may lie from 0.

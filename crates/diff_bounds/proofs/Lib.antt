@@ -8,4 +8,5 @@ pub mod Backing
 pub mod Seeing
 pub mod Cycling
 pub mod Modelling
+mod Distancing
 pub mod FittingLemmas

@@ -5,6 +5,7 @@ use Rattle.std.proofs.lemmas.Bool.{and_from, and_parts, lt-ltb, le-ltb, cases_lt
 use Rattle.std.proofs.lemmas.Int.{ints}
 use Rattle.std.proofs.lemmas.List.{get_or_append_left, get_or_push, length_push}
 use Rattle.lin_rows.specs.Rows.{Row, is_row, value_at, point_of}
+use Rattle.lin_rows.specs.Divisors.{tightened}
 use Rattle.lin_rows.proofs.Rounding.{satisfies-of_tightened}
 use Rattle.proof_lines.specs.Evidence.{in_state}
 use Rattle.proof_lines.specs.Problems.{row_true}
@@ -26,7 +27,7 @@ use Rattle.diff_bounds.proofs.Pushing.{value-low}
 le_so : (a b : ℤ) → a ≤ℤ b → int_le a b ≡ true
 le_so a b h = grind (arith, ints)
 
-place-value : (n : ℕ) (V : List Visit) (L : List ℕ) (values : List ℤ) → AreValues n V L values → (p : ℕ) → p ≤ n → place_value n (point_of values) p ≡ (now_at V L p).value -ℤ (now_at V L n).value
+pub place-value : (n : ℕ) (V : List Visit) (L : List ℕ) (values : List ℤ) → AreValues n V L values → (p : ℕ) → p ≤ n → place_value n (point_of values) p ≡ (now_at V L p).value -ℤ (now_at V L n).value
 place-value n V L values a p h = by_case (cases_lt p n)
   where
     none : (c : ℤ) → pos 0 ≡ c -ℤ c
@@ -38,17 +39,23 @@ place-value n V L values a p h = by_case (cases_lt p n)
         let e : n ≡ p = omega arith in
         ap (λ (b : Bool). cond b (point_of values p) (pos 0)) (le-ltb p n l) ∙ none (now_at V L n).value ∙ ap (λ j. (now_at V L j).value -ℤ (now_at V L n).value) e
 
-row-true : (n : ℕ) (rows : List Row) (E : List Edge) (V : List Visit) (L : List ℕ) (values : List ℤ) → AreEdges n rows E → AreSettled V L E → AreValues n V L values
-    → (i : ℕ) → i < length rows → is_row (row_at rows i) ≡ true → row_true (point_of values) (row_at rows i) ≡ true
-row-true n rows E V L values es s a i h k =
+-- the values satisfy each tightened row
+pub settled-row : (n : ℕ) (rows : List Row) (E : List Edge) (V : List Visit) (L : List ℕ) (values : List ℤ) → AreEdges n rows E → AreSettled V L E → AreValues n V L values
+    → (i : ℕ) → i < length rows → value_at (point_of values) (tightened (row_at rows i)).terms ≤ℤ (tightened (row_at rows i)).bound
+settled-row n rows E V L values es s a i h =
     let e = es.each i h in
     let v = e.spans.value (point_of values) in
     let f = place-value n V L values a (edge_at E i).from e.near.from_below in
     let t = place-value n V L values a (edge_at E i).to e.near.to_below in
     let l = s i (omega (arith, es.whole)) in
     let b = e.spans.bound_is in
+    omega (arith, ints)
+
+row-true : (n : ℕ) (rows : List Row) (E : List Edge) (V : List Visit) (L : List ℕ) (values : List ℤ) → AreEdges n rows E → AreSettled V L E → AreValues n V L values
+    → (i : ℕ) → i < length rows → is_row (row_at rows i) ≡ true → row_true (point_of values) (row_at rows i) ≡ true
+row-true n rows E V L values es s a i h k =
     le_so (value_at (point_of values) (row_at rows i).terms) (row_at rows i).bound
-    (satisfies-of_tightened (point_of values) (row_at rows i) k (omega (arith, ints)))
+    (satisfies-of_tightened (point_of values) (row_at rows i) k (settled-row n rows E V L values es s a i h))
 
 all-true : (x : ℕ → ℤ) (rows : List Row) → list_all is_row rows ≡ true → ((i : ℕ) → i < length rows → is_row (row_at rows i) ≡ true → row_true x (row_at rows i) ≡ true) → all_satisfied x rows ≡ true
 all-true x [] h f = refl

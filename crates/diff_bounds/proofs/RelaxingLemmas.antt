@@ -128,10 +128,10 @@ pub settling-more : (E : List Edge) (n round : ℕ) (y z : Walks) (long : Bool) 
 settling-more E n round y z long s r e = record { kept = r.kept; ints_same = r.ints_same ∙ s.ints_same; short = r.are_short e; ahead = r.ahead e round s.ahead }
 
 pub end-long : (E : List Edge) (n round : ℕ) (y z : Walks) (long : Bool) → IsSettling E n round y → IsRound E y z long → long ≡ true → IsEnd E n z true
-end-long E n round y z long s r e = record { kept = r.kept; ints_same = r.ints_same ∙ s.ints_same; is_long = λ t. r.is_long e; settled = λ f. absurd cc }
+end-long E n round y z long s r e = record { kept = r.kept; ints_same = r.ints_same ∙ s.ints_same; is_long = λ t. r.is_long e; short = λ f. absurd cc; settled = λ f. absurd cc }
 
 pub end-settled : (E : List Edge) (n round : ℕ) (y : Walks) → IsSettling E n round y → AreSettledNow y E → IsEnd E n y false
-end-settled E n round y s a = record { kept = s.kept; ints_same = s.ints_same; is_long = λ t. absurd cc; settled = λ f. a }
+end-settled E n round y s a = record { kept = s.kept; ints_same = s.ints_same; is_long = λ t. absurd cc; short = λ f. s.short; settled = λ f. a }
 
 pub end-rounds : (E : List Edge) (n round : ℕ) (y : Walks) → IsSettling E n round y → round ≡ n + 1 → AreNear n E → IsEnd E n y false
 end-rounds E n round y s e near =

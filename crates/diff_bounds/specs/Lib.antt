@@ -7,3 +7,4 @@ pub mod States
 pub mod Values
 pub mod Cycles
 pub mod Fitting
+pub mod Distances

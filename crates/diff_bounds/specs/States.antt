@@ -45,9 +45,10 @@ pub record IsSettling (edges : List Edge) (ints round : ℕ) (now : Walks) : Typ
   pub short : AreShortNow now
   pub ahead : AreAheadNow now edges round 0
 
--- in the end a walk is long, or all edges are settled
+-- in the end a walk is long, or all edges are settled and no latest visit is deep
 pub record IsEnd (edges : List Edge) (ints : ℕ) (new : Walks) (long : Bool) : Type 0 where
   pub kept : AreKept edges new
   pub ints_same : new.ints ≡ ints
   pub is_long : long ≡ true → IsLongNow new
+  pub short : long ≡ false → AreShortNow new
   pub settled : long ≡ false → AreSettledNow new edges

@@ -5,8 +5,9 @@
 // round each edge is looked at once, and where it leads to a lower value than the latest one of its end, that end gets a new visit. The
 // rounds end when all edges are settled, or when a walk has more edges than there are names.
 //
-// Why that is right. (1) When all edges are settled, the value of each name less that of 0 satisfies every row: Model. Values are sums
-// of at most as many bounds as there are places, and so lie in the range of a state, since only near bounds are taken. (2) A walk with
+// Why that is right. (1) When all edges are settled, the value of each name less that of 0 satisfies every row: Model. No walk is shorter
+// than the latest one of its end, since no edge leads to a lower value. Values are sums of at most as many bounds as there are places,
+// and so lie in the range of a state, since only near bounds are taken. (2) A walk with
 // more edges than there are names comes to some place twice, and with a lower value the second time. The edges between add up to a
 // negative number, and the sum of their rows, one after the other with the multipliers 1 and 1, has no terms and that bound: Conflict.
 // All coefficients on the way are 1, -1 or 0, so tightening changes nothing. (3) After k rounds each edge is settled or leads on from a
@@ -17,7 +18,8 @@
 //
 // The layer stands on `theory_api`, `proof_lines` and `lin_rows`. Definitions: specs/Differences (which rows and problems it takes),
 // specs/Spans, specs/Edges and specs/Walks (rows as edges, and walks along them), specs/Cycles and specs/Values (what a conflict and a
-// model are made of); specs/States and specs/Fitting mirror the code.
+// model are made of), specs/Distances (the shortest walks along rows, and how far values lie from 0); specs/States and specs/Fitting mirror
+// the code.
 #![tactic(auto)]
 
 pub mod cycle;

@@ -5,6 +5,7 @@ ghost use Rattle.lin_rows.specs.Rows.{is_row};
 ghost use Rattle.theory_api.specs.Laws.{IsAnswer, all_below};
 ghost use Rattle.diff_bounds.specs.Differences.{are_taken};
 ghost use Rattle.diff_bounds.specs.Cycles.{AddsUp};
+ghost use Rattle.diff_bounds.specs.Distances.{HasShortest};
 ghost use Rattle.diff_bounds.specs.Edges.{AreEdges};
 ghost use Rattle.diff_bounds.specs.States.{AreKept, IsLongNow};
 
@@ -42,6 +43,7 @@ fn conflict_of(
     requires long { IsLongNow walks.now }
     ensures promised { IfOk result (λ a. IsAnswer false false walks.now.ints rows.now a) }
     ensures added { IfOk result (AddsUp walks.now.ints rows.now) }
+    ensures shortest { IfOk result (HasShortest walks.now.ints rows.now) }
 {
     let used = cycle_of(alloc, walks, edges)?;
     if used.len() > ROW_LIMIT {
@@ -64,6 +66,7 @@ fn solve(alloc: Global, rows: &[Row], ints: u32) -> Result<TheoryAnswer, AllocEr
     requires taken { are_taken ints rows.now ≡ true }
     ensures promised { IfOk result (λ a. IsAnswer false false ints rows.now a) }
     ensures added { IfOk result (AddsUp ints rows.now) }
+    ensures shortest { IfOk result (HasShortest ints rows.now) }
 {
     if rows.len() > u32::MAX as usize {
         return Err(AllocError);
@@ -92,12 +95,14 @@ impl Theory for DiffBounds {
     const MAY_STOP: bool = false;
 
     /// A conflict names the rows of one cycle, each of them once and the last one first, and its steps add them up one by one; a cycle of
-    /// one row is a conflict without steps. Which cycle it is, and which of the values that satisfy all rows a model has, isn't promised.
+    /// one row is a conflict without steps. Which cycle it is isn't promised. The values of a model are the shortest distances along rows,
+    /// less that of the number 0; they lie as far from 0 as there are names times the greatest bound at most.
     fn check(&mut self, alloc: Global, rows: &[Row], ints: u32) -> TheoryAnswer
         requires places { all_below ints rows.now ≡ true }
         requires taken { are_taken ints rows.now ≡ true }
         ensures promised { IsAnswer false false ints rows.now result }
         ensures added { AddsUp ints rows.now result }
+        ensures shortest { HasShortest ints rows.now result }
     {
         law_rows(rows);
         match solve(alloc, rows, ints) {

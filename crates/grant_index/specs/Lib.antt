@@ -1,3 +1,4 @@
 pub mod Index
 pub mod Named
 pub mod Same
+pub mod Alike

@@ -7,10 +7,15 @@
 //
 // It stands on `token_rules` and `token_protocol`. `specs/Index.antt` says what a list and an index are, `specs/Named.antt` which calls
 // the grants on a list name; that these are all that conflict is the lemma `conflicts_listed` of proofs/Listed.
+//
+// Calls that take the same tokens conflict with the same calls, by the lemma `conflicts_alike` of proofs/SameTokens; `take_alike` tells them.
+// So what conflicts with a call among the grants before an earlier call with its tokens is what the grant of that call names.
 #![tactic(auto)]
 
+mod alike;
 mod index;
 mod list;
 
+pub use alike::{take_alike, token_sum};
 pub use index::GrantIndex;
 pub use list::Candidates;

@@ -89,3 +89,19 @@ end"
 pub fn tournaments() -> &'static [u8] {
     TOURNAMENTS
 }
+
+/// A relation that is transitive, whose pairs are linked one by one and removed at once.
+pub fn friends() -> &'static [u8] {
+    b"cise 1
+sort A
+relation r ( A , A )
+invariant transitive forall x : A , y : A , z : A . ( ( r ( x , y ) and r ( y , z ) ) implies r ( x , z ) )
+operation link ( x : A , y : A )
+  requires forall z : A . ( r ( y , z ) implies r ( x , z ) )
+  requires forall z : A . ( r ( z , x ) implies r ( z , y ) )
+  insert r ( x , y )
+end
+operation empty
+  remove r ( * , * )
+end"
+}

@@ -14,8 +14,8 @@ use items::Items;
 use lin_rows::Row;
 use std::alloc::{AllocError, Global};
 
-// The places but one.
-fn without(alloc: Global, places: &[u32], place: u32) -> Result<Items<u32>, AllocError>
+/// The places but one.
+pub fn without(alloc: Global, places: &[u32], place: u32) -> Result<Items<u32>, AllocError>
     ensures { IfOk result (λ left. left ≡ filter (λ q. not (q == place)) places.now) }
 {
     let left = places

@@ -2,12 +2,13 @@
 ghost use Rattle.std.specs.Prelude.{◌≡◌, true, [], IfOk, MatchResult};
 ghost use Rattle.std.specs.List.{list_all};
 ghost use Rattle.lin_rows.specs.Rows.{is_row};
-ghost use Rattle.theory_api.specs.Laws.{IsAnswer, IsModel, all_below};
+ghost use Rattle.theory_api.specs.Laws.{IsAnswer, IsBeyond, IsModel, all_below};
 ghost use Rattle.linear_ints.specs.Stops.{IsStop};
 ghost use Rattle.linear_ints.specs.Tableaux.{IsTaking};
 
 use crate::descend::descend;
 use crate::eliminate::eliminate_all;
+use crate::leaving_out::{Rest, conflict_past};
 use crate::stop::Stop;
 use crate::tableau::Tableau;
 use crate::take::take_all;
@@ -15,6 +16,7 @@ use crate::trim::{Conflict, trimmed};
 use indexed_rows::{Held, Order, named_places};
 use items::Items;
 use lin_rows::Row;
+use proof_lines::RangeWhat;
 use std::alloc::{AllocError, Global};
 use theory_api::{Theory, TheoryAnswer, law_rows};
 
@@ -109,6 +111,43 @@ fn answer(tableau: Tableau, alloc: Global, rows: &[Row], ints: u32, stop: Stop) 
     }
 }
 
+// What the search is told where a combination leaves the range of a row: a conflict that is found without it, else that it does.
+fn answer_product(
+    tableau: Tableau,
+    alloc: Global,
+    rows: &[Row],
+    ints: u32,
+    what: RangeWhat,
+) -> TheoryAnswer
+    requires { IsBeyond rows.now tableau.used tableau.steps what }
+    ensures { IsAnswer true true ints rows.now result }
+{
+    let Tableau {
+        ints: _,
+        used,
+        steps,
+        held,
+        order,
+        left,
+    } = tableau;
+    let rest = Rest {
+        held,
+        order,
+        left,
+        steps: Items::new(alloc),
+    };
+    match conflict_past(alloc, rows, used.as_slice(), steps.as_slice(), rest) {
+        Some(found) => {
+            drop(used);
+            drop(steps);
+            drop(what);
+            let Conflict { used, steps } = found;
+            TheoryAnswer::Conflict { used, steps }
+        }
+        None => TheoryAnswer::Range { used, steps, what },
+    }
+}
+
 impl Theory for Eliminator {
     ghost use Rattle.std.specs.Prelude.{true};
 
@@ -131,6 +170,10 @@ impl Theory for Eliminator {
             Ok(values) => {
                 drop(tableau);
                 TheoryAnswer::Model(values)
+            }
+            Err(Stop::Beyond(RangeWhat::Product { left, right, place })) => {
+                let what = RangeWhat::Product { left, right, place };
+                answer_product(tableau, alloc, rows, ints, what)
             }
             Err(stop) => answer(tableau, alloc, rows, ints, stop),
         }

@@ -21,6 +21,8 @@
 //
 // Where it stops. Ten thousand rows are the most that it holds (Rows); a combination that leaves the range of a row is Product; a rest
 // that leaves it is Sum, and a bound beyond the range of a state is Value (Range). Each answer has its certificate by construction.
+// After a Product the elimination goes on without that combination, and a contradiction that it still comes to is a Conflict; where it
+// comes to none, the Product is the answer, with the steps up to it.
 //
 // What it costs. One place with m upper and n lower rows takes m * n steps, and so the next place with the fewest pairs is taken each
 // time. The rows may grow doubly exponentially in the number of places; the limit of rows bounds this. Whether a new row is held, which
@@ -33,7 +35,7 @@
 // Files, in the order in which a reader needs them: src/tableau and src/stop (the held rows with the eliminated places, and why an
 // elimination ends), src/take (the given rows), src/sides and src/steps (the rows of a place, and their pairs), src/eliminate (all
 // places), src/ceiling and src/bounds (what a row says of a value), src/descend (the values), src/trim (what a conflict rests on),
-// src/eliminator (the solver).
+// src/leaving_out (going on without a combination), src/eliminator (the solver).
 // Definitions: specs/Tableaux (what a tableau keeps), specs/Stops (the reasons to stop), specs/Sides and specs/Descending (what is
 // known while values are chosen); the others are steps of the proofs.
 #![tactic(auto)]
@@ -43,6 +45,7 @@ pub mod ceiling;
 pub mod descend;
 pub mod eliminate;
 pub mod eliminator;
+pub mod leaving_out;
 pub mod sides;
 pub mod steps;
 pub mod stop;

@@ -54,8 +54,8 @@ pub fn is_on_at(upper: bool, before: &Order, place: u32, held: &[Row], number: u
     }
 }
 
-// Those of some numbers that are of rows on a side of a place.
-fn of_side(
+/// Those of some numbers that are of rows on a side of a place.
+pub fn of_side(
     alloc: Global,
     upper: bool,
     before: &Order,

@@ -14,15 +14,15 @@ use lin_rows::{Combined, Row, RowRefused, combine};
 use proof_lines::{RangeWhat, RowStep};
 use std::alloc::Global;
 
-// Whether a row is to be held.
-fn is_needed(held: &Held, row: &Row) -> bool
+/// Whether a row is to be held.
+pub fn is_needed(held: &Held, row: &Row) -> bool
     ensures { result ≡ is_needed held.now row.now }
 {
     row.is_contradiction() || !(row.terms().is_empty() || held.has(row))
 }
 
-// The step that gives a combination.
-fn step_of(left: u32, right: u32, sum: &Combined) -> RowStep
+/// The step that gives a combination.
+pub fn step_of(left: u32, right: u32, sum: &Combined) -> RowStep
     ensures { result ≡ record { left = left; first = sum.now.first; right = right; second = sum.now.second } }
 {
     RowStep {

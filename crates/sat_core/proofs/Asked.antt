@@ -37,10 +37,11 @@ use Rattle.search_logs.proofs.Taken.{picked-line, farkas_taken, split_taken}
 use Rattle.search_logs.proofs.Shown.{false-negations, distinct-negations, false-below, trail_one_way, rows_judged-so, range_judged-so, rows_hold-so, range_holds-so}
 use Rattle.search_logs.proofs.Valued.{stand-of, valued, no_atom}
 use Rattle.sat_core.specs.Answers.{AreRowsOf, IsEasy, IsModelOf, IsStopped, IsTooLong, IsTooLarge}
-use Rattle.sat_core.specs.Searching.{Aim, Keeps, InSearch, InChain, IsDrawn, IsLevel, IsExplained, IsLearned}
+use Rattle.sat_core.specs.Searching.{Aim, Keeps, InSearch, InChain, IsDrawn, IsLevel, IsExplained, IsLearned, IsBefore}
 use Rattle.sat_core.specs.declared.explaining.Explained.{Explained}
 use Rattle.sat_core.specs.declared.explaining.Explained.TheVariants.{Empty, Cut, Spent as SpentThere, Memory as NoMemory}
-use Rattle.sat_core.proofs.Resolving.{moved_chain}
+use Rattle.sat_core.proofs.Resolving.{moved_start}
+use Rattle.sat_core.proofs.Backjumps.{backjump-from, before-either}
 use Rattle.sat_core.proofs.Keeping.{keeps_clause, keeps_row, clause-below, short_of}
 use Rattle.sat_core.proofs.Ends.{settled_unrefuted, settled_full, searched-so}
 
@@ -210,25 +211,27 @@ fresh-more first cs c f n w = record {
 
 pub farkas_begins : (a : Aim) (budget : ℕ) (q : PlainProblem) (t : List Entry) (ls : List Line) (used : List Lit) (steps : List RowStep) (u : List Entry) → InSearch a budget q t ls → Settled t q.clauses → list_all (in_trail t) used ≡ true
     → ((given : ℕ) → next (standing given q) (Farkas used steps) ≡ Ok (standing given (with_clause q (negations used)))) → (IsEasy a.problem → ⊥) → IsLevel t u (negations used) → length ls < budget → length q.clauses + 1 < 2 ^ 32
-    → InChain a budget (length ls) (with_clause q (negations used)) u (ls ++ Farkas used steps ∷ []) (length q.clauses)
+    → (y : InChain a budget (length ls) (with_clause q (negations used)) u (ls ++ Farkas used steps ∷ []) (length q.clauses)) × (y.start ≡ q.clauses)
 farkas_begins a budget q t ls used steps u x w i taken uneasy level room few =
     let f = false-negations t used i in
     let b = level q.clauses x.trail w f in
-    let n : length (ls ++ Farkas used steps ∷ []) ≡ length ls + 1 = length-append ls (Farkas used steps ∷ []) in
-    record {
-      keeps = keeps_clause a budget q ls (Farkas used steps) (negations used) x.keeps room refl (taken (length a.problem.clauses))
-          (fresh-more (length a.problem.clauses) q.clauses (negations used) x.keeps.fresh (theory_fresh q.clauses u (negations used) b.0) (theory_one_way q.clauses u (negations used) b.0))
-          (false-below (length q.atoms) t (negations used) f x.below) few;
-      start = q.clauses;
-      from = u;
-      ex = begin_theory q.clauses u (negations used) b.0 (distinct-negations used);
-      below = λ k h. x.below k (b.1 k h);
-      search = subst (λ (c : List Lit). SearchLog a.problem (ls ++ Farkas used steps ∷ []) (with_clause q (negations used)) (within q.clauses u c)) (sym (at_new q.clauses (negations used))) (farkas x.search u (b.0.trail, b.0.settled) used steps b.0.now);
-      since = omega (arith, n);
-      grew = λ _. omega (arith, n);
-      early = λ r. absurd (settled_unrefuted a budget q t ls x w (none_false q.clauses t w) r);
-      uneasy = uneasy;
-    }
+    let n : length (ls ++ Farkas used steps ∷ []) ≡ length ls + 1 = length-append ls (Farkas used steps ∷ []) in (
+      record {
+        keeps = keeps_clause a budget q ls (Farkas used steps) (negations used) x.keeps room refl (taken (length a.problem.clauses))
+            (fresh-more (length a.problem.clauses) q.clauses (negations used) x.keeps.fresh (theory_fresh q.clauses u (negations used) b.0) (theory_one_way q.clauses u (negations used) b.0))
+            (false-below (length q.atoms) t (negations used) f x.below) few;
+        start = q.clauses;
+        from = u;
+        ex = begin_theory q.clauses u (negations used) b.0 (distinct-negations used);
+        below = λ k h. x.below k (b.1 k h);
+        search = subst (λ (c : List Lit). SearchLog a.problem (ls ++ Farkas used steps ∷ []) (with_clause q (negations used)) (within q.clauses u c)) (sym (at_new q.clauses (negations used))) (farkas x.search u (b.0.trail, b.0.settled) used steps b.0.now);
+        since = omega (arith, n);
+        grew = λ _. omega (arith, n);
+        early = λ r. absurd (settled_unrefuted a budget q t ls x w (none_false q.clauses t w) r);
+        uneasy = uneasy;
+      },
+      refl,
+    )
 
 -- MODEL.
 
@@ -349,17 +352,20 @@ module _ (a : Aim) (budget : ℕ) (q : PlainProblem) (t : List Entry) (ls : List
 
 pub refute_chain : (a : Aim) (budget : ℕ) (q : PlainProblem) (t : List Entry) (ls : List Line) (used : List Lit) (steps : List RowStep) (r : PlainProblem) (u : List Entry) (ms : List Line) (n : ℕ) → InSearch a budget q t ls → Settled t q.clauses → list_all (in_trail t) used ≡ true
     → ((given : ℕ) → next (standing given q) (Farkas used steps) ≡ Ok (standing given (with_clause q (negations used)))) → (IsEasy a.problem → ⊥) → length ls < budget
-    → (n ≡ length q.clauses) × (r ≡ with_clause q (negations used)) × (ms ≡ ls ++ Farkas used steps ∷ []) × (length r.clauses < 2 ^ 32) × IsLevel t u (negations used) → InChain a budget (length ls) r u ms n
+    → (n ≡ length q.clauses) × (r ≡ with_clause q (negations used)) × (ms ≡ ls ++ Farkas used steps ∷ []) × (length r.clauses < 2 ^ 32) × IsLevel t u (negations used) → (y : InChain a budget (length ls) r u ms n) × (y.start ≡ q.clauses)
 refute_chain a budget q t ls used steps r u ms n x w i taken uneasy room o =
     let m = longer q.clauses (negations used) in
     let k : length (q.clauses ++ negations used ∷ []) < 2 ^ 32 = subst (λ (z : PlainProblem). length z.clauses < 2 ^ 32) o.1 o.3 in
-    moved_chain a budget (length ls) (with_clause q (negations used)) r u (ls ++ Farkas used steps ∷ []) ms (length q.clauses) n
+    moved_start a budget (length ls) q.clauses (with_clause q (negations used)) r u (ls ++ Farkas used steps ∷ []) ms (length q.clauses) n
     (farkas_begins a budget q t ls used steps u x w i taken uneasy o.4 room (omega (arith, m, k))) (sym o.1) (sym o.2) (sym o.0)
 
 -- what the explaining of that chain came to
 pub learned-so : (e : Explained) (budget : ℕ) (q : PlainProblem) (t : List Entry) (ls : List Line) (q2 : PlainProblem) (t2 : List Entry) (ls2 : List Line) (n : ℕ) (r : PlainProblem) (u : List Entry) (ms : List Line)
-    → ((a : Aim) → InSearch a budget q t ls → InChain a budget (length ls) q2 t2 ls2 n) → IsExplained e budget q2 t2 ls2 n r u ms → IsLearned e budget q t ls r u ms
-learned-so Empty budget q t ls q2 t2 ls2 n r u ms f h = λ a x. h a (length ls) (f a x)
-learned-so Cut budget q t ls q2 t2 ls2 n r u ms f h = λ a x. h a (length ls) (f a x)
-learned-so SpentThere budget q t ls q2 t2 ls2 n r u ms f h = λ a x. h a (length ls) (f a x)
-learned-so NoMemory budget q t ls q2 t2 ls2 n r u ms f h = tt
+    → ((a : Aim) → InSearch a budget q t ls → (y : InChain a budget (length ls) q2 t2 ls2 n) × (y.start ≡ q.clauses)) → (IsTrail q.clauses t → (t2 ≡ t) ⊎ IsBefore t2 t) → IsExplained e budget q2 t2 ls2 n r u ms → IsLearned e budget q t ls r u ms
+learned-so Empty budget q t ls q2 t2 ls2 n r u ms f b h = λ a x. h a (length ls) (f a x).0
+learned-so Cut budget q t ls q2 t2 ls2 n r u ms f b h = λ a x.
+    let y = f a x in
+    let z = h a (length ls) y.0 in
+    (z.0, z.1, backjump-from y.0.start q.clauses t2 t r.clauses u y.1 (before-either u t2 t (b x.trail)) z.2)
+learned-so SpentThere budget q t ls q2 t2 ls2 n r u ms f b h = λ a x. h a (length ls) (f a x).0
+learned-so NoMemory budget q t ls q2 t2 ls2 n r u ms f b h = tt

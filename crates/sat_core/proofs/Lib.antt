@@ -4,3 +4,4 @@ pub mod Ends
 pub mod Asked
 pub mod Outcomes
 pub mod Units
+pub mod Backjumps

@@ -32,7 +32,7 @@ use Rattle.sat_core.specs.declared.explaining.Explained.{Explained}
 use Rattle.sat_core.specs.declared.explaining.Explained.TheVariants.{Empty, Cut, Spent as SpentThere, Memory as NoMemory}
 use Rattle.sat_core.specs.Answers.{AreRowsOf, IsEasy, IsTooLong, IsTooLarge}
 use Rattle.sat_core.specs.Searching.{Aim, Keeps, InSearch, InChain, IsDrawn, IsExplained, IsLearned, IsRefutation, work}
-use Rattle.sat_core.specs.Outcomes.{IsOutcome, IsPushed, outcome_of}
+use Rattle.sat_core.specs.Outcomes.{IsOutcome, IsPushed, outcome_of, IfGoes, IsStay}
 use Rattle.sat_core.proofs.Keeping.{clause-below, keeps_first}
 use Rattle.sat_core.proofs.Asked.{none_false, stand-places, given-lits, picked_in, uneasy_given, search_splits, too_long, too_large}
 
@@ -133,6 +133,12 @@ learned-outcome Empty split stop p budget q t ls r u ms x h = h (aim_of p split)
 learned-outcome Cut split stop p budget q t ls r u ms x h = let y = h (aim_of p split) x in (y.0, work-line (aim_of p split) budget q r t u ls ms y.0.keeps y.1)
 learned-outcome SpentThere split stop p budget q t ls r u ms x h = h (aim_of p split) x
 learned-outcome NoMemory split stop p budget q t ls r u ms x h = tt
+
+pub learned-stays : (e : Explained) (a : Aim) (budget : ℕ) (q : PlainProblem) (t : List Entry) (ls : List Line) (r : PlainProblem) (u : List Entry) (ms : List Line) → InSearch a budget q t ls → IsLearned e budget q t ls r u ms → IfGoes (outcome_of e) (IsStay q.clauses t r.clauses u)
+learned-stays Empty a budget q t ls r u ms x h = tt
+learned-stays Cut a budget q t ls r u ms x h = inr (h a x).2
+learned-stays SpentThere a budget q t ls r u ms x h = tt
+learned-stays NoMemory a budget q t ls r u ms x h = tt
 
 -- ASKING.
 

@@ -1,4 +1,4 @@
-use Rattle.std.proofs.Common.{◌≡◌, ℕ, zero, suc, ◌+◌, ◌^◌, ◌<◌, ◌≤◌, Bool, true, false, cond, ◌||◌, ◌==◌, inl, inr, List, [], ◌∷◌, ◌++◌, length, get_or, refl, sym, ◌∙◌, ap, subst, arith, Option, Some, None, Ok, length-append}
+use Rattle.std.proofs.Common.{◌≡◌, ◌≢◌, ℕ, zero, suc, ◌+◌, ◌^◌, ◌<◌, ◌≤◌, Bool, true, false, cond, ◌||◌, ◌==◌, ◌⊎◌, inl, inr, List, [], ◌∷◌, ◌++◌, length, get_or, refl, sym, ◌∙◌, ap, subst, arith, Option, Some, None, Ok, length-append}
 use Rattle.std.specs.Prelude.{is_none, nat_le, nat_lt}
 use Rattle.std.proofs.lemmas.Bool.Decides.{nat_tests}
 use Rattle.proof_lines.specs.declared.clause.Lit.{Lit}
@@ -6,7 +6,7 @@ use Rattle.proof_lines.specs.declared.line.Line.{Line}
 use Rattle.proof_lines.specs.Clauses.{has, distinct, flip}
 use Rattle.proof_lines.specs.Problems.{PlainProblem, atoms_below}
 use Rattle.proof_kernel.specs.Rules.{next}
-use Rattle.std.proofs.lemmas.Bool.{and_parts, or_parts, or_left, or_right, lt-ltb}
+use Rattle.std.proofs.lemmas.Bool.{and_parts, or_parts, or_left, or_right, lt-ltb, cases_eq}
 use Rattle.proof_lines.proofs.Sets.{same_nat-refl}
 use Rattle.search_logs.specs.declared.trail.Entry.{Entry}
 use Rattle.search_logs.specs.Trails.{after, named, is_false, open_in, before_last, is_decision, has_decision, IsTrail, older, IsCalm, is_done}
@@ -19,8 +19,9 @@ use Rattle.search_logs.proofs.Free.{trail_short}
 use Rattle.search_logs.proofs.Forcing.{conflict_free}
 use Rattle.search_logs.proofs.Taken.{resolve_taken}
 use Rattle.sat_core.specs.Answers.{IsEasy}
-use Rattle.sat_core.specs.Searching.{Aim, Keeps, InSearch, InChain}
+use Rattle.sat_core.specs.Searching.{Aim, Keeps, InSearch, InChain, GoesOn, IsBefore, IsBackjump}
 use Rattle.sat_core.proofs.Keeping.{clause-below, keeps_clause}
+use Rattle.sat_core.proofs.Backjumps.{last-before, before-trans}
 
 -- A chain from a conflict on.
 
@@ -66,19 +67,29 @@ chain_begins a budget q t ls i x l f d = record {
     none : ls ≡ [] → length q.atoms ≡ length a.problem.atoms
     none e = let k = subst (λ (z : List Line). Keeps a budget q z) e x.keeps in let c = k.atom_count in omega (arith, c)
 
-pub chain_pops : (a : Aim) (budget before : ℕ) (q : PlainProblem) (e : Entry) (t : List Entry) (ls : List Line) (i : ℕ) → InChain a budget before q (e ∷ t) ls i → has (get_or q.clauses i []) (flip e.lit) ≡ false → InChain a budget before q t ls i
-chain_pops a budget before q e t ls i x n = record {
-  keeps = x.keeps;
-  start = x.start;
-  from = x.from;
-  ex = pop_step x.start x.from q.clauses e t i x.ex n;
-  below = λ k h. x.below k (or_right (e.lit.atom == k) (named t k) h);
-  search = x.search;
-  since = x.since;
-  grew = x.grew;
-  early = λ r. (let y = x.early r in ((or_parts (is_decision e) (has_decision t) y.0).1, (let z = y.1 in omega arith)));
-  uneasy = x.uneasy;
-}
+pub chain_begins-start : (a : Aim) (budget : ℕ) (q : PlainProblem) (t : List Entry) (ls : List Line) (i : ℕ) (x : InSearch a budget q t ls) (l : i < length q.clauses) (f : is_false t (get_or q.clauses i []) ≡ true) (d : distinct (get_or q.clauses i []) ≡ true)
+    → (chain_begins a budget q t ls i x l f d).start ≡ q.clauses
+unfolding chain_begins
+chain_begins-start a budget q t ls i x l f d = refl
+
+pub chain_pops : (a : Aim) (budget before : ℕ) (q : PlainProblem) (e : Entry) (t : List Entry) (ls : List Line) (i : ℕ) (x : InChain a budget before q (e ∷ t) ls i) → has (get_or q.clauses i []) (flip e.lit) ≡ false
+    → (y : InChain a budget before q t ls i) × (y.start ≡ x.start) × (y.from ≡ x.from)
+chain_pops a budget before q e t ls i x n = (
+  record {
+    keeps = x.keeps;
+    start = x.start;
+    from = x.from;
+    ex = pop_step x.start x.from q.clauses e t i x.ex n;
+    below = λ k h. x.below k (or_right (e.lit.atom == k) (named t k) h);
+    search = x.search;
+    since = x.since;
+    grew = x.grew;
+    early = λ r. (let y = x.early r in ((or_parts (is_decision e) (has_decision t) y.0).1, (let z = y.1 in omega arith)));
+    uneasy = x.uneasy;
+  },
+  refl,
+  refl,
+)
 
 module _ (a : Aim) (budget before : ℕ) (q : PlainProblem) (e : Entry) (t : List Entry) (ls : List Line) (i : ℕ) (x : InChain a budget before q (e ∷ t) ls i) (h : has (get_or q.clauses i []) (flip e.lit) ≡ true) (n : is_done (e ∷ t) (get_or q.clauses i []) ≡ false) where
   pub top : Top x.start e t
@@ -97,9 +108,9 @@ module _ (a : Aim) (budget before : ℕ) (q : PlainProblem) (e : Entry) (t : Lis
   the_clause r p = let k = the_reason r p in ap (λ k. get_or q.clauses k []) (sym k) ∙ x.ex.grows.same top.reason top.reason_there
 
   pub chain_steps : (r : ℕ) → e.reason ≡ Some r → distinct (get_or q.clauses r []) ≡ true → length ls < budget → length q.clauses + 1 < 2 ^ 32
-      → InChain a budget before (with_clause q (resolved_on e.lit (get_or q.clauses r []) (get_or q.clauses i []))) t (ls ++ line_on e.lit r i ∷ []) (length q.clauses)
+      → (y : InChain a budget before (with_clause q (resolved_on e.lit (get_or q.clauses r []) (get_or q.clauses i []))) t (ls ++ line_on e.lit r i ∷ []) (length q.clauses)) × (y.start ≡ x.start) × (y.from ≡ x.from)
   chain_steps r p d b few =
-      subst (λ (c : List Lit). InChain a budget before (with_clause q (resolved_on e.lit c (get_or q.clauses i []))) t (ls ++ line_on e.lit r i ∷ []) (length q.clauses)) (sym (the_clause r p)) stepped
+      subst (λ (c : List Lit). (y : InChain a budget before (with_clause q (resolved_on e.lit c (get_or q.clauses i []))) t (ls ++ line_on e.lit r i ∷ []) (length q.clauses)) × (y.start ≡ x.start) × (y.from ≡ x.from)) (sym (the_clause r p)) stepped
     where
       new : List Lit
       new = resolved_on e.lit (get_or x.start top.reason []) (get_or q.clauses i [])
@@ -149,38 +160,42 @@ module _ (a : Aim) (budget before : ℕ) (q : PlainProblem) (e : Entry) (t : Lis
       longer_log : length (ls ++ line_on e.lit r i ∷ []) ≡ length ls + 1
       longer_log = length-append ls (line_on e.lit r i ∷ [])
 
-      stepped : InChain a budget before (with_clause q new) t (ls ++ line_on e.lit r i ∷ []) (length q.clauses)
-      stepped = record {
-        keeps = kept;
-        start = x.start;
-        from = x.from;
-        ex = resolve_step x.start x.from q.clauses e t i x.ex h n top set;
-        below = λ k m. x.below k (or_right (e.lit.atom == k) (named t k) m);
-        search = subst (λ (c : List Lit). SearchLog a.problem (ls ++ line_on e.lit r i ∷ []) (with_clause q new) (within x.start x.from c)) (sym (at_new q.clauses new)) (step x.search (line_on e.lit r i) new undone next_is);
-        since = (let l = longer_log in let s = x.since in omega arith);
-        grew = λ _. (let l = longer_log in let s = x.since in omega arith);
-        early = λ f. (let y = x.early f in ((or_parts (is_decision e) (has_decision t) y.0).1, (let z = y.1 in let l = longer_log in omega arith)));
-        uneasy = x.uneasy;
-      }
+      stepped : (y : InChain a budget before (with_clause q new) t (ls ++ line_on e.lit r i ∷ []) (length q.clauses)) × (y.start ≡ x.start) × (y.from ≡ x.from)
+      stepped = (
+        record {
+          keeps = kept;
+          start = x.start;
+          from = x.from;
+          ex = resolve_step x.start x.from q.clauses e t i x.ex h n top set;
+          below = λ k m. x.below k (or_right (e.lit.atom == k) (named t k) m);
+          search = subst (λ (c : List Lit). SearchLog a.problem (ls ++ line_on e.lit r i ∷ []) (with_clause q new) (within x.start x.from c)) (sym (at_new q.clauses new)) (step x.search (line_on e.lit r i) new undone next_is);
+          since = (let l = longer_log in let s = x.since in omega arith);
+          grew = λ _. (let l = longer_log in let s = x.since in omega arith);
+          early = λ f. (let y = x.early f in ((or_parts (is_decision e) (has_decision t) y.0).1, (let z = y.1 in let l = longer_log in omega arith)));
+          uneasy = x.uneasy;
+        },
+        refl,
+        refl,
+      )
 
--- after a chain: the trail is cut back
-pub record InCut (a : Aim) (budget before : ℕ) (q : PlainProblem) (t : List Entry) (ls : List Line) (i : ℕ) : Type 0 where
+-- after a chain that began with some clauses, under some trail: it is cut back
+pub record InCut (a : Aim) (budget before : ℕ) (q : PlainProblem) (start : List (List Lit)) (from t : List Entry) (ls : List Line) (i : ℕ) : Type 0 where
   pub keeps : Keeps a budget q ls
-  pub start : List (List Lit)
   pub cut : Cutting start q.clauses t i
+  pub shorter : IsBefore t from
   pub below : (x : ℕ) → named t x ≡ true → x < length q.atoms
   pub search : SearchLog a.problem ls q between
   pub grew : before < length ls
   pub hard : AreRefuted a.problem.clauses → ⊥
   pub uneasy : IsEasy a.problem → ⊥
 
-pub cut_begins : (a : Aim) (budget before : ℕ) (q : PlainProblem) (t : List Entry) (ls : List Line) (i : ℕ) → InChain a budget before q t ls i → is_done t (get_or q.clauses i []) ≡ true → has_decision t ≡ true → InCut a budget before q (before_last t) ls i
+pub cut_begins : (a : Aim) (budget before : ℕ) (q : PlainProblem) (t : List Entry) (ls : List Line) (i : ℕ) (x : InChain a budget before q t ls i) → is_done t (get_or q.clauses i []) ≡ true → has_decision t ≡ true → InCut a budget before q x.start t (before_last t) ls i
 cut_begins a budget before q t ls i x d h =
     let e : is_done x.from (get_or q.clauses i []) ≡ true = same_done x.from t (get_or q.clauses i []) x.ex.same_has x.ex.same_before ∙ d in
     record {
       keeps = x.keeps;
-      start = x.start;
       cut = first_cut x.start x.from q.clauses t i x.ex h;
+      shorter = last-before (before_last t) t h (inl refl);
       below = λ k m. x.below k (named-before t k m);
       search = finish x.search e;
       grew = x.grew e;
@@ -188,11 +203,11 @@ cut_begins a budget before q t ls i x d h =
       uneasy = x.uneasy;
     }
 
-pub cut_more : (a : Aim) (budget before : ℕ) (q : PlainProblem) (t : List Entry) (ls : List Line) (i : ℕ) → InCut a budget before q t ls i → has_decision t ≡ true → InCut a budget before q (before_last t) ls i
-cut_more a budget before q t ls i x h = record {
+pub cut_more : (a : Aim) (budget before : ℕ) (q : PlainProblem) (start : List (List Lit)) (from t : List Entry) (ls : List Line) (i : ℕ) → InCut a budget before q start from t ls i → has_decision t ≡ true → InCut a budget before q start from (before_last t) ls i
+cut_more a budget before q start from t ls i x h = record {
   keeps = x.keeps;
-  start = x.start;
-  cut = more_cut x.start q.clauses t i x.cut h;
+  cut = more_cut start q.clauses t i x.cut h;
+  shorter = before-trans (before_last t) t from (last-before (before_last t) t h (inl refl)) x.shorter;
   below = λ k m. x.below k (named-before t k m);
   search = x.search;
   grew = x.grew;
@@ -200,10 +215,18 @@ cut_more a budget before q t ls i x h = record {
   uneasy = x.uneasy;
 }
 
-pub cut_ends : (a : Aim) (budget before : ℕ) (q : PlainProblem) (t : List Entry) (ls : List Line) (i : ℕ) → InCut a budget before q t ls i → (has_decision t ≡ true → 2 ≤ open_in (before_last t) (get_or q.clauses i [])) → InSearch a budget q t ls × (before < length ls)
-cut_ends a budget before q t ls i x h =
-    let w = last_cut x.start q.clauses t i x.cut h in
-    (record { keeps = x.keeps; trail = w.0; calm = w.1; below = x.below; search = x.search; early = λ r. absurd (x.hard r); easy = λ e. absurd (x.uneasy e) }, x.grew)
+pub cut_ends : (a : Aim) (budget before : ℕ) (q : PlainProblem) (start : List (List Lit)) (from t : List Entry) (ls : List Line) (i : ℕ) → InCut a budget before q start from t ls i → (has_decision t ≡ true → 2 ≤ open_in (before_last t) (get_or q.clauses i []))
+    → InSearch a budget q t ls × (before < length ls) × IsBackjump start from q.clauses t
+cut_ends a budget before q start from t ls i x h =
+    let w = last_cut start q.clauses t i x.cut h in (
+      record { keeps = x.keeps; trail = w.0; calm = w.1; below = x.below; search = x.search; early = λ r. absurd (x.hard r); easy = λ e. absurd (x.uneasy e) },
+      x.grew,
+      record { shorter = x.shorter; grows = x.cut.grows; none_false = x.cut.none_false; wide = λ d k a l. wide d k a l (cases_eq k i) },
+    )
+  where
+    wide : has_decision t ≡ true → (k : ℕ) → length start ≤ k → k < length q.clauses → (k ≡ i) ⊎ (k ≢ i) → 2 ≤ open_in (before_last t) (get_or q.clauses k [])
+    wide d k b l (inl e) = subst (λ (j : ℕ). 2 ≤ open_in (before_last t) (get_or q.clauses j [])) (sym e) (h d)
+    wide d k b l (inr e) = (x.cut.added k b l e).two d
 
 pub before-shorter : (t : List Entry) → has_decision t ≡ true → length (before_last t) < length t
 before-shorter [] h = absurd cc
@@ -213,6 +236,11 @@ before-shorter (e ∷ t) h = by_case e.reason h (before-shorter t)
     by_case None h f = omega arith
     by_case (Some r) h f = let g = f h in omega arith
 
-pub moved_chain : (a : Aim) (budget before : ℕ) (q r : PlainProblem) (t : List Entry) (ls ms : List Line) (i j : ℕ) → InChain a budget before q t ls i → q ≡ r → ls ≡ ms → i ≡ j → InChain a budget before r t ms j
-moved_chain a budget before q r t ls ms i j x e f g =
-    subst (λ (z : PlainProblem). InChain a budget before z t ms j) e (subst (λ (z : List Line). InChain a budget before q t z j) f (subst (λ (k : ℕ). InChain a budget before q t ls k) g x))
+pub moved_on : (budget : ℕ) (q r s : PlainProblem) (t u : List Entry) (ls ms ns : List Line) (i j k : ℕ) → GoesOn budget q t ls i r u ms j → r ≡ s → ms ≡ ns → j ≡ k → GoesOn budget q t ls i s u ns k
+moved_on budget q r s t u ls ms ns i j k x e f g =
+    subst (λ (z : PlainProblem). GoesOn budget q t ls i z u ns k) e (subst (λ (z : List Line). GoesOn budget q t ls i r u z k) f (subst (λ (n : ℕ). GoesOn budget q t ls i r u ms n) g x))
+
+-- a chain over some clauses, as its parts are written otherwise
+pub moved_start : (a : Aim) (budget before : ℕ) (start : List (List Lit)) (q r : PlainProblem) (t : List Entry) (ls ms : List Line) (i j : ℕ) → (y : InChain a budget before q t ls i) × (y.start ≡ start) → q ≡ r → ls ≡ ms → i ≡ j → (y : InChain a budget before r t ms j) × (y.start ≡ start)
+moved_start a budget before start q r t ls ms i j x e f g =
+    subst (λ (z : PlainProblem). (y : InChain a budget before z t ms j) × (y.start ≡ start)) e (subst (λ (z : List Line). (y : InChain a budget before q t z j) × (y.start ≡ start)) f (subst (λ (k : ℕ). (y : InChain a budget before q t ls k) × (y.start ≡ start)) g x))

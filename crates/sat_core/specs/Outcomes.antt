@@ -1,5 +1,5 @@
 -- What a step of the search comes to.
-use Rattle.std.specs.Prelude.{◌≡◌, ℕ, ◌<◌, Bool, true, List, ◌∷◌, Option}
+use Rattle.std.specs.Prelude.{◌≡◌, ◌⊎◌, ℕ, ◌<◌, Bool, true, List, ◌∷◌, Option}
 use Rattle.proof_lines.specs.declared.clause.Lit.{Lit}
 use Rattle.proof_lines.specs.declared.line.Line.{Line}
 use Rattle.proof_lines.specs.Problems.{PlainProblem}
@@ -9,7 +9,7 @@ use Rattle.sat_core.specs.declared.asking.Outcome.TheVariants.{Goes, Refuted, Fo
 use Rattle.sat_core.specs.declared.explaining.Explained.{Explained}
 use Rattle.sat_core.specs.declared.explaining.Explained.TheVariants.{Empty, Cut, Spent as SpentThere, Memory as NoMemory}
 use Rattle.sat_core.specs.Answers.{IsRefuted, IsModelOf, IsSpent, IsTooLong, IsTooLarge}
-use Rattle.sat_core.specs.Searching.{InSearch, work}
+use Rattle.sat_core.specs.Searching.{InSearch, IsBackjump, work}
 
 -- what a step of a search comes to: it goes on, with less left to do, or it ends with an answer
 abbrev pub IsOutcome : Outcome → Bool → Bool → PlainProblem → ℕ → PlainProblem → List Entry → List Line → PlainProblem → List Entry → List Line → Type 0
@@ -38,3 +38,17 @@ outcome_of Empty = Refuted
 outcome_of Cut = Goes
 outcome_of SpentThere = Spent
 outcome_of NoMemory = Memory
+
+-- where the search goes on, something holds
+abbrev pub IfGoes : Outcome → Type 0 → Type 0
+IfGoes Goes P = P
+IfGoes Refuted P = Unit {0}
+IfGoes (Found i) P = Unit {0}
+IfGoes Spent P = Unit {0}
+IfGoes (Rows used steps) P = Unit {0}
+IfGoes (Range used steps what) P = Unit {0}
+IfGoes Memory P = Unit {0}
+
+-- the trail and the clauses are as they were, or there was a backjump
+abbrev pub IsStay : List (List Lit) → List Entry → List (List Lit) → List Entry → Type 0
+IsStay cs t ds u = ((u ≡ t) × (ds ≡ cs)) ⊎ IsBackjump cs t ds u

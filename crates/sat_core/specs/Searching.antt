@@ -1,5 +1,5 @@
 -- Where a search stands: the states of its private functions, which a reader of its answers passes by.
-use Rattle.std.specs.Prelude.{◌≡◌, ℕ, ◌+◌, ◌-◌, ◌*◌, ◌^◌, ◌<◌, ◌≤◌, Bool, true, false, not, List, [], length, slice_index_or, slice_get, Some, Ok, ◌==◌}
+use Rattle.std.specs.Prelude.{◌≡◌, ◌⊎◌, ℕ, ◌+◌, ◌-◌, ◌*◌, ◌^◌, ◌<◌, ◌≤◌, Bool, true, false, not, List, [], ◌∷◌, length, slice_index_or, slice_get, Some, Ok, ◌==◌}
 use Rattle.std.specs.List.{list_all, list_any}
 use Rattle.proof_lines.specs.declared.clause.Lit.{Lit}
 use Rattle.proof_lines.specs.declared.line.Line.{Line}
@@ -14,7 +14,7 @@ use Rattle.proof_lines.specs.Steps.{is_negative}
 use Rattle.proof_lines.specs.Problems.{PlainProblem, fits}
 use Rattle.proof_kernel.specs.Rules.{run, next}
 use Rattle.search_logs.specs.declared.trail.Entry.{Entry}
-use Rattle.search_logs.specs.Trails.{in_trail, has_decision, named, is_false, is_unit, is_done, Settled, NoneFalse, IsTrail, IsCalm, free}
+use Rattle.search_logs.specs.Trails.{in_trail, has_decision, is_decision, before_last, open_in, named, is_false, is_unit, is_done, Settled, NoneFalse, IsTrail, IsCalm, free}
 use Rattle.search_logs.specs.Fresh.{IsFresh}
 use Rattle.search_logs.specs.Chains.{Grows, Explaining, Begins}
 use Rattle.search_logs.specs.SearchLogs.{between, within, SearchLog, standing, splits, with_clause}
@@ -86,9 +86,22 @@ pub record IsChain (budget : ℕ) (q : PlainProblem) (t : List Entry) (ls : List
   pub before : ℕ
   pub chain : InChain aim budget before q t ls i
 
--- whatever search a chain belongs to, its going on belongs to it too
+-- a trail is what stands BEFORE one of the decisions of another
+abbrev pub IsBefore : List Entry → List Entry → Type 0
+IsBefore u [] = ⊥
+IsBefore u (e ∷ t) = ((is_decision e ≡ true) × (u ≡ t)) ⊎ IsBefore u t
+
+-- A BACKJUMP from a trail for some clauses to a shorter one for more clauses, none of which is false: the further clauses are open in
+-- two literals before the last decision that is left
+pub record IsBackjump (cs : List (List Lit)) (t : List Entry) (ds : List (List Lit)) (u : List Entry) : Type 0 where
+  pub shorter : IsBefore u t
+  pub grows : Grows cs ds
+  pub none_false : NoneFalse u ds
+  pub wide : has_decision u ≡ true → (k : ℕ) → length cs ≤ k → k < length ds → 2 ≤ open_in (before_last u) (slice_index_or ds k [])
+
+-- whatever search a chain belongs to, its going on belongs to it too, and is of the same chain
 abbrev pub GoesOn : ℕ → PlainProblem → List Entry → List Line → ℕ → PlainProblem → List Entry → List Line → ℕ → Type 0
-GoesOn budget q t ls i r u ms j = (a : Aim) (before : ℕ) → InChain a budget before q t ls i → InChain a budget before r u ms j
+GoesOn budget q t ls i r u ms j = (a : Aim) (before : ℕ) (x : InChain a budget before q t ls i) → (y : InChain a budget before r u ms j) × (y.start ≡ x.start) × (y.from ≡ x.from)
 
 -- how the resolving of a chain ended
 abbrev pub IsChained : Chained → ℕ → PlainProblem → List Entry → List Line → ℕ → PlainProblem → List Entry → List Line → Type 0
@@ -98,16 +111,16 @@ IsChained Memory budget q t ls i r u ms = Unit {0}
 
 -- the trail is cut back after a chain, whatever search it belongs to
 abbrev pub IsCutBack : PlainProblem → List Entry → ℕ → List Entry → Type 0
-IsCutBack q t i u = (a : Aim) (budget before : ℕ) (ls : List Line) → InChain a budget before q t ls i → is_done t (slice_index_or q.clauses i []) ≡ true → has_decision t ≡ true → InSearch a budget q u ls × (before < length ls)
+IsCutBack q t i u = (a : Aim) (budget before : ℕ) (ls : List Line) (x : InChain a budget before q t ls i) → is_done t (slice_index_or q.clauses i []) ≡ true → has_decision t ≡ true → InSearch a budget q u ls × (before < length ls) × IsBackjump x.start t q.clauses u
 
 -- the trail is cut back to where the chain of a false clause may begin
 abbrev pub IsLevel : List Entry → List Entry → List Lit → Type 0
-IsLevel t u c = (cs : List (List Lit)) → IsTrail cs t → Settled t cs → is_false t c ≡ true → Begins cs u c × ((x : ℕ) → named u x ≡ true → named t x ≡ true)
+IsLevel t u c = (cs : List (List Lit)) → IsTrail cs t → Settled t cs → is_false t c ≡ true → Begins cs u c × ((x : ℕ) → named u x ≡ true → named t x ≡ true) × ((u ≡ t) ⊎ IsBefore u t)
 
 -- how a chain ended, whatever search it belongs to
 abbrev pub IsExplained : Explained → ℕ → PlainProblem → List Entry → List Line → ℕ → PlainProblem → List Entry → List Line → Type 0
 IsExplained Empty budget q t ls i r u ms = (a : Aim) (before : ℕ) → InChain a budget before q t ls i → IsRefuted a.split a.problem budget ms
-IsExplained Cut budget q t ls i r u ms = (a : Aim) (before : ℕ) → InChain a budget before q t ls i → InSearch a budget r u ms × (before < length ms)
+IsExplained Cut budget q t ls i r u ms = (a : Aim) (before : ℕ) (x : InChain a budget before q t ls i) → InSearch a budget r u ms × (before < length ms) × IsBackjump x.start t r.clauses u
 IsExplained SpentThere budget q t ls i r u ms = (a : Aim) (before : ℕ) → InChain a budget before q t ls i → IsSpent a.split a.problem budget ms
 IsExplained NoMemory budget q t ls i r u ms = Unit {0}
 
@@ -137,7 +150,7 @@ pub record IsRefutation (budget : ℕ) (q : PlainProblem) (t : List Entry) (ls :
 -- how the learning from rows in conflict ended, whatever search it belongs to
 abbrev pub IsLearned : Explained → ℕ → PlainProblem → List Entry → List Line → PlainProblem → List Entry → List Line → Type 0
 IsLearned Empty budget q t ls r u ms = (a : Aim) → InSearch a budget q t ls → IsRefuted a.split a.problem budget ms
-IsLearned Cut budget q t ls r u ms = (a : Aim) → InSearch a budget q t ls → InSearch a budget r u ms × (length ls < length ms)
+IsLearned Cut budget q t ls r u ms = (a : Aim) → InSearch a budget q t ls → InSearch a budget r u ms × (length ls < length ms) × IsBackjump q.clauses t r.clauses u
 IsLearned SpentThere budget q t ls r u ms = (a : Aim) → InSearch a budget q t ls → IsSpent a.split a.problem budget ms
 IsLearned NoMemory budget q t ls r u ms = Unit {0}
 

@@ -9,7 +9,7 @@ ghost use Rattle.search_logs.specs.Trails.{named, Settled};
 ghost use Rattle.search_logs.specs.SearchLogs.{with_row};
 ghost use Rattle.sat_core.specs.Answers.{AreRowsOf};
 ghost use Rattle.sat_core.specs.Searching.{InSearch, IsRefutation, IsLearned};
-ghost use Rattle.sat_core.specs.Outcomes.{IsOutcome, outcome_of};
+ghost use Rattle.sat_core.specs.Outcomes.{IsOutcome, outcome_of, IfGoes, IsStay};
 
 use crate::drawing::{draw, pick, truths};
 use crate::explaining::{Explained, explain, learn};
@@ -139,7 +139,8 @@ pub fn ask<T: Theory>(
     requires settled { Settled trail.old grown.old.clauses }
     requires named { (a : ℕ) → a < length grown.old.atoms → named trail.old a ≡ true }
     requires taken { T.MAY_SPLIT ≡ false → (lits : List PlainLit) (rows : List PlainRow) → AreRowsOf problem.now.atoms lits rows → T.takes rows problem.now.ints }
-    ensures { IfOk result (λ o. IsOutcome o T.MAY_SPLIT T.MAY_STOP problem.now budget grown.old trail.old log.old grown.new trail.new log.new) }
+    ensures outcome { IfOk result (λ o. IsOutcome o T.MAY_SPLIT T.MAY_STOP problem.now budget grown.old trail.old log.old grown.new trail.new log.new) }
+    ensures stays { IfOk result (λ o. IfGoes o (IsStay grown.old.clauses trail.old grown.new.clauses trail.new)) }
 {
     grown.law_fits();
     let drawn = draw(alloc, grown, trail)?;

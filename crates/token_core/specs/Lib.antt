@@ -1,4 +1,5 @@
 pub mod Members
+pub mod Grants
 pub mod Tried
 pub mod Held
 pub mod Ended

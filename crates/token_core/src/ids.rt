@@ -5,7 +5,7 @@ ghost use Rattle.token_protocol.specs.declared.message.EventId.{EventId as Id};
 ghost use Rattle.token_protocol.specs.Ids.{same_id, is_among, first_outside};
 ghost use Rattle.token_core.specs.Members.{has_id, room};
 
-use items::Items;
+use shared_lists::SharedList;
 use std::alloc::{AllocError, Global};
 use std::collections::HashSet;
 use std::marker::Model;
@@ -14,7 +14,7 @@ use token_protocol::EventId;
 /// Ids in the order in which they were added. Contracts see the list.
 #[derive(Drop)]
 pub struct Ids {
-    list: Items<EventId>,
+    list: SharedList<EventId>,
     members: HashSet<(u32, u32)>,
 }
 
@@ -57,15 +57,16 @@ impl Ids {
         ensures { result ≡ [] }
     {
         Ids {
-            list: Items::new(alloc),
+            list: SharedList::new(alloc),
             members: HashSet::new(alloc),
         }
     }
 
-    pub fn as_slice(&self) -> &[EventId]
-        ensures { result.now ≡ self.now }
+    /// A copy of the list, which shares most of it.
+    pub fn listed(&self) -> Result<SharedList<EventId>, AllocError>
+        ensures { IfOk result (λ list. list ≡ self.now) }
     {
-        self.list.as_slice()
+        self.list.share()
     }
 
     /// Whether an id is one of them.

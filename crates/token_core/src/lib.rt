@@ -4,7 +4,7 @@
 // network holds after each step, and why what its nodes run is an execution. A `Runner` is a specification in a world with code for its
 // preconditions and effects; `Plain` evaluates them as they are written. `Net` keeps that its events form an execution, that what each
 // replica has taken is a delivery order of it, and that the state of each replica is the state after that. The manager finds the grants
-// of calls that can conflict by `grant_index`.
+// of calls that can conflict by `grant_index`. The lists of grants, messages and events share their elements, by `shared_lists`.
 //
 // `specs/Held.antt` and `specs/HeldNet.antt` have a node and a network as a program holds them, `specs/Stepped.antt` what a step of such
 // a network is, `specs/Tried.antt` what trying a call in a state gives; the other files of `specs/` mirror the code.
@@ -24,7 +24,7 @@ mod runner;
 mod trying;
 
 pub use ids::Ids;
-pub use log::{Happened, number_of};
+pub use log::{CallEvent, Happened, number_of};
 pub use manager::Manager;
 pub use net::Net;
 pub use node::Node;

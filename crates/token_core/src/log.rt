@@ -4,16 +4,33 @@ ghost use Rattle.std.specs.Prelude.{◌≡◌, ◌<◌, ◌^◌, false, [], ◌�
 ghost use Rattle.token_protocol.specs.Network.{number_of};
 ghost use Rattle.token_core.specs.Log.{lists_of, no_lists, HasRoom};
 
-use executions::Event;
+use shared_lists::SharedList;
+use spec_core::Call;
 use std::alloc::{AllocError, Global};
 use std::marker::Model;
 use token_protocol::{EventId, Message, Request, same_id};
+
+/// The event of a call: the call, and the numbers of the events that its replica had taken before it, in that order.
+#[derive(Drop)]
+pub struct CallEvent {
+    pub call: Call,
+    pub seen: SharedList<u32>,
+}
+
+impl Model for CallEvent {
+    ghost use Rattle.spec_core.specs.declared.world.Call.{Call};
+    ghost use Rattle.executions.specs.Orders.{Event};
+
+    ghost Value = { Event Call };
+
+    ghost view = { λ e. record { call = e.call; seen = e.seen } };
+}
 
 /// A call that was run: its id, and its event.
 #[derive(Drop)]
 pub struct Happened {
     pub id: EventId,
-    pub event: Event,
+    pub event: CallEvent,
 }
 
 impl Model for Happened {

@@ -1,21 +1,25 @@
 // The manager, which grants calls.
 //
 // A call meets only the grants of calls that can conflict with it by their operations, which an index tells, and of those it passes over
-// the ones whose argument isn't the one that all rules want, before it asks the rules.
+// the ones whose argument isn't the one that all rules want, before it asks the rules. A manager in one world goes on from the grant of
+// an earlier call that takes the same tokens: it names all before it that conflict, so only those from it on are met.
 
-ghost use Rattle.std.specs.Prelude.{◌≡◌, [], ◌∷◌, ◌++◌, cond, map, filter, slice_get, OnOk, OnErr, IfOk};
+ghost use Rattle.std.specs.Prelude.{◌≡◌, [], ◌∷◌, ◌++◌, cond, map, filter, drop, slice_get, OnOk, OnErr, IfOk, IfSome};
 ghost use Rattle.std.specs.List.{find};
-ghost use Rattle.std.specs.Option.{option_copied};
-ghost use Rattle.token_protocol.specs.Manager.{conflicting, grant_of, grant_message, asked};
+ghost use Rattle.std.specs.Option.{option_copied, option_map};
+ghost use Rattle.token_protocol.specs.Manager.{conflicting, grant_of, grant_message, new_grant, asked};
 ghost use Rattle.token_rules.specs.Conflict.{conflicts};
 ghost use Rattle.token_rules.specs.Rivals.{rivals_of};
 ghost use Rattle.grant_index.specs.Index.{numbers_from};
 ghost use Rattle.grant_index.specs.Named.{id_if, ids_at};
+ghost use Rattle.token_core.specs.Grants.{AreGrants, IsAlikeAt};
 
-use grant_index::GrantIndex;
+use grant_index::{GrantIndex, take_alike, token_sum};
 use items::Items;
+use shared_lists::SharedList;
 use spec_core::{Call, Spec, World};
 use std::alloc::{AllocError, Global};
+use std::collections::HashMap;
 use std::marker::Model;
 use token_protocol::{EventId, Granted, Message, Request, same_id};
 use token_rules::{Rivalry, conflicts, may_conflict, rivals_of};
@@ -26,6 +30,9 @@ pub struct Manager {
     alloc: Global,
     granted: Items<Granted>,
     index: GrantIndex,
+    /// For the tokens that a call takes, as `token_sum` adds them up, the number of the latest grant of such a call. What stands here
+    /// is tested before it is used.
+    latest: HashMap<u64, usize>,
 }
 
 impl Model for Manager {
@@ -77,7 +84,7 @@ fn add_conflicting(
     world: &World,
     rivals: &[Rivalry],
     call: &Call,
-    ids: &mut Items<EventId>,
+    ids: &mut SharedList<EventId>,
     granted: &Granted,
 ) -> Result<(), AllocError>
     requires { rivals.now ≡ rivals_of spec.now call.now.op }
@@ -95,7 +102,7 @@ fn add_numbered(
     world: &World,
     rivals: &[Rivalry],
     call: &Call,
-    ids: &mut Items<EventId>,
+    ids: &mut SharedList<EventId>,
     granted: &Items<Granted>,
     number: usize,
 ) -> Result<(), AllocError>
@@ -117,23 +124,62 @@ fn conflicting(
     granted: &Items<Granted>,
     numbers: &[usize],
     call: &Call,
-) -> Result<Items<EventId>, AllocError>
+) -> Result<SharedList<EventId>, AllocError>
     requires rivals { rivals.now ≡ rivals_of spec.now call.now.op }
     requires numbers { numbers.now ≡ numbers_from rivals.now 0 granted.now }
     ensures { IfOk result (λ ids. ids ≡ conflicting spec.now world.now granted.now call.now) }
 {
-    let mut ids = Items::new(alloc);
+    let mut ids = SharedList::new(alloc);
     for number in numbers {
         add_numbered(spec, world, rivals, call, &mut ids, granted, *number)?;
     }
     Ok(ids)
 }
 
+// Adds the ids of the granted calls, from this number on, that conflict with a call, in their order.
+fn add_from(
+    spec: &Spec,
+    world: &World,
+    rivals: &[Rivalry],
+    call: &Call,
+    ids: &mut SharedList<EventId>,
+    granted: &[Granted],
+    from: usize,
+) -> Result<(), AllocError>
+    requires { rivals.now ≡ rivals_of spec.now call.now.op }
+    ensures { OnOk result (ids.new ≡ ids.old ++ conflicting spec.now world.now (drop from granted.now) call.now) }
+{
+    for number in from..granted.len() {
+        add_conflicting(spec, world, rivals, call, ids, &granted[number])?;
+    }
+    Ok(())
+}
+
+// The calls granted so far that conflict with a call, in the order granted, by an earlier grant of a call with its tokens: those that this
+// grant names, and those from it on.
+fn conflicting_behind(
+    spec: &Spec,
+    world: &World,
+    rivals: &[Rivalry],
+    granted: &[Granted],
+    number: usize,
+    call: &Call,
+) -> Result<SharedList<EventId>, AllocError>
+    requires rivals { rivals.now ≡ rivals_of spec.now call.now.op }
+    requires kept { AreGrants spec.now world.now granted.now }
+    requires alike { IsAlikeAt spec.now world.now granted.now call.now number }
+    ensures { IfOk result (λ ids. ids ≡ conflicting spec.now world.now granted.now call.now) }
+{
+    let mut ids = granted[number].after.share()?;
+    add_from(spec, world, rivals, call, &mut ids, granted, number)?;
+    Ok(ids)
+}
+
 // The message that tells of a grant.
-fn message_of(alloc: Global, granted: &Granted) -> Result<Message, AllocError>
+fn message_of(granted: &Granted) -> Result<Message, AllocError>
     ensures { IfOk result (λ m. m ≡ grant_message granted.now) }
 {
-    let after = Items::from_slice(alloc, granted.after.as_slice())?;
+    let after = granted.after.share()?;
     Ok(Message::Grant {
         id: granted.id,
         after,
@@ -149,6 +195,7 @@ impl Manager {
             alloc,
             granted: Items::new(alloc),
             index: GrantIndex::new(alloc),
+            latest: HashMap::new(alloc),
         }
     }
 
@@ -158,7 +205,7 @@ impl Manager {
         spec: &Spec,
         world: &World,
         call: &Call,
-    ) -> Result<Items<EventId>, AllocError>
+    ) -> Result<SharedList<EventId>, AllocError>
         ensures ids { IfOk result (λ ids. ids ≡ conflicting spec.now world.now self.old call.now) }
         ensures same { self.new ≡ self.old }
     {
@@ -177,6 +224,76 @@ impl Manager {
         )
     }
 
+    // The number of an earlier grant of a call that takes the tokens of a call, if one is known.
+    fn alike(&self, spec: &Spec, world: &World, call: &Call) -> Option<usize>
+        ensures { IfSome result (IsAlikeAt spec.now world.now self.now call.now) }
+    {
+        let number = *self.latest.get(&token_sum(spec, world, call))?;
+        let earlier = self.granted.get(number)?;
+        if !take_alike(spec, world, &earlier.call, call) {
+            return None;
+        }
+        Some(number)
+    }
+
+    // The same as `named`, where each grant so far names what it is to name.
+    fn named_by_tokens(
+        &mut self,
+        spec: &Spec,
+        world: &World,
+        call: &Call,
+    ) -> Result<SharedList<EventId>, AllocError>
+        requires { AreGrants spec.now world.now self.old }
+        ensures ids { IfOk result (λ ids. ids ≡ conflicting spec.now world.now self.old call.now) }
+        ensures same { self.new ≡ self.old }
+    {
+        let Some(number) = self.alike(spec, world, call) else {
+            return self.named(spec, world, call);
+        };
+        let rivals = rivals_of(self.alloc, spec, call.op)?;
+        let granted = self.granted.as_slice();
+        conflicting_behind(spec, world, &rivals, granted, number, call)
+    }
+
+    // What was granted to an id, if something was.
+    fn told_again(&self, id: EventId) -> Result<Option<Message>, AllocError>
+        ensures { IfOk result (λ m. m ≡ option_map grant_message (grant_of self.now id)) }
+    {
+        let Some(granted) = grant_of(self.granted.as_slice(), id) else {
+            return Ok(None);
+        };
+        let message = message_of(granted)?;
+        Ok(Some(message))
+    }
+
+    // Grants a call that has no grant so far, by the conflicting calls granted before.
+    fn grant(
+        &mut self,
+        spec: &Spec,
+        world: &World,
+        request: &Request,
+        after: SharedList<EventId>,
+    ) -> Result<Message, AllocError>
+        requires { after ≡ conflicting spec.now world.now self.old request.now.call }
+        ensures message { IfOk result (λ m. m ≡ grant_message (new_grant spec.now world.now self.old request.now)) }
+        ensures granted { OnOk result (self.new ≡ self.old ++ new_grant spec.now world.now self.old request.now ∷ []) }
+        ensures err { OnErr result (self.new ≡ self.old) }
+    {
+        let call = copy_call(self.alloc, &request.call)?;
+        let granted = Granted {
+            id: request.id,
+            call,
+            after,
+        };
+        let message = message_of(&granted)?;
+        let number = self.granted.len();
+        self.granted.push(granted)?;
+        let _ = self
+            .latest
+            .insert(token_sum(spec, world, &request.call), number);
+        Ok(message)
+    }
+
     /// Grants a call. The grant names the calls granted before that conflict with it, in the order granted; a call that was granted
     /// gets the same grant again. A refusal changes nothing.
     pub fn ask(
@@ -189,18 +306,30 @@ impl Manager {
         ensures granted { OnOk result (self.new ≡ (asked spec.now world.now self.old request.now).granted) }
         ensures err { OnErr result (self.new ≡ self.old) }
     {
-        if let Some(granted) = grant_of(self.granted.as_slice(), request.id) {
-            return message_of(self.alloc, granted);
+        if let Some(message) = self.told_again(request.id)? {
+            return Ok(message);
         }
         let after = self.named(spec, world, &request.call)?;
-        let call = copy_call(self.alloc, &request.call)?;
-        let granted = Granted {
-            id: request.id,
-            call,
-            after,
-        };
-        let message = message_of(self.alloc, &granted)?;
-        self.granted.push(granted)?;
-        Ok(message)
+        self.grant(spec, world, request, after)
+    }
+
+    /// The same, by a manager of which each grant names what it is to name in this world. It compares a call with the grants since the last
+    /// call that took the same tokens.
+    pub fn ask_by_tokens(
+        &mut self,
+        spec: &Spec,
+        world: &World,
+        request: &Request,
+    ) -> Result<Message, AllocError>
+        requires { AreGrants spec.now world.now self.old }
+        ensures message { IfOk result (λ m. m ≡ (asked spec.now world.now self.old request.now).message) }
+        ensures granted { OnOk result (self.new ≡ (asked spec.now world.now self.old request.now).granted) }
+        ensures err { OnErr result (self.new ≡ self.old) }
+    {
+        if let Some(message) = self.told_again(request.id)? {
+            return Ok(message);
+        }
+        let after = self.named_by_tokens(spec, world, &request.call)?;
+        self.grant(spec, world, request, after)
     }
 }

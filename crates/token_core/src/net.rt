@@ -16,6 +16,7 @@ use crate::manager::Manager;
 use crate::node::Node;
 use crate::replica::{Replica, ask_at, begin_at, hear_at};
 use crate::runner::Runner;
+use shared_lists::SharedList;
 use spec_core::{Call, State};
 use std::alloc::{AllocError, Global};
 use std::marker::Model;
@@ -66,6 +67,7 @@ fn first_replicas<R: Runner>(
         replicas.push(Replica {
             node,
             taken: Vec::new(alloc),
+            front: SharedList::new(alloc),
         })?;
     }
     Ok(replicas)

@@ -17,7 +17,6 @@ use crate::manager::copy_call;
 use crate::runner::Runner;
 use crate::trying::{Tried, try_call};
 use effectors::ApplyRefused;
-use items::Items;
 use spec_core::{Call, State};
 use std::alloc::{AllocError, Global};
 use std::marker::Model;
@@ -146,7 +145,7 @@ impl Node {
                 Ok(Ended::Voided(why, Message::Void { id }))
             }
             Tried::Ready(state) => {
-                let seen = Items::from_slice(self.alloc, self.taken.as_slice())?;
+                let seen = self.taken.listed()?;
                 self.taken.push(id)?;
                 self.state = state;
                 Ok(Ended::Happened(Message::Done { id, call, seen }))
@@ -372,8 +371,12 @@ impl Node {
         ensures err { OnErr result (self.new ≡ self.old) }
     {
         match message {
-            Message::Grant { id, after } => self.hear_grant(runner, *id, after.as_slice()),
+            Message::Grant { id, after } => {
+                let after = after.to_items()?;
+                self.hear_grant(runner, *id, after.as_slice())
+            }
             Message::Done { id, call, seen } => {
+                let seen = seen.to_items()?;
                 self.hear_done(runner, *id, call, seen.as_slice())
             }
             Message::Void { id } => self.hear_void(*id),

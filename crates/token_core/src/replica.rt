@@ -1,6 +1,6 @@
 // A replica of a network, and its steps.
 
-ghost use Rattle.std.specs.Prelude.{◌≡◌, ℕ, ◌<◌, ◌⊎◌, true, [], ◌∷◌, ◌++◌, ◌^◌, Option, Some, Err, List, length, set, slice_get, vec_len, vec_capacity, IfOk, OnOk, OnErr};
+ghost use Rattle.std.specs.Prelude.{◌≡◌, ℕ, ◌<◌, ◌⊎◌, true, [], ◌∷◌, ◌++◌, ◌^◌, Option, Some, Err, List, bytes_eq, length, set, slice_get, vec_len, vec_capacity, IfOk, OnOk, OnErr};
 ghost use Rattle.std.specs.Option.{option_map};
 ghost use Rattle.spec_core.specs.Fits.{is_state};
 ghost use Rattle.token_protocol.specs.declared.message.Request.{Request as Waiting};
@@ -11,13 +11,13 @@ ghost use Rattle.token_protocol.specs.Network.{Replica as ReplicaOf, number_of a
 ghost use Rattle.token_core.specs.Held.{node_of, waiting_fits, message_fits};
 ghost use Rattle.token_core.specs.Log.{lists_of, HasRoom, network_with, id_of, event_of, event_for, after_begun, IsAfterHeard, IsPrepared, Left, after_ran, after_void};
 ghost use Rattle.token_core.specs.Fields.{held_replica, replica_at};
+ghost use Rattle.token_core.specs.Grants.{AreGrants};
 
-use crate::log::{Happened, Log, make_room, number_of, put};
+use crate::log::{CallEvent, Happened, Log, make_room, number_of, put};
 use crate::manager::{Manager, copy_call};
 use crate::node::Node;
 use crate::runner::Runner;
-use executions::Event;
-use items::Items;
+use shared_lists::SharedList;
 use spec_core::Call;
 use std::alloc::{AllocError, Global};
 use token_protocol::{Begun, EventId, Heard, Message, NetDid, NetRefused, NodeRefused, WhyVoid};
@@ -30,6 +30,34 @@ const MOST_TURNS: u32 = 4000000000;
 pub struct Replica {
     pub node: Node,
     pub taken: Vec<u32>,
+    /// The first of these numbers, as a list of which its events have copies. It is brought up to date when an event needs it, and
+    /// compared with the numbers then.
+    pub front: SharedList<u32>,
+}
+
+fn are_same(one: &[u32], other: &[u32]) -> bool
+    ensures { result ≡ bytes_eq one.now other.now }
+{
+    one == other
+}
+
+// The list of the numbers that a replica has taken. Its copies share most of it.
+fn list_of(
+    alloc: Global,
+    front: &mut SharedList<u32>,
+    taken: &[u32],
+) -> Result<SharedList<u32>, AllocError>
+    ensures { IfOk result (λ list. list ≡ taken.now) }
+{
+    let mut known = front.to_items()?;
+    for number in known.len()..taken.len() {
+        front.push(taken[number])?;
+        known.push(taken[number])?;
+    }
+    if !are_same(known.as_slice(), taken) {
+        return SharedList::from_slice(alloc, taken);
+    }
+    front.share()
 }
 
 /// The id of the call of which a message tells.
@@ -44,21 +72,31 @@ pub fn id_of(message: &Message) -> EventId
 }
 
 /// The event of a call at a replica that has taken these.
-fn event_of(alloc: Global, call: &Call, taken: &[u32]) -> Result<Event, AllocError>
+fn event_of(
+    alloc: Global,
+    call: &Call,
+    front: &mut SharedList<u32>,
+    taken: &[u32],
+) -> Result<CallEvent, AllocError>
     ensures { IfOk result (λ event. event ≡ event_of call.now taken.now) }
 {
-    let seen = Items::from_slice(alloc, taken)?;
+    let seen = list_of(alloc, front, taken)?;
     let call = copy_call(alloc, call)?;
-    Ok(Event { call, seen })
+    Ok(CallEvent { call, seen })
 }
 
-// The event of a replica's waiting call, if one waits.
-fn waiting_event(alloc: Global, at: &Replica) -> Result<Option<Event>, AllocError>
-    ensures { IfOk result (λ event. event ≡ option_map (λ (q : Waiting). event_of q.call at.now.taken.items) at.now.node.waiting) }
+// The event of a node's waiting call, if one waits.
+fn waiting_event(
+    alloc: Global,
+    node: &Node,
+    front: &mut SharedList<u32>,
+    taken: &[u32],
+) -> Result<Option<CallEvent>, AllocError>
+    ensures { IfOk result (λ event. event ≡ option_map (λ (q : Waiting). event_of q.call taken.now) node.now.waiting) }
 {
-    match at.node.waiting() {
+    match node.waiting() {
         Some(waiting) => {
-            let event = event_of(alloc, &waiting.call, at.taken.as_slice())?;
+            let event = event_of(alloc, &waiting.call, front, taken)?;
             Ok(Some(event))
         }
         None => Ok(None),
@@ -66,18 +104,24 @@ fn waiting_event(alloc: Global, at: &Replica) -> Result<Option<Event>, AllocErro
 }
 
 // The event that a message may bring about: only a Grant lets the waiting call run.
-fn event_for(alloc: Global, at: &Replica, sent: &Message) -> Result<Option<Event>, AllocError>
-    ensures { IfOk result (λ event. event ≡ event_for at.now.taken.items at.now.node.waiting sent.now) }
+fn event_for(
+    alloc: Global,
+    node: &Node,
+    front: &mut SharedList<u32>,
+    taken: &[u32],
+    sent: &Message,
+) -> Result<Option<CallEvent>, AllocError>
+    ensures { IfOk result (λ event. event ≡ event_for taken.now node.now.waiting sent.now) }
 {
     match sent {
-        Message::Grant { .. } => waiting_event(alloc, at),
+        Message::Grant { .. } => waiting_event(alloc, node, front, taken),
         Message::Done { .. } => Ok(None),
         Message::Void { .. } => Ok(None),
     }
 }
 
 // A call was run: its Done is sent, and its event is the next one.
-fn keep_ran(log: &mut Log, taken: &mut Vec<u32>, event: Event, done: Message) -> NetDid
+fn keep_ran(log: &mut Log, taken: &mut Vec<u32>, event: CallEvent, done: Message) -> NetDid
     requires room { HasRoom log.old }
     requires place { vec_len taken.old < vec_capacity taken.old }
     ensures { (let left : Left = record { did = result; lists = lists_of log.new; taken = taken.new.items } in left) ≡ after_ran (lists_of log.old) taken.old.items event done }
@@ -104,7 +148,7 @@ fn keep_void(log: &mut Log, why: WhyVoid, told: Message) -> NetDid
 }
 
 // Keeps what a node answered to a call.
-fn keep_begun(log: &mut Log, taken: &mut Vec<u32>, event: Event, begun: Begun) -> NetDid
+fn keep_begun(log: &mut Log, taken: &mut Vec<u32>, event: CallEvent, begun: Begun) -> NetDid
     requires room { HasRoom log.old }
     requires place { vec_len taken.old < vec_capacity taken.old }
     ensures { (let left : Left = record { did = result; lists = lists_of log.new; taken = taken.new.items } in left) ≡ after_begun (lists_of log.old) taken.old.items event begun }
@@ -137,7 +181,7 @@ fn keep_heard(
     log: &mut Log,
     taken: &mut Vec<u32>,
     id: EventId,
-    event: Option<Event>,
+    event: Option<CallEvent>,
     heard: Heard,
 ) -> NetDid
     requires room { HasRoom log.old }
@@ -197,7 +241,7 @@ pub fn begin_at<R: Runner>(
     }
     log.make_room()?;
     make_room(&mut at.taken)?;
-    let event = event_of(alloc, call, at.taken.as_slice())?;
+    let event = event_of(alloc, call, &mut at.front, at.taken.as_slice())?;
     match at.node.begin(runner, call) {
         Ok(begun) => Ok(keep_begun(log, &mut at.taken, event, begun)),
         Err(why) => Err(refused(why)),
@@ -226,7 +270,7 @@ pub fn hear_at<R: Runner>(
     log.make_room()?;
     make_room(&mut at.taken)?;
     let sent = &log.messages[message as usize];
-    let event = event_for(alloc, at, sent)?;
+    let event = event_for(alloc, &at.node, &mut at.front, at.taken.as_slice(), sent)?;
     let id = id_of(sent);
     match at.node.hear(runner, sent) {
         Ok(heard) => Ok(keep_heard(log, &mut at.taken, id, event, heard)),
@@ -241,6 +285,7 @@ pub fn ask_at<R: Runner>(
     log: &mut Log,
     request: u32,
 ) -> Result<NetDid, NetRefused>
+    requires { AreGrants (R.specification runner.now) (R.setting runner.now) manager.old }
     ensures answer { (replicas : List ReplicaOf) → (result ≡ Err NetRefused.Memory) ⊎ (result ≡ answer (asks (R.specification runner.now) (R.setting runner.now) (network_with replicas manager.old (lists_of log.old)) (slice_get log.old.requests.items request))) }
     ensures ok { (replicas : List ReplicaOf) → OnOk result (network_with replicas manager.new (lists_of log.new) ≡ network_after (network_with replicas manager.old (lists_of log.old)) (asks (R.specification runner.now) (R.setting runner.now) (network_with replicas manager.old (lists_of log.old)) (slice_get log.old.requests.items request))) }
     ensures err { OnErr result ((manager.new ≡ manager.old) × (lists_of log.new ≡ lists_of log.old)) }
@@ -250,7 +295,7 @@ pub fn ask_at<R: Runner>(
     }
     log.make_room()?;
     let asked = &log.requests[request as usize];
-    let message = manager.ask(runner.spec(), runner.world(), asked)?;
+    let message = manager.ask_by_tokens(runner.spec(), runner.world(), asked)?;
     let number = log.messages.len() as u32;
     put(&mut log.messages, message);
     Ok(NetDid::Granted { message: number })

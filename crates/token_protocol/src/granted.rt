@@ -1,7 +1,7 @@
 // What the manager keeps of a grant.
 
 use crate::message::EventId;
-use items::Items;
+use shared_lists::SharedList;
 use spec_core::Call;
 
 /// A granted call, and the calls that have to be taken, or known as void, before it runs.
@@ -9,5 +9,5 @@ use spec_core::Call;
 pub struct Granted {
     pub id: EventId,
     pub call: Call,
-    pub after: Items<EventId>,
+    pub after: SharedList<EventId>,
 }

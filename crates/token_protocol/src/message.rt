@@ -1,6 +1,6 @@
 // What the nodes and the manager send each other.
 
-use items::Items;
+use shared_lists::SharedList;
 use spec_core::Call;
 
 /// The id of a call: the replica that made it, and which of that replica's turns it used up, counted from 0.
@@ -23,13 +23,13 @@ pub enum Message {
     /// The call may run once each of these calls is taken or void, where it runs.
     Grant {
         id: EventId,
-        after: Items<EventId>,
+        after: SharedList<EventId>,
     },
     /// The call was run at a replica that had taken these before, in that order.
     Done {
         id: EventId,
         call: Call,
-        seen: Items<EventId>,
+        seen: SharedList<EventId>,
     },
     /// The call will never run.
     Void {

@@ -1,7 +1,10 @@
 mod Among
 mod Resting
+mod Steady
+mod Visiting
 mod Following
 mod Changing
 mod Going
 mod Rows
 mod Solvers
+mod Evaluated

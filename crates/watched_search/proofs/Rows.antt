@@ -1,4 +1,4 @@
-use Rattle.std.proofs.Common.{◌≡◌, ℕ, ◌^◌, ◌<◌, Bool, true, false, cond, List, [], ◌∷◌, ◌++◌, length, map, refl, sym, ◌∙◌, subst, arith, Some, slice_get}
+use Rattle.std.proofs.Common.{◌≡◌, ℕ, Bool, true, false, cond, List, [], ◌∷◌, ◌++◌, map, refl, sym, ◌∙◌, subst, arith, Some, slice_get}
 use Rattle.std.specs.List.{list_all}
 use Rattle.std.specs.Option.{option_and_then}
 use Rattle.std.proofs.lemmas.Bool.{and_from}
@@ -23,10 +23,13 @@ use Rattle.sat_core.specs.declared.explaining.Explained.{Explained}
 use Rattle.sat_core.specs.declared.explaining.Explained.TheVariants.{Empty, Cut, Spent as SpentThere, Memory as NoMemory}
 use Rattle.sat_core.specs.Answers.{AreRowsOf}
 use Rattle.sat_core.specs.Searching.{Aim, InSearch, IsDrawn, IsLearned, IsRefutation}
-use Rattle.sat_core.specs.Outcomes.{outcome_of}
+use Rattle.sat_core.specs.Outcomes.{outcome_of, IfGoes}
 use Rattle.sat_core.proofs.Asked.{stand-plain, given-lits, picked-in}
 use Rattle.sat_core.proofs.Outcomes.{aim_of}
-use Rattle.watched_search.specs.Ready.{IfGoes}
+use Rattle.watched_search.specs.declared.watches.Watches.{Watches}
+use Rattle.watched_search.specs.Watches.{AllKept}
+use Rattle.watched_search.specs.Ready.{MayGo}
+use Rattle.watched_search.proofs.Changing.{jumped}
 use Rattle.watched_search.specs.Early.{AreHeld, IsClash}
 
 -- Rows of a trail that names some atoms only.
@@ -76,8 +79,8 @@ takes-grown split takes p budget q t ls all some x lits rows o b = by_case split
     by_case true h = all h rows q.ints b
     by_case false h = subst (λ (n : ℕ). takes rows n) (sym x.keeps.ints) (some h lits rows (subst (λ (z : List AtomKind). AreRowsOf z lits rows) (x.keeps.unsplit h) o))
 
-pub few_learned : (e : Explained) (budget : ℕ) (q : PlainProblem) (t : List Entry) (ls : List Line) (r : PlainProblem) (u : List Entry) (ms : List Line) (a : Aim) → InSearch a budget q t ls → IsLearned e budget q t ls r u ms → IfGoes (outcome_of e) (length r.clauses < 2 ^ 32)
-few_learned Empty budget q t ls r u ms a x h = tt
-few_learned Cut budget q t ls r u ms a x h = (h a x).0.keeps.few_clauses
-few_learned SpentThere budget q t ls r u ms a x h = tt
-few_learned NoMemory budget q t ls r u ms a x h = tt
+pub learned-go : (e : Explained) (budget : ℕ) (q : PlainProblem) (t : List Entry) (ls : List Line) (r : PlainProblem) (u : List Entry) (ms : List Line) (a : Aim) (w : Watches) → InSearch a budget q t ls → AllKept q.clauses t w → IsLearned e budget q t ls r u ms → IfGoes (outcome_of e) (MayGo r.clauses u w)
+learned-go Empty budget q t ls r u ms a w x k h = tt
+learned-go Cut budget q t ls r u ms a w x k h = let y = h a x in (y.0.keeps.few_clauses, jumped q.clauses t r.clauses u w k y.2)
+learned-go SpentThere budget q t ls r u ms a w x k h = tt
+learned-go NoMemory budget q t ls r u ms a w x k h = tt

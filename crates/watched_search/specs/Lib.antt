@@ -1,3 +1,4 @@
 pub mod Watches
 pub mod Ready
 pub mod Early
+pub mod Reduced

@@ -1,36 +1,43 @@
 -- Where the watched literals stand between the steps of a search.
-use Rattle.std.specs.Prelude.{◌≡◌, ℕ, ◌<◌, true, List, [], length, slice_index_or, Option, Some, None}
+use Rattle.std.specs.Prelude.{◌≡◌, ℕ, ◌<◌, ◌^◌, true, List, [], length, slice_index_or, Option, Some, None}
 use Rattle.proof_lines.specs.declared.clause.Lit.{Lit}
+use Rattle.proof_lines.specs.declared.line.Line.{Line}
+use Rattle.proof_lines.specs.Problems.{PlainProblem}
 use Rattle.search_logs.specs.declared.trail.Entry.{Entry}
 use Rattle.search_logs.specs.Trails.{is_false}
 use Rattle.sat_core.specs.declared.finding.Found.{Found}
 use Rattle.sat_core.specs.declared.finding.Found.TheVariants.{Conflict, Forced as OfForced, Nothing}
-use Rattle.sat_core.specs.declared.asking.Outcome.{Outcome}
-use Rattle.sat_core.specs.declared.asking.Outcome.TheVariants.{Goes, Refuted, Found as OfFound, Spent, Rows, Range, Memory}
+use Rattle.sat_core.specs.Searching.{Aim, InChain}
 use Rattle.watched_search.specs.declared.watches.Watches.{Watches}
 use Rattle.watched_search.specs.declared.propagation.Propagation.{Propagation}
-use Rattle.watched_search.specs.Watches.{AllWatched}
+use Rattle.watched_search.specs.Watches.{AllKept, AllWatched, AreAtRest, IsResumed}
 
 -- the clause with a number is false, or all clauses are watched
 abbrev pub IsReadyWith : Option ℕ → List (List Lit) → List Entry → Watches → Type 0
-IsReadyWith (Some i) cs t w = (i < length cs) × (is_false t (slice_index_or cs i []) ≡ true)
+IsReadyWith (Some i) cs t w = (i < length cs) × (is_false t (slice_index_or cs i []) ≡ true) × AllKept cs t w
 IsReadyWith None cs t w = AllWatched cs t w
 
 abbrev pub IsReady : List (List Lit) → List Entry → Propagation → Type 0
 IsReady cs t p = IsReadyWith p.conflict cs t p.watches
 
--- where no clause was found false, all are watched
+-- where a clause was found false, all are kept; where one was found unit, all are watched; and else all are at rest
 abbrev pub StayWatched : Found → List (List Lit) → List Entry → Watches → Type 0
-StayWatched (Conflict i) cs t w = Unit {0}
+StayWatched (Conflict i) cs t w = AllKept cs t w
 StayWatched (OfForced i l) cs t w = AllWatched cs t w
-StayWatched Nothing cs t w = AllWatched cs t w
+StayWatched Nothing cs t w = AllKept cs t w × AreAtRest (length cs) t w
 
--- where the search goes on, something holds
-abbrev pub IfGoes : Outcome → Type 0 → Type 0
-IfGoes Goes P = P
-IfGoes Refuted P = Unit {0}
-IfGoes (OfFound i) P = Unit {0}
-IfGoes Spent P = Unit {0}
-IfGoes (Rows used steps) P = Unit {0}
-IfGoes (Range used steps what) P = Unit {0}
-IfGoes Memory P = Unit {0}
+-- all clauses are watched, and before a decision they are at rest
+abbrev pub MayPush : Option ℕ → List (List Lit) → List Entry → Watches → Type 0
+MayPush None cs t w = AllKept cs t w × AreAtRest (length cs) t w
+MayPush (Some i) cs t w = AllWatched cs t w
+
+-- the chain of a clause that is false, over all clauses of a problem
+pub record IsMet (budget : ℕ) (q : PlainProblem) (t : List Entry) (ls : List Line) (i : ℕ) : Type 0 where
+  pub aim : Aim
+  pub before : ℕ
+  pub chain : InChain aim budget before q t ls i
+  pub whole : chain.start ≡ q.clauses
+
+-- a search may go on
+abbrev pub MayGo : List (List Lit) → List Entry → Watches → Type 0
+MayGo cs t w = (length cs < 2 ^ 32) × IsResumed cs t w

@@ -1,7 +1,8 @@
 // The rows of a trail, and the numbers that the solver found last for some of them. Nothing is promised of either: they say when
 // the solver is worth asking, and how a row is decided.
+use crate::evaluating::known_truth;
 use items::Items;
-use lin_rows::{Row, truth_at};
+use lin_rows::Row;
 use proof_lines::splitting::is_negative;
 use proof_lines::{AtomKind, Lit, Problem};
 use search_logs::Trail;
@@ -19,16 +20,6 @@ pub struct Held {
     pub numbers: Items<i128>,
     pub satisfied: usize,
     pub asked: usize,
-}
-
-// Whether the numbers satisfy a row, where there are numbers for its names.
-fn known_truth(numbers: &[i128], row: &Row) -> Option<bool> {
-    let places = u32::try_from(numbers.len()).ok()?;
-    if row.is_within(places) {
-        truth_at(row, numbers)
-    } else {
-        None
-    }
 }
 
 impl Held {

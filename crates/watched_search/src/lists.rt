@@ -52,10 +52,3 @@ pub(crate) fn exchange(lists: &mut Vec<Items<u32>>, number: usize, other: &mut I
         mem::swap(&mut lists[number], other);
     }
 }
-
-/// Empties all lists. Their memory stays.
-pub(crate) fn empty(lists: &mut Vec<Items<u32>>) {
-    for number in 0..lists.len() {
-        lists[number].clear();
-    }
-}

@@ -1,11 +1,13 @@
 // Propagation: what stands in the way of a decision, by the watched literals.
-ghost use Rattle.std.specs.Prelude.{◌≡◌, ◌<◌, ◌^◌, ◌∷◌, length, IfOk, OnOk, None};
+ghost use Rattle.std.specs.Prelude.{◌≡◌, ◌<◌, ◌^◌, ◌∷◌, [], ℕ, List, length, IfOk, OnOk, None};
+ghost use Rattle.proof_lines.specs.declared.clause.Lit.{Lit as PlainLit};
+ghost use Rattle.search_logs.specs.declared.trail.Entry.{Entry as PlainEntry};
 ghost use Rattle.search_logs.specs.Trails.{IsTrail};
 ghost use Rattle.sat_core.specs.Searching.{IsFound};
-ghost use Rattle.watched_search.specs.Watches.{code, AreWatched, AllWatched};
-ghost use Rattle.watched_search.specs.Ready.{IsReady, StayWatched};
+ghost use Rattle.watched_search.specs.Watches.{code, AreKept, AreWatched, IsResumed};
+ghost use Rattle.watched_search.specs.Ready.{IsReady, StayWatched, MayPush};
 
-use crate::lists::{code, empty, exchange};
+use crate::lists::{code, enter, exchange};
 use crate::looking::Look;
 use crate::watches::Watches;
 use items::Items;
@@ -25,7 +27,9 @@ pub struct Propagation {
 
 impl Propagation {
     /// No clause is watched yet.
-    pub(crate) fn new(alloc: Global) -> Propagation {
+    pub(crate) fn new(alloc: Global) -> Propagation
+        ensures { result.watches.pairs.items ≡ [] }
+    {
         Propagation {
             watches: Watches::new(alloc),
             conflict: None,
@@ -33,26 +37,34 @@ impl Propagation {
         }
     }
 
-    /// Lets all clauses watch anew, whatever they watched before.
-    pub(crate) fn begin(
+    /// Goes on under a trail that was cut back: the clauses that watch go on doing so, and the others watch from now on.
+    pub(crate) fn resume(
         &mut self,
         alloc: Global,
         problem: &Problem,
         trail: &Trail,
     ) -> Result<(), AllocError>
         requires few { length problem.now.clauses < 2 ^ 32 }
+        requires resumed { IsResumed problem.now.clauses trail.now self.old.watches }
         ensures { OnOk result (IsReady problem.now.clauses trail.now self.new) }
     {
         self.conflict = None;
-        self.watches.pairs.clear();
         self.watches.units.clear();
-        empty(&mut self.watches.lists);
-        for clause in 0..clause_count(problem) {
+        let known = self.watches.pairs.len() as u32;
+        for clause in known..clause_count(problem) {
             let lits = lits_of(problem, clause);
-            if !self.watches.attach(alloc, trail, lits, clause)? {
-                self.conflict = Some(clause);
-                return Ok(());
-            }
+            self.watches.attach(alloc, trail, lits, clause)?;
+        }
+        Ok(())
+    }
+
+    // Puts the clauses that are left back into the list of the literal that they watched.
+    fn put_back(&mut self, alloc: Global, gone: Lit) -> Result<(), AllocError>
+        ensures kept { OnOk result ((n : ℕ) (cs : List (List PlainLit)) (t : List PlainEntry) → AreKept n cs t (code gone) self.old.left self.old.watches → AreKept n cs t 0 [] self.new.watches) }
+        ensures conflict { self.new.conflict ≡ self.old.conflict }
+    {
+        while let Some(clause) = self.left.pop() {
+            enter(alloc, &mut self.watches.lists, gone, clause)?;
         }
         Ok(())
     }
@@ -75,6 +87,7 @@ impl Propagation {
                 let lits = lits_of(problem, clause);
                 if !self.watches.visit(alloc, trail, lits, clause, gone)? {
                     self.conflict = Some(clause);
+                    self.put_back(alloc, gone)?;
                     return Ok(());
                 }
             }
@@ -91,7 +104,7 @@ impl Propagation {
         entry: Entry,
     ) -> Result<(), AllocError>
         requires few { length problem.now.clauses < 2 ^ 32 }
-        requires watched { AllWatched problem.now.clauses trail.old self.old.watches }
+        requires watched { MayPush entry.reason problem.now.clauses trail.old self.old.watches }
         ensures pushed { OnOk result (trail.new ≡ entry ∷ trail.old) }
         ensures ready { OnOk result (IsReady problem.now.clauses trail.new self.new) }
     {
@@ -128,7 +141,7 @@ impl Propagation {
                         self.watches.units.push(clause)?;
                         return Ok(Found::Forced(clause, lit));
                     }
-                    Look::Open(_) => {}
+                    Look::Open => {}
                 }
             }
         }

@@ -9,16 +9,17 @@ ghost use Rattle.search_logs.specs.Trails.{named, Settled};
 ghost use Rattle.sat_core.specs.declared.asking.Outcome.TheVariants.{Memory};
 ghost use Rattle.sat_core.specs.Answers.{AreRowsOf, IsAnswer, ShowsNone};
 ghost use Rattle.theory_api.specs.Laws.{all_below};
-ghost use Rattle.sat_core.specs.Searching.{InSearch, InChain, IsChain, IsRefutation};
-ghost use Rattle.sat_core.specs.Outcomes.{IsOutcome, IsPushed};
-ghost use Rattle.watched_search.specs.Watches.{AllWatched};
-ghost use Rattle.watched_search.specs.Ready.{IsReady, IfGoes};
+ghost use Rattle.sat_core.specs.Searching.{InSearch, InChain, IsRefutation};
+ghost use Rattle.sat_core.specs.Outcomes.{IsOutcome, IsPushed, IfGoes};
+ghost use Rattle.watched_search.specs.Watches.{AllKept, AreAtRest};
+ghost use Rattle.watched_search.specs.Ready.{IsReady, IsMet, MayPush, MayGo};
 ghost use Rattle.watched_search.specs.Early.{IsClash};
 
 use crate::early::{Clash, Said, ask_early};
 use crate::held::Held;
 use crate::hints::Hints;
 use crate::propagation::Propagation;
+use crate::reducing::{Reduced, ask_reduced};
 use items::Items;
 use proof_lines::problem::law_rows;
 use proof_lines::{Line, Lit, Problem, RangeEvidence, RowsEvidence};
@@ -48,7 +49,7 @@ fn take(
     reason: Option<u32>,
 ) -> Outcome
     requires few { length problem.now.clauses < 2 ^ 32 }
-    requires watched { AllWatched problem.now.clauses trail.old knowledge.old.index.watches }
+    requires watched { MayPush reason problem.now.clauses trail.old knowledge.old.index.watches }
     ensures pushed { IsPushed result trail.old lit reason trail.new }
     ensures ready { IfGoes result (IsReady problem.now.clauses trail.new knowledge.new.index) }
 {
@@ -64,22 +65,22 @@ fn take(
     }
 }
 
-// Lets all clauses watch anew where the search goes on: the trail was cut, or there are more clauses or atoms.
-fn begin_anew(
+// Where the search goes on, lets the further clauses watch: the trail was cut, or there are more atoms.
+fn resume(
     alloc: Global,
     problem: &Problem,
     trail: &Trail,
     knowledge: &mut Knowledge,
     outcome: Outcome,
 ) -> Outcome
-    requires few { IfGoes outcome (length problem.now.clauses < 2 ^ 32) }
+    requires may_go { IfGoes outcome (MayGo problem.now.clauses trail.now knowledge.old.index.watches) }
     ensures same { (result ≡ outcome) ⊎ (result ≡ Memory) }
     ensures ready { IfGoes result (IsReady problem.now.clauses trail.now knowledge.new.index) }
 {
     match outcome {
         Outcome::Goes => {
             knowledge.hints.cut(trail);
-            match knowledge.index.begin(alloc, problem, trail) {
+            match knowledge.index.resume(alloc, problem, trail) {
                 Ok(()) => Outcome::Goes,
                 Err(_) => Outcome::Memory,
             }
@@ -98,12 +99,13 @@ fn meet(
     start: u32,
     budget: u32,
 ) -> Outcome
-    requires chain { IsChain budget grown.old trail.old log.old start }
+    requires chain { IsMet budget grown.old trail.old log.old start }
+    requires kept { AllKept grown.old.clauses trail.old knowledge.old.index.watches }
     ensures outcome { (split stop : Bool) (p : PlainProblem) → InChain (record { problem = p; split = split }) budget (length log.old) grown.old trail.old log.old start → IsOutcome result split stop p budget grown.old trail.old log.old grown.new trail.new log.new }
     ensures ready { IfGoes result (IsReady grown.new.clauses trail.new knowledge.new.index) }
 {
     let outcome = explain(alloc, grown, trail, log, start, budget).outcome();
-    begin_anew(alloc, grown, trail, knowledge, outcome)
+    resume(alloc, grown, trail, knowledge, outcome)
 }
 
 // Asks the solver about the rows of a trail that may name some atoms only, where that is due. Rows in conflict are answered.
@@ -142,15 +144,16 @@ fn meet_rows(
     budget: u32,
 ) -> Outcome
     requires refutation { IsRefutation budget grown.old trail.old log.old clash.used clash.steps }
+    requires kept { AllKept grown.old.clauses trail.old knowledge.old.index.watches }
     ensures outcome { (split stop : Bool) (p : PlainProblem) → InSearch (record { problem = p; split = split }) budget grown.old trail.old log.old → IsOutcome result split stop p budget grown.old trail.old log.old grown.new trail.new log.new }
     ensures ready { IfGoes result (IsReady grown.new.clauses trail.new knowledge.new.index) }
 {
     let Clash { used, steps } = clash;
     let outcome = refute(alloc, grown, trail, log, used, steps, budget).outcome();
-    begin_anew(alloc, grown, trail, knowledge, outcome)
+    resume(alloc, grown, trail, knowledge, outcome)
 }
 
-// Asks the solver of rows where all atoms have values.
+// Asks the solver about the rows of a whole trail.
 fn turn<T: Theory>(
     alloc: Global,
     theory: &mut T,
@@ -164,13 +167,46 @@ fn turn<T: Theory>(
     requires search { InSearch (record { problem = problem.now; split = T.MAY_SPLIT }) budget grown.old trail.old log.old }
     requires settled { Settled trail.old grown.old.clauses }
     requires named { (a : ℕ) → a < length grown.old.atoms → named trail.old a ≡ true }
+    requires kept { AllKept grown.old.clauses trail.old knowledge.old.index.watches }
+    requires rest { AreAtRest (length grown.old.clauses) trail.old knowledge.old.index.watches }
     requires taken { T.MAY_SPLIT ≡ false → (lits : List PlainLit) (rows : List PlainRow) → AreRowsOf problem.now.atoms lits rows → T.takes rows problem.now.ints }
     ensures outcome { IsOutcome result T.MAY_SPLIT T.MAY_STOP problem.now budget grown.old trail.old log.old grown.new trail.new log.new }
     ensures ready { IfGoes result (IsReady grown.new.clauses trail.new knowledge.new.index) }
 {
     match ask(alloc, theory, problem, grown, trail, log, budget) {
-        Ok(outcome) => begin_anew(alloc, grown, trail, knowledge, outcome),
+        Ok(outcome) => resume(alloc, grown, trail, knowledge, outcome),
         Err(_) => Outcome::Memory,
+    }
+}
+
+// Asks the solver of rows where all atoms have values: about an implicant, and then, unless that answers, about the whole trail.
+fn final_check<T: Theory>(
+    alloc: Global,
+    theory: &mut T,
+    problem: &Problem,
+    grown: &mut Problem,
+    trail: &mut Trail,
+    log: &mut Items<Line>,
+    knowledge: &mut Knowledge,
+    budget: u32,
+) -> Outcome
+    requires search { InSearch (record { problem = problem.now; split = T.MAY_SPLIT }) budget grown.old trail.old log.old }
+    requires settled { Settled trail.old grown.old.clauses }
+    requires named { (a : ℕ) → a < length grown.old.atoms → named trail.old a ≡ true }
+    requires kept { AllKept grown.old.clauses trail.old knowledge.old.index.watches }
+    requires rest { AreAtRest (length grown.old.clauses) trail.old knowledge.old.index.watches }
+    requires taken { T.MAY_SPLIT ≡ false → (lits : List PlainLit) (rows : List PlainRow) → AreRowsOf problem.now.atoms lits rows → T.takes rows problem.now.ints }
+    ensures outcome { IsOutcome result T.MAY_SPLIT T.MAY_STOP problem.now budget grown.old trail.old log.old grown.new trail.new log.new }
+    ensures ready { IfGoes result (IsReady grown.new.clauses trail.new knowledge.new.index) }
+{
+    let lits = knowledge.hints.held.lits.as_slice();
+    let Ok(reduced) = ask_reduced(alloc, theory, problem, grown, trail, lits) else {
+        return Outcome::Memory;
+    };
+    match reduced {
+        Reduced::Found(found) => Outcome::Found(found),
+        Reduced::Clash(clash) => meet_rows(alloc, grown, trail, log, knowledge, clash, budget),
+        Reduced::Nothing => turn(alloc, theory, problem, grown, trail, log, knowledge, budget),
     }
 }
 
@@ -213,7 +249,7 @@ fn advance<T: Theory>(
                     }
                 }
             }
-            None => turn(alloc, theory, problem, grown, trail, log, knowledge, budget),
+            None => final_check(alloc, theory, problem, grown, trail, log, knowledge, budget),
         },
     }
 }
@@ -284,7 +320,7 @@ fn search<T: Theory>(alloc: Global, problem: &Problem, theory: &mut T, budget: u
         index: Propagation::new(alloc),
         hints: Hints::new(alloc),
     };
-    let Ok(()) = knowledge.index.begin(alloc, &grown, &trail) else {
+    let Ok(()) = knowledge.index.resume(alloc, &grown, &trail) else {
         return Answer::Memory;
     };
     let log = Items::new(alloc);

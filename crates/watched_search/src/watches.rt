@@ -1,10 +1,11 @@
 // The literals that the clauses watch.
-ghost use Rattle.std.specs.Prelude.{◌≡◌, ◌≢◌, ◌<◌, ◌∷◌, ◌+◌, [], ℕ, true, false, length, slice_set, IfOk, OnOk, IfSome, ◌⊎◌};
-ghost use Rattle.search_logs.specs.Trails.{negated};
-ghost use Rattle.watched_search.specs.Watches.{is_among, list_at, code, pair_at, Keeps, IsOpenIn, IsPairFor, IsWatched, IsVisited, IsConsidered, IsLook};
+ghost use Rattle.std.specs.Prelude.{◌≡◌, ◌≢◌, ◌<◌, ◌≤◌, ◌∷◌, ◌+◌, [], ℕ, true, false, length, slice_set, IfOk, OnOk, ◌⊎◌};
+ghost use Rattle.proof_lines.specs.Clauses.{distinct};
+ghost use Rattle.search_logs.specs.Trails.{is_false, before_last, has_decision, open_in};
+ghost use Rattle.watched_search.specs.Watches.{is_among, list_at, code, pair_at, rests, is_quiet, Keeps, IsKept, IsMoved, IsLooked, IsLook};
 
 use crate::lists::{code, enter};
-use crate::looking::{Look, Watched, look_at, look_beside, rests};
+use crate::looking::{Look, Watched, look_at, pair_of, rests};
 use items::Items;
 use proof_lines::Lit;
 use search_logs::Trail;
@@ -18,57 +19,8 @@ pub struct Watches {
     pub units: Items<u32>,
 }
 
-// One of the watched literals: not the one that is false now, unless both are.
-fn other_of(watched: Watched, gone: Lit) -> Lit
-    ensures { (result ≡ watched.first) ⊎ (result ≡ watched.second) }
-{
-    if watched.first.same(gone) {
-        watched.second
-    } else {
-        watched.first
-    }
-}
-
-fn unless_false(trail: &Trail, lit: Lit) -> Option<Lit>
-    ensures { IfSome result (λ l. (l ≡ lit) × (negated trail.now l ≡ false)) }
-{
-    if trail.negates(lit) { None } else { Some(lit) }
-}
-
-fn look_from(trail: &Trail, lits: &[Lit], known: Option<Lit>) -> Look
-    requires { IfSome known (λ l. IsOpenIn trail.now lits.now l) }
-    ensures { IsLook result trail.now lits.now }
-{
-    match known {
-        Some(lit) => look_beside(trail, lits, lit),
-        None => look_at(trail, lits),
-    }
-}
-
-// Two literals for a clause to watch, if it isn't false. It is noted where it may be unit.
-fn pair_for(
-    units: &mut Items<u32>,
-    trail: &Trail,
-    lits: &[Lit],
-    clause: u32,
-    known: Option<Lit>,
-) -> Result<Option<Watched>, AllocError>
-    requires { IfSome known (λ l. IsOpenIn trail.now lits.now l) }
-    ensures pair { IfOk result (λ p. IsPairFor p trail.now lits.now units.new clause) }
-    ensures kept { OnOk result ((n : ℕ) → is_among n units.old ≡ true → is_among n units.new ≡ true) }
-{
-    match look_from(trail, lits, known) {
-        Look::False => Ok(None),
-        Look::Unit(lit) => {
-            units.push(clause)?;
-            Ok(Some(Watched {
-                first: lit,
-                second: lit,
-            }))
-        }
-        Look::Open(pair) => Ok(Some(pair)),
-    }
-}
+// The number of no literal's list.
+const NO_LIST: usize = usize::MAX;
 
 // Sees to it that a clause stands in the list of a literal. It stands in those of the literals that it watched, but for the list
 // that is being gone through.
@@ -111,7 +63,9 @@ fn enter_both(
 
 impl Watches {
     /// Nothing is watched.
-    pub(crate) fn new(alloc: Global) -> Watches {
+    pub(crate) fn new(alloc: Global) -> Watches
+        ensures { result.pairs.items ≡ [] }
+    {
         Watches {
             pairs: Vec::new(alloc),
             lists: Vec::new(alloc),
@@ -143,8 +97,16 @@ impl Watches {
         Ok(())
     }
 
-    // Lets a clause watch two of its literals in place of those that it watched, the given one among them if there is one.
-    // Answers whether the clause isn't false.
+    // The literals that a clause watches.
+    fn pair(&self, clause: u32) -> Watched
+        requires { clause < length self.now.pairs.items }
+        ensures { result ≡ pair_at self.now.pairs.items clause }
+    {
+        self.pairs[clause as usize]
+    }
+
+    // Looks for other literals to watch, for a clause that isn't at rest with those that it watches. It stands in their lists, but for
+    // the list that is being gone through.
     fn renew(
         &mut self,
         alloc: Global,
@@ -153,20 +115,19 @@ impl Watches {
         clause: u32,
         from: usize,
         watched: Watched,
-        known: Option<Lit>,
-    ) -> Result<bool, AllocError>
+    ) -> Result<Look, AllocError>
         requires there { clause < length self.old.pairs.items }
-        requires first { code watched.first ≢ from → is_among clause (list_at self.old.lists.items (code watched.first)) ≡ true }
-        requires second { code watched.second ≢ from → is_among clause (list_at self.old.lists.items (code watched.second)) ≡ true }
-        requires known { IfSome known (λ l. IsOpenIn trail.now lits.now l) }
-        ensures visited { IfOk result (λ b. IsVisited b lits.now trail.now clause self.old self.new) }
+        requires kept { IsKept lits.now trail.now from (clause ∷ []) self.old.lists.items clause watched }
+        requires restless { rests trail.now watched ≡ false }
+        ensures moved { OnOk result (IsMoved clause self.old self.new) }
+        ensures kept { OnOk result (IsKept lits.now trail.now 0 [] self.new.lists.items clause (pair_at self.new.pairs.items clause)) }
+        ensures look { IfOk result (λ look. IsLook look lits.now trail.now (pair_at self.new.pairs.items clause)) }
+        ensures units { OnOk result (self.new.units ≡ self.old.units) }
         ensures many { OnOk result (length self.new.pairs.items ≡ length self.old.pairs.items) }
     {
-        let Some(pair) = pair_for(&mut self.units, trail, lits, clause, known)? else {
-            return Ok(false);
-        };
-        self.change(alloc, clause, from, watched, pair)?;
-        Ok(true)
+        let looked = look_at(trail, lits, watched);
+        self.change(alloc, clause, from, watched, looked.pair)?;
+        Ok(looked.look)
     }
 
     /// Looks at a clause that stood in the list of a literal that has become false. Answers whether it isn't false itself.
@@ -179,38 +140,52 @@ impl Watches {
         gone: Lit,
     ) -> Result<bool, AllocError>
         requires there { clause < length self.old.pairs.items }
-        requires watched { IsWatched lits.now trail.now (code gone) (clause ∷ []) self.old.lists.items self.old.units clause (pair_at self.old.pairs.items clause) }
-        ensures visited { IfOk result (λ b. IsVisited b lits.now trail.now clause self.old self.new) }
+        requires kept { IsKept lits.now trail.now (code gone) (clause ∷ []) self.old.lists.items clause (pair_at self.old.pairs.items clause) }
+        ensures moved { OnOk result (IsMoved clause self.old self.new) }
+        ensures kept { OnOk result (IsKept lits.now trail.now 0 [] self.new.lists.items clause (pair_at self.new.pairs.items clause)) }
+        ensures looked { IfOk result (λ b. IsLooked b lits.now trail.now self.new.units clause (pair_at self.new.pairs.items clause)) }
         ensures many { OnOk result (length self.new.pairs.items ≡ length self.old.pairs.items) }
     {
-        let watched = self.pairs[clause as usize];
-        let other = other_of(watched, gone);
-        if trail.holds(other) {
+        let watched = self.pair(clause);
+        if rests(trail, watched) {
             enter(alloc, &mut self.lists, gone, clause)?;
             return Ok(true);
         }
-        let known = unless_false(trail, other);
-        self.renew(alloc, trail, lits, clause, code(gone), watched, known)
+        match self.renew(alloc, trail, lits, clause, code(gone), watched)? {
+            Look::False => Ok(false),
+            Look::Unit(_) => {
+                self.units.push(clause)?;
+                Ok(true)
+            }
+            Look::Open => Ok(true),
+        }
     }
 
-    /// Lets a further clause watch two of its literals. Answers whether it isn't false.
+    /// Lets a further clause watch two of its literals.
     pub(crate) fn attach(
         &mut self,
         alloc: Global,
         trail: &Trail,
         lits: &[Lit],
         clause: u32,
-    ) -> Result<bool, AllocError>
-        requires { length self.old.pairs.items ≡ clause }
-        ensures visited { IfOk result (λ b. IsVisited b lits.now trail.now clause self.old self.new) }
-        ensures many { IfOk result (λ b. b ≡ true → length self.new.pairs.items ≡ clause + 1) }
+    ) -> Result<(), AllocError>
+        requires new { length self.old.pairs.items ≡ clause }
+        requires set { distinct lits.now ≡ true }
+        requires not_false { is_false trail.now lits.now ≡ false }
+        requires wide { has_decision trail.now ≡ true → 2 ≤ open_in (before_last trail.now) lits.now }
+        ensures moved { OnOk result (IsMoved clause self.old self.new) }
+        ensures kept { OnOk result (IsKept lits.now trail.now 0 [] self.new.lists.items clause (pair_at self.new.pairs.items clause)) }
+        ensures quiet { OnOk result (is_quiet trail.now [] self.new.units clause (pair_at self.new.pairs.items clause) ≡ true) }
+        ensures many { OnOk result (length self.new.pairs.items ≡ clause + 1) }
     {
-        let Some(pair) = pair_for(&mut self.units, trail, lits, clause, None)? else {
-            return Ok(false);
-        };
+        let pair = pair_of(trail, lits);
         self.pairs.push(pair)?;
         enter_both(alloc, &mut self.lists, pair, clause)?;
-        Ok(true)
+        if rests(trail, pair) {
+            return Ok(());
+        }
+        self.units.push(clause)?;
+        Ok(())
     }
 
     /// Looks again at a clause that was noted as one that may be unit.
@@ -222,19 +197,17 @@ impl Watches {
         clause: u32,
     ) -> Result<Look, AllocError>
         requires there { clause < length self.old.pairs.items }
-        requires watched { IsWatched lits.now trail.now 0 [] self.old.lists.items (clause ∷ []) clause (pair_at self.old.pairs.items clause) }
-        ensures considered { IfOk result (λ look. IsConsidered look lits.now trail.now clause self.old self.new) }
+        requires kept { IsKept lits.now trail.now 0 [] self.old.lists.items clause (pair_at self.old.pairs.items clause) }
+        ensures moved { OnOk result (IsMoved clause self.old self.new) }
+        ensures kept { OnOk result (IsKept lits.now trail.now 0 [] self.new.lists.items clause (pair_at self.new.pairs.items clause)) }
+        ensures look { IfOk result (λ look. IsLook look lits.now trail.now (pair_at self.new.pairs.items clause)) }
         ensures units { OnOk result (self.new.units ≡ self.old.units) }
         ensures many { OnOk result (length self.new.pairs.items ≡ length self.old.pairs.items) }
     {
-        let watched = self.pairs[clause as usize];
+        let watched = self.pair(clause);
         if rests(trail, watched) {
-            return Ok(Look::Open(watched));
+            return Ok(Look::Open);
         }
-        let look = look_at(trail, lits);
-        if let Look::Open(pair) = look {
-            self.change(alloc, clause, code(watched.first), watched, pair)?;
-        }
-        Ok(look)
+        self.renew(alloc, trail, lits, clause, NO_LIST, watched)
     }
 }

@@ -38,7 +38,12 @@ fn are_ids(ids: &[EventId], wanted: &[(u32, u32)]) -> bool {
 fn is_grant(message: &Message, replica: u32, turn: u32, wanted: &[(u32, u32)]) -> bool {
     match message {
         Message::Grant { id, after } => {
-            is_id(*id, replica, turn) && are_ids(after.as_slice(), wanted)
+            let Ok(after) = after.to_items() else {
+                return false;
+            };
+            let so = is_id(*id, replica, turn) && are_ids(after.as_slice(), wanted);
+            drop(after);
+            so
         }
         _ => false,
     }

@@ -7,6 +7,7 @@ ghost use Rattle.token_core.specs.Held.{waiting_fits, message_fits};
 use crate::tokens::examples::purses;
 use crate::tokens::setting::{items, spec};
 use items::Items;
+use shared_lists::SharedList;
 use spec_core::{Call, Spec, World};
 use std::alloc::Global;
 use std::process::Abort;
@@ -127,8 +128,8 @@ fn heard(answer: &Result<Heard, NodeRefused>) -> Says {
     }
 }
 
-fn ids(rt: &impl Abort, alloc: Global, pairs: &[Id]) -> Items<EventId> {
-    let mut ids = Items::new(alloc);
+fn ids(rt: &impl Abort, alloc: Global, pairs: &[Id]) -> SharedList<EventId> {
+    let mut ids = SharedList::new(alloc);
     for pair in pairs {
         ids.push(id(*pair)).expect(rt, "memory");
     }

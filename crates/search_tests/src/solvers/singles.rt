@@ -67,6 +67,37 @@ fn a_great_product_is_beyond_the_range(rt: HostRuntime) {
     assert_eq!(rt; tell(rt.alloc(), &lines, 2), Told::Value);
 }
 
+// Five quotients in a circle, which elimination multiplies, and a start. The fourth product has more than 128 bits.
+const CIRCLE: [Line<'static>; 6] = [
+    (&[999_999_937, -999_999_929], 0),
+    (&[0, 999_999_893, -999_999_883], 0),
+    (&[0, 0, 999_999_797, -999_999_761], 0),
+    (&[0, 0, 0, 999_999_757, -999_999_751], 0),
+    (&[-999_999_733, 0, 0, 0, 999_999_739], 0),
+    (&[-1], -1000),
+];
+
+#[test]
+fn a_product_of_five_is_beyond_the_range(rt: HostRuntime) {
+    assert_eq!(rt; tell(rt.alloc(), &CIRCLE, 5), Told::Product);
+}
+
+// A sixth name is at most 0 and at least 1. The product that is met before is left out.
+#[test]
+fn what_is_beyond_the_range_hides_no_conflict(rt: HostRuntime) {
+    let lines: [Line; 8] = [
+        CIRCLE[0],
+        CIRCLE[1],
+        CIRCLE[2],
+        CIRCLE[3],
+        CIRCLE[4],
+        CIRCLE[5],
+        (&[0, 0, 0, 0, 0, 1], 0),
+        (&[0, 0, 0, 0, 0, -1], -1),
+    ];
+    assert_eq!(rt; tell(rt.alloc(), &lines, 6), Told::Conflict);
+}
+
 // Upper rows `x0 + i x1 + i^3 x2 <= 1000 + i` and lower rows `-x0 + 101 i x1 + i^3 x2 <= 100000 + 1000 i`, for i from -59 to 59 but 0.
 fn family(alloc: Global) -> Result<Vec<Row>, AllocError> {
     let mut rows = Vec::new(alloc);

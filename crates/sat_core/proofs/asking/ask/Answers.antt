@@ -1,6 +1,6 @@
 use mir.Syntax.{w128}
 use Rattle.std.proofs.lemmas.Int.{to_z-of_z}
-use Rattle.std.proofs.Common.{rules, FitsSigned, ◌≡◌, ℕ, ◌<◌, ◌≤◌, true, List, length, map, sym, ◌∙◌, ap, subst, arith}
+use Rattle.std.proofs.Common.{rules, FitsSigned, ◌≡◌, ℕ, ◌<◌, ◌≤◌, true, List, length, map, refl, sym, ◌∙◌, ap, subst, arith, inl}
 use Rattle.lin_rows.specs.Rows.{Row}
 use Rattle.proof_lines.specs.declared.clause.Lit.{Lit}
 use Rattle.proof_lines.specs.Problems.{PlainProblem, fits}
@@ -8,10 +8,10 @@ use Rattle.proof_lines.proofs.LineRows.{splits-in_range}
 use Rattle.theory_api.specs.Laws.{rows_at, are_given, IsModel, IsConflict, IsSplit, IsTooMany, IsBeyond}
 use Rattle.theory_api.proofs.Standing.{lit_at}
 use Rattle.sat_core.specs.declared.asking.Outcome.{Outcome}
-use Rattle.sat_core.specs.Outcomes.{IsOutcome}
+use Rattle.sat_core.specs.Outcomes.{IsOutcome, IfGoes, IsStay}
 use Rattle.sat_core.proofs.Asked.{rows_at-are_rows, none_false, model_of, uneasy_given}
 use Rattle.sat_core.proofs.Ends.{search_spends}
-use Rattle.sat_core.proofs.Outcomes.{aim_of, places-so, takes-so, picks-so, refutation-so, split-so, rows-so, range-so, learned-outcome}
+use Rattle.sat_core.proofs.Outcomes.{aim_of, places-so, takes-so, picks-so, refutation-so, split-so, rows-so, range-so, learned-outcome, learned-stays}
 use Rattle.sat_core.proofs.asking.ask.Goals as goal
 
 pub check-requires-clause-places : goal.check-requires-clause-places
@@ -24,8 +24,8 @@ check-requires-clause-taken g c =
     g.met.T.Theory.takes_all c.requires.taken c.requires.search c.in_ok-drawn.ensures c.as_slice.ensures (ap (λ (z : PlainProblem). z.ints) c.grown.view_is)
     (places-so c.args.grown.now c.args.trail.now (length c.args.grown.now.atoms) c.in_ok-drawn.drawn.lits c.in_ok-drawn.drawn.rows c.as_slice.result.now c.grown.inside.ints c.law_fits.ensures c.in_ok-drawn.ensures c.as_slice.ensures (ap (λ (z : PlainProblem). z.ints) c.grown.view_is))
 
-pub returns-in-Ok : goal.returns-in-Ok
-returns-in-Ok g c =
+pub returns-in-Ok-clause-outcome : goal.returns-in-Ok-clause-outcome
+returns-in-Ok-clause-outcome g c =
     let p = c.args.problem.now in
     let q = c.args.grown.now in
     let d = c.in_ok-drawn.ensures in
@@ -47,8 +47,8 @@ refute-requires g c =
     refutation-so g.T.Theory.MAY_SPLIT g.T.Theory.MAY_STOP c.args.problem.now c.args.budget c.args.grown.now c.args.trail.now c.args.log.now c.in_ok-drawn.drawn.lits c.in_ok-drawn.drawn.rows c.in-Conflict.used c.in-Ok-pick.value c.requires.search c.requires.settled c.in_ok-drawn.ensures con.given e
     c.in-Conflict.steps con
 
-pub returns-in-Ok-pick : goal.returns-in-Ok-pick
-returns-in-Ok-pick g c =
+pub returns-in-Ok-pick-clause-outcome : goal.returns-in-Ok-pick-clause-outcome
+returns-in-Ok-pick-clause-outcome g c =
     subst (λ (z : Outcome). IsOutcome z g.T.Theory.MAY_SPLIT g.T.Theory.MAY_STOP c.args.problem.now c.args.budget c.args.grown.now c.args.trail.now c.args.log.now c.refute.new.grown c.refute.new.trail c.refute.new.log) (sym c.outcome.ensures)
     (learned-outcome c.refute.result g.T.Theory.MAY_SPLIT g.T.Theory.MAY_STOP c.args.problem.now c.args.budget c.args.grown.now c.args.trail.now c.args.log.now c.refute.new.grown c.refute.new.trail c.refute.new.log c.requires.search c.refute.ensures)
 
@@ -57,8 +57,8 @@ pick-requires-in-Split g c =
     let given : are_given c.in_ok-drawn.drawn.rows c.in-Split.used ≡ true = subst (λ (z : List Row). are_given z c.in-Split.used ≡ true) c.as_slice.ensures c.in-Split.ensures.1.given in
     picks-so c.args.grown.now c.args.trail.now (length c.args.grown.now.atoms) c.in_ok-drawn.drawn.lits c.as_slice-lits.result.now c.in_ok-drawn.drawn.rows c.in-Split.used c.as_slice-in-Split.result.now c.in_ok-drawn.ensures given c.as_slice-lits.ensures c.as_slice-in-Split.ensures
 
-pub returns-then-len-budget : goal.returns-then-len-budget
-returns-then-len-budget g c =
+pub returns-then-len-budget-clause-outcome : goal.returns-then-len-budget-clause-outcome
+returns-then-len-budget-clause-outcome g c =
     let a = aim_of c.args.problem.now g.T.Theory.MAY_SPLIT in
     let given : are_given c.in_ok-drawn.drawn.rows c.in-Split.used ≡ true = subst (λ (z : List Row). are_given z c.in-Split.used ≡ true) c.as_slice.ensures c.in-Split.ensures.1.given in
     let b : c.args.budget ≤ length c.args.log.now = omega (arith, c.len-in-Split.ensures, c.if-len-budget.true) in
@@ -72,8 +72,8 @@ split-requires-clause-fits g c =
     let h = splits-in_range (rows_at c.in_ok-drawn.drawn.rows c.in-Split.used) c.in-Split.steps c.in-Split.place c.in-Split.at c.in-Split.low c.in-Split.high c.in-Split.values (rows_at-are_rows c.in_ok-drawn.drawn.rows c.in-Split.used c.law_rows.ensures) s.cause in
     simp to_z-of_z h
 
-pub returns-in_ok-split-in-Split : goal.returns-in_ok-split-in-Split
-returns-in_ok-split-in-Split g c =
+pub returns-in_ok-split-in-Split-clause-outcome : goal.returns-in_ok-split-in-Split-clause-outcome
+returns-in_ok-split-in-Split-clause-outcome g c =
     let q = c.args.grown.now in
     let s = subst (λ (z : List Row). IsSplit c.grown.inside.ints z c.in-Split.place c.in-Split.at c.in-Split.used c.in-Split.steps c.in-Split.low c.in-Split.high c.in-Split.values) c.as_slice.ensures c.in-Split.ensures.1 in
     let sp : IsSplit q.ints c.in_ok-drawn.drawn.rows c.in-Split.place c.in-Split.at c.in-Split.used c.in-Split.steps c.in-Split.low c.in-Split.high c.in-Split.values =
@@ -90,8 +90,8 @@ pick-requires-in-Rows g c =
     let given : are_given c.in_ok-drawn.drawn.rows c.in-Rows.used ≡ true = subst (λ (z : List Row). are_given z c.in-Rows.used ≡ true) c.as_slice.ensures c.in-Rows.ensures.1.given in
     picks-so c.args.grown.now c.args.trail.now (length c.args.grown.now.atoms) c.in_ok-drawn.drawn.lits c.as_slice-lits.result.now c.in_ok-drawn.drawn.rows c.in-Rows.used c.as_slice-in-Rows.result.now c.in_ok-drawn.ensures given c.as_slice-lits.ensures c.as_slice-in-Rows.ensures
 
-pub returns-in-Ok-pick-3 : goal.returns-in-Ok-pick-3
-returns-in-Ok-pick-3 g c =
+pub returns-in-Ok-pick-3-clause-outcome : goal.returns-in-Ok-pick-3-clause-outcome
+returns-in-Ok-pick-3-clause-outcome g c =
     let con : IsTooMany c.in_ok-drawn.drawn.rows c.in-Rows.used c.in-Rows.steps = subst (λ (z : List Row). IsTooMany z c.in-Rows.used c.in-Rows.steps) c.as_slice.ensures c.in-Rows.ensures.1 in
     let e : c.in-Ok-pick-3.value ≡ map (lit_at c.in_ok-drawn.drawn.lits) c.in-Rows.used = c.in-Ok-pick-3.ensures ∙ (λ i. map (lit_at (c.as_slice-lits.ensures i)) (c.as_slice-in-Rows.ensures i)) in (
       c.in-Rows.ensures.0,
@@ -104,11 +104,19 @@ pick-requires-in-Range g c =
     let given : are_given c.in_ok-drawn.drawn.rows c.in-Range.used ≡ true = subst (λ (z : List Row). are_given z c.in-Range.used ≡ true) c.as_slice.ensures c.in-Range.ensures.1.given in
     picks-so c.args.grown.now c.args.trail.now (length c.args.grown.now.atoms) c.in_ok-drawn.drawn.lits c.as_slice-lits.result.now c.in_ok-drawn.drawn.rows c.in-Range.used c.as_slice-in-Range.result.now c.in_ok-drawn.ensures given c.as_slice-lits.ensures c.as_slice-in-Range.ensures
 
-pub returns-in-Ok-pick-4 : goal.returns-in-Ok-pick-4
-returns-in-Ok-pick-4 g c =
+pub returns-in-Ok-pick-4-clause-outcome : goal.returns-in-Ok-pick-4-clause-outcome
+returns-in-Ok-pick-4-clause-outcome g c =
     let con : IsBeyond c.in_ok-drawn.drawn.rows c.in-Range.used c.in-Range.steps c.in-Range.what = subst (λ (z : List Row). IsBeyond z c.in-Range.used c.in-Range.steps c.in-Range.what) c.as_slice.ensures c.in-Range.ensures.1 in
     let e : c.in-Ok-pick-4.value ≡ map (lit_at c.in_ok-drawn.drawn.lits) c.in-Range.used = c.in-Ok-pick-4.ensures ∙ (λ i. map (lit_at (c.as_slice-lits.ensures i)) (c.as_slice-in-Range.ensures i)) in (
       c.in-Range.ensures.0,
       range-so g.T.Theory.MAY_SPLIT g.T.Theory.MAY_STOP c.args.problem.now c.args.budget c.args.grown.now c.args.trail.now c.args.log.now c.in_ok-drawn.drawn.lits c.in_ok-drawn.drawn.rows c.in-Range.used c.in-Ok-pick-4.value c.requires.search c.requires.settled c.in_ok-drawn.ensures con.given e
           c.in-Range.steps c.in-Range.what con,
     )
+
+pub returns-in-Ok-pick-clause-stays : goal.returns-in-Ok-pick-clause-stays
+returns-in-Ok-pick-clause-stays g c =
+    subst (λ (z : Outcome). IfGoes z (IsStay c.args.grown.now.clauses c.args.trail.now c.refute.new.grown.clauses c.refute.new.trail)) (sym c.outcome.ensures)
+    (learned-stays c.refute.result (aim_of c.args.problem.now g.T.Theory.MAY_SPLIT) c.args.budget c.args.grown.now c.args.trail.now c.args.log.now c.refute.new.grown c.refute.new.trail c.refute.new.log c.requires.search c.refute.ensures)
+
+pub returns-in_ok-split-in-Split-clause-stays : goal.returns-in_ok-split-in-Split-clause-stays
+returns-in_ok-split-in-Split-clause-stays g c = inl (refl, ap (λ (z : PlainProblem). z.clauses) c.in_ok-split-in-Split.ensures.0)

@@ -19,8 +19,8 @@ explain-requires c =
     record {
       aim = c.requires.aim;
       before = length c.args.log.now;
-      chain = refute_chain c.requires.aim c.args.budget c.args.grown.now c.args.trail.now c.args.log.now c.args.used c.args.steps c.learn.new.problem c.learn.new.trail c.learn.new.log c.in-Ok.start
-          c.requires.search c.requires.settled c.requires.in_it c.requires.taken (c.requires.uneasy c.requires.aim c.requires.search) room c.in-Ok.ensures;
+      chain = (refute_chain c.requires.aim c.args.budget c.args.grown.now c.args.trail.now c.args.log.now c.args.used c.args.steps c.learn.new.problem c.learn.new.trail c.learn.new.log c.in-Ok.start
+          c.requires.search c.requires.settled c.requires.in_it c.requires.taken (c.requires.uneasy c.requires.aim c.requires.search) room c.in-Ok.ensures).0;
     }
 
 pub returns : goal.returns
@@ -29,4 +29,5 @@ returns c =
     learned-so c.explain.result c.args.budget c.args.grown.now c.args.trail.now c.args.log.now c.learn.new.problem c.learn.new.trail c.learn.new.log c.in-Ok.start c.explain.new.problem c.explain.new.trail c.explain.new.log
     (λ a y. refute_chain a c.args.budget c.args.grown.now c.args.trail.now c.args.log.now c.args.used c.args.steps c.learn.new.problem c.learn.new.trail c.learn.new.log c.in-Ok.start
     y c.requires.settled c.requires.in_it c.requires.taken (c.requires.uneasy a y) room c.in-Ok.ensures)
+    (λ w. (c.in-Ok.ensures.4 c.args.grown.now.clauses w c.requires.settled (false-negations c.args.trail.now c.args.used c.requires.in_it)).2)
     c.explain.ensures

@@ -1,9 +1,11 @@
-use Rattle.std.proofs.Common.{◌≡◌, ℕ, ◌+◌, ◌<◌, Bool, true, false, List, length, refl, sym, ◌∙◌, subst, arith}
+use Rattle.std.proofs.Common.{◌≡◌, ◌⊎◌, inl, inr, ℕ, ◌+◌, ◌<◌, Bool, true, false, List, length, refl, sym, ◌∙◌, subst, arith}
 use Rattle.proof_lines.specs.declared.clause.Lit.{Lit}
 use Rattle.search_logs.specs.declared.trail.Entry.{Entry}
 use Rattle.search_logs.specs.Trails.{is_false, named, open_in, before_last, has_decision, IsTrail, Settled}
 use Rattle.search_logs.proofs.Trails.{zero-open, open_zero, trail-before, settled-before, named-before}
+use Rattle.sat_core.specs.Searching.{IsBefore}
 use Rattle.sat_core.proofs.Resolving.{before-shorter}
+use Rattle.sat_core.proofs.Backjumps.{last-before, before-either}
 use Rattle.sat_core.proofs.explaining.cut_levels.Goals as goal
 
 pub cutting-smaller : goal.cutting-smaller
@@ -16,13 +18,13 @@ cutting-preserved c cs w s f =
     let y = c.cutting.invariant cs w s f in
     let t = c.cutting.trail in
     let o : open_in (before_last t) c.args.lits.now ≡ 0 = sym c.count_open_before.ensures ∙ c.if-count_open_before-eq0.true in
-    subst (λ (z : List Entry). IsTrail cs z × Settled z cs × (is_false z c.args.lits.now ≡ true) × ((x : ℕ) → named z x ≡ true → named c.args.trail.now x ≡ true)) (sym c.cut.ensures)
-    (trail-before cs t y.0, settled-before cs t y.0 (sym c.cutting-test.ensures), zero-open (before_last t) c.args.lits.now o, λ x h. y.3 x (named-before t x h))
+    subst (λ (z : List Entry). IsTrail cs z × Settled z cs × (is_false z c.args.lits.now ≡ true) × ((x : ℕ) → named z x ≡ true → named c.args.trail.now x ≡ true) × ((z ≡ c.args.trail.now) ⊎ IsBefore z c.args.trail.now)) (sym c.cut.ensures)
+    (trail-before cs t y.0, settled-before cs t y.0 (sym c.cutting-test.ensures), zero-open (before_last t) c.args.lits.now o, λ x h. y.3 x (named-before t x h), inr (before-either (before_last t) t c.args.trail.now y.4 (last-before (before_last t) t (sym c.cutting-test.ensures) (inl refl))))
 
 pub returns-else-count_open_before-eq0 : goal.returns-else-count_open_before-eq0
 returns-else-count_open_before-eq0 c cs w s f =
     let y = c.cutting.invariant cs w s f in
-    (record { trail = y.0; settled = y.1; now = y.2; not_before = λ d. not_false (is_false (before_last c.cutting.trail) c.args.lits.now) refl }, y.3)
+    (record { trail = y.0; settled = y.1; now = y.2; not_before = λ d. not_false (is_false (before_last c.cutting.trail) c.args.lits.now) refl }, y.3, y.4)
   where
     not_false : (b : Bool) → is_false (before_last c.cutting.trail) c.args.lits.now ≡ b → b ≡ false
     not_false false e = refl

@@ -30,7 +30,7 @@ keep_heard-requires-clause-prepared g c =
     let same_length = ap (λ (l : Lists). length l.messages) c.make_room.ensures.same in
     let lt : c.args.message < length c.make_room.new.self.messages.items = omega (arith, c.if-message-len.false, c.len.ensures, c.args.log.now.messages.ok.0, same_length) in
     let sent = subst (λ (l : Lists). slice_get l.messages c.args.message ≡ Some m) c.make_room.ensures.same (read_at c.make_room.new.self.messages.items c.args.message m lt c.index-sent.ensures) in
-    let is = c.in_ok-event.ensures ∙ ap (λ (t : List ℕ). event_for t n.waiting m) c.make_room-2.ensures.same in
+    let is = c.in_ok-event.ensures ∙ ap (λ (t : List ℕ). event_for t n.waiting m) (c.as_slice.ensures.value ∙ c.make_room-2.ensures.same) in
     let told = told_so c.in-Ok.heard refusal.Memory (hear_answer (hear d w n m)) c.in-Ok.ensures.answer in
     is_prepared d w [] [] lists 0 n taken m c.in-Ok.heard c.in_ok-event.event is told
 
@@ -44,7 +44,7 @@ returns-in-Ok-clause-answer g c = λ replicas granted r here.
     let lt : c.args.message < length c.make_room.new.self.messages.items = omega (arith, c.if-message-len.false, c.len.ensures, c.args.log.now.messages.ok.0, same_length) in
     let sent = subst (λ (l : Lists). slice_get l.messages c.args.message ≡ Some m) c.make_room.ensures.same (read_at c.make_room.new.self.messages.items c.args.message m lt c.index-sent.ensures) in
     let left : Left = record { did = c.keep_heard.result; lists = lists_of c.keep_heard.new.log; taken = c.keep_heard.new.taken.items } in
-    let is = c.in_ok-event.ensures ∙ ap (λ (t : List ℕ). event_for t n.waiting m) c.make_room-2.ensures.same in
+    let is = c.in_ok-event.ensures ∙ ap (λ (t : List ℕ). event_for t n.waiting m) (c.as_slice.ensures.value ∙ c.make_room-2.ensures.same) in
     let after =
     subst (λ (t : List ℕ). IsAfterHeard lists t (id_of m) c.in_ok-event.event c.in-Ok.heard left) c.make_room-2.ensures.same
     (subst (λ (l : Lists). IsAfterHeard l c.make_room-2.new.list.items (id_of m) c.in_ok-event.event c.in-Ok.heard left) c.make_room.ensures.same
@@ -63,7 +63,7 @@ returns-in-Ok-clause-ok g c = λ replicas granted r here.
     let lt : c.args.message < length c.make_room.new.self.messages.items = omega (arith, c.if-message-len.false, c.len.ensures, c.args.log.now.messages.ok.0, same_length) in
     let sent = subst (λ (l : Lists). slice_get l.messages c.args.message ≡ Some m) c.make_room.ensures.same (read_at c.make_room.new.self.messages.items c.args.message m lt c.index-sent.ensures) in
     let left : Left = record { did = c.keep_heard.result; lists = lists_of c.keep_heard.new.log; taken = c.keep_heard.new.taken.items } in
-    let is = c.in_ok-event.ensures ∙ ap (λ (t : List ℕ). event_for t n.waiting m) c.make_room-2.ensures.same in
+    let is = c.in_ok-event.ensures ∙ ap (λ (t : List ℕ). event_for t n.waiting m) (c.as_slice.ensures.value ∙ c.make_room-2.ensures.same) in
     let after =
     subst (λ (t : List ℕ). IsAfterHeard lists t (id_of m) c.in_ok-event.event c.in-Ok.heard left) c.make_room-2.ensures.same
     (subst (λ (l : Lists). IsAfterHeard l c.make_room-2.new.list.items (id_of m) c.in_ok-event.event c.in-Ok.heard left) c.make_room.ensures.same

@@ -3,23 +3,27 @@ use Rattle.std.specs.Prelude.{IfSome}
 use Rattle.proof_lines.specs.Clauses.{lit_of}
 use Rattle.sat_core.specs.declared.finding.Found.{Found}
 use Rattle.sat_core.specs.Searching.{IsFound}
-use Rattle.sat_core.proofs.Resolving.{chain_begins}
+use Rattle.sat_core.proofs.Resolving.{chain_begins, chain_begins-start}
 use Rattle.sat_core.proofs.Outcomes.{aim_of, pushed-outcome, forced-step}
 use Rattle.watched_search.specs.declared.early.Clash.{Clash}
 use Rattle.watched_search.specs.Early.{IsClash}
+use Rattle.watched_search.specs.Ready.{StayWatched}
 use Rattle.watched_search.proofs.Rows.{takes-grown, refutation-of}
 use Rattle.watched_search.proofs.solving.advance.Goals as goal
 
-pub meet-requires : goal.meet-requires
-meet-requires g c =
+pub meet-requires-clause-chain : goal.meet-requires-clause-chain
+meet-requires-clause-chain g c =
     let h = subst (λ (z : Found). IsFound z c.args.grown.now.clauses c.args.trail.now) c.in-Conflict.is c.in-Ok.ensures.found in
+    let a = aim_of c.args.problem.now g.T.Theory.MAY_SPLIT in
     record {
-      chain = record {
-        aim = aim_of c.args.problem.now g.T.Theory.MAY_SPLIT;
-        before = length c.args.log.now;
-        chain = chain_begins (aim_of c.args.problem.now g.T.Theory.MAY_SPLIT) c.args.budget c.args.grown.now c.args.trail.now c.args.log.now c.in-Conflict.start c.requires.search h.0 h.1 h.2;
-      };
+      aim = a;
+      before = length c.args.log.now;
+      chain = chain_begins a c.args.budget c.args.grown.now c.args.trail.now c.args.log.now c.in-Conflict.start c.requires.search h.0 h.1 h.2;
+      whole = chain_begins-start a c.args.budget c.args.grown.now c.args.trail.now c.args.log.now c.in-Conflict.start c.requires.search h.0 h.1 h.2;
     }
+
+pub meet-requires-clause-kept : goal.meet-requires-clause-kept
+meet-requires-clause-kept g c = subst (λ (z : Found). StayWatched z c.args.grown.now.clauses c.args.trail.now c.find.new.self.watches) c.in-Conflict.is c.in-Ok.ensures.watched
 
 pub returns-in-Conflict-clause-outcome : goal.returns-in-Conflict-clause-outcome
 returns-in-Conflict-clause-outcome g c =
@@ -39,13 +43,14 @@ consult-requires g c = record {
   taken = takes-grown g.T.Theory.MAY_SPLIT g.T.Theory.takes c.args.problem.now c.args.budget c.args.grown.now c.args.trail.now c.args.log.now g.met.T.Theory.takes_all c.requires.taken c.requires.search;
 }
 
-pub meet_rows-requires : goal.meet_rows-requires
-meet_rows-requires g c =
+pub meet_rows-requires-clause-refutation : goal.meet_rows-requires-clause-refutation
+meet_rows-requires-clause-refutation g c =
     let h = subst (λ (z : Found). IsFound z c.args.grown.now.clauses c.args.trail.now) c.in-Nothing.is c.in-Ok.ensures.found in
     let k = subst (λ (z : Option Clash). IfSome z (λ x. IsClash c.args.grown.now c.args.trail.now x.used x.steps)) c.in-Some-clash.is c.in-Ok-consult.ensures in
-    record {
-      refutation = refutation-of g.T.Theory.MAY_SPLIT c.args.problem.now c.args.budget c.args.grown.now c.args.trail.now c.args.log.now c.in-Some-clash.clash.used c.in-Some-clash.clash.steps c.requires.search h.0 k;
-    }
+    refutation-of g.T.Theory.MAY_SPLIT c.args.problem.now c.args.budget c.args.grown.now c.args.trail.now c.args.log.now c.in-Some-clash.clash.used c.in-Some-clash.clash.steps c.requires.search h.0 k
+
+pub meet_rows-requires-clause-kept : goal.meet_rows-requires-clause-kept
+meet_rows-requires-clause-kept g c = (subst (λ (z : Found). StayWatched z c.args.grown.now.clauses c.args.trail.now c.find.new.self.watches) c.in-Nothing.is c.in-Ok.ensures.watched).0
 
 pub returns-in-Some-clash-clause-outcome : goal.returns-in-Some-clash-clause-outcome
 returns-in-Some-clash-clause-outcome g c = c.meet_rows.ensures.outcome g.T.Theory.MAY_SPLIT g.T.Theory.MAY_STOP c.args.problem.now c.requires.search
@@ -57,3 +62,15 @@ returns-in-None-clash-clause-outcome g c =
     let b : c.in-Some.atom < length c.args.grown.now.atoms = subst (λ (n : ℕ). c.in-Some.atom < n) c.atom_count.ensures u.0 in
     pushed-outcome c.take-in-None-clash.result g.T.Theory.MAY_SPLIT g.T.Theory.MAY_STOP c.args.problem.now c.args.budget c.args.grown.now c.args.trail.now c.args.log.now (lit_of c.in-Some.atom c.sign-positive.result) None c.take-in-None-clash.new.trail
     c.requires.search h.1 u.1 b h.0 c.take-in-None-clash.ensures.pushed
+
+pub take-requires-clause-watched : goal.take-requires-clause-watched
+take-requires-clause-watched g c = subst (λ (z : Found). StayWatched z c.args.grown.now.clauses c.args.trail.now c.find.new.self.watches) c.in-Forced.is c.in-Ok.ensures.watched
+
+pub take-requires-in-None-clash-clause-watched : goal.take-requires-in-None-clash-clause-watched
+take-requires-in-None-clash-clause-watched g c = subst (λ (z : Found). StayWatched z c.args.grown.now.clauses c.args.trail.now c.find.new.self.watches) c.in-Nothing.is c.in-Ok.ensures.watched
+
+pub final_check-requires-clause-kept : goal.final_check-requires-clause-kept
+final_check-requires-clause-kept g c = (subst (λ (z : Found). StayWatched z c.args.grown.now.clauses c.args.trail.now c.find.new.self.watches) c.in-Nothing.is c.in-Ok.ensures.watched).0
+
+pub final_check-requires-clause-rest : goal.final_check-requires-clause-rest
+final_check-requires-clause-rest g c = (subst (λ (z : Found). StayWatched z c.args.grown.now.clauses c.args.trail.now c.find.new.self.watches) c.in-Nothing.is c.in-Ok.ensures.watched).1

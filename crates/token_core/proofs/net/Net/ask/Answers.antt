@@ -26,3 +26,6 @@ returns g c =
     subst (λ (n : HeldNet). IsStepped n (held_in d w c.self.inside.steps rs c.ask_at.new.manager c.ask_at.new.log) (step.Ask c.args.request) c.ask_at.result) c.self.view_is
     (manager_stepped d w c.self.inside.steps rs gr log c.self.invariant c.ask_at.new.manager c.ask_at.new.log (step.Ask c.args.request) o c.ask_at.result refl
     (c.ask_at.ensures.answer (replicas_in rs)) (c.ask_at.ensures.ok (replicas_in rs)) c.ask_at.ensures.err)
+
+pub ask_at-requires : goal.ask_at-requires
+ask_at-requires g c = λ i grant here. (c.self.invariant.kept.grants i grant here).named

@@ -1,0 +1,3 @@
+mod Implied
+mod Meeting
+mod Added

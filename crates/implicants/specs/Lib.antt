@@ -1,0 +1,2 @@
+pub mod Implicants
+pub mod Choosing

@@ -1,0 +1,8 @@
+use Rattle.std.proofs.Common.{◌≡◌, ◌++◌, drop}
+use Rattle.token_protocol.specs.Manager.{conflicting}
+use Rattle.token_core.proofs.manager.add_from.Given as goal
+
+-- all that conflict are those added so far, and those from here on
+abbrev pub invariant-loop-number : goal.invariant-loop-number
+invariant-loop-number l =
+    l.fn.ids ++ conflicting l.spec l.world (drop l.from l.granted) l.call ≡ l.ids ++ conflicting l.spec l.world (drop l.number l.granted) l.call

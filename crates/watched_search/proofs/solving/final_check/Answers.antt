@@ -1,0 +1,24 @@
+use Rattle.std.proofs.Common.{subst}
+use Rattle.watched_search.specs.declared.reducing.Reduced.{Reduced}
+use Rattle.watched_search.specs.Reduced.{IsReduced}
+use Rattle.watched_search.proofs.Rows.{takes-grown, refutation-of}
+use Rattle.watched_search.proofs.solving.final_check.Goals as goal
+
+pub ask_reduced-requires : goal.ask_reduced-requires
+ask_reduced-requires g c = record {
+  taken = takes-grown g.T.Theory.MAY_SPLIT g.T.Theory.takes c.args.problem.now c.args.budget c.args.grown.now c.args.trail.now c.args.log.now g.met.T.Theory.takes_all c.requires.taken c.requires.search;
+}
+
+pub returns-in-Found-clause-outcome : goal.returns-in-Found-clause-outcome
+returns-in-Found-clause-outcome g c = subst (λ (z : Reduced). IsReduced z c.args.problem.now c.args.grown.now c.args.trail.now) c.in-Found.is c.in-Ok.ensures
+
+pub meet_rows-requires : goal.meet_rows-requires
+meet_rows-requires g c =
+    let k = subst (λ (z : Reduced). IsReduced z c.args.problem.now c.args.grown.now c.args.trail.now) c.in-Clash.is c.in-Ok.ensures in
+    record {
+      refutation = refutation-of g.T.Theory.MAY_SPLIT c.args.problem.now c.args.budget c.args.grown.now c.args.trail.now c.args.log.now c.in-Clash.clash.used c.in-Clash.clash.steps c.requires.search c.requires.settled k;
+      kept = c.requires.kept;
+    }
+
+pub returns-in-Clash-clause-outcome : goal.returns-in-Clash-clause-outcome
+returns-in-Clash-clause-outcome g c = c.meet_rows.ensures.outcome g.T.Theory.MAY_SPLIT g.T.Theory.MAY_STOP c.args.problem.now c.requires.search

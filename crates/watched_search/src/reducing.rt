@@ -1,0 +1,109 @@
+// The solver of rows is asked about an implicant of a whole trail, which may have far fewer rows.
+ghost use Rattle.std.specs.Prelude.{◌≡◌, List, true, IfOk};
+ghost use Rattle.lin_rows.specs.Rows.{Row as PlainRow};
+ghost use Rattle.proof_lines.specs.declared.clause.Lit.{Lit as PlainLit};
+ghost use Rattle.sat_core.specs.Answers.{AreRowsOf};
+ghost use Rattle.theory_api.specs.Laws.{all_below};
+ghost use Rattle.watched_search.specs.Reduced.{IsReduced};
+
+use crate::early::{Clash, Said, ask_early};
+use crate::evaluating::evaluated;
+use implicants::{choose, relaxed};
+use items::Items;
+use proof_lines::{Interpretation, Lit, Problem};
+use search_logs::Trail;
+use std::alloc::{AllocError, Global};
+use theory_api::Theory;
+
+/// What an implicant of a whole trail says of it.
+#[derive(Drop)]
+pub enum Reduced {
+    /// This interpretation makes all clauses of the problem true.
+    Found(Interpretation),
+    /// Rows of the trail contradict each other.
+    Clash(Clash),
+    /// Neither: the rows of the whole trail say more.
+    Nothing,
+}
+
+// What numbers that satisfy the rows of an implicant come to.
+fn found_by(
+    alloc: Global,
+    problem: &Problem,
+    grown: &Problem,
+    trail: &Trail,
+    values: &[bool],
+    numbers: Items<i128>,
+) -> Result<Reduced, AllocError>
+    ensures { IfOk result (λ reduced. IsReduced reduced problem.now grown.now trail.now) }
+{
+    match evaluated(alloc, problem, values, numbers)? {
+        Some(found) => Ok(Reduced::Found(found)),
+        None => Ok(Reduced::Nothing),
+    }
+}
+
+// Asks a solver about the rows of an implicant, where it has fewer literals than the trail has.
+fn ask_about<T: Theory>(
+    alloc: Global,
+    theory: &mut T,
+    problem: &Problem,
+    grown: &Problem,
+    trail: &Trail,
+    values: &[bool],
+    few: &[Lit],
+    lits: &[Lit],
+) -> Result<Reduced, AllocError>
+    requires taken { (lits : List PlainLit) (rows : List PlainRow) → AreRowsOf grown.now.atoms lits rows → all_below grown.now.ints rows ≡ true → T.takes rows grown.now.ints }
+    ensures { IfOk result (λ reduced. IsReduced reduced problem.now grown.now trail.now) }
+{
+    if few.len() >= lits.len() {
+        return Ok(Reduced::Nothing);
+    }
+    match ask_early(alloc, theory, grown, trail, few)? {
+        Said::Model(numbers) => found_by(alloc, problem, grown, trail, values, numbers),
+        Said::Clash(clash) => Ok(Reduced::Clash(clash)),
+        Said::Nothing => Ok(Reduced::Nothing),
+    }
+}
+
+/// Asks a solver about the rows of an implicant of a trail, where that has fewer rows than the trail. The literals are those of the
+/// trail over atoms with rows, the earliest first.
+pub(crate) fn ask_reduced<T: Theory>(
+    alloc: Global,
+    theory: &mut T,
+    problem: &Problem,
+    grown: &Problem,
+    trail: &Trail,
+    lits: &[Lit],
+) -> Result<Reduced, AllocError>
+    requires taken { (lits : List PlainLit) (rows : List PlainRow) → AreRowsOf grown.now.atoms lits rows → all_below grown.now.ints rows ≡ true → T.takes rows grown.now.ints }
+    ensures { IfOk result (λ reduced. IsReduced reduced problem.now grown.now trail.now) }
+{
+    if lits.is_empty() {
+        return Ok(Reduced::Nothing);
+    }
+    let values = relaxed(alloc, problem, trail)?;
+    let chosen = or_drop!(choose(alloc, problem, trail, lits, values.as_slice()); values);
+    match chosen {
+        Some(few) => {
+            let reduced = ask_about(
+                alloc,
+                theory,
+                problem,
+                grown,
+                trail,
+                values.as_slice(),
+                few.as_slice(),
+                lits,
+            );
+            drop(few);
+            drop(values);
+            reduced
+        }
+        None => {
+            drop(values);
+            Ok(Reduced::Nothing)
+        }
+    }
+}
