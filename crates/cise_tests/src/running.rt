@@ -39,7 +39,7 @@ const PIECES: Pieces = Pieces {
 };
 
 /// The most bytes of a text that a run writes here.
-const ROOM: usize = 400_000;
+const ROOM: usize = 600_000;
 
 /// Words as the program is given them.
 pub fn words_from(alloc: Global, words: &[&str]) -> Result<Vec<String>, AllocError> {
