@@ -22,7 +22,8 @@ def choose():
         reason = why_not(choice, sources, looks)
         if not reason:
             if choice == KEPT and not was_told(looks):
-                say(f"{reasons[0]}. So {KEPT_PROGRAM} answers, which the gate built of these very sources; ./cise prove proves and builds it here")
+                by = record.read(KEPT_RECORD, KEPT_PROGRAM).proved_by
+                say(f"{reasons[0]}. So {KEPT_PROGRAM} answers, which is proved of these very sources, by {by}; ./cise prove proves and builds it here")
             looks.keep(choice)
             return choice, reasons
         reasons.append(reason)
