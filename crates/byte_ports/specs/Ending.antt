@@ -28,6 +28,6 @@ pub record Ends (Whole : ℕ → List ℕ → Type 0) (Front : List ℕ → Type
   pub front : 6 < status → IsBroken Front held_before held_after
   pub known : status < 9
 
--- the same where what may be left is the front of such an answer
+-- a run ends so, where what is left of a stopped one is the front of such an answer
 abbrev pub EndsIn : (ℕ → List ℕ → Type 0) → ℕ → Option (List ℕ) → Option (List ℕ) → ℕ → ℕ → Type 0
 EndsIn Whole status held_before held_after faults_before faults_after = Ends Whole (IsFrontOfOne Whole) status held_before held_after faults_before faults_after

@@ -54,6 +54,7 @@ IsRefusal bytes (faulty f) = (t : TreeForm) × IsTreeOf bytes t × (typing t ≡
 
 -- ---- texts
 
+-- the word of a limit
 abbrev pub which_word : Which → List ℕ
 which_word which.Sorts = codes "sorts"
 which_word which.Constants = codes "constants"
@@ -78,6 +79,7 @@ which_word which.Literal = codes "literal"
 abbrev pub named_words : List ℕ → List ℕ → ℕ → List (List ℕ)
 named_words what name word = what ∷ name ∷ codes "word" ∷ decimal word ∷ []
 
+-- the words of a fault: its kind, a name or the limit, and the place of its word
 abbrev pub fault_words : Fault → List (List ℕ)
 fault_words (unknown_fault name word) = named_words (codes "unknown") name word
 fault_words (twice_fault name word) = named_words (codes "twice") name word
@@ -85,6 +87,7 @@ fault_words (kind_fault name word) = named_words (codes "kind") name word
 fault_words (count_fault name word) = named_words (codes "count") name word
 fault_words (limit_fault which number word) = codes "limit" ∷ named_words (which_word which) (decimal number) word
 
+-- the words of a refusal: its kind and its place
 abbrev pub refusal_words : Refusal → List (List ℕ)
 refusal_words too_long = codes "long" ∷ []
 refusal_words (strange_letter at) = codes "letter" ∷ codes "at" ∷ decimal at ∷ []

@@ -12,6 +12,7 @@ abbrev pub Read : Type 0 → Type 0
 Read A = Result (A × List Token) ℕ
 
 infixl 10 ◌>>=◌
+-- goes on with what was read, or stops where reading failed
 abbrev pub ◌>>=◌ : {A B : Type 0} → Result A ℕ → (A → Result B ℕ) → Result B ℕ
 (Ok x) >>= f = f x
 (Err e) >>= f = Err e

@@ -88,10 +88,10 @@ is_word (symbol.Name text) = is_name text && (not (is_reserved text) && not (is_
 is_word (symbol.Number n) = nat_lt n 100000000000000000000000000000000000000
 is_word (symbol.Key k) = true
 
--- the same as a fact
+-- A symbol can be spelled by a word.
 abbrev pub IsWord : Symbol → Type 0
 IsWord s = is_word s ≡ true
 
--- each of them can
+-- Each of some symbols can be spelled by a word.
 abbrev pub AreWords : List Symbol → Type 0
 AreWords = AllByRecursion IsWord

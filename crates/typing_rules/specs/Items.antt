@@ -177,7 +177,7 @@ abbrev pub initial_truth : List Relation → ℕ → Bool → List Relation
 initial_truth [] n b = []
 initial_truth (r ∷ rs) n b = if n == 0 then record r { initial = b } ∷ rs else r ∷ initial_truth rs (n - 1) b
 
--- so the counter at a place
+-- the counter at a place has this initial value
 abbrev pub initial_number : List Counter → ℕ → ℤ → List Counter
 initial_number [] n v = []
 initial_number (c ∷ cs) n v = if n == 0 then record c { initial = v } ∷ cs else c ∷ initial_number cs (n - 1) v

@@ -39,12 +39,12 @@ abbrev pub spots_fault : Scope → List ℕ → List Spot → Option Fault
 spots_fault sc (s ∷ ss) (x ∷ xs) = spot_fault sc s x otherwise spots_fault sc ss xs
 spots_fault sc ss xs = None
 
--- a spot
+-- the spot that a tree's spot is
 abbrev pub spot_of : Scope → Spot → CoreSpot
 spot_of sc (spots.One m) = spot.One (elem_of sc m)
 spot_of sc spots.Every = spot.Every
 
--- and all of them
+-- the spots that a tree's spots are
 abbrev pub spots_of : Scope → List Spot → List CoreSpot
 spots_of sc xs = map (spot_of sc) xs
 
@@ -52,12 +52,12 @@ spots_of sc xs = map (spot_of sc) xs
 abbrev pub target_fault_at : Scope → Mark → List Spot → List ℕ → Option Fault
 target_fault_at sc m xs places = places_fault m places (length xs) otherwise spots_fault sc places xs
 
--- the same of a relation, where it is known which one the name is
+-- what is wrong with the target of an update of a relation, where it is known which one the name is
 abbrev pub relation_fault_at : Scope → Mark → List Spot → Option ℕ → Option Fault
 relation_fault_at sc m xs (Some k) = target_fault_at sc m xs (relation_places sc.design k)
 relation_fault_at sc m xs None = stranger_fault sc m
 
--- the same of a counter
+-- what is wrong with the target of an update of a counter, where it is known which one the name is
 abbrev pub counter_fault_at : Scope → Mark → List Spot → Option ℕ → Option Fault
 counter_fault_at sc m xs (Some k) = target_fault_at sc m xs (counter_keys sc.design k)
 counter_fault_at sc m xs None = stranger_fault sc m
@@ -84,7 +84,7 @@ guard_formula sc (Some f) = formula_of sc f
 abbrev pub relation_target : Scope → Mark → Thing
 relation_target sc m = thing.Relation (unwrap_or (relation_meant (sc.names m.text)) 0)
 
--- so the counter
+-- the counter that a name is; what is none stands for the first one, and is refused
 abbrev pub counter_target : Scope → Mark → Thing
 counter_target sc m = thing.Counter (unwrap_or (counter_meant (sc.names m.text)) 0)
 

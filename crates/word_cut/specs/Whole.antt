@@ -30,6 +30,6 @@ greatest = 170141183460469231731687303715884105727
 abbrev pub read_of : List ℕ → Option ℤ
 read_of text = if (is_whole text && nat_le (unsigned_abs (whole_of text)) greatest) then Some (whole_of text) else None
 
--- the same of a number without a sign
+-- the number without a sign that a text writes, if it writes one and it isn't too great
 abbrev pub size_read : List ℕ → Option ℕ
 size_read text = if (is_number text && nat_le (number_of text) greatest) then Some (number_of text) else None
