@@ -27,10 +27,11 @@ use Rattle.spec_core.specs.World.{below}
 abbrev pub numbered : List ℕ → ℕ → List ℕ
 numbered word i = word ++ decimal i
 
--- the one sort, `Item`, and the one token, `t`
+-- the one sort, `Item`
 abbrev pub item : ℕ
 item = 0
 
+-- the one token, `t`
 abbrev pub t : ℕ
 t = 0
 
