@@ -23,13 +23,15 @@ use Rattle.spec_core.specs.Line.{Line}
 use Rattle.spec_core.specs.UpdateLine.{UpdateLine}
 use Rattle.spec_core.specs.Specification.{Specification}
 
--- the one sort, `Account`, the one counter, `balance`, and the one token, `purse`
+-- the one sort, `Account`
 abbrev pub account : ℕ
 account = 0
 
+-- the one counter, `balance`
 abbrev pub balance : ℕ
 balance = 0
 
+-- the one token, `purse`
 abbrev pub purse : ℕ
 purse = 0
 

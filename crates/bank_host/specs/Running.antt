@@ -19,12 +19,13 @@ command_of (command ∷ []) = None
 command_of (command ∷ path ∷ []) = command_named command
 command_of (command ∷ path ∷ more ∷ words) = None
 
--- The answer to the bytes of a schedule is that of the command for the bank's specification. Other words are refused, with status 2.
+-- The status for the bytes of a schedule: that of the command for the bank's specification, and 2 for other words.
 abbrev pub answer_status : Option Command → List ℕ → ℕ
 answer_status (Some Replay) bytes = schedule_status bank bytes
 answer_status (Some Simulate) bytes = simulated_status bank bytes
 answer_status None bytes = 2
 
+-- The text for the bytes of a schedule: that of the command for the bank's specification, or the line that refuses other words.
 abbrev pub answer_text : Option Command → List ℕ → List ℕ
 answer_text (Some Replay) bytes = schedule_text bank bytes
 answer_text (Some Simulate) bytes = simulated_text bank bytes

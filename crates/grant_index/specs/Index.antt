@@ -25,7 +25,7 @@ pub record IsUpTo (granted : List Granted) (list : Candidates) : Type 0 where
   pub within : list.gone_through ≤ length granted
   pub numbers : list.numbers ≡ numbers_from list.rivals 0 (take list.gone_through granted)
 
--- so has each list of an index
+-- each list of an index has the numbers among the grants that were gone through
 abbrev pub AreUpTo : List Granted → List Candidates → Type 0
 AreUpTo granted lists = (op : ℕ) (list : Candidates) → slice_get lists op ≡ Some list → IsUpTo granted list
 
@@ -34,5 +34,6 @@ abbrev pub numbers_in : Option Candidates → List ℕ
 numbers_in None = []
 numbers_in (Some list) = list.numbers
 
+-- the numbers that an index lists for an operation
 abbrev pub numbers_at : List Candidates → ℕ → List ℕ
 numbers_at lists op = numbers_in (slice_get lists op)

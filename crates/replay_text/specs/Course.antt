@@ -30,6 +30,7 @@ abbrev pub unless_broken : Option ℕ → Held → Course → Course
 unless_broken None held next = next
 unless_broken (Some place) held next = stopped (stop.Broken place) held
 
+-- the replica of a step
 abbrev pub replica_of : Step → ℕ
 replica_of (step.Call replica name args) = replica
 replica_of (step.Take replica e) = replica

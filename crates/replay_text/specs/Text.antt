@@ -73,6 +73,7 @@ replica_texts d w held replica (taken ∷ more) = replica_text d w held replica 
 
 -- ---- the whole
 
+-- the text of a course: a first line, the accepted steps, how it stops, and the replicas
 abbrev pub course_text : Specification → World → List Step → Course → List ℕ
 course_text d w steps c =
     codes "cise replay 1\n" ++ step_lines 0 steps c.events ++ stop_line d (length c.events) c.stop ++ replica_texts d w c.held 0 c.held.taken
@@ -87,5 +88,6 @@ status_of stop.Done = 0
 status_of (stop.Broken place) = 1
 status_of (stop.Refused why) = 4
 
+-- the status of a replay, by how it stops
 abbrev pub replay_status : Specification → World → ℕ → List Step → ℕ
 replay_status d w replicas steps = status_of (course d w replicas steps).stop

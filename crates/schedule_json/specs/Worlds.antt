@@ -16,6 +16,7 @@ use Rattle.schedule_json.specs.Checks.{Checked, located, need, with_some, and_th
 abbrev pub size_limit : ℕ
 size_limit = 65
 
+-- a number below a limit: none is a fault of shape, a greater one a fault of size
 abbrev pub in_limit : ℕ → Option ℕ → Result ℕ Fault
 in_limit limit None = Err fault.Shape
 in_limit limit (Some n) = if nat_lt n limit then Ok n else Err fault.Size
@@ -39,6 +40,7 @@ elements_at sizes [] v = Ok []
 elements_at sizes (c ∷ cs) v =
     with_first (located (path.Constant c.name) (number_below (get_or sizes c.sort 0) (get c.name v))) (elements_at sizes cs v)
 
+-- the names of constants
 abbrev pub const_names : List Const → List (List ℕ)
 const_names cs = map (λ c. c.name) cs
 
@@ -48,6 +50,7 @@ elements_of d sizes v =
     with_some v (refused.Shape path.Constants)
     (λ found. need (has_exactly (const_names d.consts) found) (refused.Shape path.Constants) (elements_at sizes d.consts found))
 
+-- the world of these sizes and these elements of constants
 abbrev pub world_from : List ℕ → List ℕ → Checked World
 world_from sizes elements = Ok (record { sizes = sizes; consts = elements })
 

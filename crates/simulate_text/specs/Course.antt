@@ -105,7 +105,7 @@ with_done sim m = record { net = sim.net; dones = sim.dones ++ m ∷ []; grants 
 abbrev pub ran : Specification → World → ℕ → ℕ → ℕ → Simulated → Part
 ran d w r e m sim = saying (said.Call e) (asked_at d w r (with_done sim m) (goes_on [] (with_done sim m)))
 
--- so many replicas hear a message, one after the other
+-- the network when its first n replicas have heard a message, one after the other
 abbrev pub heard_by : Specification → World → ℕ → ℕ → Network → Network
 heard_by d w m zero net = net
 heard_by d w m (suc n) net = (let before = heard_by d w m n net in network_after before (outcome d w before (step.Hear n m)))
@@ -178,12 +178,14 @@ abbrev pub begins : Specification → World → ℕ → Call → Simulated → P
 begins d w r call sim =
     (let o = outcome d w sim.net (step.Begin r call) in begun d w r (length sim.net.messages) (told o) (stepped sim o))
 
+-- a recorded call, where its operation is there
 abbrev pub calls : Specification → World → ℕ → List ℤ → Option ℕ → Simulated → Part
 calls d w r args None sim = stops (stop.Refused refusal.Operation) sim
 calls d w r args (Some op) sim = begins d w r (let call : Call = record { op = op; args = args } in call) sim
 
 -- ---- a taking
 
+-- there is a replica, and a call of it waits
 abbrev pub is_waiting : Option Replica → Bool
 is_waiting None = false
 is_waiting (Some at) = is_some at.node.waiting
@@ -204,6 +206,7 @@ taken d w r e (Ok (did.Awaits id)) sim = goes_on (said.Early (number_of sim.net.
 taken d w r e (Ok did.Noted) sim = goes_on [] sim
 taken d w r e (Ok did.Old) sim = goes_on (said.Old e ∷ []) sim
 
+-- a recorded taking, where its event is there
 abbrev pub takes : Specification → World → ℕ → ℕ → Option ℕ → Simulated → Part
 takes d w r e None sim = stops (stop.Refused refusal.NoEvent) sim
 takes d w r e (Some m) sim = (let o = outcome d w sim.net (step.Hear r m) in taken d w r e (told o) (stepped sim o))
@@ -226,11 +229,12 @@ pub record Course : Type 0 where
   pub stop : Stop
   pub after : Simulated
 
+-- the replica of a recorded step
 abbrev pub replica_of : Step → ℕ
 replica_of (recorded.Call r name args) = r
 replica_of (recorded.Take r e) = r
 
--- it stops at this step, or there are the lines of the step, and then a course
+-- the course stops at this step, or has the lines of the step and goes on
 abbrev pub unless_stopped : Option Stop → ℕ → List ℕ → Simulated → Course → Course
 unless_stopped (Some how) k lines sim next = record { lines = lines; at = k; stop = how; after = sim }
 unless_stopped None k lines sim next = record { lines = lines ++ next.lines; at = next.at; stop = next.stop; after = next.after }
@@ -245,6 +249,7 @@ course_from d w k (s ∷ ss) sim =
 abbrev pub first_simulated : Specification → World → ℕ → Simulated
 first_simulated d w replicas = record { net = first_network d w replicas; dones = []; grants = replicate replicas 0 }
 
+-- stops before the first step where the initial state breaks an invariant
 abbrev pub unless_broken_first : Option ℕ → Simulated → Course → Course
 unless_broken_first None sim next = next
 unless_broken_first (Some place) sim next = record { lines = []; at = 0; stop = stop.BrokenFirst place; after = sim }

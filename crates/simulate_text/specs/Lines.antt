@@ -35,6 +35,7 @@ said_words d (said.Void cause) = codes "void " ++ void_words d cause
 abbrev pub said_line : Specification → ℕ → ℕ → Said → List ℕ
 said_line d k r what = codes "step " ++ decimal k ++ codes " replica " ++ decimal r ++ 32 ∷ [] ++ said_words d what ++ 10 ∷ []
 
+-- the lines of a step, in their order
 abbrev pub said_lines : Specification → ℕ → ℕ → List Said → List ℕ
 said_lines d k r [] = []
 said_lines d k r (what ∷ more) = said_line d k r what ++ said_lines d k r more

@@ -24,9 +24,11 @@ pub record Lists : Type 0 where
   pub messages : List Message
   pub happened : List Happened
 
+-- the lists that a log holds
 abbrev pub lists_of : Log → Lists
 lists_of log = record { requests = log.requests.items; messages = log.messages.items; happened = log.happened.items }
 
+-- the lists before the first step
 abbrev pub no_lists : Lists
 no_lists = record { requests = []; messages = []; happened = [] }
 
@@ -61,6 +63,7 @@ id_of (message.Void id) = id
 abbrev pub event_of : Call → List ℕ → Event Call
 event_of call taken = record { call = call; seen = taken }
 
+-- what is left where a call was run: one event more, which the replica takes, and its message
 abbrev pub after_ran : Lists → List ℕ → Event Call → Message → Left
 after_ran lists taken event done = record {
   did = did.Ran (length lists.happened);
@@ -72,6 +75,7 @@ after_ran lists taken event done = record {
   taken = taken ++ length lists.happened ∷ [];
 }
 
+-- what is left where a call is void: the message that says so
 abbrev pub after_void : Lists → List ℕ → WhyVoid → Message → Left
 after_void lists taken cause told = record {
   did = did.Void cause (length lists.messages);
@@ -79,6 +83,7 @@ after_void lists taken cause told = record {
   taken = taken;
 }
 
+-- what is left where a call waits: one request more
 abbrev pub after_asked : Lists → List ℕ → Request → Left
 after_asked lists taken request = record {
   did = did.Asked (length lists.requests);
@@ -86,9 +91,11 @@ after_asked lists taken request = record {
   taken = taken;
 }
 
+-- what is left where an event was taken: nothing is sent
 abbrev pub after_took : Lists → List ℕ → ℕ → Left
 after_took lists taken number = record { did = did.Took number; lists = lists; taken = taken ++ number ∷ [] }
 
+-- what is left where nothing was sent, run or taken
 abbrev pub after_none : NetDid → Lists → List ℕ → Left
 after_none what lists taken = record { did = what; lists = lists; taken = taken }
 

@@ -59,6 +59,8 @@ IsTrueMessage net (message.Done id call seen) =
     (k : ℕ) × (h : Happened) × IsHappened net k h × (h.id ≡ id) × (h.event.call ≡ call) × AreIds net.happened h.event.seen seen
 IsTrueMessage net (message.Void id) = IsPast net id
 
+-- What every network keeps after any steps: what its nodes, requests, grants and messages say is true of what happened, and
+-- that is an execution.
 pub record IsKept (d : Specification) (w : World) (net : Network) : Type 0 where
   -- replicas
   pub numbered : (r : ℕ) (at : Replica) → IsReplica net r at → at.node.replica ≡ r

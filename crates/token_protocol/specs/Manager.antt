@@ -33,6 +33,7 @@ pub record Asked : Type 0 where
   pub message : Message
   pub granted : List Granted
 
+-- what the manager sends for a request: what was granted to its id before, if anything was, else a new grant
 abbrev pub asked_with : Specification → World → List Granted → Request → Option Granted → Asked
 asked_with d w granted request (Some g) = record { message = grant_message g; granted = granted }
 asked_with d w granted request None = record { message = grant_message (new_grant d w granted request); granted = granted ++ new_grant d w granted request ∷ [] }

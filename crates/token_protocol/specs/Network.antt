@@ -64,9 +64,11 @@ number_of (h ∷ hs) id = cond (same_id h.id id) 0 (suc (number_of hs id))
 abbrev pub with_replica : Network → ℕ → Node → List ℕ → Network
 with_replica net r node taken = record net { replicas = set net.replicas r (let replica : Replica = record { node = node; taken = taken } in replica) }
 
+-- one message more
 abbrev pub with_message : Network → Message → Network
 with_message net m = record net { messages = net.messages ++ m ∷ [] }
 
+-- one request more
 abbrev pub with_request : Network → Request → Network
 with_request net request = record net { requests = net.requests ++ request ∷ [] }
 
@@ -117,19 +119,22 @@ hear_at net r at old = accepted did.Old net
 abbrev pub grant_by : Network → Asked → Outcome
 grant_by net a = accepted (did.Granted (length net.messages)) (record (with_message net a.message) { granted = a.granted })
 
--- The parts of a step, where the replica, the request and the message of these numbers are there.
+-- a step by which a replica makes a call, where the replica of this number is there
 abbrev pub begins : Specification → World → Network → ℕ → Call → Option Replica → Outcome
 begins d w net r call None = rejected unable.Replica
 begins d w net r call (Some at) = begin_at net r at (begin d w at.node call)
 
+-- a step at the manager, where the request of this number is there
 abbrev pub asks : Specification → World → Network → Option Request → Outcome
 asks d w net None = rejected unable.NoMessage
 asks d w net (Some request) = grant_by net (asked d w net.granted request)
 
+-- a step of a replica that is there, where the message of this number is there
 abbrev pub hears_message : Specification → World → Network → ℕ → Replica → Option Message → Outcome
 hears_message d w net r at None = rejected unable.NoMessage
 hears_message d w net r at (Some m) = hear_at net r at (hear d w at.node m)
 
+-- a step by which a replica hears a message, where both are there
 abbrev pub hears : Specification → World → Network → ℕ → Option Message → Option Replica → Outcome
 hears d w net r m None = rejected unable.Replica
 hears d w net r m (Some at) = hears_message d w net r at m
