@@ -45,6 +45,7 @@ value_at x (t ∷ ts) = t.coef *ℤ x t.place +ℤ value_at x ts
 abbrev pub Satisfies : (ℕ → ℤ) → Row → Type 0
 Satisfies x r = value_at x r.terms ≤ℤ r.bound
 
+-- there are no terms
 abbrev pub has_no_terms : List RowTerm → Bool
 has_no_terms [] = true
 has_no_terms (t ∷ ts) = false
@@ -53,6 +54,7 @@ has_no_terms (t ∷ ts) = false
 abbrev pub is_contradiction : Row → Bool
 is_contradiction r = has_no_terms r.terms && int_lt r.bound (pos 0)
 
+-- a term with the opposite coefficient
 abbrev pub opposite : RowTerm → RowTerm
 opposite t = record { place = t.place; coef = pos 0 -ℤ t.coef }
 

@@ -31,10 +31,13 @@ step_sum (Some l) None s = Err Place
 step_sum None r s = Err Place
 
 -- WHEN A ROW IS NAMED LAST. It mirrors src/kept: a list says of each row after how many steps nothing names it any more.
+
+-- a row has an end, and it is reached after this many steps
 abbrev pub is_past : Option ℕ → ℕ → Bool
 is_past (Some end) taken = nat_le end taken
 is_past None taken = false
 
+-- after this many steps nothing names the row of this number any more
 abbrev pub is_done : List ℕ → ℕ → ℕ → Bool
 is_done ends taken i = is_past (slice_get ends i) taken
 
@@ -47,6 +50,7 @@ pub record KeptUntil (rows : List Row) (ends : List ℕ) (taken : ℕ) (kept : L
   pub whole : length kept ≡ length rows
   pub there : (i : ℕ) → is_done ends taken i ≡ false → kept_at kept i ≡ slice_get rows i
 
+-- a line has rows, and after this many steps those that aren't done are kept
 abbrev pub HasKeptUntil : Result (List Row) Why → List ℕ → ℕ → List (Option Row) → Type 0
 HasKeptUntil given ends taken kept = (rows : List Row) × (given ≡ Ok rows) × KeptUntil rows ends taken kept
 
@@ -77,12 +81,13 @@ abbrev pub AreCancelling : Bool → Result (List Row) Why → List RowStep → L
 AreCancelling true given steps ends kept = HasKeptUntil given ends (length steps) kept × (all_cancel_in given steps ≡ true)
 AreCancelling false given steps ends kept = all_cancel_in given steps ≡ false
 
--- what a number beyond the range names of all rows
+-- the first row that a number beyond the range names
 abbrev pub first_named : RangeWhat → ℕ
 first_named (Product left right place) = left
 first_named (Value i place values) = i
 first_named (Sum i place values) = i
 
+-- the second row that a number beyond the range names, or its only one again
 abbrev pub second_named : RangeWhat → ℕ
 second_named (Product left right place) = right
 second_named (Value i place values) = i

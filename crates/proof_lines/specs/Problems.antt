@@ -47,6 +47,7 @@ kind_true m a (Some (OfRow r)) = row_true m.number r
 kind_true m a (Some Plain) = m.truth a
 kind_true m a None = m.truth a
 
+-- the truth of an atom of a list, by its number
 abbrev pub atom_true : Meaning → List AtomKind → ℕ → Bool
 atom_true m atoms a = kind_true m a (slice_get atoms a)
 

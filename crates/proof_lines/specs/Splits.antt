@@ -24,6 +24,7 @@ put_rising (m ∷ ms) n = cond (nat_lt n m) (n ∷ m ∷ ms) (cond (n == m) (m �
 abbrev pub other_terms : ℕ → List RowTerm → List RowTerm
 other_terms place ts = filter (λ t. not (t.place == place)) ts
 
+-- the places that some terms name, in their order
 abbrev pub places_of : List RowTerm → List ℕ
 places_of ts = map (λ t. t.place) ts
 
@@ -47,7 +48,7 @@ rest_at x r = sum_from x (pos 0) r.terms
 abbrev pub is_in_gap : ℤ → ℤ → ℤ → Bool
 is_in_gap at n d = int_lt (at *ℤ d) n && int_lt n ((at +ℤ pos 1) *ℤ d)
 
--- the same of a fraction that isn't whole, by its sign and the quotient of its size
+-- the greatest whole number below a fraction that isn't whole, tested by its sign and the quotient of its size
 abbrev pub is_floor : ℤ → Bool → ℕ → Bool
 is_floor (pos k) true quotient = k == quotient
 is_floor (negsuc k) true quotient = false
@@ -64,6 +65,7 @@ abbrev pub in_gap : ℤ → ℕ → Row → ℤ → Row → ℤ → Bool
 in_gap at place low rest_low high rest_high =
     is_in_gap at (rest_low -ℤ low.bound) (size_at low place) && is_in_gap at (high.bound -ℤ rest_high) (size_at high place)
 
+-- the last two tests of a Split, with the rests of its two rows: both are in range, and both fractions lie in the gap
 abbrev pub with_rests : ℤ → ℕ → Row → Option ℤ → Row → Option ℤ → Result (Unit {0}) Why
 with_rests at place low (Some l) high (Some h) = need (in_gap at place low l high h) SplitCause (Ok tt)
 with_rests at place low (Some l) high None = Err Range
@@ -102,6 +104,7 @@ is_alone place [] = false
 is_alone place (t ∷ []) = (t.place == place) && int_eq t.coef (pos 1)
 is_alone place (t ∷ u ∷ ts) = false
 
+-- the atom has the row `place <= at`
 abbrev pub is_at_most : ℕ → ℤ → AtomKind → Bool
 is_at_most place at Plain = false
 is_at_most place at (OfRow r) = is_alone place r.terms && int_eq r.bound at
