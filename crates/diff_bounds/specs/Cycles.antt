@@ -30,7 +30,7 @@ abbrev pub free_places : List (Option ℕ) → ℕ
 free_places [] = 0
 free_places (o ∷ seen) = cond (is_none o) (1 + free_places seen) (free_places seen)
 
--- how far it has come from the visit `last`
+-- how far the way back has come from the visit `last`
 pub record IsGoingBack (ints : ℕ) (visits : List Visit) (last : ℕ) (seen : List (Option ℕ)) (used : List ℕ) (at : ℕ) : Type 0 where
   pub at_is : at ≡ back visits (length used) last
   pub used_is : used ≡ walk_edges visits (length used) last
@@ -49,7 +49,7 @@ LeadBack ints rows (u ∷ us) [] start = ⊥
 LeadBack ints rows (u ∷ us) (p ∷ ps) start =
     (bound : ℤ) × Spans ints (tightened (row_at rows u)) (slice_index_or ps 0 start) p bound × LeadBack ints rows us ps start
 
--- They are the rows of one cycle, the last one first: it comes to no place twice, and ends where it starts.
+-- Rows are those of one cycle, the last one first: it comes to no place twice, and ends where it starts.
 pub record IsRowCycle (ints : ℕ) (rows : List Row) (used : List ℕ) : Type 0 where
   pub end : ℕ
   pub others : List ℕ
@@ -59,12 +59,15 @@ pub record IsRowCycle (ints : ℕ) (rows : List Row) (used : List ℕ) : Type 0 
 
 -- THE STEPS: the first adds the first two of `count` rows, and each next one adds one row more
 
+-- the left row of a step: the first of all rows at the first step, and then the row of the step before
 abbrev pub left_of : ℕ → ℕ → ℕ
 left_of count right = cond (nat_eq right 1) 0 (count + right - 2)
 
+-- the step that adds the row of this number
 abbrev pub step_at : ℕ → ℕ → RowStep
 step_at count right = record { left = left_of count right; first = pos 1; right = right; second = pos 1 }
 
+-- the first steps, in their order
 abbrev pub first_steps : ℕ → ℕ → List RowStep
 first_steps count zero = []
 first_steps count (suc n) = first_steps count n ++ step_at count (suc n) ∷ []

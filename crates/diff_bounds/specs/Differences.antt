@@ -12,6 +12,7 @@ use Rattle.proof_lines.specs.Evidence.{in_state}
 
 -- DIFFERENCE ROWS
 
+-- a coefficient is 1 or -1
 abbrev pub is_unit : ℤ → Bool
 is_unit c = int_eq c (pos 1) || int_eq c (negsuc 0)
 
@@ -34,6 +35,7 @@ is_near ints b = nat_le ((ints + 1) * unsigned_abs b) state_limit
 abbrev pub is_taken : ℕ → Row → Bool
 is_taken ints r = are_difference (tightened r).terms && is_near ints (tightened r).bound
 
+-- the solver takes each of these rows
 abbrev pub are_taken : ℕ → List Row → Bool
 are_taken ints rows = list_all (is_taken ints) rows
 

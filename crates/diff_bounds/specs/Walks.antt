@@ -7,18 +7,20 @@ use Rattle.diff_bounds.specs.Edges.{edge_at}
 
 -- VISITS: each is where a walk has come to, by an edge from an earlier visit, or a start
 
+-- what stands for a visit that isn't there
 abbrev pub no_visit : Visit
 no_visit = record { place = 0; depth = 0; value = pos 0; edge = 0; before = 0 }
 
+-- the visit of a number
 abbrev pub visit_at : List Visit → ℕ → Visit
 visit_at visits i = slice_index_or visits i no_visit
 
--- so many visits back
+-- the visit that lies this many edges back
 abbrev pub back : List Visit → ℕ → ℕ → ℕ
 back visits zero i = i
 back visits (suc n) i = back visits n (visit_at visits i).before
 
--- the edges of so many visits, the last one first
+-- this many edges of a walk, back from a visit: the last one first
 abbrev pub walk_edges : List Visit → ℕ → ℕ → List ℕ
 walk_edges visits zero i = []
 walk_edges visits (suc n) i = (visit_at visits i).edge ∷ walk_edges visits n (visit_at visits i).before
@@ -41,10 +43,11 @@ pub record IsVisit (ints : ℕ) (edges : List Edge) (i : ℕ) (visit before : Vi
   pub not_later : visit.before ≤ i
   pub step : 0 < visit.depth → IsStep edges i visit before
 
--- the latest visit of each place
+-- the number of the latest visit of a place
 abbrev pub latest_at : List ℕ → ℕ → ℕ
 latest_at latest place = slice_index_or latest place 0
 
+-- the latest visit of a place
 abbrev pub now_at : List Visit → List ℕ → ℕ → Visit
 now_at visits latest place = visit_at visits (latest_at latest place)
 
@@ -92,6 +95,7 @@ pub record IsLong (ints : ℕ) (visits : List Visit) : Type 0 where
 abbrev pub IsSettled : List Visit → List ℕ → Edge → Type 0
 IsSettled visits latest e = (now_at visits latest e.to).value ≤ℤ ((now_at visits latest e.from).value +ℤ e.bound)
 
+-- no edge leads to a lower value
 abbrev pub AreSettled : List Visit → List ℕ → List Edge → Type 0
 AreSettled visits latest edges = (i : ℕ) → i < length edges → IsSettled visits latest (edge_at edges i)
 

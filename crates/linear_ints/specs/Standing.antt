@@ -21,6 +21,6 @@ pub record IsCombinedAt (place : ℕ) (held : List Row) (high : Row) (low : Row)
   pub sum_is : combined high low place ≡ Some sum
   pub stands : ((has_no_terms sum.row.terms ≡ true) × (is_contradiction sum.row ≡ false)) ⊎ ((m : ℕ) × (m < length held) × (row_at held m ≡ sum.row))
 
--- the same at the place of a stage
+-- the combination of two rows at the place of a stage is a constant that is no contradiction, or a held row
 abbrev pub IsCombined : List ℕ → List Row → ℕ → Row → Row → Type 0
 IsCombined order held k high low = IsCombinedAt (place_at order k) held high low

@@ -24,6 +24,7 @@ all_below ints rows = list_all (places_below ints) rows
 abbrev pub rows_at : List Row → List ℕ → List Row
 rows_at rows used = map (row_at rows) used
 
+-- there is a row among those used
 abbrev pub is_some_row : List ℕ → Bool
 is_some_row [] = false
 is_some_row (u ∷ used) = true
