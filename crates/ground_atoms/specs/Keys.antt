@@ -12,9 +12,11 @@ use Rattle.lin_rows.specs.declared.term.RowTerm.{RowTerm}
 use Rattle.lin_rows.specs.Rows.{Row}
 use Rattle.proof_lines.specs.Evidence.{same_terms, same_row}
 
+-- what a term puts into a hash: its place and its coefficient
 abbrev pub fed_term : RowTerm → fed.HashWrites
 fed_term t = fed.u32 t.place ++ fed.i128 t.coef
 
+-- what a row puts into a hash: its bound, and then its terms
 abbrev pub fed_row : Row → fed.HashWrites
 fed_row r = fed.i128 r.bound ++ flat_map fed_term r.terms
 
@@ -50,9 +52,10 @@ same_row-is r q h =
 pub Decides-same_row : (r q : Row) → Decides (same_row r q) (r ≡ q)
 Decides-same_row r q = (same_row-is r q, λ e. subst (λ (z : Row). same_row r z ≡ true) e (same_row-refl r))
 
+-- equality of rows is reflexive, symmetric and transitive
 pub rows_equal : IsEquivalence same_row
 rows_equal = decided same_row Decides-same_row
 
--- and are hashed alike
+-- equal rows put the same into a hash
 pub fed_alike : (r q : Row) → same_row r q ≡ true → fed_row r ≡ fed_row q
 fed_alike r q h = ap fed_row (same_row-is r q h)

@@ -9,6 +9,7 @@ use Rattle.ground_atoms.specs.Known.{Known, know_atom, know_integer}
 
 -- ---- sums
 
+-- what is known after a part of a sum, and the terms so far
 pub record KnownTerms : Type 0 where
   pub known : Known
   pub terms : List RowTerm
@@ -21,10 +22,12 @@ make_terms s k done (multiple c x ∷ ps) = make_terms s (know_integer k x) (don
 
 -- ---- formulas
 
+-- what is known after a formula, and the formula over numbers
 pub record Made : Type 0 where
   pub known : Known
   pub form : Numbered
 
+-- an atom, made: a new one gets the next number
 abbrev pub make_atom : Known → Atom → Made
 make_atom k a = record { known = know_atom k a; form = literal (number_of k.table a) true }
 
@@ -33,9 +36,11 @@ abbrev pub make_row : Known → List RowTerm → Row → Made
 make_row k [] r = record { known = k; form = known (int_le (pos 0) r.bound) }
 make_row k (t ∷ ts) r = make_atom k (row_atom r)
 
+-- the row of these terms, added up, and of a bound
 abbrev pub make_sum : KnownTerms → ℤ → Made
 make_sum a bound = make_row a.known (added_up a.terms) (record { terms = added_up a.terms; bound = bound })
 
+-- the row of a first sum, whose terms are made, and a second one, which is made now
 abbrev pub make_at_most : KnownTerms → List Part → ℤ → Made
 make_at_most a u bound = make_sum (make_terms false a.known a.terms u) bound
 
@@ -51,6 +56,7 @@ make k (either f g) = (let a = make k f in let b = make a.known g in record { kn
 
 -- ---- lists of formulas
 
+-- what is known after some formulas, and the formulas over numbers
 pub record MadeList : Type 0 where
   pub known : Known
   pub forms : List Numbered

@@ -19,11 +19,12 @@ abbrev pub args_from : ℕ → ℕ → List Parameter → List GroundArg
 args_from n i [] = []
 args_from n i (p ∷ ps) = cond (is_int p.kind) (Int i ∷ args_from n (suc i) ps) (Elem n ∷ args_from (suc n) i ps)
 
--- how many of them are whole numbers
+-- how many of these parameters are whole numbers
 abbrev pub ints_among : List Parameter → ℕ
 ints_among [] = 0
 ints_among (p ∷ ps) = cond (is_int p.kind) (suc (ints_among ps)) (ints_among ps)
 
+-- the calls of these operations, where the first constant and the first whole number have these numbers
 abbrev pub calls_from : Specification → ℕ → ℕ → List ℕ → List GroundCall
 calls_from d n i [] = []
 calls_from d n i (o ∷ os) =

@@ -9,6 +9,7 @@ use Rattle.ground_numbers.specs.Numbers.{Atom, same_atom, has_atom, row_atom, Ta
 
 -- ---- sums
 
+-- the table after a part of a sum, and the terms so far
 pub record Terms : Type 0 where
   pub table : Table
   pub terms : List RowTerm
@@ -21,13 +22,16 @@ terms_after s o done (multiple k x ∷ ps) = terms_after s (with_integer o x) (d
 
 -- ---- formulas
 
+-- the table after a formula, and the formula over numbers
 pub record Step : Type 0 where
   pub table : Table
   pub form : Numbered
 
+-- an atom, numbered: a new one gets the next number
 abbrev pub atom_step : Table → Atom → Step
 atom_step o a = record { table = with_atom o a; form = literal (number_of o a) true }
 
+-- a row, numbered as an atom; without terms it is a truth value
 abbrev pub row_step : Table → List RowTerm → Row → Step
 row_step o [] r = record { table = o; form = known (int_le (pos 0) r.bound) }
 row_step o (t ∷ ts) r = atom_step o (row_atom r)
@@ -36,9 +40,11 @@ row_step o (t ∷ ts) r = atom_step o (row_atom r)
 abbrev pub terms_step : Terms → ℤ → Step
 terms_step a bound = row_step a.table (added_up a.terms) (record { terms = added_up a.terms; bound = bound })
 
+-- the row of a first sum, whose terms are numbered, and a second one, which is numbered now
 abbrev pub at_most_step : Terms → List Part → ℤ → Step
 at_most_step a u bound = terms_step (terms_after false a.table a.terms u) bound
 
+-- the negation of a formula that is numbered
 abbrev pub negation_step : Step → Step
 negation_step a = record { table = a.table; form = negation a.form }
 
@@ -54,6 +60,7 @@ steps o (either f g) = (let a = steps o f in let b = steps a.table g in record {
 
 -- ---- lists of formulas
 
+-- the table after some formulas, and the formulas over numbers
 pub record Steps : Type 0 where
   pub table : Table
   pub forms : List Numbered

@@ -100,6 +100,7 @@ pub record Reading : Type 0 where
 abbrev pub updates_at : Specification → Obligation → ℕ → List UpdateLine
 updates_at d ob n = (op_of d (slice_index (operations_of ob) n)).updates
 
+-- What defines a reading: at the entry nothing, and after a call what its updates make of the reading before it.
 abbrev pub define : Specification → Obligation → Constants → Stage → Thing → List ℕ → List Symbolic
 define d ob z [] x t = []
 define d ob z (n ∷ k) (thing.Relation r) t = define_has (at_stage k) (caller z n) (updates_at d ob n) (has (n ∷ k) r t) r t
@@ -111,15 +112,18 @@ definition d ob z q = define d ob z q.stage q.thing q.tuple
 
 -- ---- the readings that formulas name, from left to right
 
+-- the reading that a name of a whole number is, if it is one
 abbrev pub reading_of_integer : Integer → List Reading
 reading_of_integer (argument c p) = []
 reading_of_integer (reading k i t) = record { stage = k; thing = thing.Counter i; tuple = t } ∷ []
 reading_of_integer (partial n k i t) = []
 
+-- the reading that a summand names, if it names one
 abbrev pub readings_of_part : Part → List Reading
 readings_of_part (number n) = []
 readings_of_part (multiple k x) = reading_of_integer x
 
+-- the readings that a formula names, from left to right
 abbrev pub readings : Symbolic → List Reading
 readings (always b) = []
 readings (same a b) = []
@@ -129,6 +133,7 @@ readings (negated f) = readings f
 readings (both f g) = readings f ++ readings g
 readings (either f g) = readings f ++ readings g
 
+-- two readings are one: at one stage, of one thing, at one tuple
 abbrev pub same_reading : Reading → Reading → Bool
 same_reading p q = bytes_eq p.stage q.stage && (is_thing p.thing q.thing && bytes_eq p.tuple q.tuple)
 

@@ -26,6 +26,7 @@ invariants_hold d z = flat_map (λ i. instances z (at_stage []) nobody i.line.va
 abbrev pub line_holds : Constants → Caller → Line → List ℕ → List Symbolic
 line_holds z c l own = cond (is_exists l.prefix) (formula (at_stage []) c own l.body ∷ []) (instances z (at_stage []) c l.vars l.body)
 
+-- requires lines, each with its own constants
 abbrev pub lines_hold : Constants → Caller → List Line → List (List ℕ) → List Symbolic
 lines_hold z c [] owns = []
 lines_hold z c (l ∷ ls) [] = []
@@ -83,5 +84,6 @@ entry d (Safety o i) z = invariants_hold d z
 entry d (Commute o p x) z = invariants_hold d z
 entry d (Stable o l p) z = invariants_hold d z
 
+-- what is true before the conclusion: at the entry, of the calls' preconditions, and that the calls don't conflict
 abbrev pub before_conclusion : Specification → Obligation → Constants → List Symbolic
 before_conclusion d ob z = entry d ob z ++ (calls_ready d z 0 (operations_of ob) z.chosen ++ calls_free d z (operations_of ob))

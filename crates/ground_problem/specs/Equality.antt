@@ -53,6 +53,7 @@ abbrev pub congruent_pairs : Thing → List (List ℕ) → List Symbolic
 congruent_pairs x [] = []
 congruent_pairs x (t ∷ ts) = map (congruent x t) ts ++ congruent_pairs x ts
 
+-- a tuple put into rising ones
 abbrev pub insert_rising : List ℕ → List (List ℕ) → List (List ℕ)
 insert_rising t [] = t ∷ []
 insert_rising t (u ∷ us) = cond (is_lt (slice_cmp nat_cmp t u)) (t ∷ u ∷ us) (u ∷ insert_rising t us)

@@ -59,6 +59,7 @@ call_of d ob m n o = record {
   args = arguments_from (λ i. element_at d ob m (unwrap_or (get_or (caller (constants_of d ob) n).params i None) 0)) (λ i. m.int (argument n i)) 0 (op_of d o).params;
 }
 
+-- the calls of operations that stand from this place on
 abbrev pub calls_from : Specification → Obligation → Interpretation → ℕ → List ℕ → List Call
 calls_from d ob m n [] = []
 calls_from d ob m n (o ∷ os) = call_of d ob m n o ∷ calls_from d ob m (suc n) os
