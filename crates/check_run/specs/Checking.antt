@@ -45,7 +45,7 @@ pub record AreWritten (d : Specification) (budget n : ℕ) (tally : Tally) (befo
   pub tally_is : tally ≡ tally_of (forms_of d verdicts)
   pub written : Appends before after (blocks_text d 0 verdicts)
 
--- those of all were, or a front of them
+-- the blocks of all obligations were written, or a front of the first of them
 abbrev pub AreBlocks : Specification → ℕ → Option (List ℕ) → Option (List ℕ) → Result Tally WriteOut → Type 0
 AreBlocks d budget before after (Ok tally) = AreWritten d budget (length (obligations_of d)) tally before after
 AreBlocks d budget before after (Err why) =

@@ -13,10 +13,11 @@ use Rattle.sat_core.specs.Answers.{IsSpent, IsTooLong, IsTooLarge}
 use Rattle.proof_report.specs.Verdicts.{VerdictForm, proved, refuted, instances, lines, rows, range}
 use Rattle.check_run.specs.Shown.{listing_of}
 
--- an obligation has no more formulas than may be, or more
+-- an obligation has no more formulas than are decided
 abbrev pub HasFew : Specification → Obligation → Type 0
 HasFew d ob = length (formulas_of d ob) ≤ most_formulas
 
+-- an obligation has more formulas than are decided
 abbrev pub HasMany : Specification → Obligation → Type 0
 HasMany d ob = most_formulas < length (formulas_of d ob)
 

@@ -31,7 +31,7 @@ pub record AreDecided (d : Specification) (budget : ℕ) (obs : List Obligation)
   pub good : AreGood d budget obs verdicts
   pub tally_is : tally ≡ tally_of verdicts
 
--- So were those on all obligations of a specification.
+-- All obligations of a specification have good verdicts, counted.
 abbrev pub IsDecided : Specification → ℕ → Tally → Type 0
 IsDecided d budget tally = AreDecided d budget (obligations_of d) tally
 

@@ -100,7 +100,7 @@ unfoldable pub keep_all : Specification → ℕ → State → Kept → List Even
 keep_all d n s k [] = (s, k)
 keep_all d n s k (e ∷ es) = keep_all d (suc n) (after d s e) (keep (suc n) s e k) es
 
--- the same from the lines themselves
+-- a reader takes many lines: where it stands then, and what is kept, or the first fault
 unfoldable pub read_kept : ReaderForm → Kept → List (List ℕ) → Result (ReaderForm × Kept) Fault
 read_kept r k [] = Ok (r, k)
 read_kept r k (line ∷ more) = read_line r line >>= λ x. read_kept x.1 (keep (suc r.number) r.state x.0 k) more

@@ -19,6 +19,7 @@ use Rattle.report_text.specs.Bytes.{report_bytes, lines_of, unended}
 -- ---- the first fault
 
 infixl 10 ◌>>=◌
+-- goes on with what was read, or stops at the fault
 abbrev pub ◌>>=◌ : {A B : Type 0} → Result A Fault → (A → Result B Fault) → Result B Fault
 (Ok x) >>= f = f x
 (Err k) >>= f = Err k
@@ -69,7 +70,7 @@ IsVerdict d (refuted p es) (verdicts.Refuted w) = IsShownBy d p es w
 IsVerdict d v (verdicts.Undecided cause) = IsCause v cause
 IsVerdict d _ _ = ⊥
 
--- so is each of some blocks
+-- each of some blocks is a block that was read: of its line, with its verdict
 abbrev pub AreBlocks : Specification → List BlockForm → List Block → Type 0
 AreBlocks d [] [] = Unit {0}
 AreBlocks d (f ∷ fs) (b ∷ bs) = (b.line ≡ f.line) × IsVerdict d f.verdict b.verdict × AreBlocks d fs bs

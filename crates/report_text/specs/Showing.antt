@@ -108,7 +108,7 @@ IsFit d version ob (verdicts.Proved log) = is_log (may_drop version) log ≡ tru
 IsFit d version ob (verdicts.Refuted w) = CanBeShown d ob w
 IsFit d version ob (verdicts.Undecided cause) = is_verdict d version ob (shown_cause cause) ≡ true
 
--- So can each of some verdicts, one for each obligation from a place on.
+-- Each of some verdicts can be written, one for each obligation from a place on.
 abbrev pub AllFit : Specification → ℕ → ℕ → List Verdict → Type 0
 AllFit d version i [] = i ≡ obligation_count d
 AllFit d version i (v ∷ vs) = (i < obligation_count d) × IsFit d version (obligation_at d i) v × AllFit d version (suc i) vs

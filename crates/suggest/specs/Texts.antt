@@ -24,6 +24,7 @@ use Rattle.suggest.specs.declared.answer.SuggestTally.{SuggestTally}
 abbrev pub no_param : Param
 no_param = record { name = []; kind = Int }
 
+-- the name of an operation's parameter
 abbrev pub param_name : Specification → ℕ → ℕ → List ℕ
 param_name d o p = (get_or (op_of d o).params p no_param).name
 
@@ -66,12 +67,13 @@ abbrev pub last_word : ℕ → List ℕ
 last_word zero = codes "complete"
 last_word (suc n) = codes "undecided"
 
--- the lines behind them
+-- the lines after the pairs
 abbrev pub end_text : SuggestTally → List ℕ
 end_text t =
     line_text (codes "summary" ∷ codes "needed" ∷ decimal t.needed ∷ codes "free" ∷ decimal t.free ∷ codes "unknown" ∷ decimal t.unknown ∷ [])
     ++ line_text (last_word t.unknown ∷ [])
 
+-- the texts of answers, one after the other
 abbrev pub pairs_text : Specification → List PairAnswer → List ℕ
 pairs_text d xs = flat_map (pair_text d) xs
 

@@ -41,13 +41,13 @@ pub record IsRight (d : Specification) (answers : List PairAnswer) : Type 0 wher
       → IsShownToBreak (bare d) x.pair.first x.pair.second ob w
   pub notby_shown : (x : PairAnswer) (y : KeyAnswer) (ob : Obligation) (w : Witness) → Contains answers x → Contains x.keys y → y.found ≡ found.Refuted ob w
       → IsShownToBreak (keyed d x.pair.first y.key.p x.pair.second y.key.q) x.pair.first x.pair.second ob w
-  -- An obligation of each needed pair is broken where nothing conflicts,
+  -- An obligation of each needed pair is broken where nothing conflicts.
   pub broken : (a b : ℕ) → is_needed answers a b ≡ true → IsBroken (bare d) a b
-  -- so each set of pairs that is enough contains all needed ones.
+  -- Each set of pairs that is enough contains all needed ones.
   pub least : (inside : ℕ → ℕ → Bool) → IsEnough d inside → (a b : ℕ) → is_needed answers a b ≡ true → inside a b ≡ true
-  -- All obligations of the other pairs that aren't unknown hold,
+  -- All obligations of a pair hold that is neither needed nor unknown.
   pub free : (a b : ℕ) → IsPair d a b → is_needed answers a b ≡ false → is_unknown answers a b ≡ false → PairHolds (bare d) a b
-  -- so where none is unknown the needed pairs are enough.
+  -- Where no pair is unknown the needed pairs are enough.
   pub enough : ((a b : ℕ) → is_unknown answers a b ≡ false) → IsEnough d (is_needed answers)
   -- Where `by P Q` stands, a conflict on equal arguments there is enough for the pair.
   pub keyed : (a b p q : ℕ) → is_enough_by answers a b p q ≡ true → PairHolds (keyed d a p b q) a b

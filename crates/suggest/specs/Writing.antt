@@ -63,7 +63,7 @@ pub record AreWritten (d : Specification) (budget n : ℕ) (tally : SuggestTally
   pub tally_is : tally ≡ counted answers
   pub written : Appends before after (pairs_text d answers)
 
--- those of all were, or a front of them
+-- the texts of good answers for all pairs were written, or a front of the first of them
 abbrev pub ArePairs : Specification → ℕ → Option (List ℕ) → Option (List ℕ) → Result SuggestTally WriteOut → Type 0
 ArePairs d budget before after (Ok tally) = AreWritten d budget (length (pairs_of d)) tally before after
 ArePairs d budget before after (Err why) =
