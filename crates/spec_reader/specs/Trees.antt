@@ -109,8 +109,10 @@ abbrev pub LineFits : Version → ℕ → LineForm → Type 0
 LineFits v d (requires_form w s) = SentenceFits v d s
 LineFits v d (insert_form w m ss g) = IsFree v m × AllByRecursion (SpotFits v) ss × GuardFits v d g
 LineFits v d (remove_form w m ss g) = IsFree v m × AllByRecursion (SpotFits v) ss × GuardFits v d g
-LineFits v d (add_form w m ss t g) = IsFree v m × AllByRecursion (SpotFits v) ss × TermFits v t × GuardFits v d g
-LineFits v d (set_form w m ss t g) = IsFree v m × AllByRecursion (SpotFits v) ss × TermFits v t × GuardFits v d g
+LineFits v d (add_form w m ss t g) =
+    IsFree v m × AllByRecursion (SpotFits v) ss × TermFits v t × GuardFits v d g
+LineFits v d (set_form w m ss t g) =
+    IsFree v m × AllByRecursion (SpotFits v) ss × TermFits v t × GuardFits v d g
 LineFits v d (takes_form w r m) = ReadingFits v r × ModeFits v m
 LineFits version.First d (observes_form w s) = ⊥
 LineFits version.Second d (observes_form w s) = SentenceFits version.Second d s
@@ -125,7 +127,8 @@ ItemFits v d (initially_form w m x) = IsFree v m
 ItemFits v d (token_form w m ps) = IsFree v m × AllByRecursion (IsFree v) ps
 ItemFits v d (conflict_form w p q) = ReadingFits v p × ReadingFits v q
 ItemFits v d (invariant_form w m s) = IsFree v m × SentenceFits v d s
-ItemFits v d (operation_form w m ps ls) = IsFree v m × AllByRecursion (ParamFits v) ps × AllByRecursion (LineFits v d) ls
+ItemFits v d (operation_form w m ps ls) =
+    IsFree v m × AllByRecursion (ParamFits v) ps × AllByRecursion (LineFits v d) ls
 
 -- each name is free in the tree's version, and formulas nest as deep as they may
 abbrev pub TreeFits : ℕ → TreeForm → Type 0
@@ -224,10 +227,14 @@ SameGuard _ _ = ⊥
 -- Two lines are of one form, with the same parts.
 abbrev pub SameLine : LineForm → LineForm → Type 0
 SameLine (requires_form w s) (requires_form x t) = SameSentence s t
-SameLine (insert_form w m ss g) (insert_form x n ts h) = SameMark m n × AllSame SameSpot ss ts × SameGuard g h
-SameLine (remove_form w m ss g) (remove_form x n ts h) = SameMark m n × AllSame SameSpot ss ts × SameGuard g h
-SameLine (add_form w m ss s g) (add_form x n ts t h) = SameMark m n × AllSame SameSpot ss ts × SameTerm s t × SameGuard g h
-SameLine (set_form w m ss s g) (set_form x n ts t h) = SameMark m n × AllSame SameSpot ss ts × SameTerm s t × SameGuard g h
+SameLine (insert_form w m ss g) (insert_form x n ts h) =
+    SameMark m n × AllSame SameSpot ss ts × SameGuard g h
+SameLine (remove_form w m ss g) (remove_form x n ts h) =
+    SameMark m n × AllSame SameSpot ss ts × SameGuard g h
+SameLine (add_form w m ss s g) (add_form x n ts t h) =
+    SameMark m n × AllSame SameSpot ss ts × SameTerm s t × SameGuard g h
+SameLine (set_form w m ss s g) (set_form x n ts t h) =
+    SameMark m n × AllSame SameSpot ss ts × SameTerm s t × SameGuard g h
 SameLine (takes_form w r m) (takes_form x s n) = SameReading r s × (m ≡ n)
 SameLine (observes_form w s) (observes_form x t) = SameSentence s t
 SameLine _ _ = ⊥
@@ -242,7 +249,8 @@ SameItem (initially_form w m a) (initially_form x n b) = SameMark m n × SameVal
 SameItem (token_form w m ps) (token_form x n qs) = SameMark m n × AllSame SameMark ps qs
 SameItem (conflict_form w p q) (conflict_form x r s) = SameReading p r × SameReading q s
 SameItem (invariant_form w m s) (invariant_form x n t) = SameMark m n × SameSentence s t
-SameItem (operation_form w m ps ls) (operation_form x n qs ks) = SameMark m n × AllSame SameParam ps qs × AllSame SameLine ls ks
+SameItem (operation_form w m ps ls) (operation_form x n qs ks) =
+    SameMark m n × AllSame SameParam ps qs × AllSame SameLine ls ks
 SameItem _ _ = ⊥
 
 -- Two specifications are the same, but for the places of their words: one version, and the same declarations.

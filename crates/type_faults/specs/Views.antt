@@ -29,4 +29,9 @@ marked m = option_map (λ x. x.now) m
 
 -- the scope that a program holds
 abbrev pub scope_of : HeldScope → Scope
-scope_of s = record { design = s.draft.now; names = meaning_in s.names.now; params = s.params.now; vars = s.vars.now }
+scope_of s = record {
+  design = s.draft.now;
+  names = meaning_in s.names.now;
+  params = s.params.now;
+  vars = s.vars.now;
+}

@@ -57,15 +57,21 @@ is_word text = is_name text || (is_number text || is_sign text)
 
 -- the reserved names that begin an item of a specification, or end one
 abbrev pub item_names : List (List ℕ)
-item_names = codes "sort" ∷ codes "const" ∷ codes "relation" ∷ codes "counter" ∷ codes "initially" ∷ codes "token" ∷ codes "conflict" ∷ codes "invariant" ∷ codes "operation" ∷ codes "end" ∷ []
+item_names =
+    codes "sort" ∷ codes "const" ∷ codes "relation" ∷ codes "counter" ∷ codes "initially"
+    ∷ codes "token" ∷ codes "conflict" ∷ codes "invariant" ∷ codes "operation" ∷ codes "end" ∷ []
 
 -- the reserved names that begin a line of an operation
 abbrev pub line_names : List (List ℕ)
-line_names = codes "requires" ∷ codes "insert" ∷ codes "remove" ∷ codes "add" ∷ codes "set" ∷ codes "takes" ∷ []
+line_names =
+    codes "requires" ∷ codes "insert" ∷ codes "remove" ∷ codes "add" ∷ codes "set" ∷ codes "takes"
+    ∷ []
 
 -- the reserved names of formulas
 abbrev pub formula_names : List (List ℕ)
-formula_names = codes "forall" ∷ codes "exists" ∷ codes "true" ∷ codes "false" ∷ codes "not" ∷ codes "and" ∷ codes "or" ∷ codes "implies" ∷ []
+formula_names =
+    codes "forall" ∷ codes "exists" ∷ codes "true" ∷ codes "false" ∷ codes "not" ∷ codes "and"
+    ∷ codes "or" ∷ codes "implies" ∷ []
 
 -- the other reserved names
 abbrev pub other_names : List (List ℕ)
@@ -77,11 +83,14 @@ is_among names text = list_any (bytes_eq text) names
 
 -- a name that the language keeps for itself
 unfoldable pub is_reserved : List ℕ → Bool
-is_reserved text = is_among item_names text || (is_among line_names text || (is_among formula_names text || is_among other_names text))
+is_reserved text =
+    is_among item_names text
+    || (is_among line_names text || (is_among formula_names text || is_among other_names text))
 
 -- the kind of a text that is a word and isn't reserved
 abbrev pub free_kind : List ℕ → WordKind
-free_kind text = if is_name text then kinds.Name else (if is_number text then kinds.Number else kinds.Sign)
+free_kind text =
+    if is_name text then kinds.Name else (if is_number text then kinds.Number else kinds.Sign)
 
 -- the kind of a text that is a word
 abbrev pub kind_of : List ℕ → WordKind
