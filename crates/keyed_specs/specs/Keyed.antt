@@ -77,7 +77,8 @@ keyed_take t p = record { token = t; args = elem.Param p ∷ []; shared = false 
 -- the takes lines of the operation numbered n: of the first token at p where it is the first operation, of the second token at q
 -- where it is the second, and both, in this order, where it is the one and the other
 abbrev pub keyed_takes : ℕ → ℕ → ℕ → ℕ → ℕ → List Take
-keyed_takes a p b q n = (if n == a then keyed_take 0 p ∷ [] else []) ++ (if n == b then keyed_take 1 q ∷ [] else [])
+keyed_takes a p b q n =
+    (if n == a then keyed_take 0 p ∷ [] else []) ++ (if n == b then keyed_take 1 q ∷ [] else [])
 
 -- operations, from the one numbered n on, with these takes lines
 abbrev pub keyed_from : ℕ → ℕ → ℕ → ℕ → ℕ → List Operation → List Operation
