@@ -30,4 +30,7 @@ Fit s c = (w : World) × FitIn w s c
 
 -- The first requires line of a call that is false, counted from 1: an amount below 0, or a withdrawal of more than the balance.
 abbrev pub false_line : Reads → Call → Option ℕ
-false_line r c = cond (int_lt (amount_of c) (pos 0)) (Some 1) (cond ((c.op == 1) && int_lt (r.count balance (account_of c ∷ [])) (amount_of c)) (Some 2) None)
+false_line r c =
+    cond (int_lt (amount_of c) (pos 0))
+    (Some 1)
+    (cond ((c.op == 1) && int_lt (r.count balance (account_of c ∷ [])) (amount_of c)) (Some 2) None)

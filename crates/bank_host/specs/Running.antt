@@ -9,7 +9,9 @@ use Rattle.bank_host.specs.Bank.{bank}
 
 -- the command that a word names
 abbrev pub command_named : List ℕ → Option Command
-command_named word = if bytes_eq word (codes "replay") then Some Replay else (if bytes_eq word (codes "simulate") then Some Simulate else None)
+command_named word =
+    if bytes_eq word (codes "replay") then Some Replay
+    else (if bytes_eq word (codes "simulate") then Some Simulate else None)
 
 -- The command that the words ask for, none where they aren't accepted. The accepted words are `replay SCHEDULE` and `simulate SCHEDULE`;
 -- SCHEDULE is any text.
@@ -32,6 +34,7 @@ answer_text (Some Simulate) bytes = simulated_text bank bytes
 answer_text None bytes = codes "refused words\n"
 
 -- this status and this text are the answer to the bytes of a schedule
-pub record IsAnswer (asked : Option Command) (bytes : List ℕ) (status : ℕ) (text : List ℕ) : Type 0 where
+pub record IsAnswer (asked : Option Command) (bytes : List ℕ) (status : ℕ)
+    (text : List ℕ) : Type 0 where
   pub status_is : status ≡ answer_status asked bytes
   pub text_is : text ≡ answer_text asked bytes

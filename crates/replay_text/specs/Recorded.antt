@@ -19,8 +19,11 @@ text_read d (Err why) = refusal_text why
 
 -- The status that some bytes come to. Too many bytes are refused before they are read.
 abbrev pub schedule_status : Specification → List ℕ → ℕ
-schedule_status d bytes = if nat_le (length bytes) most_schedule_bytes then status_read d (schedule_from d bytes) else 4
+schedule_status d bytes =
+    if nat_le (length bytes) most_schedule_bytes then status_read d (schedule_from d bytes) else 4
 
 -- The text that some bytes come to. Too many bytes are refused before they are read.
 abbrev pub schedule_text : Specification → List ℕ → List ℕ
-schedule_text d bytes = if nat_le (length bytes) most_schedule_bytes then text_read d (schedule_from d bytes) else long_text
+schedule_text d bytes =
+    if nat_le (length bytes) most_schedule_bytes then text_read d (schedule_from d bytes)
+    else long_text

@@ -43,12 +43,17 @@ taking_keys = codes "replica" ∷ codes "take" ∷ []
 -- a call, from what stands at its keys
 abbrev pub call_from : Option Data → Option Data → Option Data → Option Step
 call_from replica called args =
-    option_and_then (λ r. option_and_then (λ op. option_map (λ as_. step.Call r op as_) (option_and_then arguments args)) (option_and_then name called))
+    option_and_then
+    (λ r. option_and_then
+    (λ op. option_map (λ as_. step.Call r op as_) (option_and_then arguments args))
+    (option_and_then name called))
     (option_and_then number replica)
 
 -- a taking, from what stands at its keys
 abbrev pub taking_from : Option Data → Option Data → Option Step
-taking_from replica taken = option_and_then (λ r. option_map (λ e. step.Take r e) (option_and_then number taken)) (option_and_then number replica)
+taking_from replica taken =
+    option_and_then (λ r. option_map (λ e. step.Take r e) (option_and_then number taken))
+    (option_and_then number replica)
 
 -- A step: an object with exactly the keys of a call, or with exactly those of a taking.
 abbrev pub step_of : Data → Option Step

@@ -28,17 +28,22 @@ number_below limit v = in_limit limit (option_and_then natural v)
 -- the size of each sort, by name
 abbrev pub sizes_at : List (List ℕ) → Data → Checked (List ℕ)
 sizes_at [] v = Ok []
-sizes_at (name ∷ names) v = with_first (located (path.Size name) (number_below size_limit (get name v))) (sizes_at names v)
+sizes_at (name ∷ names) v =
+    with_first (located (path.Size name) (number_below size_limit (get name v))) (sizes_at names v)
 
 -- An object with exactly the sorts as keys, and at each a size.
 abbrev pub sizes_of : Specification → Option Data → Checked (List ℕ)
-sizes_of d v = with_some v (refused.Shape path.Sizes) (λ found. need (has_exactly d.sorts found) (refused.Shape path.Sizes) (sizes_at d.sorts found))
+sizes_of d v =
+    with_some v (refused.Shape path.Sizes)
+    (λ found. need (has_exactly d.sorts found) (refused.Shape path.Sizes) (sizes_at d.sorts found))
 
 -- the element of each constant: below the size of its sort
 abbrev pub elements_at : List ℕ → List Const → Data → Checked (List ℕ)
 elements_at sizes [] v = Ok []
 elements_at sizes (c ∷ cs) v =
-    with_first (located (path.Constant c.name) (number_below (get_or sizes c.sort 0) (get c.name v))) (elements_at sizes cs v)
+    with_first
+    (located (path.Constant c.name) (number_below (get_or sizes c.sort 0) (get c.name v)))
+    (elements_at sizes cs v)
 
 -- the names of constants
 abbrev pub const_names : List Const → List (List ℕ)
@@ -48,7 +53,8 @@ const_names cs = map (λ c. c.name) cs
 abbrev pub elements_of : Specification → List ℕ → Option Data → Checked (List ℕ)
 elements_of d sizes v =
     with_some v (refused.Shape path.Constants)
-    (λ found. need (has_exactly (const_names d.consts) found) (refused.Shape path.Constants) (elements_at sizes d.consts found))
+    (λ found. need (has_exactly (const_names d.consts) found) (refused.Shape path.Constants)
+    (elements_at sizes d.consts found))
 
 -- the world of these sizes and these elements of constants
 abbrev pub world_from : List ℕ → List ℕ → Checked World

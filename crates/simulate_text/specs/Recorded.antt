@@ -19,8 +19,11 @@ text_read d (Err why) = refusal_text why
 
 -- The status that some bytes come to. Too many bytes are refused before they are read.
 abbrev pub simulated_status : Specification → List ℕ → ℕ
-simulated_status d bytes = if nat_le (length bytes) most_schedule_bytes then status_read d (schedule_from d bytes) else 4
+simulated_status d bytes =
+    if nat_le (length bytes) most_schedule_bytes then status_read d (schedule_from d bytes) else 4
 
 -- The text that some bytes come to. Too many bytes are refused before they are read.
 abbrev pub simulated_text : Specification → List ℕ → List ℕ
-simulated_text d bytes = if nat_le (length bytes) most_schedule_bytes then text_read d (schedule_from d bytes) else long_text
+simulated_text d bytes =
+    if nat_le (length bytes) most_schedule_bytes then text_read d (schedule_from d bytes)
+    else long_text

@@ -41,11 +41,15 @@ held_in d w steps replicas granted log = record {
 }
 
 -- What the fields keep: the network is kept, and the state of each node is one of the world.
-pub record IsNet (d : Specification) (w : World) (replicas : List Replica) (granted : List Granted) (log : Log) : Type 0 where
+pub record IsNet (d : Specification) (w : World) (replicas : List Replica) (granted : List Granted)
+    (log : Log) : Type 0 where
   pub kept : IsKept d w (network_in replicas granted log)
-  pub fit : (r : ℕ) (at : Replica) → slice_get replicas r ≡ Some at → is_state d w at.node.state ≡ true
+  pub fit : (r : ℕ) (at : Replica) → slice_get replicas r ≡ Some at
+      → is_state d w at.node.state ≡ true
 
 -- Replicas before the first step.
-pub record IsFirst (d : Specification) (w : World) (count : ℕ) (replicas : List Replica) : Type 0 where
+pub record IsFirst (d : Specification) (w : World) (count : ℕ)
+    (replicas : List Replica) : Type 0 where
   pub first : replicas_in replicas ≡ first_replicas d w 0 count
-  pub fit : (r : ℕ) (at : Replica) → slice_get replicas r ≡ Some at → is_state d w at.node.state ≡ true
+  pub fit : (r : ℕ) (at : Replica) → slice_get replicas r ≡ Some at
+      → is_state d w at.node.state ≡ true

@@ -21,7 +21,14 @@ pub record HeldNode : Type 0 where
 
 -- the node that it is, with what the listing reads as its state
 abbrev pub node_of : HeldNode → Node
-node_of n = record { replica = n.replica; turn = n.turn; state = reads n.state; taken = n.taken; void = n.void; waiting = n.waiting }
+node_of n = record {
+  replica = n.replica;
+  turn = n.turn;
+  state = reads n.state;
+  taken = n.taken;
+  void = n.void;
+  waiting = n.waiting;
+}
 
 -- the call that waits, if one does, has the arguments of its operation
 abbrev pub waiting_fits : Specification → World → Option Request → Bool

@@ -35,7 +35,14 @@ pub record Node : Type 0 where
 
 -- what the node of a replica holds before its first call and its first message
 abbrev pub first_node : Specification → World → ℕ → Node
-first_node d w replica = record { replica = replica; turn = 0; state = reads (initial d w); taken = []; void = []; waiting = None }
+first_node d w replica = record {
+  replica = replica;
+  turn = 0;
+  state = reads (initial d w);
+  taken = [];
+  void = [];
+  waiting = None;
+}
 
 -- ---- running a call
 
@@ -66,7 +73,8 @@ why_void d w r call =
 
 -- the node with one call more taken
 abbrev pub with_taken : Specification → World → Node → EventId → Call → Node
-with_taken d w node id call = record node { taken = node.taken ++ id ∷ []; state = after d w call node.state }
+with_taken d w node id call =
+    record node { taken = node.taken ++ id ∷ []; state = after d w call node.state }
 
 -- the node with one call more known as void
 abbrev pub with_void : Node → EventId → Node
@@ -119,7 +127,8 @@ abbrev pub turn_of : Specification → World → Node → EventId → Call → B
 turn_of d w node id call =
     cond (takes_none d call)
     (runs (run d w (with_turn node) id call))
-    (let request : Request = record { id = id; call = call } in waits request (with_waiting (with_turn node) request))
+    (let request : Request = record { id = id; call = call } in
+    waits request (with_waiting (with_turn node) request))
 
 -- a call is refused where another one waits
 abbrev pub begin_with : Specification → World → Node → Call → Option Request → Begin
@@ -128,7 +137,8 @@ begin_with d w node call None = turn_of d w node (next_id node) call
 
 -- A node makes a call. It is refused where it doesn't fit, and then where another waits.
 abbrev pub begin : Specification → World → Node → Call → Begin
-begin d w node call = cond (call_fits d w call) (begin_with d w node call node.waiting) (refused refusal.Arguments)
+begin d w node call =
+    cond (call_fits d w call) (begin_with d w node call node.waiting) (refused refusal.Arguments)
 
 -- ---- a message
 
@@ -152,9 +162,11 @@ grant_open d w node request (Some id) = awaits id
 grant_open d w node request None = grants (run d w (without_waiting node) request.id request.call)
 
 -- a grant lets the call run that waits with this id; any other grant is old
-abbrev pub hear_grant : Specification → World → Node → EventId → List EventId → Option Request → Hear
+abbrev pub hear_grant : Specification → World → Node → EventId → List EventId → Option Request
+    → Hear
 hear_grant d w node id named None = old
-hear_grant d w node id named (Some request) = cond (same_id request.id id) (grant_open d w node request (first_open node named)) old
+hear_grant d w node id named (Some request) =
+    cond (same_id request.id id) (grant_open d w node request (first_open node named)) old
 
 -- a Done is taken where the effect stays in the range of a state
 abbrev pub take_within : Specification → World → Node → EventId → Call → Option Beyond → Hear
@@ -164,11 +176,13 @@ take_within d w node id call None = takes id (with_taken d w node id call)
 -- a Done waits for the first call that it has seen and the node hasn't taken
 abbrev pub take_after : Specification → World → Node → EventId → Call → Option EventId → Hear
 take_after d w node id call (Some missing) = awaits missing
-take_after d w node id call None = take_within d w node id call (first_beyond 0 (after_call d w call node.state).counters)
+take_after d w node id call None =
+    take_within d w node id call (first_beyond 0 (after_call d w call node.state).counters)
 
 -- a Done whose event was taken before is old
 abbrev pub hear_done : Specification → World → Node → EventId → Call → List EventId → Hear
-hear_done d w node id call seen = cond (is_among node.taken id) old (take_after d w node id call (first_outside node.taken seen))
+hear_done d w node id call seen =
+    cond (is_among node.taken id) old (take_after d w node id call (first_outside node.taken seen))
 
 -- a Void is noted once
 abbrev pub hear_void : Node → EventId → Hear
