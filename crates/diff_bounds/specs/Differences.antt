@@ -20,7 +20,8 @@ is_unit c = int_eq c (pos 1) || int_eq c (negsuc 0)
 abbrev pub are_difference : List RowTerm → Bool
 are_difference [] = true
 are_difference (t ∷ []) = is_unit t.coef
-are_difference (t ∷ u ∷ []) = (is_unit t.coef && is_unit u.coef) && int_eq (t.coef +ℤ u.coef) (pos 0)
+are_difference (t ∷ u ∷ []) =
+    (is_unit t.coef && is_unit u.coef) && int_eq (t.coef +ℤ u.coef) (pos 0)
 are_difference (t ∷ u ∷ v ∷ ts) = false
 
 -- the greatest size of a number of a state
@@ -48,7 +49,8 @@ is_there_taken ints None = false
 
 -- the coefficients are in the range of a state, and the row and its negation are taken
 abbrev pub row_fits : ℕ → Row → Bool
-row_fits ints r = list_all (λ t. in_state t.coef) r.terms && (is_taken ints r && is_there_taken ints (negated r))
+row_fits ints r =
+    list_all (λ t. in_state t.coef) r.terms && (is_taken ints r && is_there_taken ints (negated r))
 
 -- the row of an atom, if it has one, fits
 abbrev pub atom_fits : ℕ → AtomKind → Bool

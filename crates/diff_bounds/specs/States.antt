@@ -29,12 +29,14 @@ abbrev pub AreAheadNow : Walks → List Edge → ℕ → ℕ → Type 0
 AreAheadNow w edges round done = AreAhead w.visits.items w.latest.items edges round done
 
 -- after an edge, or some of them, were looked at: whether a walk became long, and how far the round has come
-pub record AreRelaxed (edges : List Edge) (start done : ℕ) (old new : Walks) (long : Bool) : Type 0 where
+pub record AreRelaxed (edges : List Edge) (start done : ℕ) (old new : Walks)
+    (long : Bool) : Type 0 where
   pub kept : AreKept edges new
   pub ints_same : new.ints ≡ old.ints
   pub is_long : long ≡ true → IsLongNow new
   pub are_short : long ≡ false → AreShortNow new
-  pub ahead : long ≡ false → (round : ℕ) → AreAheadNow old edges round start → AreAheadNow new edges round done
+  pub ahead : long ≡ false → (round : ℕ) → AreAheadNow old edges round start
+      → AreAheadNow new edges round done
 
 -- after a round
 pub record IsRound (edges : List Edge) (old new : Walks) (long : Bool) : Type 0 where
@@ -42,7 +44,8 @@ pub record IsRound (edges : List Edge) (old new : Walks) (long : Bool) : Type 0 
   pub ints_same : new.ints ≡ old.ints
   pub is_long : long ≡ true → IsLongNow new
   pub are_short : long ≡ false → AreShortNow new
-  pub ahead : long ≡ false → (round : ℕ) → AreAheadNow old edges round 0 → AreAheadNow new edges (round + 1) 0
+  pub ahead : long ≡ false → (round : ℕ) → AreAheadNow old edges round 0
+      → AreAheadNow new edges (round + 1) 0
 
 -- before a round
 pub record IsSettling (edges : List Edge) (ints round : ℕ) (now : Walks) : Type 0 where

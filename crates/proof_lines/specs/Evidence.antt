@@ -28,7 +28,9 @@ cancels_some l r s = list_any (λ t. cancels_at l r s t.place) l.terms
 
 -- both rows of a step are there, and it cancels some place
 abbrev pub cancels : List Row → RowStep → Bool
-cancels rows s = (nat_lt s.left (length rows) && nat_lt s.right (length rows)) && cancels_some (row_at rows s.left) (row_at rows s.right) s
+cancels rows s =
+    (nat_lt s.left (length rows) && nat_lt s.right (length rows))
+    && cancels_some (row_at rows s.left) (row_at rows s.right) s
 
 -- each step cancels some place
 abbrev pub all_cancel : List Row → List RowStep → Bool
@@ -85,16 +87,21 @@ leaves_state r place None = false
 -- the least multiples of two rows that cancel a place have a product or a sum beyond the range of a row
 abbrev pub product_leaves : Row → Row → ℕ → Bool
 product_leaves l r place =
-    (is_positive (coefficient_at l.terms place) && is_negative (coefficient_at r.terms place)) && is_none (cancelled l r place)
+    (is_positive (coefficient_at l.terms place) && is_negative (coefficient_at r.terms place))
+    && is_none (cancelled l r place)
 
 -- Product: the left row has a positive coefficient at the place and the right row a negative one, and the least sum that cancels
 -- it leaves the range of a row. Value: no product or partial sum leaves the range of a row, and the row allows no number in the
 -- range of a state. Sum: a product or partial sum leaves the range of a row
 abbrev pub is_beyond : List Row → RangeWhat → Bool
 is_beyond rows (Product left right place) =
-    (nat_lt left (length rows) && nat_lt right (length rows)) && product_leaves (row_at rows left) (row_at rows right) place
-is_beyond rows (Value i place values) = values_fit rows i place values && leaves_state (row_at rows i) place (rest_with (row_at rows i) place values)
-is_beyond rows (Sum i place values) = values_fit rows i place values && is_none (rest_with (row_at rows i) place values)
+    (nat_lt left (length rows) && nat_lt right (length rows))
+    && product_leaves (row_at rows left) (row_at rows right) place
+is_beyond rows (Value i place values) =
+    values_fit rows i place values
+    && leaves_state (row_at rows i) place (rest_with (row_at rows i) place values)
+is_beyond rows (Sum i place values) =
+    values_fit rows i place values && is_none (rest_with (row_at rows i) place values)
 
 -- a line's evidence of a number beyond the range: each step cancels some place, and that number is shown
 abbrev pub range_shown : List RowStep → RangeWhat → Result (List Row) Why → Bool

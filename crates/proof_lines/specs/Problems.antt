@@ -61,4 +61,7 @@ HasNoInterpretation p = (m : Meaning) → makes_true m p ≡ true → ⊥
 
 -- the meaning of an interpretation; names beyond its lists are false and 0
 abbrev pub meaning_of : Interpretation → Meaning
-meaning_of i = record { truth = λ a. slice_index_or i.truths a false; number = λ n. slice_index_or i.ints n (pos 0) }
+meaning_of i = record {
+  truth = λ a. slice_index_or i.truths a false;
+  number = λ n. slice_index_or i.ints n (pos 0);
+}

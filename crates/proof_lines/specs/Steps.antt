@@ -31,7 +31,8 @@ has_row atoms l = is_some (atom_row atoms l.atom)
 
 -- the row of a literal: the atom's row, and for a negative literal its negation, where that is in range
 abbrev pub lit_row : List AtomKind → Lit → Option Row
-lit_row atoms l = cond l.positive (atom_row atoms l.atom) (option_and_then negated (atom_row atoms l.atom))
+lit_row atoms l =
+    cond l.positive (atom_row atoms l.atom) (option_and_then negated (atom_row atoms l.atom))
 
 -- a row in front of other rows, where there are all of them
 abbrev pub with_row : Option Row → Option (List Row) → Option (List Row)
@@ -52,7 +53,9 @@ is_some_literal (l ∷ ls) = true
 -- the rows of the used literals. Place: none is used, or a used atom doesn't exist or has no row. Range: a negation leaves
 -- the range of a row
 abbrev pub used_rows : List AtomKind → List Lit → Result (List Row) Why
-used_rows atoms used = need (is_some_literal used && list_all (has_row atoms) used) Place (or_broken Range (lit_rows atoms used))
+used_rows atoms used =
+    need (is_some_literal used && list_all (has_row atoms) used) Place
+    (or_broken Range (lit_rows atoms used))
 
 -- what stands for a row that isn't there
 abbrev pub no_row : Row
