@@ -23,7 +23,8 @@ fed_row r = fed.i128 r.bound ++ flat_map fed_term r.terms
 same_terms-refl : (ts : List RowTerm) → same_terms ts ts ≡ true
 same_terms-refl [] = refl
 same_terms-refl (t ∷ ts) =
-    and_from (nat_eq t.place t.place) (int_eq t.coef t.coef && same_terms ts ts) ((Decides-eqb t.place t.place).1 refl)
+    and_from (nat_eq t.place t.place) (int_eq t.coef t.coef && same_terms ts ts)
+    ((Decides-eqb t.place t.place).1 refl)
     (and_from (int_eq t.coef t.coef) (same_terms ts ts) ((Decides-int_eq t.coef t.coef).1 refl) (same_terms-refl ts))
 
 same_terms-is : (ts us : List RowTerm) → same_terms ts us ≡ true → ts ≡ us
@@ -39,7 +40,9 @@ same_terms-is (t ∷ ts) (u ∷ us) h =
     λ i. record { place = e i; coef = f i } ∷ g i
 
 same_row-refl : (r : Row) → same_row r r ≡ true
-same_row-refl r = and_from (int_eq r.bound r.bound) (same_terms r.terms r.terms) ((Decides-int_eq r.bound r.bound).1 refl) (same_terms-refl r.terms)
+same_row-refl r =
+    and_from (int_eq r.bound r.bound) (same_terms r.terms r.terms)
+    ((Decides-int_eq r.bound r.bound).1 refl) (same_terms-refl r.terms)
 
 same_row-is : (r q : Row) → same_row r q ≡ true → r ≡ q
 same_row-is r q h =
@@ -50,7 +53,8 @@ same_row-is r q h =
 
 -- rows that the test finds equal are equal
 pub Decides-same_row : (r q : Row) → Decides (same_row r q) (r ≡ q)
-Decides-same_row r q = (same_row-is r q, λ e. subst (λ (z : Row). same_row r z ≡ true) e (same_row-refl r))
+Decides-same_row r q =
+    (same_row-is r q, λ e. subst (λ (z : Row). same_row r z ≡ true) e (same_row-refl r))
 
 -- equality of rows is reflexive, symmetric and transitive
 pub rows_equal : IsEquivalence same_row

@@ -26,8 +26,14 @@ unless_known known named qs = cond known named (named ++ qs)
 
 -- An atom is known: it has a number, and its reading is named.
 abbrev pub know_atom : Known → Atom → Known
-know_atom k a = record { table = with_atom k.table a; named = unless_known (has_number k.table a) k.named (reading_of_atom a) }
+know_atom k a = record {
+  table = with_atom k.table a;
+  named = unless_known (has_number k.table a) k.named (reading_of_atom a);
+}
 
 -- A name of a whole number is known: it has a number, and its reading, if it is one, is named.
 abbrev pub know_integer : Known → Integer → Known
-know_integer k x = record { table = with_integer k.table x; named = unless_known (has_integer k.table x) k.named (reading_of_integer x) }
+know_integer k x = record {
+  table = with_integer k.table x;
+  named = unless_known (has_integer k.table x) k.named (reading_of_integer x);
+}

@@ -18,7 +18,9 @@ pub record KnownTerms : Type 0 where
 abbrev pub make_terms : Bool → Known → List RowTerm → List Part → KnownTerms
 make_terms s k done [] = record { known = k; terms = done }
 make_terms s k done (number n ∷ ps) = make_terms s k done ps
-make_terms s k done (multiple c x ∷ ps) = make_terms s (know_integer k x) (done ++ record { place = integer_of k.table x; coef = signed s c } ∷ []) ps
+make_terms s k done (multiple c x ∷ ps) =
+    make_terms s (know_integer k x)
+    (done ++ record { place = integer_of k.table x; coef = signed s c } ∷ []) ps
 
 -- ---- formulas
 
@@ -38,7 +40,8 @@ make_row k (t ∷ ts) r = make_atom k (row_atom r)
 
 -- the row of these terms, added up, and of a bound
 abbrev pub make_sum : KnownTerms → ℤ → Made
-make_sum a bound = make_row a.known (added_up a.terms) (record { terms = added_up a.terms; bound = bound })
+make_sum a bound =
+    make_row a.known (added_up a.terms) (record { terms = added_up a.terms; bound = bound })
 
 -- the row of a first sum, whose terms are made, and a second one, which is made now
 abbrev pub make_at_most : KnownTerms → List Part → ℤ → Made
@@ -51,8 +54,10 @@ make k (same a b) = make_atom k (same_atom a b)
 make k (has s r t) = make_atom k (has_atom s r t)
 make k (at_most t u n) = make_at_most (make_terms true k [] t) u (bound_of t u n)
 make k (negated f) = (let a = make k f in record { known = a.known; form = negation a.form })
-make k (both f g) = (let a = make k f in let b = make a.known g in record { known = b.known; form = conjunction a.form b.form })
-make k (either f g) = (let a = make k f in let b = make a.known g in record { known = b.known; form = disjunction a.form b.form })
+make k (both f g) =
+    (let a = make k f in let b = make a.known g in record { known = b.known; form = conjunction a.form b.form })
+make k (either f g) =
+    (let a = make k f in let b = make a.known g in record { known = b.known; form = disjunction a.form b.form })
 
 -- ---- lists of formulas
 

@@ -93,15 +93,18 @@ pub data Role : Type 0 where
 -- for each part of what it names.
 abbrev pub written : Role → ℕ → Normal → List (List Lit)
 written (whole front) n (lit l) = clause_of front n (lit l) ∷ []
-written (whole front) n (all f g) = written (whole front) n f ++ written (whole front) (n + new_names f) g
+written (whole front) n (all f g) =
+    written (whole front) n f ++ written (whole front) (n + new_names f) g
 written (whole front) n (any f g) =
     let from = n + names f + names g in
-    clause_of front n (any f g) ∷ written (parts n) from f ++ written (parts (n + names f)) (from + inner_names f) g
+    clause_of front n (any f g) ∷ written (parts n) from f
+    ++ written (parts (n + names f)) (from + inner_names f) g
 written (parts p) n (lit l) = []
 written (parts p) n (all f g) =
     let named = whole (Some (lit_of p false)) in
     written named n f ++ written named (n + new_names f) g
-written (parts p) n (any f g) = written (parts p) n f ++ written (parts (p + names f)) (n + inner_names f) g
+written (parts p) n (any f g) =
+    written (parts p) n f ++ written (parts (p + names f)) (n + inner_names f) g
 
 -- ---- of folded formulas
 
@@ -124,4 +127,5 @@ all_names (f ∷ fs) = names_of (folded true f) + all_names fs
 -- The clauses of a list of formulas in turn, where n is the next naming atom.
 abbrev pub all_clauses : ℕ → List Numbered → List (List Lit)
 all_clauses n [] = []
-all_clauses n (f ∷ fs) = clauses_of n (folded true f) ++ all_clauses (n + names_of (folded true f)) fs
+all_clauses n (f ∷ fs) =
+    clauses_of n (folded true f) ++ all_clauses (n + names_of (folded true f)) fs

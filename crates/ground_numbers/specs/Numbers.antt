@@ -39,7 +39,8 @@ same_integers (reading k i t) (reading j h u) = bytes_eq k j && ((i == h) && byt
 same_integers (reading k i t) (partial n j h u) = false
 same_integers (partial n k i t) (argument c p) = false
 same_integers (partial n k i t) (reading j h u) = false
-same_integers (partial n k i t) (partial m j h u) = (n == m) && (bytes_eq k j && ((i == h) && bytes_eq t u))
+same_integers (partial n k i t) (partial m j h u) =
+    (n == m) && (bytes_eq k j && ((i == h) && bytes_eq t u))
 
 -- The table: a number is a place in these lists, which hold no equal ones. It is over stages themselves, not over their numbers.
 pub record Table : Type 0 where
@@ -68,7 +69,8 @@ with_atom t a = record { atoms = cond (has_number t a) t.atoms (t.atoms ++ a ∷
 
 -- the table with one more name of a whole number, unless it is there
 abbrev pub with_integer : Table → Integer → Table
-with_integer t x = record { atoms = t.atoms; ints = cond (has_integer t x) t.ints (t.ints ++ x ∷ []) }
+with_integer t x =
+    record { atoms = t.atoms; ints = cond (has_integer t x) t.ints (t.ints ++ x ∷ []) }
 
 -- the table with the names of a sum, in their order
 abbrev pub with_integers : Table → List Part → Table
@@ -87,7 +89,8 @@ signed false k = neg_ℤ k
 abbrev pub terms_of : Table → Bool → List Part → List RowTerm
 terms_of t s [] = []
 terms_of t s (number n ∷ ps) = terms_of t s ps
-terms_of t s (multiple k x ∷ ps) = record { place = integer_of t x; coef = signed s k } ∷ terms_of t s ps
+terms_of t s (multiple k x ∷ ps) =
+    record { place = integer_of t x; coef = signed s k } ∷ terms_of t s ps
 
 -- the sum of a sum's plain numbers
 abbrev pub plain_of : List Part → ℤ
@@ -113,7 +116,8 @@ bound_of t u n = (n +ℤ plain_of u) -ℤ plain_of t
 
 -- the row over numbered integers of "t is at most u + n"
 abbrev pub row_of : Table → List Part → List Part → ℤ → Row
-row_of o t u n = record { terms = added_up (terms_of o true t ++ terms_of o false u); bound = bound_of t u n }
+row_of o t u n =
+    record { terms = added_up (terms_of o true t ++ terms_of o false u); bound = bound_of t u n }
 
 -- ---- formulas
 
@@ -147,7 +151,9 @@ abbrev pub naming : Table → Symbolic → Table
 naming o (always b) = o
 naming o (same a b) = with_atom o (same_atom a b)
 naming o (has k r t) = with_atom o (has_atom k r t)
-naming o (at_most t u n) = with_row (with_sums o t u) (row_of (with_sums o t u) t u n).terms (row_of (with_sums o t u) t u n)
+naming o (at_most t u n) =
+    with_row (with_sums o t u) (row_of (with_sums o t u) t u n).terms
+    (row_of (with_sums o t u) t u n)
 naming o (negated f) = naming o f
 naming o (both f g) = naming (naming o f) g
 naming o (either f g) = naming (naming o f) g

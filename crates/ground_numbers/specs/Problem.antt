@@ -20,7 +20,8 @@ use Rattle.ground_numbers.specs.Clauses.{all_names, all_clauses}
 -- the parameters that are whole numbers, where the first of these parameters has this number
 abbrev pub numbers_from : ℕ → List Parameter → List ℕ
 numbers_from n [] = []
-numbers_from n (p ∷ ps) = cond (is_int p.kind) (n ∷ numbers_from (suc n) ps) (numbers_from (suc n) ps)
+numbers_from n (p ∷ ps) =
+    cond (is_int p.kind) (n ∷ numbers_from (suc n) ps) (numbers_from (suc n) ps)
 
 -- the whole numbers among the arguments of calls, the first of which has this place
 abbrev pub arguments_from : ℕ → List (List Parameter) → List Integer

@@ -18,7 +18,9 @@ pub record Terms : Type 0 where
 abbrev pub terms_after : Bool → Table → List RowTerm → List Part → Terms
 terms_after s o done [] = record { table = o; terms = done }
 terms_after s o done (number n ∷ ps) = terms_after s o done ps
-terms_after s o done (multiple k x ∷ ps) = terms_after s (with_integer o x) (done ++ record { place = integer_of o x; coef = signed s k } ∷ []) ps
+terms_after s o done (multiple k x ∷ ps) =
+    terms_after s (with_integer o x)
+    (done ++ record { place = integer_of o x; coef = signed s k } ∷ []) ps
 
 -- ---- formulas
 
@@ -38,7 +40,8 @@ row_step o (t ∷ ts) r = atom_step o (row_atom r)
 
 -- the row of these terms, added up, and of a bound
 abbrev pub terms_step : Terms → ℤ → Step
-terms_step a bound = row_step a.table (added_up a.terms) (record { terms = added_up a.terms; bound = bound })
+terms_step a bound =
+    row_step a.table (added_up a.terms) (record { terms = added_up a.terms; bound = bound })
 
 -- the row of a first sum, whose terms are numbered, and a second one, which is numbered now
 abbrev pub at_most_step : Terms → List Part → ℤ → Step
@@ -55,8 +58,10 @@ steps o (same a b) = atom_step o (same_atom a b)
 steps o (has k r t) = atom_step o (has_atom k r t)
 steps o (at_most t u n) = at_most_step (terms_after true o [] t) u (bound_of t u n)
 steps o (negated f) = negation_step (steps o f)
-steps o (both f g) = (let a = steps o f in let b = steps a.table g in record { table = b.table; form = conjunction a.form b.form })
-steps o (either f g) = (let a = steps o f in let b = steps a.table g in record { table = b.table; form = disjunction a.form b.form })
+steps o (both f g) =
+    (let a = steps o f in let b = steps a.table g in record { table = b.table; form = conjunction a.form b.form })
+steps o (either f g) =
+    (let a = steps o f in let b = steps a.table g in record { table = b.table; form = disjunction a.form b.form })
 
 -- ---- lists of formulas
 

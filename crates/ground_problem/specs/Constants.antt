@@ -30,12 +30,14 @@ sorts_of_params ps = filter_map (λ p. sort_of_kind p.kind) ps
 -- the constants of parameters, from this number on
 abbrev pub params_from : ℕ → List Parameter → List (Option ℕ)
 params_from n [] = []
-params_from n (p ∷ ps) = cond (is_int p.kind) (None ∷ params_from n ps) (Some n ∷ params_from (suc n) ps)
+params_from n (p ∷ ps) =
+    cond (is_int p.kind) (None ∷ params_from n ps) (Some n ∷ params_from (suc n) ps)
 
 -- the constants of the parameters of calls, call by call, from this number on
 abbrev pub all_params_from : ℕ → List (List Parameter) → List (List (Option ℕ))
 all_params_from n [] = []
-all_params_from n (ps ∷ more) = params_from n ps ∷ all_params_from (n + length (sorts_of_params ps)) more
+all_params_from n (ps ∷ more) =
+    params_from n ps ∷ all_params_from (n + length (sorts_of_params ps)) more
 
 -- the sorts of the constants of a requires line
 abbrev pub chosen_vars : Line → List ℕ
@@ -53,7 +55,8 @@ concatenated lists = flat_map (λ xs. xs) lists
 -- the constants of the requires lines of calls, call by call, from this number on
 abbrev pub all_chosen_from : ℕ → List (List (List ℕ)) → List (List (List ℕ))
 all_chosen_from n [] = []
-all_chosen_from n (lines ∷ more) = chosen_from n lines ∷ all_chosen_from (n + length (concatenated lines)) more
+all_chosen_from n (lines ∷ more) =
+    chosen_from n lines ∷ all_chosen_from (n + length (concatenated lines)) more
 
 -- the parameters of the calls
 abbrev pub params_of : Specification → Obligation → List (List Parameter)

@@ -10,7 +10,8 @@ use Rattle.ground_numbers.specs.Numbers.{Atom, same_atom, has_atom, row_atom}
 -- the tuple of an atom at the entry is put in where the atom is true
 abbrev pub fill_atom : Specification → (ℕ → ℕ) → Bool → Atom → Reads → Reads
 fill_atom d val b (same_atom a c) r = r
-fill_atom d val b (has_atom [] k u) r = cond (b && nat_lt k (length d.relations)) (with_has r k (map val u) true) r
+fill_atom d val b (has_atom [] k u) r =
+    cond (b && nat_lt k (length d.relations)) (with_has r k (map val u) true) r
 fill_atom d val b (has_atom (n ∷ s) k u) r = r
 fill_atom d val b (row_atom q) r = r
 
@@ -22,14 +23,16 @@ filled d val v n (a ∷ more) r = filled d val v (suc n) more (fill_atom d val (
 -- the value of a counter at the entry is set
 abbrev pub fill_integer : Specification → (ℕ → ℕ) → ℤ → Integer → Reads → Reads
 fill_integer d val x (argument c p) r = r
-fill_integer d val x (reading [] k u) r = cond (nat_lt k (length d.counters)) (with_count r k (map val u) x) r
+fill_integer d val x (reading [] k u) r =
+    cond (nat_lt k (length d.counters)) (with_count r k (map val u) x) r
 fill_integer d val x (reading (n ∷ s) k u) r = r
 fill_integer d val x (partial m s k u) r = r
 
 -- the readings with the values of these names set, in their order; the first of them has this number
 abbrev pub filled_integers : Specification → (ℕ → ℕ) → (ℕ → ℤ) → ℕ → List Integer → Reads → Reads
 filled_integers d val v n [] r = r
-filled_integers d val v n (x ∷ xs) r = filled_integers d val v (suc n) xs (fill_integer d val (v n) x r)
+filled_integers d val v n (x ∷ xs) r =
+    filled_integers d val v (suc n) xs (fill_integer d val (v n) x r)
 
 -- the tuple of a relation that is read at the entry fits it in a world
 abbrev pub AtomFits : Specification → World → (ℕ → ℕ) → Atom → Type 0

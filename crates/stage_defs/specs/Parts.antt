@@ -58,12 +58,15 @@ has_upto r c x t us zero e = e
 has_upto r c x t us (suc n) e = has_step r c x t (slice_get us n) (has_upto r c x t us n e)
 
 -- the two formulas of one update of a counter
-abbrev pub value_defined : Readings → Caller → List ℕ → List Part → List Part → UpdateLine → List Symbolic
+abbrev pub value_defined : Readings → Caller → List ℕ → List Part → List Part → UpdateLine
+    → List Symbolic
 value_defined r c t next v u =
-    either (negated (acts_on r c t u)) (equal next (count_then r c u.change v)) ∷ either (acts_on r c t u) (equal next v) ∷ []
+    either (negated (acts_on r c t u)) (equal next (count_then r c u.change v))
+    ∷ either (acts_on r c t u) (equal next v) ∷ []
 
 -- the formulas of a list's updates of this counter, in their order
-abbrev pub values_upto : Readings → Caller → Stage → ℕ → List ℕ → ℕ → List Part → List UpdateLine → List Symbolic
+abbrev pub values_upto : Readings → Caller → Stage → ℕ → List ℕ → ℕ → List Part → List UpdateLine
+    → List Symbolic
 values_upto r c k i t n v [] = []
 values_upto r c k i t n v (u ∷ us) =
     let next = multiple (pos 1) (value_after (updates_of (thing.Counter i) us) n k i t) ∷ [] in
@@ -72,5 +75,9 @@ values_upto r c k i t n v (u ∷ us) =
     (values_upto r c k i t n v us)
 
 -- what defines a counter's reading: the formulas of its updates in turn, or that it is what it was
-abbrev pub count_defined : Readings → Caller → Stage → ℕ → List ℕ → List Part → List UpdateLine → List Symbolic
-count_defined r c k i t v us = cond (list_any (λ u. is_thing u.thing (thing.Counter i)) us) (values_upto r c k i t 1 v us) (equal (multiple (pos 1) (reading k i t) ∷ []) v ∷ [])
+abbrev pub count_defined : Readings → Caller → Stage → ℕ → List ℕ → List Part → List UpdateLine
+    → List Symbolic
+count_defined r c k i t v us =
+    cond (list_any (λ u. is_thing u.thing (thing.Counter i)) us)
+    (values_upto r c k i t 1 v us)
+    (equal (multiple (pos 1) (reading k i t) ∷ []) v ∷ [])

@@ -45,11 +45,13 @@ before k = at_stage (stage_of (stage_before k))
 
 -- what defines a relation's reading at a stage
 abbrev pub has_definition : Specification → GroundCall → ℕ → ℕ → List ℕ → List Symbolic
-has_definition d call k r t = define_has (before k) (caller_at call k) (op_of d call.op).updates (has (stage_of k) r t) r t
+has_definition d call k r t =
+    define_has (before k) (caller_at call k) (op_of d call.op).updates (has (stage_of k) r t) r t
 
 -- what defines a counter's reading at a stage
 abbrev pub count_definition : Specification → GroundCall → ℕ → ℕ → List ℕ → List Symbolic
-count_definition d call k i t = define_count (before k) (caller_at call k) (op_of d call.op).updates (stage_of k) i t
+count_definition d call k i t =
+    define_count (before k) (caller_at call k) (op_of d call.op).updates (stage_of k) i t
 
 -- what updates make of a relation's reading
 abbrev pub updated : Readings → Caller → List UpdateLine → ℕ → List ℕ → Symbolic
