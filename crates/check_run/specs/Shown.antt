@@ -30,4 +30,7 @@ counters_from k (c ∷ more) rs = values_among rs k ∷ counters_from (suc k) mo
 -- The state that a witness shows: it holds the tuples among the facts, and has the values among the readings. What isn't shown is
 -- false or 0.
 abbrev pub listing_of : Specification → PartialWitness → Listing
-listing_of d p = record { relations = relations_from 0 d.relations p.facts; counters = counters_from 0 d.counters p.readings }
+listing_of d p = record {
+  relations = relations_from 0 d.relations p.facts;
+  counters = counters_from 0 d.counters p.readings;
+}

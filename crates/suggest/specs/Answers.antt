@@ -41,7 +41,8 @@ abbrev pub HasNoRefutation : Specification → ℕ → Obligation → Type 0
 HasNoRefutation d budget ob = (v : VerdictForm) × IsGood d budget ob v × (is_unrefuted v ≡ true)
 
 -- The first of these obligations that is refuted, by what is shown of a witness: those before it have verdicts that don't refute them.
-pub record IsFirstRefuted (d : Specification) (budget : ℕ) (obs : List Obligation) (ob : Obligation) (w : Witness) : Type 0 where
+pub record IsFirstRefuted (d : Specification) (budget : ℕ) (obs : List Obligation) (ob : Obligation)
+    (w : Witness) : Type 0 where
   pub before : List Obligation
   pub behind : List Obligation
   pub listed : obs ≡ before ++ ob ∷ behind
@@ -50,7 +51,8 @@ pub record IsFirstRefuted (d : Specification) (budget : ℕ) (obs : List Obligat
 
 -- None of these obligations is refuted, and this is the first one that is undecided, with the evidence of a cause: those before it are
 -- proved.
-pub record IsFirstUndecided (d : Specification) (budget : ℕ) (obs : List Obligation) (ob : Obligation) (cause : Cause) : Type 0 where
+pub record IsFirstUndecided (d : Specification) (budget : ℕ) (obs : List Obligation)
+    (ob : Obligation) (cause : Cause) : Type 0 where
   pub before : List Obligation
   pub behind : List Obligation
   pub listed : obs ≡ before ++ ob ∷ behind
@@ -101,7 +103,8 @@ AreKeyAnswers d budget a b [] [] = Unit {0}
 AreKeyAnswers d budget a b [] (y ∷ ys) = ⊥
 AreKeyAnswers d budget a b (k ∷ ks) [] = ⊥
 AreKeyAnswers d budget a b (k ∷ ks) (y ∷ ys) =
-    (y.key ≡ k) × IsFoundIn (keyed d a k.p b k.q) budget a b y.found × AreKeyAnswers d budget a b ks ys
+    (y.key ≡ k) × IsFoundIn (keyed d a k.p b k.q) budget a b y.found
+    × AreKeyAnswers d budget a b ks ys
 
 -- An answer for a pair: what it comes to in the bare specification, and, where it is needed, in each keyed one.
 pub record IsAnswer (d : Specification) (budget : ℕ) (pair : Pair) (x : PairAnswer) : Type 0 where
@@ -131,8 +134,10 @@ no_answers = record { needed = 0; free = 0; unknown = 0 }
 -- one answer more: a refuted pair is needed, a proved one free, and an undecided one unknown
 abbrev pub with_answer : Found → SuggestTally → SuggestTally
 with_answer found.Proved t = record { needed = t.needed; free = suc t.free; unknown = t.unknown }
-with_answer (found.Refuted ob w) t = record { needed = suc t.needed; free = t.free; unknown = t.unknown }
-with_answer (found.Undecided ob cause) t = record { needed = t.needed; free = t.free; unknown = suc t.unknown }
+with_answer (found.Refuted ob w) t =
+    record { needed = suc t.needed; free = t.free; unknown = t.unknown }
+with_answer (found.Undecided ob cause) t =
+    record { needed = t.needed; free = t.free; unknown = suc t.unknown }
 
 -- how many answers of each kind there are, with those that were counted before
 abbrev pub counted_from : SuggestTally → List PairAnswer → SuggestTally
@@ -163,4 +168,5 @@ is_key p q y = (y.key.p == p) && (y.key.q == q)
 
 -- a conflict of a pair on equal arguments at these two parameters is answered to be enough
 abbrev pub is_enough_by : List PairAnswer → ℕ → ℕ → ℕ → ℕ → Bool
-is_enough_by xs a b p q = list_any (λ x. is_for a b x && list_any (λ y. is_key p q y && is_proved y.found) x.keys) xs
+is_enough_by xs a b p q =
+    list_any (λ x. is_for a b x && list_any (λ y. is_key p q y && is_proved y.found) x.keys) xs
