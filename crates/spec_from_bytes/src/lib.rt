@@ -6,7 +6,7 @@
 // and `law` says that bytes are read as one tree at most, places and all, that they are one specification, or refused for one reason, and
 // never both, and that this is the least fault of a tree, where a fault is the reason.
 //
-// It stands on the layers of the language, from `word_cut` to `spec_types`, and on `byte_ports`, which says which bytes a source tells.
+// It stands on the layers of the language, from `word_cut` to `spec_types`, and on `byte_ports`, which says which bytes a source gives.
 // The definitions stand in specs/, in this order: Lines (a line of words), Refusal (which specification some bytes are, why they are
 // none, and the text that says so), Reading (what a call answers of bytes and of a source).
 #![tactic(auto)]
