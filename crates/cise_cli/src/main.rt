@@ -1,7 +1,8 @@
 // The program: `check SPEC` reads a specification and writes the report of its obligations, with `--budget N` after it with logs of at
-// most N lines; `verify SPEC REPORT` says whether a report stands, and `upgrade SPEC REPORT` writes it anew; `replay SPEC SCHEDULE` and
-// `simulate SPEC SCHEDULE` carry a recorded schedule out and write what comes of it; `suggest SPEC` finds which pairs of operations must
-// conflict; `spell SPEC` writes a specification's words in the layout of the language; `sample N` checks a generated specification.
+// most N lines. `verify SPEC REPORT` says whether a report stands, and `upgrade SPEC REPORT` writes it anew. `replay SPEC SCHEDULE` and
+// `simulate SPEC SCHEDULE` carry a recorded schedule out and write what comes of it. `suggest SPEC` finds which pairs of operations
+// must conflict. `spell SPEC` writes a specification's words in the layout of the language, and `sample N` checks a generated
+// specification.
 //
 // The second word names the first source, and the third the second one. Neither is opened before it is read, so a word that is no path is
 // never one.
