@@ -3,7 +3,7 @@
 //
 // The second word names the source. It isn't opened before it is read, so a word that is no path is never one.
 //
-// This is the edge alone: the words behind the program's name, a file as the source, and standard output as the sink. All else is
+// This is the edge alone: the words after the program's name, a file as the source, and standard output as the sink. All else is
 // `run_bank` of `bank_host`, for any source and any sink, whose clauses say what each status means.
 #![tactic(auto)]
 
@@ -14,7 +14,7 @@ use std::env::Env;
 use std::process::ExitCode;
 use std::{env, io};
 
-/// The words behind the program's name.
+/// The words after the program's name.
 fn words_of(rt: &(impl Env + AllocGlobal)) -> io::Result<Vec<String>> {
     Ok(env::args(rt)?.skip(1).collect(rt.alloc())?)
 }

@@ -23,13 +23,15 @@ use Rattle.spec_core.specs.Line.{Line}
 use Rattle.spec_core.specs.UpdateLine.{UpdateLine}
 use Rattle.spec_core.specs.Specification.{Specification}
 
--- the one sort, `Account`, the one counter, `balance`, and the one token, `purse`
+-- the one sort, `Account`
 abbrev pub account : ℕ
 account = 0
 
+-- the one counter, `balance`
 abbrev pub balance : ℕ
 balance = 0
 
+-- the one token, `purse`
 abbrev pub purse : ℕ
 purse = 0
 
@@ -63,7 +65,8 @@ amount_times coef = record { summands = record { coef = coef; body = body.Param 
 
 -- `balance ( .. )`
 abbrev pub balance_of : Elem → Term
-balance_of e = record { summands = record { coef = pos 1; body = body.Count balance (e ∷ []) } ∷ [] }
+balance_of e =
+    record { summands = record { coef = pos 1; body = body.Count balance (e ∷ []) } ∷ [] }
 
 -- a line without variables
 abbrev pub plain : Form → Line
@@ -71,7 +74,10 @@ plain f = record { prefix = Plain; vars = []; body = f }
 
 -- `invariant solvent forall a : Account . ( balance ( a ) >= 0 )`
 abbrev pub solvent : Invariant
-solvent = record { name = codes "solvent"; line = record { prefix = Forall; vars = account ∷ []; body = compare_form (balance_of (elem.Var 0)) AtLeast nothing } }
+solvent = record {
+  name = codes "solvent";
+  line = record { prefix = Forall; vars = account ∷ []; body = compare_form (balance_of (elem.Var 0)) AtLeast nothing };
+}
 
 -- `requires ( n >= 0 )`
 abbrev pub no_debt : Line
@@ -89,7 +95,12 @@ params = record { name = codes "a"; kind = kind.Sort account } ∷ record { name
 
 -- `add balance ( a )` with the amount, or with minus the amount
 abbrev pub add_to_balance : ℤ → UpdateLine
-add_to_balance coef = record { thing = thing.Counter balance; at = One (elem.Param 0) ∷ []; change = Add (amount_times coef); guard = true_form }
+add_to_balance coef = record {
+  thing = thing.Counter balance;
+  at = One (elem.Param 0) ∷ [];
+  change = Add (amount_times coef);
+  guard = true_form;
+}
 
 -- `takes purse ( a )`
 abbrev pub takes_purse : Take
@@ -97,11 +108,25 @@ takes_purse = record { token = purse; args = elem.Param 0 ∷ []; shared = false
 
 -- `operation deposit`
 abbrev pub deposit : Operation
-deposit = record { name = codes "deposit"; params = params; requires_ = no_debt ∷ []; updates = add_to_balance (pos 1) ∷ []; takes = []; observes = [] }
+deposit = record {
+  name = codes "deposit";
+  params = params;
+  requires_ = no_debt ∷ [];
+  updates = add_to_balance (pos 1) ∷ [];
+  takes = [];
+  observes = [];
+}
 
 -- `operation withdraw`
 abbrev pub withdraw : Operation
-withdraw = record { name = codes "withdraw"; params = params; requires_ = no_debt ∷ covered ∷ []; updates = add_to_balance (negsuc 0) ∷ []; takes = takes_purse ∷ []; observes = [] }
+withdraw = record {
+  name = codes "withdraw";
+  params = params;
+  requires_ = no_debt ∷ covered ∷ [];
+  updates = add_to_balance (negsuc 0) ∷ [];
+  takes = takes_purse ∷ [];
+  observes = [];
+}
 
 -- ---- the whole
 

@@ -1,10 +1,10 @@
 // The bank as a host: how an engineer embeds the checker's host, with the bank's specification built in.
 //
-// It stands on `replica_host`, which keeps an application's own code beside the facts about it, on `replay_text` and `simulate_text`, which
-// write what comes of a schedule, and on `byte_ports`, which has how the writing ends. `spec` makes the specification as a record. `effect` has
-// the bank's own code for a call, which changes one balance of a copy, and `guard` that for its requires lines. `hosting` carries a schedule
-// out with this code, in a host or in the nodes of a network, `words` tells what is asked for, and `running` is the program but for its
-// edge: what it writes is what `replay` and `simulate` of the bank's specification write.
+// It stands on `replica_host`, which keeps an application's own code beside the facts about it, on `replay_text` and `simulate_text`,
+// which write what comes of a schedule, and on `byte_ports`, which has how the writing ends. `spec` makes the specification as a
+// record. `effect` has the bank's own code for a call, which changes one balance of a copy, and `guard` that for its requires lines.
+// `hosting` carries a schedule out with this code, in a host or in the nodes of a network, and `words` has what is asked for. `running`
+// is the program but for its edge: what it writes is what `replay` and `simulate` of the bank's specification write.
 //
 // The definitions stand in specs/, in this order: Bank (the specification), Calls (the account, the amount and the lines of a call), Running
 // (which words are accepted, and which status and text belong to them). Carried serves the code and its proofs.

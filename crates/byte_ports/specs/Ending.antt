@@ -17,17 +17,22 @@ IsFrontOfOne Whole front = (status : ℕ) × (text : List ℕ) × Whole status t
 
 -- nothing was written, or a front
 abbrev pub IsBroken : (List ℕ → Type 0) → Option (List ℕ) → Option (List ℕ) → Type 0
-IsBroken Front held_before held_after = Keeps held_before held_after ⊎ ((front : List ℕ) × Front front × Appends held_before held_after front)
+IsBroken Front held_before held_after =
+    Keeps held_before held_after
+    ⊎ ((front : List ℕ) × Front front × Appends held_before held_after front)
 
 -- How it ends where an answer is a status with a whole text, and what may be left of one is its front: by what the sink holds and how
 -- often it has failed, before and after. With a status below 6 the whole text was written. With 7 the sink has failed, and with 7 and 8
 -- nothing or a front was written. With 6 a source has failed.
-pub record Ends (Whole : ℕ → List ℕ → Type 0) (Front : List ℕ → Type 0) (status : ℕ) (held_before held_after : Option (List ℕ)) (faults_before faults_after : ℕ) : Type 0 where
-  pub answered : status < 6 → (text : List ℕ) × Whole status text × Appends held_before held_after text
+pub record Ends (Whole : ℕ → List ℕ → Type 0) (Front : List ℕ → Type 0) (status : ℕ)
+    (held_before held_after : Option (List ℕ)) (faults_before faults_after : ℕ) : Type 0 where
+  pub answered : status < 6
+      → (text : List ℕ) × Whole status text × Appends held_before held_after text
   pub write_fault : status ≡ 7 → IsFault faults_before faults_after
   pub front : 6 < status → IsBroken Front held_before held_after
   pub known : status < 9
 
--- the same where what may be left is the front of such an answer
+-- a run ends so, where what is left of a stopped one is the front of such an answer
 abbrev pub EndsIn : (ℕ → List ℕ → Type 0) → ℕ → Option (List ℕ) → Option (List ℕ) → ℕ → ℕ → Type 0
-EndsIn Whole status held_before held_after faults_before faults_after = Ends Whole (IsFrontOfOne Whole) status held_before held_after faults_before faults_after
+EndsIn Whole status held_before held_after faults_before faults_after =
+    Ends Whole (IsFrontOfOne Whole) status held_before held_after faults_before faults_after

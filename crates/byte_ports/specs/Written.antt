@@ -8,6 +8,7 @@ abbrev pub IsFrontWritten : List ℕ → Option (List ℕ) → Option (List ℕ)
 IsFrontWritten text before after = (n : ℕ) × Appends before after (take n text)
 
 -- a text was written, or a front of it
-abbrev pub IsText : {A : Type 0} → List ℕ → Option (List ℕ) → Option (List ℕ) → Result A WriteOut → Type 0
+abbrev pub IsText : {A : Type 0} → List ℕ → Option (List ℕ) → Option (List ℕ) → Result A WriteOut
+    → Type 0
 IsText text before after (Ok x) = Appends before after text
 IsText text before after (Err why) = IsFrontWritten text before after

@@ -1,7 +1,7 @@
 // Where bytes come from and where they go: sources and sinks that count their faults, and answers, a status with a text.
 // `status` names the statuses.
 //
-// A `Source` tells contracts the bytes that it has left, and a `Sink` the bytes that it holds, where they can: those in memory
+// A `Source` shows contracts the bytes that it has left, and a `Sink` the bytes that it holds, where they can: those in memory
 // do, files and standard output don't. Both count their faults. So `read_up_to` and `write_all` say of every source and sink
 // which bytes were read or written, and name the outside as the cause of a failure only where its count rose.
 //
@@ -9,9 +9,9 @@
 // and `write_answer_from` writes that answer, so that a command whose input is one source is its job.
 //
 // It stands on std and on `thiserror`, which derives the error types. The definitions that contracts cite are in
-// specs/Faults.antt (how faults are counted, and when a failure may come), specs/Written.antt (what a sink holds behind the writing of a
+// specs/Faults.antt (how faults are counted, and when a failure may come), specs/Written.antt (what a sink holds after the writing of a
 // text), specs/Memory.antt (the source and the sink in memory, and what one call does to them), specs/Ending.antt (how the writing of an
-// answer ends) and specs/Told.antt (which bytes a source tells, and what is answered to them).
+// answer ends) and specs/Told.antt (which bytes a source gives, and what is answered to them).
 #![tactic(auto)]
 
 ghost use Rattle.std.specs.Prelude.{◌≡◌};

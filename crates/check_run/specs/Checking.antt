@@ -17,18 +17,24 @@ use Rattle.check_run.specs.Reports.{tally_of, forms_of, written_version, IsCheck
 
 -- a good verdict was counted
 abbrev pub IsCounted : Specification → ℕ → Obligation → Tally → Tally → Type 0
-IsCounted d budget ob told counted = (v : VerdictForm) × IsGood d budget ob v × (counted ≡ with_verdict v told)
+IsCounted d budget ob told counted =
+    (v : VerdictForm) × IsGood d budget ob v × (counted ≡ with_verdict v told)
 
 -- a verdict on an obligation is good, and can stand in a report
-pub record IsWritable (d : Specification) (budget : ℕ) (ob : Obligation) (v : Verdict) : Type 0 where
+pub record IsWritable (d : Specification) (budget : ℕ) (ob : Obligation)
+    (v : Verdict) : Type 0 where
   pub good : IsGood d budget ob (shown_verdict d v)
   pub fit : IsFit d written_version ob v
 
 -- the block of such a verdict was written, and the verdict counted; or a front of the block was written; or nothing
-abbrev pub IsBlock : Specification → ℕ → Obligation → Tally → Tally → Option (List ℕ) → Option (List ℕ) → Result (Unit {0}) WriteOut → Type 0
+abbrev pub IsBlock : Specification → ℕ → Obligation → Tally → Tally → Option (List ℕ)
+    → Option (List ℕ) → Result (Unit {0}) WriteOut → Type 0
 IsBlock d budget ob told counted before after (Ok x) =
-    (v : Verdict) × IsWritable d budget ob v × (counted ≡ with_verdict (shown_verdict d v) told) × Appends before after (block_text d ob v)
-IsBlock d budget ob told counted before after (Err Fault) = (v : Verdict) × (n : ℕ) × IsWritable d budget ob v × Appends before after (take n (block_text d ob v))
+    (v : Verdict) × IsWritable d budget ob v × (counted ≡ with_verdict (shown_verdict d v) told)
+    × Appends before after (block_text d ob v)
+IsBlock d budget ob told counted before after (Err Fault) =
+    (v : Verdict) × (n : ℕ) × IsWritable d budget ob v
+    × Appends before after (take n (block_text d ob v))
 IsBlock d budget ob told counted before after (Err Memory) = Appends before after []
 
 -- each of some verdicts, on the obligations from a place on, can stand in a report
@@ -37,7 +43,8 @@ AreFit d i [] = Unit {0}
 AreFit d i (v ∷ vs) = IsFit d written_version (obligation_at d i) v × AreFit d (suc i) vs
 
 -- the blocks of so many obligations were written
-pub record AreWritten (d : Specification) (budget n : ℕ) (tally : Tally) (before after : Option (List ℕ)) : Type 0 where
+pub record AreWritten (d : Specification) (budget n : ℕ) (tally : Tally)
+    (before after : Option (List ℕ)) : Type 0 where
   pub verdicts : List Verdict
   pub many : length verdicts ≡ n
   pub good : AreGood d budget (take n (obligations_of d)) (forms_of d verdicts)
@@ -45,13 +52,19 @@ pub record AreWritten (d : Specification) (budget n : ℕ) (tally : Tally) (befo
   pub tally_is : tally ≡ tally_of (forms_of d verdicts)
   pub written : Appends before after (blocks_text d 0 verdicts)
 
--- those of all were, or a front of them
-abbrev pub AreBlocks : Specification → ℕ → Option (List ℕ) → Option (List ℕ) → Result Tally WriteOut → Type 0
-AreBlocks d budget before after (Ok tally) = AreWritten d budget (length (obligations_of d)) tally before after
+-- the blocks of all obligations were written, or a front of the first of them
+abbrev pub AreBlocks : Specification → ℕ → Option (List ℕ) → Option (List ℕ) → Result Tally WriteOut
+    → Type 0
+AreBlocks d budget before after (Ok tally) =
+    AreWritten d budget (length (obligations_of d)) tally before after
 AreBlocks d budget before after (Err why) =
-    (vs : List Verdict) × (n : ℕ) × AreGoodSoFar d budget (obligations_of d) (forms_of d vs) × Appends before after (take n (blocks_text d 0 vs))
+    (vs : List Verdict) × (n : ℕ) × AreGoodSoFar d budget (obligations_of d) (forms_of d vs)
+    × Appends before after (take n (blocks_text d 0 vs))
 
 -- The report of a specification was written, and the verdicts counted; or what a stopped check leaves.
-abbrev pub IsReport : Specification → ℕ → Option (List ℕ) → Option (List ℕ) → Result Tally WriteOut → Type 0
-IsReport d budget before after (Ok tally) = (text : List ℕ) × IsChecked d budget tally text × Appends before after text
-IsReport d budget before after (Err why) = (front : List ℕ) × IsFront d budget front × Appends before after front
+abbrev pub IsReport : Specification → ℕ → Option (List ℕ) → Option (List ℕ) → Result Tally WriteOut
+    → Type 0
+IsReport d budget before after (Ok tally) =
+    (text : List ℕ) × IsChecked d budget tally text × Appends before after text
+IsReport d budget before after (Err why) =
+    (front : List ℕ) × IsFront d budget front × Appends before after front

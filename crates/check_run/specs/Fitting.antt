@@ -15,8 +15,11 @@ use Rattle.report_text.specs.Showing.{CanBeShown}
 abbrev pub holds_cause : Cause → Bool
 holds_cause causes.Instances = true
 holds_cause (causes.Lines log) = is_log false log
-holds_cause (causes.Rows e) = is_log false e.log && rows_format.fits (record { used = e.used; steps = e.steps })
-holds_cause (causes.Range e) = is_log false e.log && range_format.fits (record { used = e.used; steps = e.steps; what = e.what })
+holds_cause (causes.Rows e) =
+    is_log false e.log && rows_format.fits (record { used = e.used; steps = e.steps })
+holds_cause (causes.Range e) =
+    is_log false e.log
+    && range_format.fits (record { used = e.used; steps = e.steps; what = e.what })
 
 -- lines hold the log or the evidence of a verdict
 abbrev pub holds_verdict : Verdict → Bool

@@ -13,10 +13,11 @@ use Rattle.sat_core.specs.Answers.{IsSpent, IsTooLong, IsTooLarge}
 use Rattle.proof_report.specs.Verdicts.{VerdictForm, proved, refuted, instances, lines, rows, range}
 use Rattle.check_run.specs.Shown.{listing_of}
 
--- an obligation has no more formulas than may be, or more
+-- an obligation has no more formulas than are decided
 abbrev pub HasFew : Specification → Obligation → Type 0
 HasFew d ob = length (formulas_of d ob) ≤ most_formulas
 
+-- an obligation has more formulas than are decided
 abbrev pub HasMany : Specification → Obligation → Type 0
 HasMany d ob = most_formulas < length (formulas_of d ob)
 
@@ -27,7 +28,8 @@ pub record Refutes (p : PlainProblem) (log : List Line) : Type 0 where
   pub empty : state.empty ≡ true
 
 -- A log proves an obligation, in at most so many lines: it refutes the obligation's problem.
-pub record IsProof (d : Specification) (budget : ℕ) (ob : Obligation) (log : List Line) : Type 0 where
+pub record IsProof (d : Specification) (budget : ℕ) (ob : Obligation)
+    (log : List Line) : Type 0 where
   pub few : HasFew d ob
   pub refutes : Refutes (problem_of d ob) log
   pub within : length log ≤ budget
@@ -38,8 +40,12 @@ IsGood d budget ob (proved log) = IsProof d budget ob log
 IsGood d budget ob (refuted p es) = IsRefutation d ob p.world (listing_of d p) p.calls es
 IsGood d budget ob instances = HasMany d ob
 IsGood d budget ob (lines log) = HasFew d ob × IsSpent true (problem_of d ob) budget log
-IsGood d budget ob (rows log r) = HasFew d ob × IsTooLong true (problem_of d ob) budget (record { log = log; used = r.used; steps = r.steps })
-IsGood d budget ob (range log r) = HasFew d ob × IsTooLarge true (problem_of d ob) budget (record { log = log; used = r.used; steps = r.steps; what = r.what })
+IsGood d budget ob (rows log r) =
+    HasFew d ob
+    × IsTooLong true (problem_of d ob) budget (record { log = log; used = r.used; steps = r.steps })
+IsGood d budget ob (range log r) =
+    HasFew d ob
+    × IsTooLarge true (problem_of d ob) budget (record { log = log; used = r.used; steps = r.steps; what = r.what })
 
 -- There is a good verdict on each of these obligations, in their order.
 abbrev pub AreGood : Specification → ℕ → List Obligation → List VerdictForm → Type 0

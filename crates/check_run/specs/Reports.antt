@@ -26,12 +26,13 @@ status_of outcome.Rejected = 1
 status_of outcome.Undecided = 5
 
 -- Verdicts on these obligations were counted, which are good.
-pub record AreDecided (d : Specification) (budget : ℕ) (obs : List Obligation) (tally : Tally) : Type 0 where
+pub record AreDecided (d : Specification) (budget : ℕ) (obs : List Obligation)
+    (tally : Tally) : Type 0 where
   pub verdicts : List VerdictForm
   pub good : AreGood d budget obs verdicts
   pub tally_is : tally ≡ tally_of verdicts
 
--- So were those on all obligations of a specification.
+-- All obligations of a specification have good verdicts, counted.
 abbrev pub IsDecided : Specification → ℕ → Tally → Type 0
 IsDecided d budget tally = AreDecided d budget (obligations_of d) tally
 
@@ -63,4 +64,5 @@ pub record IsChecked (d : Specification) (budget : ℕ) (tally : Tally) (text : 
 abbrev pub IsFront : Specification → ℕ → List ℕ → Type 0
 IsFront d budget front =
     ((tally : Tally) × (text : List ℕ) × (n : ℕ) × IsChecked d budget tally text × (front ≡ take n text))
-    ⊎ ((vs : List Verdict) × (n : ℕ) × AreGoodSoFar d budget (obligations_of d) (forms_of d vs) × (front ≡ take n (opening_text d budget vs)))
+    ⊎ ((vs : List Verdict) × (n : ℕ) × AreGoodSoFar d budget (obligations_of d) (forms_of d vs)
+    × (front ≡ take n (opening_text d budget vs)))

@@ -1,12 +1,13 @@
-// The program: `check SPEC` reads a specification and writes the report of its obligations, with `--budget N` behind it with logs of at
-// most N lines; `verify SPEC REPORT` says whether a report stands, and `upgrade SPEC REPORT` writes it anew; `replay SPEC SCHEDULE` and
-// `simulate SPEC SCHEDULE` carry a recorded schedule out and write what comes of it; `suggest SPEC` finds which pairs of operations must
-// conflict; `spell SPEC` writes a specification's words in the layout of the language; `sample N` checks a generated specification.
+// The program: `check SPEC` reads a specification and writes the report of its obligations, with `--budget N` after it with logs of at
+// most N lines. `verify SPEC REPORT` says whether a report stands, and `upgrade SPEC REPORT` writes it anew. `replay SPEC SCHEDULE` and
+// `simulate SPEC SCHEDULE` carry a recorded schedule out and write what comes of it. `suggest SPEC` finds which pairs of operations
+// must conflict. `spell SPEC` writes a specification's words in the layout of the language, and `sample N` checks a generated
+// specification.
 //
 // The second word names the first source, and the third the second one. Neither is opened before it is read, so a word that is no path is
 // never one.
 //
-// This is the edge alone: the words behind the program's name, files as sources, and standard output as the sink. All else is `run`
+// This is the edge alone: the words after the program's name, files as sources, and standard output as the sink. All else is `run`
 // of `cise_run`, for any sources and any sink, whose clauses say what each status means.
 #![tactic(auto)]
 
@@ -17,7 +18,7 @@ use std::env::Env;
 use std::process::ExitCode;
 use std::{env, io};
 
-/// The words behind the program's name.
+/// The words after the program's name.
 fn words_of(rt: &(impl Env + AllocGlobal)) -> io::Result<Vec<String>> {
     Ok(env::args(rt)?.skip(1).collect(rt.alloc())?)
 }

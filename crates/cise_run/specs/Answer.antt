@@ -70,6 +70,7 @@ abbrev pub IsAnswerFor : Job → List ℕ → List ℕ → ℕ → List ℕ → 
 IsAnswerFor (OfSpec task) bytes more status text = IsAnswerOf task bytes more status text
 IsAnswerFor (Sample n) bytes more status text = IsSampled n status text
 
+-- what is left of the answer to a job where it is stopped
 abbrev pub IsFrontFor : Job → List ℕ → List ℕ → List ℕ → Type 0
 IsFrontFor (OfSpec task) bytes more front = IsFrontOfAnswer task bytes more front
 IsFrontFor (Sample n) bytes more front = IsSampleFront n front
@@ -83,15 +84,17 @@ EndsWith told Whole Front status held_before held_after faults_before faults_aft
 
 -- ---- the words
 
+-- the line by which words are refused
 abbrev pub words_text : List ℕ
 words_text = line (codes "refused" ∷ codes "words" ∷ [])
 
--- the answer to a job, from bytes that its sources tell, where they tell them; and to words that aren't accepted
+-- the answer to a job, from the bytes that its sources give, where they give them; or the refusal of words that aren't accepted
 abbrev pub IsAnswerTo : Option Job → Option (List ℕ) → Option (List ℕ) → ℕ → List ℕ → Type 0
 IsAnswerTo None spec extra status text = IsOne 2 words_text status text
 IsAnswerTo (Some job) spec extra status text =
     (bytes : List ℕ) × (more : List ℕ) × Tells spec bytes × Tells extra more × IsAnswerFor job bytes more status text
 
+-- what is left of that answer where it is stopped
 abbrev pub IsFrontTo : Option Job → Option (List ℕ) → Option (List ℕ) → List ℕ → Type 0
 IsFrontTo None spec extra front = IsFrontOf words_text front
 IsFrontTo (Some job) spec extra front =

@@ -81,6 +81,7 @@ WritesRightly spec held_before held_after = IfSome spec (λ bytes. (text : List 
 abbrev pub VerifiesRightly : Option (List ℕ) → Option (List ℕ) → Type 0
 VerifiesRightly spec extra = IfSome spec (λ bytes. IfSome extra (λ report. IsRefutedRightly bytes report))
 
+-- where a task judges a specification, each refutation that it writes or verifies is right
 abbrev pub RefutesOf : Task → Option (List ℕ) → Option (List ℕ) → Option (List ℕ) → Option (List ℕ) → Type 0
 RefutesOf (Check budget) spec extra held_before held_after = WritesRightly spec held_before held_after
 RefutesOf Verify spec extra held_before held_after = VerifiesRightly spec extra

@@ -26,6 +26,7 @@ most_sample = 12
 abbrev pub is_within : ℕ → ℕ → Bool
 is_within most n = nat_le 1 n && nat_le n most
 
+-- a number, where it is one from 1 to a greatest one
 abbrev pub within : ℕ → Option ℕ → Option ℕ
 within most None = None
 within most (Some n) = if is_within most n then Some n else None
@@ -36,15 +37,17 @@ number_in most word = within most (size_read word)
 
 -- ---- jobs
 
+-- a check with this budget, where there is one
 abbrev pub check_within : Option ℕ → Option Job
 check_within None = None
 check_within (Some budget) = Some (OfSpec (Check budget))
 
+-- a sample of this number, where there is one
 abbrev pub sample_of : Option ℕ → Option Job
 sample_of None = None
 sample_of (Some n) = Some (Sample n)
 
--- the jobs of two words, of three and of four
+-- the job of a command and one word more
 abbrev pub job_of_two : List ℕ → List ℕ → Option Job
 job_of_two command word =
     if bytes_eq command (codes "check") then Some (OfSpec (Check default_budget))
@@ -52,6 +55,7 @@ job_of_two command word =
     else (if bytes_eq command (codes "spell") then Some (OfSpec Spell)
     else (if bytes_eq command (codes "sample") then sample_of (number_in most_sample word) else None)))
 
+-- the job of a command with two inputs
 abbrev pub job_of_three : List ℕ → Option Job
 job_of_three command =
     if bytes_eq command (codes "verify") then Some (OfSpec Verify)
@@ -59,6 +63,7 @@ job_of_three command =
     else (if bytes_eq command (codes "replay") then Some (OfSpec Replay)
     else (if bytes_eq command (codes "simulate") then Some (OfSpec Simulate) else None)))
 
+-- the job of a command with an input, an option and a number
 abbrev pub job_of_four : List ℕ → List ℕ → List ℕ → Option Job
 job_of_four command option word =
     if bytes_eq command (codes "check") then (if bytes_eq option (codes "--budget") then check_within (number_in most_budget word) else None) else None
@@ -74,7 +79,7 @@ job_of (command ∷ path ∷ other ∷ []) = job_of_three command
 job_of (command ∷ path ∷ option ∷ word ∷ []) = job_of_four command option word
 job_of (command ∷ path ∷ option ∷ word ∷ more ∷ words) = None
 
--- The number in a job is within its limits.
+-- the number in a task is within its limits
 abbrev pub is_task : Task → Bool
 is_task (Check budget) = is_within most_budget budget
 is_task Verify = true
@@ -84,6 +89,7 @@ is_task Simulate = true
 is_task Suggest = true
 is_task Spell = true
 
+-- The number in a job is within its limits.
 abbrev pub is_job : Job → Bool
 is_job (OfSpec task) = is_task task
 is_job (Sample n) = is_within most_sample n
@@ -100,21 +106,23 @@ takes_extra Simulate = true
 takes_extra Suggest = false
 takes_extra Spell = false
 
--- Which inputs are read for a job: that of the specification, and the second one. Where the words aren't accepted, neither is.
+-- Whether the specification's input is read for a job; where the words aren't accepted, it isn't.
 abbrev pub reads_spec : Option Job → Bool
 reads_spec None = false
 reads_spec (Some (OfSpec task)) = true
 reads_spec (Some (Sample n)) = false
 
+-- Whether the second input is read for a job; where the words aren't accepted, it isn't.
 abbrev pub reads_extra : Option Job → Bool
 reads_extra None = false
 reads_extra (Some (OfSpec task)) = takes_extra task
 reads_extra (Some (Sample n)) = false
 
--- the most bytes that are read of the first input, and of the second one: 64 KiB of a specification, 64 MiB of a report, 16 MiB of a schedule
+-- the most bytes that are read of the first input: 64 KiB
 abbrev pub most_specification_bytes : ℕ
 most_specification_bytes = 65536
 
+-- the most bytes that are read of the second input: 64 MiB of a report, 16 MiB of a schedule
 abbrev pub most_extra_bytes : Task → ℕ
 most_extra_bytes (Check budget) = 0
 most_extra_bytes Verify = most_report_bytes
@@ -138,7 +146,7 @@ abbrev pub IsInputFault : Option Job → ℕ → ℕ → ℕ → ℕ → Type 0
 IsInputFault job spec_before spec_after extra_before extra_after =
     ((reads_spec job ≡ true) × IsFault spec_before spec_after) ⊎ ((reads_extra job ≡ true) × IsFault extra_before extra_after)
 
--- the words ask for a verdict on a specification: for a check of it, or for the verification or the upgrade of a report on it
+-- a task judges a specification: a check of it, and the verification or the upgrade of a report on it
 abbrev pub is_judging : Task → Bool
 is_judging (Check budget) = true
 is_judging Verify = true
@@ -148,12 +156,13 @@ is_judging Simulate = false
 is_judging Suggest = false
 is_judging Spell = false
 
+-- the words ask for a verdict on a specification
 abbrev pub judges : Option Job → Bool
 judges None = false
 judges (Some (OfSpec task)) = is_judging task
 judges (Some (Sample n)) = false
 
--- they ask for a replay
+-- a task is a replay
 abbrev pub is_replaying : Task → Bool
 is_replaying (Check budget) = false
 is_replaying Verify = false
@@ -163,12 +172,13 @@ is_replaying Simulate = false
 is_replaying Suggest = false
 is_replaying Spell = false
 
+-- the words ask for a replay
 abbrev pub is_replay : Option Job → Bool
 is_replay None = false
 is_replay (Some (OfSpec task)) = is_replaying task
 is_replay (Some (Sample n)) = false
 
--- they ask for a report that is written: for a check, or for an upgrade
+-- a task writes a report: a check, and an upgrade
 abbrev pub is_reporting : Task → Bool
 is_reporting (Check budget) = true
 is_reporting Verify = false
@@ -178,12 +188,13 @@ is_reporting Simulate = false
 is_reporting Suggest = false
 is_reporting Spell = false
 
+-- the words ask for a report that is written
 abbrev pub writes_report : Option Job → Bool
 writes_report None = false
 writes_report (Some (OfSpec task)) = is_reporting task
 writes_report (Some (Sample n)) = false
 
--- they ask for a simulation
+-- a task is a simulation
 abbrev pub is_simulating : Task → Bool
 is_simulating (Check budget) = false
 is_simulating Verify = false
@@ -193,12 +204,13 @@ is_simulating Simulate = true
 is_simulating Suggest = false
 is_simulating Spell = false
 
+-- the words ask for a simulation
 abbrev pub is_simulation : Option Job → Bool
 is_simulation None = false
 is_simulation (Some (OfSpec task)) = is_simulating task
 is_simulation (Some (Sample n)) = false
 
--- they ask for a suggestion
+-- a task is a suggestion
 abbrev pub is_suggesting : Task → Bool
 is_suggesting (Check budget) = false
 is_suggesting Verify = false
@@ -208,6 +220,7 @@ is_suggesting Simulate = false
 is_suggesting Suggest = true
 is_suggesting Spell = false
 
+-- the words ask for a suggestion
 abbrev pub is_suggestion : Option Job → Bool
 is_suggestion None = false
 is_suggestion (Some (OfSpec task)) = is_suggesting task

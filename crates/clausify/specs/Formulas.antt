@@ -10,6 +10,7 @@ normal_of (code.Lit l) = lit l
 normal_of (code.All' l f m g) = all (normal_of f) (normal_of g)
 normal_of (code.Any' l f m g) = any (normal_of f) (normal_of g)
 
+-- the folded formula that a program holds
 abbrev pub folded_of : CodeFolded → Folded
 folded_of (code_folded.Settled b) = settled b
 folded_of (code_folded.Unsettled f) = unsettled (normal_of f)

@@ -11,11 +11,11 @@
 // and the pivots go on from there. Of thousands of rows a few dozen ever join; and coefficients near 10^9 would have no room in a tableau of
 // all rows where a few of them decide.
 //
-// From fractions to whole numbers. A vertex is rounded, to the nearest numbers, down, and up; if that breaks rows, some moves of one name at
-// a time may mend it. Else the vertex is cut off: the multiples by which a cut is made follow from the equation of a name whose value
-// isn't whole, and are steps of a Farkas line like any others, for tightening is what rounds (src/cuts says why). So parity, coins and
-// thin slabs are decided without a split. A name that the vertex puts beyond the numbers of a state gets a bound there; what rests on such
-// a bound is no proposal, since it wasn't given.
+// From fractions to whole numbers. A vertex is rounded, to the nearest numbers, down, and up; if that breaks rows, some moves of one
+// name at a time may mend it. Else the vertex is cut off. The multiples by which a cut is made follow from the equation of a name whose
+// value isn't whole. They are steps of a Farkas line like any others, for tightening is what rounds (src/cuts says why). So parity,
+// coins and thin slabs are decided without a split. A name that the vertex puts beyond the numbers of a state gets a bound there; what
+// rests on such a bound is no proposal, since it wasn't given.
 //
 // What it costs. Few rows join, so most of the time goes into reading the rows once for each vertex. 15 times cuts are made, up to two at a
 // time.

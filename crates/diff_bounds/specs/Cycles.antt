@@ -20,7 +20,9 @@ pub record IsCycle (visits : List Visit) (used : List ℕ) : Type 0 where
   pub some : 0 < edge_count
   pub deep : edge_count ≤ (visit_at visits end).depth
   pub closed : (visit_at visits (back visits edge_count end)).place ≡ (visit_at visits end).place
-  pub simple : (i j : ℕ) → i < j → j < edge_count → (visit_at visits (back visits i end)).place ≡ (visit_at visits (back visits j end)).place → ⊥
+  pub simple : (i j : ℕ) → i < j → j < edge_count
+      → (visit_at visits (back visits i end)).place ≡ (visit_at visits (back visits j end)).place
+      → ⊥
   pub used_is : used ≡ walk_edges visits edge_count end
 
 -- GOING BACK along a walk: a list says of each place after how many edges it was seen
@@ -30,14 +32,17 @@ abbrev pub free_places : List (Option ℕ) → ℕ
 free_places [] = 0
 free_places (o ∷ seen) = cond (is_none o) (1 + free_places seen) (free_places seen)
 
--- how far it has come from the visit `last`
-pub record IsGoingBack (ints : ℕ) (visits : List Visit) (last : ℕ) (seen : List (Option ℕ)) (used : List ℕ) (at : ℕ) : Type 0 where
+-- how far the way back has come from the visit `last`
+pub record IsGoingBack (ints : ℕ) (visits : List Visit) (last : ℕ) (seen : List (Option ℕ))
+    (used : List ℕ) (at : ℕ) : Type 0 where
   pub at_is : at ≡ back visits (length used) last
   pub used_is : used ≡ walk_edges visits (length used) last
   pub seen_count : length seen ≡ ints + 1
   pub free : free_places seen + length used ≡ ints + 1
-  pub places : (p s : ℕ) → slice_index_or seen p None ≡ Some s → (s < length used) × ((visit_at visits (back visits s last)).place ≡ p)
-  pub marked : (i : ℕ) → i < length used → slice_index_or seen (visit_at visits (back visits i last)).place None ≡ Some i
+  pub places : (p s : ℕ) → slice_index_or seen p None ≡ Some s
+      → (s < length used) × ((visit_at visits (back visits s last)).place ≡ p)
+  pub marked : (i : ℕ) → i < length used
+      → slice_index_or seen (visit_at visits (back visits i last)).place None ≡ Some i
 
 -- ONE CYCLE OF ROWS
 
@@ -47,9 +52,10 @@ LeadBack ints rows [] [] start = Unit {0}
 LeadBack ints rows [] (p ∷ ps) start = ⊥
 LeadBack ints rows (u ∷ us) [] start = ⊥
 LeadBack ints rows (u ∷ us) (p ∷ ps) start =
-    (bound : ℤ) × Spans ints (tightened (row_at rows u)) (slice_index_or ps 0 start) p bound × LeadBack ints rows us ps start
+    (bound : ℤ) × Spans ints (tightened (row_at rows u)) (slice_index_or ps 0 start) p bound
+    × LeadBack ints rows us ps start
 
--- They are the rows of one cycle, the last one first: it comes to no place twice, and ends where it starts.
+-- Rows are those of one cycle, the last one first: it comes to no place twice, and ends where it starts.
 pub record IsRowCycle (ints : ℕ) (rows : List Row) (used : List ℕ) : Type 0 where
   pub end : ℕ
   pub others : List ℕ
@@ -59,19 +65,25 @@ pub record IsRowCycle (ints : ℕ) (rows : List Row) (used : List ℕ) : Type 0 
 
 -- THE STEPS: the first adds the first two of `count` rows, and each next one adds one row more
 
+-- the left row of a step: the first of all rows at the first step, and then the row of the step before
 abbrev pub left_of : ℕ → ℕ → ℕ
 left_of count right = cond (nat_eq right 1) 0 (count + right - 2)
 
+-- the step that adds the row of this number
 abbrev pub step_at : ℕ → ℕ → RowStep
-step_at count right = record { left = left_of count right; first = pos 1; right = right; second = pos 1 }
+step_at count right =
+    record { left = left_of count right; first = pos 1; right = right; second = pos 1 }
 
+-- the first steps, in their order
 abbrev pub first_steps : ℕ → ℕ → List RowStep
 first_steps count zero = []
 first_steps count (suc n) = first_steps count n ++ step_at count (suc n) ∷ []
 
 -- CONFLICTS: the different rows of one cycle, which the steps add up one after the other
 abbrev pub AddsUp : ℕ → List Row → TheoryAnswer → Type 0
-AddsUp ints rows (Conflict used steps) = IsRowCycle ints rows used × (are_different used ≡ true) × (steps ≡ first_steps (length used) (length used - 1))
+AddsUp ints rows (Conflict used steps) =
+    IsRowCycle ints rows used × (are_different used ≡ true)
+    × (steps ≡ first_steps (length used) (length used - 1))
 AddsUp ints rows (Model values) = Unit {0}
 AddsUp ints rows (Split place at used steps low high values) = Unit {0}
 AddsUp ints rows (Rows used steps) = Unit {0}

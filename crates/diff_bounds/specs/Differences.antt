@@ -12,6 +12,7 @@ use Rattle.proof_lines.specs.Evidence.{in_state}
 
 -- DIFFERENCE ROWS
 
+-- a coefficient is 1 or -1
 abbrev pub is_unit : ℤ → Bool
 is_unit c = int_eq c (pos 1) || int_eq c (negsuc 0)
 
@@ -19,7 +20,8 @@ is_unit c = int_eq c (pos 1) || int_eq c (negsuc 0)
 abbrev pub are_difference : List RowTerm → Bool
 are_difference [] = true
 are_difference (t ∷ []) = is_unit t.coef
-are_difference (t ∷ u ∷ []) = (is_unit t.coef && is_unit u.coef) && int_eq (t.coef +ℤ u.coef) (pos 0)
+are_difference (t ∷ u ∷ []) =
+    (is_unit t.coef && is_unit u.coef) && int_eq (t.coef +ℤ u.coef) (pos 0)
 are_difference (t ∷ u ∷ v ∷ ts) = false
 
 -- the greatest size of a number of a state
@@ -34,6 +36,7 @@ is_near ints b = nat_le ((ints + 1) * unsigned_abs b) state_limit
 abbrev pub is_taken : ℕ → Row → Bool
 is_taken ints r = are_difference (tightened r).terms && is_near ints (tightened r).bound
 
+-- the solver takes each of these rows
 abbrev pub are_taken : ℕ → List Row → Bool
 are_taken ints rows = list_all (is_taken ints) rows
 
@@ -46,7 +49,8 @@ is_there_taken ints None = false
 
 -- the coefficients are in the range of a state, and the row and its negation are taken
 abbrev pub row_fits : ℕ → Row → Bool
-row_fits ints r = list_all (λ t. in_state t.coef) r.terms && (is_taken ints r && is_there_taken ints (negated r))
+row_fits ints r =
+    list_all (λ t. in_state t.coef) r.terms && (is_taken ints r && is_there_taken ints (negated r))
 
 -- the row of an atom, if it has one, fits
 abbrev pub atom_fits : ℕ → AtomKind → Bool

@@ -10,7 +10,8 @@ use Rattle.diff_bounds.specs.Spans.{Spans}
 -- A walk comes to a place and has a length. One without rows has the length 0, and a row leads on from place to place and adds its bound.
 pub data IsWalk (ints : ℕ) (rows : List Row) : ℕ → ℤ → Type 0 where
   stay : (place : ℕ) → place ≤ ints → IsWalk ints rows place (pos 0)
-  lead : (i from to : ℕ) (bound so_far : ℤ) → i < length rows → from ≤ ints → to ≤ ints → Spans ints (tightened (row_at rows i)) from to bound → IsWalk ints rows from so_far
+  lead : (i from to : ℕ) (bound so_far : ℤ) → i < length rows → from ≤ ints → to ≤ ints
+      → Spans ints (tightened (row_at rows i)) from to bound → IsWalk ints rows from so_far
       → IsWalk ints rows to (so_far +ℤ bound)
 
 -- the distance of a place is the length of a walk to it, from any place, and no walk to it is shorter
@@ -31,7 +32,8 @@ greatest_bound (r ∷ rows) = max (unsigned_abs (tightened r).bound) (greatest_b
 
 -- no value lies further from 0 than so many times the greatest bound as there are names
 abbrev pub AreNearZero : ℕ → List Row → List ℤ → Type 0
-AreNearZero ints rows values = (p : ℕ) → p < ints → unsigned_abs (point_of values p) ≤ ints * greatest_bound rows
+AreNearZero ints rows values =
+    (p : ℕ) → p < ints → unsigned_abs (point_of values p) ≤ ints * greatest_bound rows
 
 -- MODELS: the shortest distances, which lie near 0
 abbrev pub HasShortest : ℕ → List Row → TheoryAnswer → Type 0

@@ -8,9 +8,11 @@ use Rattle.diff_bounds.specs.declared.edges.Edge.{Edge}
 use Rattle.diff_bounds.specs.Differences.{state_limit}
 use Rattle.diff_bounds.specs.Spans.{place_value, Spans}
 
+-- what stands for an edge that isn't there
 abbrev pub no_edge : Edge
 no_edge = record { from = 0; to = 0; bound = pos 0 }
 
+-- the edge of a number
 abbrev pub edge_at : List Edge → ℕ → Edge
 edge_at edges i = slice_index_or edges i no_edge
 
@@ -21,6 +23,7 @@ pub record IsNear (ints : ℕ) (e : Edge) : Type 0 where
   pub not_below : neg_ℤ (pos state_limit) ≤ℤ (pos (ints + 1) *ℤ e.bound)
   pub not_above : (pos (ints + 1) *ℤ e.bound) ≤ℤ pos state_limit
 
+-- each of these edges goes from place to place, and its bound is near
 abbrev pub AreNear : ℕ → List Edge → Type 0
 AreNear ints edges = (i : ℕ) → i < length edges → IsNear ints (edge_at edges i)
 

@@ -9,6 +9,7 @@ use Rattle.diff_bounds.specs.Differences.{is_near}
 abbrev pub over : ℤ → ℤ → ℤ
 over bound coef = int_div_euclid bound (pos (unsigned_abs coef))
 
+-- terms and a bound of a row that the solver takes once it is tightened
 abbrev pub is_simple : ℕ → List RowTerm → ℤ → Bool
 is_simple ints [] b = is_near ints b
 is_simple ints (t ∷ []) b = is_near ints (over b t.coef)

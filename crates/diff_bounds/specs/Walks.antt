@@ -7,21 +7,24 @@ use Rattle.diff_bounds.specs.Edges.{edge_at}
 
 -- VISITS: each is where a walk has come to, by an edge from an earlier visit, or a start
 
+-- what stands for a visit that isn't there
 abbrev pub no_visit : Visit
 no_visit = record { place = 0; depth = 0; value = pos 0; edge = 0; before = 0 }
 
+-- the visit of a number
 abbrev pub visit_at : List Visit → ℕ → Visit
 visit_at visits i = slice_index_or visits i no_visit
 
--- so many visits back
+-- the visit that lies this many edges back
 abbrev pub back : List Visit → ℕ → ℕ → ℕ
 back visits zero i = i
 back visits (suc n) i = back visits n (visit_at visits i).before
 
--- the edges of so many visits, the last one first
+-- this many edges of a walk, back from a visit: the last one first
 abbrev pub walk_edges : List Visit → ℕ → ℕ → List ℕ
 walk_edges visits zero i = []
-walk_edges visits (suc n) i = (visit_at visits i).edge ∷ walk_edges visits n (visit_at visits i).before
+walk_edges visits (suc n) i =
+    (visit_at visits i).edge ∷ walk_edges visits n (visit_at visits i).before
 
 -- the visit with number i comes by an edge from an earlier one
 pub record IsStep (edges : List Edge) (i : ℕ) (visit before : Visit) : Type 0 where
@@ -41,10 +44,11 @@ pub record IsVisit (ints : ℕ) (edges : List Edge) (i : ℕ) (visit before : Vi
   pub not_later : visit.before ≤ i
   pub step : 0 < visit.depth → IsStep edges i visit before
 
--- the latest visit of each place
+-- the number of the latest visit of a place
 abbrev pub latest_at : List ℕ → ℕ → ℕ
 latest_at latest place = slice_index_or latest place 0
 
+-- the latest visit of a place
 abbrev pub now_at : List Visit → List ℕ → ℕ → Visit
 now_at visits latest place = visit_at visits (latest_at latest place)
 
@@ -60,21 +64,27 @@ pub record AreStarts (places : ℕ) (visits : List Visit) (latest : List ℕ) : 
   pub own : (p : ℕ) → p < places → latest_at latest p ≡ p
 
 -- what is kept of all visits. A later visit of a place has a lower value
-pub record AreWalks (ints : ℕ) (edges : List Edge) (visits : List Visit) (latest : List ℕ) : Type 0 where
-  pub each : (i : ℕ) → i < length visits → IsVisit ints edges i (visit_at visits i) (visit_at visits (visit_at visits i).before)
-  pub falls : (i j : ℕ) → i < j → j < length visits → (visit_at visits i).place ≡ (visit_at visits j).place → (visit_at visits j).value <ℤ (visit_at visits i).value
+pub record AreWalks (ints : ℕ) (edges : List Edge) (visits : List Visit)
+    (latest : List ℕ) : Type 0 where
+  pub each : (i : ℕ) → i < length visits
+      → IsVisit ints edges i (visit_at visits i) (visit_at visits (visit_at visits i).before)
+  pub falls : (i j : ℕ) → i < j → j < length visits
+      → (visit_at visits i).place ≡ (visit_at visits j).place
+      → (visit_at visits j).value <ℤ (visit_at visits i).value
   pub count : length latest ≡ ints + 1
   pub there : (p : ℕ) → p ≤ ints → latest_at latest p < length visits
   pub same : (p : ℕ) → p ≤ ints → (now_at visits latest p).place ≡ p
   pub last : (i : ℕ) → i < length visits → i ≤ latest_at latest (visit_at visits i).place
 
 -- a visit by the edge with number i from the latest visit of its start, to a lower value than the latest one of its end
-pub record IsNext (ints : ℕ) (edges : List Edge) (visits : List Visit) (latest : List ℕ) (i : ℕ) (visit : Visit) : Type 0 where
+pub record IsNext (ints : ℕ) (edges : List Edge) (visits : List Visit) (latest : List ℕ) (i : ℕ)
+    (visit : Visit) : Type 0 where
   pub edge_below : i < length edges
   pub place_is : visit.place ≡ (edge_at edges i).to
   pub edge_is : visit.edge ≡ i
   pub before_is : visit.before ≡ latest_at latest (edge_at edges i).from
-  pub value_is : visit.value ≡ (now_at visits latest (edge_at edges i).from).value +ℤ (edge_at edges i).bound
+  pub value_is : visit.value
+      ≡ (now_at visits latest (edge_at edges i).from).value +ℤ (edge_at edges i).bound
   pub depth_is : visit.depth ≡ (now_at visits latest (edge_at edges i).from).depth + 1
   pub lower : visit.value <ℤ (now_at visits latest (edge_at edges i).to).value
   pub short : (now_at visits latest (edge_at edges i).from).depth ≤ ints
@@ -90,16 +100,22 @@ pub record IsLong (ints : ℕ) (visits : List Visit) : Type 0 where
 
 -- an edge leads to no lower value
 abbrev pub IsSettled : List Visit → List ℕ → Edge → Type 0
-IsSettled visits latest e = (now_at visits latest e.to).value ≤ℤ ((now_at visits latest e.from).value +ℤ e.bound)
+IsSettled visits latest e =
+    (now_at visits latest e.to).value ≤ℤ ((now_at visits latest e.from).value +ℤ e.bound)
 
+-- no edge leads to a lower value
 abbrev pub AreSettled : List Visit → List ℕ → List Edge → Type 0
-AreSettled visits latest edges = (i : ℕ) → i < length edges → IsSettled visits latest (edge_at edges i)
+AreSettled visits latest edges =
+    (i : ℕ) → i < length edges → IsSettled visits latest (edge_at edges i)
 
 -- an edge is settled, or leads on from a deep visit
 abbrev pub IsAhead : List Visit → List ℕ → Edge → ℕ → Type 0
-IsAhead visits latest e depth = IsSettled visits latest e ⊎ (depth ≤ (now_at visits latest e.from).depth)
+IsAhead visits latest e depth =
+    IsSettled visits latest e ⊎ (depth ≤ (now_at visits latest e.from).depth)
 
 -- in a round, all edges are ahead, the first ones already by one more
-pub record AreAhead (visits : List Visit) (latest : List ℕ) (edges : List Edge) (round done : ℕ) : Type 0 where
+pub record AreAhead (visits : List Visit) (latest : List ℕ) (edges : List Edge)
+    (round done : ℕ) : Type 0 where
   pub all : (i : ℕ) → i < length edges → IsAhead visits latest (edge_at edges i) round
-  pub first : (i : ℕ) → i < length edges → i < done → IsAhead visits latest (edge_at edges i) (round + 1)
+  pub first : (i : ℕ) → i < length edges → i < done
+      → IsAhead visits latest (edge_at edges i) (round + 1)

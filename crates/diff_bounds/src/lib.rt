@@ -18,8 +18,8 @@
 //
 // The layer stands on `theory_api`, `proof_lines` and `lin_rows`. Definitions: specs/Differences (which rows and problems it takes),
 // specs/Spans, specs/Edges and specs/Walks (rows as edges, and walks along them), specs/Cycles and specs/Values (what a conflict and a
-// model are made of), specs/Distances (the shortest walks along rows, and how far values lie from 0); specs/States and specs/Fitting mirror
-// the code.
+// model are made of), specs/Distances (the shortest walks along rows, and how far values lie from 0). specs/States and specs/Fitting
+// mirror the code.
 #![tactic(auto)]
 
 pub mod cycle;

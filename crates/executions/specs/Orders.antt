@@ -12,7 +12,8 @@ abbrev pub AreIn : List ℕ → List ℕ → Type 0
 AreIn xs ys = (x : ℕ) → Contains xs x → Contains ys x
 
 -- Event e may be taken next, after those taken so far: it exists, it wasn't taken, and all that it has seen was taken.
-pub record MayFollow {Call : Type 0} (events : List (Event Call)) (taken : List ℕ) (e : ℕ) : Type 0 where
+pub record MayFollow {Call : Type 0} (events : List (Event Call)) (taken : List ℕ)
+    (e : ℕ) : Type 0 where
   pub event : Event Call
   pub exists : slice_get events e ≡ Some event
   pub new : ¬ Contains taken e
@@ -25,10 +26,12 @@ IsOrder events order = (i e : ℕ) → slice_get order i ≡ Some e → MayFollo
 -- A causally closed set of events, listed in any order: whatever one of them has seen is one of them.
 pub record IsClosed {Call : Type 0} (events : List (Event Call)) (set : List ℕ) : Type 0 where
   pub exist : (e : ℕ) → Contains set e → e < length events
-  pub closed : (e : ℕ) (event : Event Call) → Contains set e → slice_get events e ≡ Some event → AreIn event.seen set
+  pub closed : (e : ℕ) (event : Event Call) → Contains set e → slice_get events e ≡ Some event
+      → AreIn event.seen set
 
 -- a delivery order of the events of a set
-pub record IsOrderOf {Call : Type 0} (events : List (Event Call)) (set order : List ℕ) : Type 0 where
+pub record IsOrderOf {Call : Type 0} (events : List (Event Call))
+    (set order : List ℕ) : Type 0 where
   pub ordered : IsOrder events order
   pub within : AreIn order set
   pub whole : AreIn set order

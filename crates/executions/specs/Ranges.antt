@@ -17,7 +17,8 @@ StayInRange d w events order n =
 
 -- The first value beyond the range of a state that an order leads to: the first that the event at some place leaves, and the events
 -- before that place stay in the range.
-pub record IsFirstBeyondIn (d : Specification) (w : World) (events : List (Event Call)) (order : List ℕ) (b : Beyond) : Type 0 where
+pub record IsFirstBeyondIn (d : Specification) (w : World) (events : List (Event Call))
+    (order : List ℕ) (b : Beyond) : Type 0 where
   pub place : ℕ
   pub number : ℕ
   pub event : Event Call

@@ -8,11 +8,11 @@ use Rattle.spec_core.specs.declared.operation.Take.{Take}
 use Rattle.spec_core.specs.Specification.{Specification, op_of}
 use Rattle.spec_core.specs.Truth.{elem_of}
 
--- these name the same elements at both arguments
+-- these elements are the same at both arguments
 abbrev pub same_elems : World → List ℤ → List ℤ → List Elem → Bool
 same_elems w one other elems = list_all (λ e. elem_of w one [] e == elem_of w other [] e) elems
 
--- so does each of these takes lines
+-- each of these takes lines names the same elements at both arguments
 abbrev pub same_takes : World → List ℤ → List ℤ → List Take → Bool
 same_takes w one other takes = list_all (λ t. same_elems w one other t.args) takes
 

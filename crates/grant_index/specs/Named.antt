@@ -15,4 +15,5 @@ id_if d w call (Some g) = cond (conflicts d w g.call call) (g.id ∷ []) []
 -- the ids of those of the grants with these numbers that conflict
 abbrev pub ids_at : Specification → World → Call → List Granted → List ℕ → List EventId
 ids_at d w call granted [] = []
-ids_at d w call granted (n ∷ ns) = id_if d w call (slice_get granted n) ++ ids_at d w call granted ns
+ids_at d w call granted (n ∷ ns) =
+    id_if d w call (slice_get granted n) ++ ids_at d w call granted ns

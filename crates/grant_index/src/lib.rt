@@ -8,7 +8,7 @@
 // It stands on `token_rules` and `token_protocol`. `specs/Index.antt` says what a list and an index are, `specs/Named.antt` which calls
 // the grants on a list name; that these are all that conflict is the lemma `conflicts_listed` of proofs/Listed.
 //
-// Calls that take the same tokens conflict with the same calls, by the lemma `conflicts_alike` of proofs/SameTokens; `take_alike` tells them.
+// Calls that take the same tokens conflict with the same calls, by the lemma `conflicts_alike` of proofs/SameTokens; `take_alike` finds them.
 // So what conflicts with a call among the grants before an earlier call with its tokens is what the grant of that call names.
 #![tactic(auto)]
 

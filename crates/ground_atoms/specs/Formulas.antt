@@ -18,5 +18,6 @@ abbrev pub const_of_arg : GroundArg → Option ℕ
 const_of_arg (arg.Elem n) = Some n
 const_of_arg (arg.Int n) = None
 
+-- the constants of arguments, none for a whole number
 abbrev pub consts_of_args : List GroundArg → List (Option ℕ)
 consts_of_args xs = map const_of_arg xs

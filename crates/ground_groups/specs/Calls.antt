@@ -17,18 +17,21 @@ use Rattle.ground_groups.specs.declared.constants.Named.{Named}
 -- the constants and the integers that stand for parameters, where the first of each has this number
 abbrev pub args_from : ℕ → ℕ → List Parameter → List GroundArg
 args_from n i [] = []
-args_from n i (p ∷ ps) = cond (is_int p.kind) (Int i ∷ args_from n (suc i) ps) (Elem n ∷ args_from (suc n) i ps)
+args_from n i (p ∷ ps) =
+    cond (is_int p.kind) (Int i ∷ args_from n (suc i) ps) (Elem n ∷ args_from (suc n) i ps)
 
--- how many of them are whole numbers
+-- how many of these parameters are whole numbers
 abbrev pub ints_among : List Parameter → ℕ
 ints_among [] = 0
 ints_among (p ∷ ps) = cond (is_int p.kind) (suc (ints_among ps)) (ints_among ps)
 
+-- the calls of these operations, where the first constant and the first whole number have these numbers
 abbrev pub calls_from : Specification → ℕ → ℕ → List ℕ → List GroundCall
 calls_from d n i [] = []
 calls_from d n i (o ∷ os) =
     record { op = o; args = args_from n i (op_of d o).params }
-    ∷ calls_from d (n + length (sorts_of_params (op_of d o).params)) (i + ints_among (op_of d o).params) os
+    ∷ calls_from d (n + length (sorts_of_params (op_of d o).params))
+    (i + ints_among (op_of d o).params) os
 
 -- The calls of an obligation.
 abbrev pub calls_of : Specification → Obligation → List GroundCall
@@ -36,8 +39,14 @@ calls_of d ob = calls_from d (length d.consts) 0 (operations_of ob)
 
 -- the constants that a program holds
 abbrev pub constants_in : Named → Constants
-constants_in c = record { sorts = c.sorts; params = map (λ g. consts_of_args g.args) c.calls; chosen = c.chosen; elements = c.elements }
+constants_in c = record {
+  sorts = c.sorts;
+  params = map (λ g. consts_of_args g.args) c.calls;
+  chosen = c.chosen;
+  elements = c.elements;
+}
 
 -- what is known once the whole numbers among the arguments have numbers
 abbrev pub numbered_arguments : Specification → Obligation → Known
-numbered_arguments d ob = record { table = record { atoms = []; ints = arguments_of d ob }; named = [] }
+numbered_arguments d ob =
+    record { table = record { atoms = []; ints = arguments_of d ob }; named = [] }

@@ -12,6 +12,7 @@ use Rattle.stage_defs.specs.Settings.{has_definition, count_definition}
 abbrev pub no_call : GroundCall
 no_call = record { op = 0; args = [] }
 
+-- the call of a number
 abbrev pub call_at : List GroundCall → ℕ → GroundCall
 call_at calls n = get_or calls n no_call
 

@@ -16,11 +16,16 @@ most_formulas = 20000
 -- these formulas, after those so far, where there are no more than that together
 abbrev pub make_upto : List Numbered → Known → List Symbolic → Option MadeList
 make_upto so_far k [] = Some (record { known = k; forms = so_far })
-make_upto so_far k (f ∷ fs) = cond (ltb (length so_far) most_formulas) (make_upto (so_far ++ (make k f).form ∷ []) (make k f).known fs) None
+make_upto so_far k (f ∷ fs) =
+    cond (ltb (length so_far) most_formulas)
+    (make_upto (so_far ++ (make k f).form ∷ []) (make k f).known fs)
+    None
 
 -- a call appends these formulas: too many comes exactly where there are more, and want of memory at any time
-abbrev pub Appends : {A : Type 0} → Result A GroundRefused → List GroundFormula → Known → List Symbolic → List GroundFormula → Known → Type 0
-Appends (Ok value) old k fs new now = make_upto (map form_of old) k fs ≡ Some (record { known = now; forms = map form_of new })
+abbrev pub Appends : {A : Type 0} → Result A GroundRefused → List GroundFormula → Known
+    → List Symbolic → List GroundFormula → Known → Type 0
+Appends (Ok value) old k fs new now =
+    make_upto (map form_of old) k fs ≡ Some (record { known = now; forms = map form_of new })
 Appends (Err TooMany) old k fs new now = make_upto (map form_of old) k fs ≡ None
 Appends (Err Memory) old k fs new now = Unit {0}
 

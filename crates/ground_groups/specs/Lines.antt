@@ -8,7 +8,8 @@ use Rattle.ground_problem.specs.Formulas.{Caller, Readings, formula, instances}
 
 -- A line: with `exists` at its own constants, else once for each assignment.
 abbrev pub line_at : Constants → Readings → Caller → Line → List ℕ → List Symbolic
-line_at z r c l own = cond (is_exists l.prefix) (formula r c own l.body ∷ []) (instances z r c l.vars l.body)
+line_at z r c l own =
+    cond (is_exists l.prefix) (formula r c own l.body ∷ []) (instances z r c l.vars l.body)
 
 -- lines with their own constants; the place of the first of them has no meaning
 abbrev pub lines_at : Constants → Readings → Caller → ℕ → List Line → List (List ℕ) → List Symbolic

@@ -15,4 +15,6 @@ unmatched_as swapped rule a t b u = cond swapped (unmatched rule b u a t) (unmat
 abbrev pub each_from : List ℕ → List ℕ → List ℕ → List Symbolic
 each_from before [] cs = []
 each_from before (v ∷ vs) [] = []
-each_from before (v ∷ vs) (c ∷ cs) = cond (list_any (λ u. v == u) before) [] (same_later v c vs cs) ++ each_from (before ++ v ∷ []) vs cs
+each_from before (v ∷ vs) (c ∷ cs) =
+    cond (list_any (λ u. v == u) before) [] (same_later v c vs cs)
+    ++ each_from (before ++ v ∷ []) vs cs

@@ -17,6 +17,7 @@ pub data Folded : Type 0 where
   settled : Bool → Folded
   unsettled : Normal → Folded
 
+-- the folded "and" of two folded formulas
 abbrev pub fold_all : Folded → Folded → Folded
 fold_all (settled true) g = g
 fold_all (settled false) g = settled false
@@ -24,6 +25,7 @@ fold_all (unsettled f) (settled true) = unsettled f
 fold_all (unsettled f) (settled false) = settled false
 fold_all (unsettled f) (unsettled g) = unsettled (all f g)
 
+-- the folded "or" of two folded formulas
 abbrev pub fold_any : Folded → Folded → Folded
 fold_any (settled true) g = settled true
 fold_any (settled false) g = g
@@ -49,13 +51,13 @@ names (lit l) = 0
 names (all f g) = 1
 names (any f g) = names f + names g
 
--- how many of them a formula's own clause has, which an "and" has none of
+-- how many naming atoms the clause of an "or" has; an "and" has no clause of its own
 abbrev pub own_names : Normal → ℕ
 own_names (lit l) = 0
 own_names (all f g) = 0
 own_names (any f g) = names f + names g
 
--- how many the clauses on the named parts have
+-- how many naming atoms the clauses on the named parts have
 abbrev pub inner_names : Normal → ℕ
 inner_names (lit l) = 0
 inner_names (all f g) = (own_names f + inner_names f) + (own_names g + inner_names g)
@@ -71,6 +73,7 @@ literals p (lit l) = l ∷ []
 literals p (all f g) = lit_of p true ∷ []
 literals p (any f g) = literals p f ++ literals (p + names f) g
 
+-- the literals that stand in front of a clause: one, or none
 abbrev pub in_front : Option Lit → List Lit
 in_front None = []
 in_front (Some l) = l ∷ []
@@ -90,18 +93,22 @@ pub data Role : Type 0 where
 -- for each part of what it names.
 abbrev pub written : Role → ℕ → Normal → List (List Lit)
 written (whole front) n (lit l) = clause_of front n (lit l) ∷ []
-written (whole front) n (all f g) = written (whole front) n f ++ written (whole front) (n + new_names f) g
+written (whole front) n (all f g) =
+    written (whole front) n f ++ written (whole front) (n + new_names f) g
 written (whole front) n (any f g) =
     let from = n + names f + names g in
-    clause_of front n (any f g) ∷ written (parts n) from f ++ written (parts (n + names f)) (from + inner_names f) g
+    clause_of front n (any f g) ∷ written (parts n) from f
+    ++ written (parts (n + names f)) (from + inner_names f) g
 written (parts p) n (lit l) = []
 written (parts p) n (all f g) =
     let named = whole (Some (lit_of p false)) in
     written named n f ++ written named (n + new_names f) g
-written (parts p) n (any f g) = written (parts p) n f ++ written (parts (p + names f)) (n + inner_names f) g
+written (parts p) n (any f g) =
+    written (parts p) n f ++ written (parts (p + names f)) (n + inner_names f) g
 
 -- ---- of folded formulas
 
+-- how many naming atoms the clauses of a folded formula bring
 abbrev pub names_of : Folded → ℕ
 names_of (settled b) = 0
 names_of (unsettled f) = new_names f
@@ -120,4 +127,5 @@ all_names (f ∷ fs) = names_of (folded true f) + all_names fs
 -- The clauses of a list of formulas in turn, where n is the next naming atom.
 abbrev pub all_clauses : ℕ → List Numbered → List (List Lit)
 all_clauses n [] = []
-all_clauses n (f ∷ fs) = clauses_of n (folded true f) ++ all_clauses (n + names_of (folded true f)) fs
+all_clauses n (f ∷ fs) =
+    clauses_of n (folded true f) ++ all_clauses (n + names_of (folded true f)) fs

@@ -19,6 +19,7 @@ holds v (negation f) = not (holds v f)
 holds v (conjunction f g) = holds v f && holds v g
 holds v (disjunction f g) = holds v f || holds v g
 
+-- all these formulas are true
 abbrev pub all_hold : (ℕ → Bool) → List Numbered → Bool
 all_hold v fs = list_all (holds v) fs
 

@@ -17,6 +17,7 @@ pub data Atom : Type 0 where
   has_atom : Stage → (relation : ℕ) → (tuple : List ℕ) → Atom
   row_atom : Row → Atom
 
+-- two atoms stand for the same
 abbrev pub same_atoms : Atom → Atom → Bool
 same_atoms (same_atom a b) (same_atom c d) = (a == c) && (b == d)
 same_atoms (same_atom a b) (has_atom k r t) = false
@@ -28,6 +29,7 @@ same_atoms (row_atom r) (same_atom a b) = false
 same_atoms (row_atom r) (has_atom k q t) = false
 same_atoms (row_atom r) (row_atom s) = same_row r s
 
+-- two names name the same whole number
 abbrev pub same_integers : Integer → Integer → Bool
 same_integers (argument c p) (argument d q) = (c == d) && (p == q)
 same_integers (argument c p) (reading k i t) = false
@@ -37,33 +39,40 @@ same_integers (reading k i t) (reading j h u) = bytes_eq k j && ((i == h) && byt
 same_integers (reading k i t) (partial n j h u) = false
 same_integers (partial n k i t) (argument c p) = false
 same_integers (partial n k i t) (reading j h u) = false
-same_integers (partial n k i t) (partial m j h u) = (n == m) && (bytes_eq k j && ((i == h) && bytes_eq t u))
+same_integers (partial n k i t) (partial m j h u) =
+    (n == m) && (bytes_eq k j && ((i == h) && bytes_eq t u))
 
 -- The table: a number is a place in these lists, which hold no equal ones. It is over stages themselves, not over their numbers.
 pub record Table : Type 0 where
   pub atoms : List Atom
   pub ints : List Integer
 
+-- an atom has a number in the table
 abbrev pub has_number : Table → Atom → Bool
 has_number t a = list_any (same_atoms a) t.atoms
 
+-- a name of a whole number has a number in the table
 abbrev pub has_integer : Table → Integer → Bool
 has_integer t x = list_any (same_integers x) t.ints
 
--- the number of an atom or a name: the place of an equal one, else the next number
+-- the number of an atom: the place of an equal one, else the next number
 abbrev pub number_of : Table → Atom → ℕ
 number_of t a = position_or_len (same_atoms a) t.atoms
 
+-- the number of a name of a whole number: the place of an equal one, else the next number
 abbrev pub integer_of : Table → Integer → ℕ
 integer_of t x = position_or_len (same_integers x) t.ints
 
--- the table with one more, unless it is there
+-- the table with one more atom, unless it is there
 abbrev pub with_atom : Table → Atom → Table
 with_atom t a = record { atoms = cond (has_number t a) t.atoms (t.atoms ++ a ∷ []); ints = t.ints }
 
+-- the table with one more name of a whole number, unless it is there
 abbrev pub with_integer : Table → Integer → Table
-with_integer t x = record { atoms = t.atoms; ints = cond (has_integer t x) t.ints (t.ints ++ x ∷ []) }
+with_integer t x =
+    record { atoms = t.atoms; ints = cond (has_integer t x) t.ints (t.ints ++ x ∷ []) }
 
+-- the table with the names of a sum, in their order
 abbrev pub with_integers : Table → List Part → Table
 with_integers t [] = t
 with_integers t (number n ∷ ps) = with_integers t ps
@@ -80,9 +89,10 @@ signed false k = neg_ℤ k
 abbrev pub terms_of : Table → Bool → List Part → List RowTerm
 terms_of t s [] = []
 terms_of t s (number n ∷ ps) = terms_of t s ps
-terms_of t s (multiple k x ∷ ps) = record { place = integer_of t x; coef = signed s k } ∷ terms_of t s ps
+terms_of t s (multiple k x ∷ ps) =
+    record { place = integer_of t x; coef = signed s k } ∷ terms_of t s ps
 
--- its plain numbers
+-- the sum of a sum's plain numbers
 abbrev pub plain_of : List Part → ℤ
 plain_of [] = pos 0
 plain_of (number n ∷ ps) = n +ℤ plain_of ps
@@ -100,12 +110,14 @@ with_term (t ∷ ts) u =
 abbrev pub added_up : List RowTerm → List RowTerm
 added_up ts = fold with_term [] ts
 
--- The row of "t is at most u + n": the multiples of t less those of u are at most a bound, which has the plain numbers.
+-- the bound of "t is at most u + n": n with the plain numbers of u, less those of t
 abbrev pub bound_of : List Part → List Part → ℤ → ℤ
 bound_of t u n = (n +ℤ plain_of u) -ℤ plain_of t
 
+-- the row over numbered integers of "t is at most u + n"
 abbrev pub row_of : Table → List Part → List Part → ℤ → Row
-row_of o t u n = record { terms = added_up (terms_of o true t ++ terms_of o false u); bound = bound_of t u n }
+row_of o t u n =
+    record { terms = added_up (terms_of o true t ++ terms_of o false u); bound = bound_of t u n }
 
 -- ---- formulas
 
@@ -124,6 +136,7 @@ numbered o (negated f) = negation (numbered o f)
 numbered o (both f g) = conjunction (numbered o f) (numbered o g)
 numbered o (either f g) = disjunction (numbered o f) (numbered o g)
 
+-- the table with a row as an atom, unless it has no terms
 abbrev pub with_row : Table → List RowTerm → Row → Table
 with_row o [] r = o
 with_row o (t ∷ ts) r = with_atom o (row_atom r)
@@ -138,7 +151,9 @@ abbrev pub naming : Table → Symbolic → Table
 naming o (always b) = o
 naming o (same a b) = with_atom o (same_atom a b)
 naming o (has k r t) = with_atom o (has_atom k r t)
-naming o (at_most t u n) = with_row (with_sums o t u) (row_of (with_sums o t u) t u n).terms (row_of (with_sums o t u) t u n)
+naming o (at_most t u n) =
+    with_row (with_sums o t u) (row_of (with_sums o t u) t u n).terms
+    (row_of (with_sums o t u) t u n)
 naming o (negated f) = naming o f
 naming o (both f g) = naming (naming o f) g
 naming o (either f g) = naming (naming o f) g

@@ -20,9 +20,10 @@ use Rattle.ground_numbers.specs.Clauses.{all_names, all_clauses}
 -- the parameters that are whole numbers, where the first of these parameters has this number
 abbrev pub numbers_from : ℕ → List Parameter → List ℕ
 numbers_from n [] = []
-numbers_from n (p ∷ ps) = cond (is_int p.kind) (n ∷ numbers_from (suc n) ps) (numbers_from (suc n) ps)
+numbers_from n (p ∷ ps) =
+    cond (is_int p.kind) (n ∷ numbers_from (suc n) ps) (numbers_from (suc n) ps)
 
--- those of calls, the first of which has this place
+-- the whole numbers among the arguments of calls, the first of which has this place
 abbrev pub arguments_from : ℕ → List (List Parameter) → List Integer
 arguments_from n [] = []
 arguments_from n (ps ∷ more) = map (argument n) (numbers_from 0 ps) ++ arguments_from (suc n) more
@@ -41,6 +42,7 @@ numbered_of d ob = map (numbered (table_of d ob)) (formulas_of d ob)
 
 -- ---- the problem
 
+-- an atom of the problem: plain, or with its row
 abbrev pub kind_of : Atom → AtomKind
 kind_of (same_atom a b) = Plain
 kind_of (has_atom k r t) = Plain

@@ -14,6 +14,7 @@ size_of_terms (t ∷ ts) = unsigned_abs t.coef + size_of_terms ts
 abbrev pub greatest_number : ℕ
 greatest_number = 10 ^ 20
 
+-- a number of at most this size
 abbrev pub is_small : ℤ → Bool
 is_small n = nat_le (unsigned_abs n) greatest_number
 
@@ -21,6 +22,7 @@ is_small n = nat_le (unsigned_abs n) greatest_number
 abbrev pub is_small_row : Row → Bool
 is_small_row r = list_all (λ t. is_small t.coef) r.terms && is_small r.bound
 
+-- the row of an atom, if it has one, has no larger number
 abbrev pub is_small_atom : Atom → Bool
 is_small_atom (same_atom a b) = true
 is_small_atom (has_atom k r t) = true

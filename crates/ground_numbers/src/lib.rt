@@ -3,7 +3,7 @@
 // It stands on `ground_problem`, whose formulas it numbers, and on `proof_lines`, whose problems it makes. The definitions are in
 // specs/, in this order: `Stages` (numbers for stages), `Numbered` (formulas over numbered atoms), `Numbers` (which number an atom
 // and a name has), `Steps` (the same as a program does it, from left to right), `Clauses` (formulas as clauses), `Problem` (the
-// whole). docs/GROUND.md tells them in words, with an example.
+// whole). docs/GROUND.md explains them in words, with an example.
 #![tactic(auto)]
 
 mod laws;

@@ -13,7 +13,8 @@ any_like like c (x ∷ xs) = like x c || any_like like c xs
 -- the first of each class
 abbrev pub firsts : (ℕ → ℕ → Bool) → List ℕ → List ℕ → List ℕ
 firsts like seen [] = []
-firsts like seen (x ∷ xs) = cond (any_like like x seen) (firsts like seen xs) (x ∷ firsts like (seen ++ x ∷ []) xs)
+firsts like seen (x ∷ xs) =
+    cond (any_like like x seen) (firsts like seen xs) (x ∷ firsts like (seen ++ x ∷ []) xs)
 
 -- the place of the first that is like it
 abbrev pub place_like : (ℕ → ℕ → Bool) → ℕ → List ℕ → ℕ

@@ -15,12 +15,17 @@ use Rattle.ground_problem.specs.Formulas.{Caller, caller, nobody, Readings, at_s
 
 -- A line is false: with `exists` once for each assignment, else at the elements.
 abbrev pub line_fails : Constants → Readings → Caller → Line → List Symbolic
-line_fails z r c l = cond (is_exists l.prefix) (map negated (instances z r c l.vars l.body)) (negated (formula r c z.elements l.body) ∷ [])
+line_fails z r c l =
+    cond (is_exists l.prefix)
+    (map negated (instances z r c l.vars l.body))
+    (negated (formula r c z.elements l.body) ∷ [])
 
 -- A thing reads differently at two stages.
 abbrev pub differ : Thing → Stage → Stage → List ℕ → Symbolic
-differ (thing.Relation r) j k t = either (both (has j r t) (negated (has k r t))) (both (negated (has j r t)) (has k r t))
-differ (thing.Counter c) j k t = unequal (multiple (pos 1) (reading j c t) ∷ []) (multiple (pos 1) (reading k c t) ∷ [])
+differ (thing.Relation r) j k t =
+    either (both (has j r t) (negated (has k r t))) (both (negated (has j r t)) (has k r t))
+differ (thing.Counter c) j k t =
+    unequal (multiple (pos 1) (reading j c t) ∷ []) (multiple (pos 1) (reading k c t) ∷ [])
 
 -- The conclusion fails: an invariant in the initial state, an invariant after a call, the agreement of the two orders of two
 -- calls, a requires line of the first call after the second.

@@ -14,13 +14,13 @@ use Rattle.obligation_list.specs.Breaking.{operations_of, elements_of}
 -- the parameters of a sort, call by call; the variables of each requires line with `exists`, call by call and line by line; the
 -- elements at which the conclusion fails.
 pub record Constants : Type 0 where
-  -- the sort of each
+  -- the sort of each constant
   pub sorts : List ℕ
-  -- for each call those of its parameters, none for a whole number
+  -- for each call the constants of its parameters, none for a whole number
   pub params : List (List (Option ℕ))
-  -- for each call those of its requires lines, an empty list for a line without `exists`
+  -- for each call the constants of its requires lines, an empty list for a line without `exists`
   pub chosen : List (List (List ℕ))
-  -- those of the conclusion
+  -- the constants of the elements at which the conclusion fails
   pub elements : List ℕ
 
 -- the sorts of parameters that have one
@@ -30,11 +30,14 @@ sorts_of_params ps = filter_map (λ p. sort_of_kind p.kind) ps
 -- the constants of parameters, from this number on
 abbrev pub params_from : ℕ → List Parameter → List (Option ℕ)
 params_from n [] = []
-params_from n (p ∷ ps) = cond (is_int p.kind) (None ∷ params_from n ps) (Some n ∷ params_from (suc n) ps)
+params_from n (p ∷ ps) =
+    cond (is_int p.kind) (None ∷ params_from n ps) (Some n ∷ params_from (suc n) ps)
 
+-- the constants of the parameters of calls, call by call, from this number on
 abbrev pub all_params_from : ℕ → List (List Parameter) → List (List (Option ℕ))
 all_params_from n [] = []
-all_params_from n (ps ∷ more) = params_from n ps ∷ all_params_from (n + length (sorts_of_params ps)) more
+all_params_from n (ps ∷ more) =
+    params_from n ps ∷ all_params_from (n + length (sorts_of_params ps)) more
 
 -- the sorts of the constants of a requires line
 abbrev pub chosen_vars : Line → List ℕ
@@ -45,12 +48,15 @@ abbrev pub chosen_from : ℕ → List (List ℕ) → List (List ℕ)
 chosen_from n [] = []
 chosen_from n (ss ∷ more) = range_with_len n (length ss) ∷ chosen_from (n + length ss) more
 
+-- lists, one behind the other
 abbrev pub concatenated : List (List ℕ) → List ℕ
 concatenated lists = flat_map (λ xs. xs) lists
 
+-- the constants of the requires lines of calls, call by call, from this number on
 abbrev pub all_chosen_from : ℕ → List (List (List ℕ)) → List (List (List ℕ))
 all_chosen_from n [] = []
-all_chosen_from n (lines ∷ more) = chosen_from n lines ∷ all_chosen_from (n + length (concatenated lines)) more
+all_chosen_from n (lines ∷ more) =
+    chosen_from n lines ∷ all_chosen_from (n + length (concatenated lines)) more
 
 -- the parameters of the calls
 abbrev pub params_of : Specification → Obligation → List (List Parameter)

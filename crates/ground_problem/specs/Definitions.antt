@@ -70,16 +70,19 @@ value_after [] n k i t = reading k i t
 value_after (u ∷ us) n k i t = partial n k i t
 
 -- each update, from the one with this number on, gives the next value where it acts and leaves the value elsewhere
-abbrev pub values_defined : Readings → Caller → Stage → ℕ → List ℕ → ℕ → List Part → List UpdateLine → List Symbolic
+abbrev pub values_defined : Readings → Caller → Stage → ℕ → List ℕ → ℕ → List Part → List UpdateLine
+    → List Symbolic
 values_defined r c k i t n v [] = []
 values_defined r c k i t n v (u ∷ us) =
     let acting = acts_on r c t u in
     let next = multiple (pos 1) (value_after us n k i t) ∷ [] in
-    either (negated acting) (equal next (count_then r c u.change v)) ∷ either acting (equal next v) ∷ values_defined r c k i t (suc n) next us
+    either (negated acting) (equal next (count_then r c u.change v)) ∷ either acting (equal next v)
+    ∷ values_defined r c k i t (suc n) next us
 
 -- a value that no update changes
 abbrev pub value_stays : Readings → Stage → ℕ → List ℕ → List UpdateLine → List Symbolic
-value_stays r k i t [] = equal (multiple (pos 1) (reading k i t) ∷ []) (r.count (pos 1) i t ∷ []) ∷ []
+value_stays r k i t [] =
+    equal (multiple (pos 1) (reading k i t) ∷ []) (r.count (pos 1) i t ∷ []) ∷ []
 value_stays r k i t (u ∷ us) = []
 
 -- The definition of a counter's reading: it stays without updates, and else each of them gives a value.
@@ -100,10 +103,13 @@ pub record Reading : Type 0 where
 abbrev pub updates_at : Specification → Obligation → ℕ → List UpdateLine
 updates_at d ob n = (op_of d (slice_index (operations_of ob) n)).updates
 
+-- What defines a reading: at the entry nothing, and after a call what its updates make of the reading before it.
 abbrev pub define : Specification → Obligation → Constants → Stage → Thing → List ℕ → List Symbolic
 define d ob z [] x t = []
-define d ob z (n ∷ k) (thing.Relation r) t = define_has (at_stage k) (caller z n) (updates_at d ob n) (has (n ∷ k) r t) r t
-define d ob z (n ∷ k) (thing.Counter i) t = define_count (at_stage k) (caller z n) (updates_at d ob n) (n ∷ k) i t
+define d ob z (n ∷ k) (thing.Relation r) t =
+    define_has (at_stage k) (caller z n) (updates_at d ob n) (has (n ∷ k) r t) r t
+define d ob z (n ∷ k) (thing.Counter i) t =
+    define_count (at_stage k) (caller z n) (updates_at d ob n) (n ∷ k) i t
 
 -- The definition of a reading after a call; a reading at the entry has none.
 abbrev pub definition : Specification → Obligation → Constants → Reading → List Symbolic
@@ -111,15 +117,18 @@ definition d ob z q = define d ob z q.stage q.thing q.tuple
 
 -- ---- the readings that formulas name, from left to right
 
+-- the reading that a name of a whole number is, if it is one
 abbrev pub reading_of_integer : Integer → List Reading
 reading_of_integer (argument c p) = []
 reading_of_integer (reading k i t) = record { stage = k; thing = thing.Counter i; tuple = t } ∷ []
 reading_of_integer (partial n k i t) = []
 
+-- the reading that a summand names, if it names one
 abbrev pub readings_of_part : Part → List Reading
 readings_of_part (number n) = []
 readings_of_part (multiple k x) = reading_of_integer x
 
+-- the readings that a formula names, from left to right
 abbrev pub readings : Symbolic → List Reading
 readings (always b) = []
 readings (same a b) = []
@@ -129,18 +138,22 @@ readings (negated f) = readings f
 readings (both f g) = readings f ++ readings g
 readings (either f g) = readings f ++ readings g
 
+-- two readings are one: at one stage, of one thing, at one tuple
 abbrev pub same_reading : Reading → Reading → Bool
-same_reading p q = bytes_eq p.stage q.stage && (is_thing p.thing q.thing && bytes_eq p.tuple q.tuple)
+same_reading p q =
+    bytes_eq p.stage q.stage && (is_thing p.thing q.thing && bytes_eq p.tuple q.tuple)
 
 -- each reading once, where it first stands, without those that were met before
 abbrev pub distinct : List Reading → List Reading → List Reading
 distinct met [] = []
-distinct met (q ∷ qs) = cond (list_any (same_reading q) met) (distinct met qs) (q ∷ distinct (q ∷ met) qs)
+distinct met (q ∷ qs) =
+    cond (list_any (same_reading q) met) (distinct met qs) (q ∷ distinct (q ∷ met) qs)
 
 -- The readings after so many calls that a list names, each once, in the order in which it first names them.
 abbrev pub readings_after : ℕ → List Symbolic → List Reading
 readings_after n list = distinct [] (filter (λ q. length q.stage == n) (flat_map readings list))
 
 -- A list with the definitions of the readings after so many calls that it names.
-abbrev pub with_definitions : Specification → Obligation → Constants → ℕ → List Symbolic → List Symbolic
+abbrev pub with_definitions : Specification → Obligation → Constants → ℕ → List Symbolic
+    → List Symbolic
 with_definitions d ob z n list = list ++ flat_map (definition d ob z) (readings_after n list)

@@ -41,8 +41,10 @@ tuples_same (t ∷ ts) (u ∷ us) = same_const t u ∷ tuples_same ts us
 
 -- a thing reads the same at two tuples at the entry
 abbrev pub readings_same : Thing → List ℕ → List ℕ → Symbolic
-readings_same (thing.Relation r) t u = both (either (negated (has [] r t)) (has [] r u)) (either (has [] r t) (negated (has [] r u)))
-readings_same (thing.Counter i) t u = equal (multiple (pos 1) (reading [] i t) ∷ []) (multiple (pos 1) (reading [] i u) ∷ [])
+readings_same (thing.Relation r) t u =
+    both (either (negated (has [] r t)) (has [] r u)) (either (has [] r t) (negated (has [] r u)))
+readings_same (thing.Counter i) t u =
+    equal (multiple (pos 1) (reading [] i t) ∷ []) (multiple (pos 1) (reading [] i u) ∷ [])
 
 -- Where two tuples are equal, the thing reads the same at them.
 abbrev pub congruent : Thing → List ℕ → List ℕ → Symbolic
@@ -53,9 +55,11 @@ abbrev pub congruent_pairs : Thing → List (List ℕ) → List Symbolic
 congruent_pairs x [] = []
 congruent_pairs x (t ∷ ts) = map (congruent x t) ts ++ congruent_pairs x ts
 
+-- a tuple put into rising ones
 abbrev pub insert_rising : List ℕ → List (List ℕ) → List (List ℕ)
 insert_rising t [] = t ∷ []
-insert_rising t (u ∷ us) = cond (is_lt (slice_cmp nat_cmp t u)) (t ∷ u ∷ us) (u ∷ insert_rising t us)
+insert_rising t (u ∷ us) =
+    cond (is_lt (slice_cmp nat_cmp t u)) (t ∷ u ∷ us) (u ∷ insert_rising t us)
 
 -- the tuples of these readings, in rising order
 abbrev pub rising : List Reading → List (List ℕ)
@@ -64,4 +68,5 @@ rising (q ∷ qs) = insert_rising q.tuple (rising qs)
 
 -- For each of these things, every two tuples at which it is among these readings.
 abbrev pub congruence : List Reading → List Thing → List Symbolic
-congruence qs xs = flat_map (λ x. congruent_pairs x (rising (filter (λ q. is_thing q.thing x) qs))) xs
+congruence qs xs =
+    flat_map (λ x. congruent_pairs x (rising (filter (λ q. is_thing q.thing x) qs))) xs

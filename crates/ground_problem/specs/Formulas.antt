@@ -20,6 +20,7 @@ pub record Caller : Type 0 where
   pub call : ℕ
   pub params : List (Option ℕ)
 
+-- the call of this place in the obligation
 abbrev pub caller : Constants → ℕ → Caller
 caller z n = record { call = n; params = get_or z.params n [] }
 
@@ -51,17 +52,21 @@ const_of c vars (Const n) = n
 const_of c vars (Param n) = unwrap_or (get_or c.params n None) 0
 const_of c vars (Var n) = slice_index vars n
 
+-- the constants that stand for elements, in their order
 abbrev pub consts_of : Caller → List ℕ → List Elem → List ℕ
 consts_of c vars es = map (const_of c vars) es
 
+-- a multiple of what a summand counts: of 1, of a parameter, or of a counter's reading
 abbrev pub part_of_body : Readings → Caller → List ℕ → ℤ → Body → Part
 part_of_body r c vars k body.One = number k
 part_of_body r c vars k (body.Param n) = multiple k (argument c.call n)
 part_of_body r c vars k (body.Count i es) = r.count k i (consts_of c vars es)
 
+-- a summand over constants and readings
 abbrev pub part_of : Readings → Caller → List ℕ → Summand → Part
 part_of r c vars s = part_of_body r c vars s.coef s.body
 
+-- a sum over constants and readings
 abbrev pub parts_of : Readings → Caller → List ℕ → Term → List Part
 parts_of r c vars t = map (part_of r c vars) t.summands
 

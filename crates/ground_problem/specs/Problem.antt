@@ -14,7 +14,7 @@ use Rattle.ground_problem.specs.Equality.{equality, congruence}
 abbrev pub stated : Specification → Obligation → Constants → List Symbolic
 stated d ob z = before_conclusion d ob z ++ conclusion d ob z
 
--- These with the definitions of all later readings that the list so far names, in the order in which it first names them. A
+-- What is stated, with the definitions of all later readings that the list so far names, in the order in which it first names them. A
 -- definition names the reading itself and readings of the stage before. Before the definitions there are readings after two
 -- calls and none after one, or none after two. So those after two calls come first.
 abbrev pub defined : Specification → Obligation → Constants → List Symbolic

@@ -50,7 +50,8 @@ argument_of Int e n = n
 -- arguments for parameters, by their places from this one on
 abbrev pub arguments_from : (ℕ → ℕ) → (ℕ → ℤ) → ℕ → List Parameter → List ℤ
 arguments_from e f from [] = []
-arguments_from e f from (p ∷ ps) = argument_of p.kind (e from) (f from) ∷ arguments_from e f (from + 1) ps
+arguments_from e f from (p ∷ ps) =
+    argument_of p.kind (e from) (f from) ∷ arguments_from e f (from + 1) ps
 
 -- the call of an operation that has this place among the calls
 abbrev pub call_of : Specification → Obligation → Interpretation → ℕ → ℕ → Call
@@ -59,6 +60,7 @@ call_of d ob m n o = record {
   args = arguments_from (λ i. element_at d ob m (unwrap_or (get_or (caller (constants_of d ob) n).params i None) 0)) (λ i. m.int (argument n i)) 0 (op_of d o).params;
 }
 
+-- the calls of operations that stand from this place on
 abbrev pub calls_from : Specification → Obligation → Interpretation → ℕ → List ℕ → List Call
 calls_from d ob m n [] = []
 calls_from d ob m n (o ∷ os) = call_of d ob m n o ∷ calls_from d ob m (suc n) os
@@ -75,7 +77,8 @@ elements_at d ob m = map (element_at d ob m) (constants_of d ob).elements
 
 -- the tuples or keys of a thing that the formulas name at the entry
 abbrev pub named_at : Specification → Obligation → Thing → List (List ℕ)
-named_at d ob x = rising (filter (λ q. is_thing q.thing x) (readings_after 0 (defined d ob (constants_of d ob))))
+named_at d ob x =
+    rising (filter (λ q. is_thing q.thing x) (readings_after 0 (defined d ob (constants_of d ob))))
 
 -- a tuple is held where it is one of these and true
 abbrev pub held : (List ℕ → List ℕ) → (List ℕ → Bool) → List (List ℕ) → List ℕ → Bool
@@ -96,9 +99,12 @@ entry_of d ob m = record {
 -- A state reads what an interpretation says of the entry; that of an initial obligation is the initial state.
 abbrev pub IsEntry : Specification → Obligation → Interpretation → Listing → Type 0
 IsEntry d (Init i) m s = reads s ≡ reads (initial d (world_of d (Init i) m))
-IsEntry d (Safety o i) m s = AgreeOn d (world_of d (Safety o i) m) (reads s) (entry_of d (Safety o i) m)
-IsEntry d (Commute o p x) m s = AgreeOn d (world_of d (Commute o p x) m) (reads s) (entry_of d (Commute o p x) m)
-IsEntry d (Stable o l p) m s = AgreeOn d (world_of d (Stable o l p) m) (reads s) (entry_of d (Stable o l p) m)
+IsEntry d (Safety o i) m s =
+    AgreeOn d (world_of d (Safety o i) m) (reads s) (entry_of d (Safety o i) m)
+IsEntry d (Commute o p x) m s =
+    AgreeOn d (world_of d (Commute o p x) m) (reads s) (entry_of d (Commute o p x) m)
+IsEntry d (Stable o l p) m s =
+    AgreeOn d (world_of d (Stable o l p) m) (reads s) (entry_of d (Stable o l p) m)
 
 -- ---- how large they are
 
@@ -109,7 +115,11 @@ all_listed test s = list_all (λ values. list_all (λ (e : List ℕ × ℤ). tes
 -- A world, a state and calls are read from an interpretation: a sort has at most as many elements as the obligation has constants of
 -- it, the numbers that the state lists are values of the interpretation or stated initial values, and whole numbers among the
 -- arguments are what the interpretation gives for them.
-pub record ReadFrom (d : Specification) (ob : Obligation) (m : Interpretation) (w : World) (s : Listing) (cs : List Call) : Type 0 where
+pub record ReadFrom (d : Specification) (ob : Obligation) (m : Interpretation) (w : World)
+    (s : Listing) (cs : List Call) : Type 0 where
   pub sizes : (n : ℕ) → size_of w n ≤ length (of_sort 0 (constants_of d ob).sorts n)
-  pub counts : (test : ℤ → Bool) → ((x : Integer) → test (m.int x) ≡ true) → ((k : ℕ) → test (get_or d.counters k no_counter).initial ≡ true) → all_listed test s ≡ true
-  pub arguments : (n : ℕ) (c : Call) → slice_get cs n ≡ Some c → (i : ℕ) → is_number (slice_get (op_of d c.op).params i) ≡ true → slice_index_or c.args i (pos 0) ≡ m.int (argument n i)
+  pub counts : (test : ℤ → Bool) → ((x : Integer) → test (m.int x) ≡ true)
+      → ((k : ℕ) → test (get_or d.counters k no_counter).initial ≡ true) → all_listed test s ≡ true
+  pub arguments : (n : ℕ) (c : Call) → slice_get cs n ≡ Some c → (i : ℕ)
+      → is_number (slice_get (op_of d c.op).params i) ≡ true
+      → slice_index_or c.args i (pos 0) ≡ m.int (argument n i)

@@ -39,10 +39,12 @@ pub record Interpretation : Type 0 where
   pub has : Stage → ℕ → List ℕ → Bool
   pub int : Integer → ℤ
 
+-- the value of a summand in an interpretation
 abbrev pub part_value : Interpretation → Part → ℤ
 part_value m (number n) = n
 part_value m (multiple k x) = k *ℤ m.int x
 
+-- the value of a sum in an interpretation
 abbrev pub sum_value : Interpretation → List Part → ℤ
 sum_value m [] = pos 0
 sum_value m (p ∷ ps) = part_value m p +ℤ sum_value m ps
@@ -57,6 +59,7 @@ is_true m (negated f) = not (is_true m f)
 is_true m (both f g) = is_true m f && is_true m g
 is_true m (either f g) = is_true m f || is_true m g
 
+-- all these formulas are true in an interpretation
 abbrev pub all_true : Interpretation → List Symbolic → Bool
 all_true m fs = list_all (is_true m) fs
 

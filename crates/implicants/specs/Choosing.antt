@@ -39,19 +39,24 @@ abbrev pub is_candidate : List AtomKind → List Entry → Lit → Bool
 is_candidate atoms t l = has_row atoms l && in_trail t l
 
 -- a clause has a literal that holds by what is chosen now, or none that holds by the trail
-abbrev pub IsCovered : Bool → List AtomKind → List Bool → List Entry → List Lit → Chosen → Chosen → Type 0
-IsCovered true atoms values t c before after = AreChosen t after × Keeps before after × (is_met atoms values (has after.lits) c ≡ true)
+abbrev pub IsCovered : Bool → List AtomKind → List Bool → List Entry → List Lit → Chosen → Chosen
+    → Type 0
+IsCovered true atoms values t c before after =
+    AreChosen t after × Keeps before after × (is_met atoms values (has after.lits) c ≡ true)
 IsCovered false atoms values t c before after = is_met atoms values (in_trail t) c ≡ false
 
 -- some clause has no literal that holds by the values or is on the trail
 abbrev pub IsUnmet : List AtomKind → List (List Lit) → List Bool → List Entry → Type 0
-IsUnmet atoms cs values t = (i : ℕ) × (i < length cs) × (is_met atoms values (in_trail t) (slice_index_or cs i []) ≡ false)
+IsUnmet atoms cs values t =
+    (i : ℕ) × (i < length cs) × (is_met atoms values (in_trail t) (slice_index_or cs i []) ≡ false)
 
 -- the first clauses have literals that hold by what is chosen
 abbrev pub AreMet : ℕ → List AtomKind → List (List Lit) → List Bool → Chosen → Type 0
-AreMet n atoms cs values c = (i : ℕ) → i < n → is_met atoms values (has c.lits) (slice_index_or cs i []) ≡ true
+AreMet n atoms cs values c =
+    (i : ℕ) → i < n → is_met atoms values (has c.lits) (slice_index_or cs i []) ≡ true
 
 -- all clauses have, or some clause can have none
-abbrev pub AreCovered : Bool → List AtomKind → List (List Lit) → List Bool → List Entry → Chosen → Type 0
+abbrev pub AreCovered : Bool → List AtomKind → List (List Lit) → List Bool → List Entry → Chosen
+    → Type 0
 AreCovered true atoms cs values t c = AreChosen t c × IsImplicant atoms cs values c.lits
 AreCovered false atoms cs values t c = IsUnmet atoms cs values t

@@ -6,13 +6,13 @@
 // a row outside of the implicant may have either value. So numbers for few rows answer for all clauses, and rows that no clause needs
 // neither contradict others nor bring numbers beyond their range.
 //
-// Which literals are taken. Literals over plain atoms cost nothing, so an implicant has a value for each plain atom, and a clause that is
-// true by one of these values needs no row. A plain atom may name a part of a formula, as where clauses say "r or p" and "not p or q": if p is
-// true, the row q is needed, though r alone makes the formula true. So `relaxed` changes values of the trail. The plain atoms of a clause
-// that needs a row are free to change; where a clause is true by free atoms alone, its other plain atoms become free, too, since a change of
-// one of them makes it true in any case. So a name within the part that another names is reached. Then the clauses are gone through
-// again: one that would not be true after all changes keeps the value of one atom, until each clause that was true by plain
-// atoms is so after the changes of all atoms that are still free.
+// Which literals are taken. Literals over plain atoms cost nothing, so an implicant has a value for each plain atom, and a clause that
+// is true by one of these values needs no row. A plain atom may name a part of a formula, as where clauses say "r or p" and "not p or
+// q": if p is true, the row q is needed, though r alone makes the formula true. So `relaxed` changes values of the trail. The plain
+// atoms of a clause that needs a row are free to change. Where a clause is true by free atoms alone, its other plain atoms become free,
+// too, since a change of one of them makes it true in any case. So a name within the part that another names is reached. Then the
+// clauses are gone through again. One that would not be true after all changes keeps the value of one atom. This goes on until each
+// clause that was true by plain atoms is so after the changes of all atoms that are still free.
 //
 // Of the clauses that still need a row, those with only one candidate come first, since theirs is needed in any case. Each other
 // clause takes a candidate that was chosen already, or else the one that stands first on the trail, which is the likeliest to be

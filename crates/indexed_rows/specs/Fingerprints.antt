@@ -7,15 +7,19 @@ use Rattle.lin_rows.specs.declared.term.RowTerm.{RowTerm}
 use Rattle.lin_rows.specs.Rows.{Row}
 use Rattle.proof_lines.specs.Steps.{is_negative}
 
+-- fingerprints are below this prime number
 abbrev pub fingerprint_limit : ℕ
 fingerprint_limit = 2147483647
 
+-- the part of a number: its remainder, and more where it is negative
 abbrev pub number_part : ℤ → ℕ
 number_part a = unsigned_abs a % fingerprint_limit + cond (is_negative a) 1000003 0
 
+-- a fingerprint so far, mixed with one term more
 abbrev pub mixed : ℕ → RowTerm → ℕ
 mixed so_far t = (so_far * 65599 + (t.place + number_part t.coef)) % fingerprint_limit
 
+-- the fingerprint of a row: its bound, mixed with its terms in their order
 unfoldable pub fingerprint : Row → ℕ
 fingerprint r = fold mixed (number_part r.bound % fingerprint_limit) r.terms
 

@@ -15,4 +15,5 @@ KeepsLists old new = (q i : ℕ) → lists old q i ≡ true → lists new q i �
 
 -- THE INDEX: each row's number stands in the list of each place that the row names. More may stand there
 abbrev pub IsNaming : List Row → List (List ℕ) → Type 0
-IsNaming rows by_place = (i : ℕ) → i < length rows → (q : ℕ) → names q (row_at rows i) ≡ true → lists by_place q i ≡ true
+IsNaming rows by_place =
+    (i : ℕ) → i < length rows → (q : ℕ) → names q (row_at rows i) ≡ true → lists by_place q i ≡ true

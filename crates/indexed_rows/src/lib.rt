@@ -1,6 +1,6 @@
 // Rows in a list, with indexes by which a solver finds them, and places in an order.
 //
-// A solver that eliminates places holds more and more rows, thousands of them, and asks of these rows: is an equal one held, which ones
+// A solver that eliminates places holds more and more rows, thousands of them. It asks of these rows: is an equal one held, which ones
 // name a place, which place has the fewest pairs of an upper and a lower row. `Held` is the list of the rows; three indexes beside it
 // answer each question without a look at all rows. The solver also asks of the places that it has eliminated whether one is among them;
 // `Order` is their list, with a flag for each place. Contracts see the lists alone.

@@ -30,17 +30,19 @@ token_name n = codes "t" ++ decimal n
 abbrev pub enough_names : ℕ
 enough_names = 250
 
--- those of the first names t0, t1 and so on, so many of them, that aren't in use
+-- the names that aren't in use among the first n of t0, t1 and so on
 abbrev pub unused_below : Specification → ℕ → List (List ℕ)
 unused_below d n = filter (λ name. not (is_in name (names_in_use d))) (map token_name (below n))
 
+-- the names that aren't in use among the first 250, of which there are at least two
 unfoldable pub unused_names : Specification → List (List ℕ)
 unused_names d = unused_below d enough_names
 
--- the first two that aren't in use
+-- the first name that isn't in use
 abbrev pub first_name : Specification → List ℕ
 first_name d = get_or (unused_names d) 0 []
 
+-- the second name that isn't in use
 abbrev pub second_name : Specification → List ℕ
 second_name d = get_or (unused_names d) 1 []
 
@@ -75,7 +77,8 @@ keyed_take t p = record { token = t; args = elem.Param p ∷ []; shared = false 
 -- the takes lines of the operation numbered n: of the first token at p where it is the first operation, of the second token at q
 -- where it is the second, and both, in this order, where it is the one and the other
 abbrev pub keyed_takes : ℕ → ℕ → ℕ → ℕ → ℕ → List Take
-keyed_takes a p b q n = (if n == a then keyed_take 0 p ∷ [] else []) ++ (if n == b then keyed_take 1 q ∷ [] else [])
+keyed_takes a p b q n =
+    (if n == a then keyed_take 0 p ∷ [] else []) ++ (if n == b then keyed_take 1 q ∷ [] else [])
 
 -- operations, from the one numbered n on, with these takes lines
 abbrev pub keyed_from : ℕ → ℕ → ℕ → ℕ → ℕ → List Operation → List Operation

@@ -8,12 +8,14 @@ use Rattle.lin_rows.specs.Sums.{row_sum}
 
 -- the least positive number by which `one` is multiplied to be a multiple of `other`, neither of them 0
 abbrev pub least_factor : ℤ → ℤ → ℤ
-least_factor one other = pos (unsigned_abs other / common_divisor (unsigned_abs one ∷ unsigned_abs other ∷ []))
+least_factor one other =
+    pos (unsigned_abs other / common_divisor (unsigned_abs one ∷ unsigned_abs other ∷ []))
 
--- the least multipliers of two rows that cancel a place at which their coefficients have different signs
+-- the least multiplier of the left row that cancels a place, where the coefficients of the two rows have different signs
 abbrev pub first_factor : Row → Row → ℕ → ℤ
 first_factor l r place = least_factor (coefficient_at l.terms place) (coefficient_at r.terms place)
 
+-- the least multiplier of the right row that cancels a place
 abbrev pub second_factor : Row → Row → ℕ → ℤ
 second_factor l r place = least_factor (coefficient_at r.terms place) (coefficient_at l.terms place)
 

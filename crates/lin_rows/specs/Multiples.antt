@@ -12,7 +12,9 @@ is_either_negative a b = int_lt a (pos 0) || int_lt b (pos 0)
 -- The sum of multiples, by the order of its tests: a negative multiplier, then a product or sum beyond the range of a row. Want of memory
 -- may come at any time.
 abbrev pub IsSumOfMultiples : Result Row MultiplesRefused → Row → ℤ → Row → ℤ → Type 0
-IsSumOfMultiples (Ok row) left a right b = (is_either_negative a b ≡ false) × (row_sum left a right b ≡ Some row)
+IsSumOfMultiples (Ok row) left a right b =
+    (is_either_negative a b ≡ false) × (row_sum left a right b ≡ Some row)
 IsSumOfMultiples (Err Negative) left a right b = is_either_negative a b ≡ true
-IsSumOfMultiples (Err Range) left a right b = (is_either_negative a b ≡ false) × (row_sum left a right b ≡ None)
+IsSumOfMultiples (Err Range) left a right b =
+    (is_either_negative a b ≡ false) × (row_sum left a right b ≡ None)
 IsSumOfMultiples (Err Memory) left a right b = Unit {0}

@@ -9,6 +9,7 @@ in_range a = nat_lt (unsigned_abs a) (2 ^ 127)
 abbrev pub fit : ℤ → Option ℤ
 fit a = cond (in_range a) (Some a) None
 
+-- a number is 0
 abbrev pub is_zero : ℤ → Bool
 is_zero (pos zero) = true
 is_zero (pos (suc n)) = false

@@ -17,7 +17,8 @@ is_coefficient c = not (is_zero c) && in_range c
 -- the places rise from the given one on, and all numbers are coefficients
 abbrev pub rises_from : ℕ → List RowTerm → Bool
 rises_from least [] = true
-rises_from least (t ∷ ts) = nat_le least t.place && (is_coefficient t.coef && rises_from (suc t.place) ts)
+rises_from least (t ∷ ts) =
+    nat_le least t.place && (is_coefficient t.coef && rises_from (suc t.place) ts)
 
 -- all coefficients are in the range of a row
 abbrev pub all_in_range : List RowTerm → Bool
@@ -45,6 +46,7 @@ value_at x (t ∷ ts) = t.coef *ℤ x t.place +ℤ value_at x ts
 abbrev pub Satisfies : (ℕ → ℤ) → Row → Type 0
 Satisfies x r = value_at x r.terms ≤ℤ r.bound
 
+-- there are no terms
 abbrev pub has_no_terms : List RowTerm → Bool
 has_no_terms [] = true
 has_no_terms (t ∷ ts) = false
@@ -53,18 +55,23 @@ has_no_terms (t ∷ ts) = false
 abbrev pub is_contradiction : Row → Bool
 is_contradiction r = has_no_terms r.terms && int_lt r.bound (pos 0)
 
+-- a term with the opposite coefficient
 abbrev pub opposite : RowTerm → RowTerm
 opposite t = record { place = t.place; coef = pos 0 -ℤ t.coef }
 
 -- the opposite of a row over whole numbers: each coefficient negated, and the bound `-bound - 1`, where that is in range
 abbrev pub negated : Row → Option Row
-negated r = option_map (λ b. record { terms = map opposite r.terms; bound = b }) (fit (pos 0 -ℤ r.bound -ℤ pos 1))
+negated r =
+    option_map (λ b. record { terms = map opposite r.terms; bound = b })
+    (fit (pos 0 -ℤ r.bound -ℤ pos 1))
 
 -- a sum so far and each product in turn, in rising place, where each product and each partial sum is in range
 abbrev pub sum_from : (ℕ → ℤ) → ℤ → List RowTerm → Option ℤ
 sum_from x so_far [] = Some so_far
 sum_from x so_far (t ∷ ts) =
-    option_and_then (λ product. option_and_then (λ next. sum_from x next ts) (fit (so_far +ℤ product))) (fit (t.coef *ℤ x t.place))
+    option_and_then
+    (λ product. option_and_then (λ next. sum_from x next ts) (fit (so_far +ℤ product)))
+    (fit (t.coef *ℤ x t.place))
 
 -- the point whose values are listed by place
 abbrev pub point_of : List ℤ → ℕ → ℤ

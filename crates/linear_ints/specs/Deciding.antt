@@ -12,7 +12,8 @@ abbrev pub nearest : ℤ → ℤ → ℤ
 nearest low high = cond (int_lt (pos 0) low) low (cond (int_lt high (pos 0)) high (pos 0))
 
 -- with the earlier values put in, a held row says that the place is at least `bound`, or where it is an upper row at most `-bound`
-pub record Says (held : List Row) (earlier : List Choice) (place : ℕ) (i : ℕ) (bound : ℤ) : Type 0 where
+pub record Says (held : List Row) (earlier : List Choice) (place : ℕ) (i : ℕ)
+    (bound : ℤ) : Type 0 where
   pub below : i < length held
   pub row : is_row (row_at held i) ≡ true
   pub filled : is_filled_but earlier place (row_at held i) ≡ true
@@ -21,9 +22,11 @@ pub record Says (held : List Row) (earlier : List Choice) (place : ℕ) (i : ℕ
 -- the lowest value that the lower rows of a place allow: that of a lower row, or the least of a state
 abbrev pub Lowest : List Row → List Choice → ℕ → ℤ → Type 0
 Lowest held earlier place low =
-    (low ≡ neg_ℤ (pos (10 ^ 15))) ⊎ ((i : ℕ) × (coefficient_at (row_at held i).terms place <ℤ pos 0) × Says held earlier place i low)
+    (low ≡ neg_ℤ (pos (10 ^ 15)))
+    ⊎ ((i : ℕ) × (coefficient_at (row_at held i).terms place <ℤ pos 0) × Says held earlier place i low)
 
 -- the highest value that the upper rows of a place allow: that of an upper row, or the greatest of a state
 abbrev pub Highest : List Row → List Choice → ℕ → ℤ → Type 0
 Highest held earlier place high =
-    (high ≡ pos (10 ^ 15)) ⊎ ((j : ℕ) × (pos 0 <ℤ coefficient_at (row_at held j).terms place) × Says held earlier place j (neg_ℤ high))
+    (high ≡ pos (10 ^ 15))
+    ⊎ ((j : ℕ) × (pos 0 <ℤ coefficient_at (row_at held j).terms place) × Says held earlier place j (neg_ℤ high))

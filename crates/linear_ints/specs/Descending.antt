@@ -29,17 +29,21 @@ pub record IsDescent (t : Tableau) (k : ℕ) (values : List ℤ) : Type 0 where
 -- in the range of a state
 abbrev pub IsFault : List ℤ → ℕ → Row → Fault → Type 0
 IsFault values place r Sum = rest_at (point_of values) r ≡ None
-IsFault values place r Value = (rest : ℤ) × (rest_at (point_of values) r ≡ Some rest) × (is_beyond (rest -ℤ r.bound) (size r place) ≡ true)
+IsFault values place r Value =
+    (rest : ℤ) × (rest_at (point_of values) r ≡ Some rest)
+    × (is_beyond (rest -ℤ r.bound) (size r place) ≡ true)
 
 -- a held row at the place gives no bound
-pub record IsFaultAt (before : List ℕ) (place : ℕ) (held : List Row) (values : List ℤ) (f : FaultAt) : Type 0 where
+pub record IsFaultAt (before : List ℕ) (place : ℕ) (held : List Row) (values : List ℤ)
+    (f : FaultAt) : Type 0 where
   pub below : f.row < length held
   pub upper : Bool
   pub on : is_on upper before place (row_at held f.row) ≡ true
   pub fault : IsFault values place (row_at held f.row) f.fault
 
 -- the bounds of both sides of a stage
-pub record AreBounds (t : Tableau) (k : ℕ) (values : List ℤ) (low_row : ℕ) (low : ℤ) (high_row : ℕ) (high : ℤ) : Type 0 where
+pub record AreBounds (t : Tableau) (k : ℕ) (values : List ℤ) (low_row : ℕ) (low : ℤ) (high_row : ℕ)
+    (high : ℤ) : Type 0 where
   pub lows : IsGreatest false (take k t.order) (place_at t.order k) t.held values (length t.held) low_row low
   pub highs : IsGreatest true (take k t.order) (place_at t.order k) t.held values (length t.held) high_row (neg_ℤ high)
 

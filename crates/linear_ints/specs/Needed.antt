@@ -6,4 +6,5 @@ use Rattle.proof_lines.specs.Evidence.{same_row}
 
 -- a row that is to be held: a contradiction, or a row with terms that isn't held yet
 abbrev pub is_needed : List Row → Row → Bool
-is_needed held r = is_contradiction r || not (has_no_terms r.terms || list_any (λ q. same_row q r) held)
+is_needed held r =
+    is_contradiction r || not (has_no_terms r.terms || list_any (λ q. same_row q r) held)

@@ -21,4 +21,5 @@ values_of x place rows = map x (other_names place rows)
 
 -- all names of a row but one have values
 abbrev pub is_filled_but : List Choice → ℕ → Row → Bool
-is_filled_but choices place r = list_all (λ t. (place == t.place) || is_named choices t.place) r.terms
+is_filled_but choices place r =
+    list_all (λ t. (place == t.place) || is_named choices t.place) r.terms

@@ -21,7 +21,8 @@ pub record Meet (x : ℕ → ℤ) (place : ℕ) (low : Row) (high : Row) : Type 
   pub low_rest_is : rest_at x low ≡ Some low_rest
   pub high_rest_is : rest_at x high ≡ Some high_rest
   pub sum : Row
-  pub sum_is : row_sum high (first_factor high low place) low (second_factor high low place) ≡ Some sum
+  pub sum_is : row_sum high (first_factor high low place) low (second_factor high low place)
+      ≡ Some sum
   pub sum_true : row_true x sum ≡ true
 
 -- the greatest whole number that the upper row allows
@@ -29,7 +30,8 @@ abbrev pub highest : {x : ℕ → ℤ} {place : ℕ} {low high : Row} → Meet x
 highest {x} {place} {low} {high} m = floor_of (high.bound -ℤ m.high_rest) (size high place)
 
 -- that number satisfies both rows, or the kernel's rule for a split is kept there
-abbrev pub WholeOrSplit : {x : ℕ → ℤ} {place : ℕ} {low high : Row} → Meet x place low high → List Row → List RowStep → ℕ → ℕ → Type 0
+abbrev pub WholeOrSplit : {x : ℕ → ℤ} {place : ℕ} {low high : Row} → Meet x place low high
+    → List Row → List RowStep → ℕ → ℕ → Type 0
 WholeOrSplit {x} {place} {low} {high} m given steps i j =
     ((row_true (with_value x place (highest m)) low ≡ true) × (row_true (with_value x place (highest m)) high ≡ true))
     ⊎ (splits given steps place (highest m) i j (values_of x place (low ∷ high ∷ [])) ≡ Ok tt)

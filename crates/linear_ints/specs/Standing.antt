@@ -13,14 +13,16 @@ place_at order k = slice_index_or order k 0
 
 -- at a point all held rows from a stage on are true
 abbrev pub TrueFrom : List ℕ → List Row → ℕ → (ℕ → ℤ) → Type 0
-TrueFrom order held k x = (i : ℕ) → i < length held → k ≤ stage order (row_at held i) → row_true x (row_at held i) ≡ true
+TrueFrom order held k x =
+    (i : ℕ) → i < length held → k ≤ stage order (row_at held i) → row_true x (row_at held i) ≡ true
 
 -- the combination of an upper and a lower row at a place is a constant that is no contradiction, or a held row
 pub record IsCombinedAt (place : ℕ) (held : List Row) (high : Row) (low : Row) : Type 0 where
   pub sum : Combined
   pub sum_is : combined high low place ≡ Some sum
-  pub stands : ((has_no_terms sum.row.terms ≡ true) × (is_contradiction sum.row ≡ false)) ⊎ ((m : ℕ) × (m < length held) × (row_at held m ≡ sum.row))
+  pub stands : ((has_no_terms sum.row.terms ≡ true) × (is_contradiction sum.row ≡ false))
+      ⊎ ((m : ℕ) × (m < length held) × (row_at held m ≡ sum.row))
 
--- the same at the place of a stage
+-- the combination of two rows at the place of a stage is a constant that is no contradiction, or a held row
 abbrev pub IsCombined : List ℕ → List Row → ℕ → Row → Row → Type 0
 IsCombined order held k high low = IsCombinedAt (place_at order k) held high low

@@ -10,7 +10,8 @@ use Rattle.linear_ints.specs.declared.stop.Stop.TheVariants.{Contradiction, Full
 abbrev pub IsStop : ℕ → List Row → Tableau → Stop → Type 0
 IsStop ints rows t Contradiction = IsConflict rows t.used t.steps
 IsStop ints rows t Full = IsTooMany rows t.used t.steps
-IsStop ints rows t (Gap place at low high values) = IsSplit ints rows place at t.used t.steps low high values
+IsStop ints rows t (Gap place at low high values) =
+    IsSplit ints rows place at t.used t.steps low high values
 IsStop ints rows t (Beyond what) = IsBeyond rows t.used t.steps what
 IsStop ints rows t Memory = Unit {0}
 

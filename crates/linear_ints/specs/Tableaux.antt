@@ -28,7 +28,9 @@ pub record IsRun (rows : List Row) (t : Tableau) : Type 0 where
   pub in_order : eliminate t.order t.held 0 t.steps None ≡ true
   pub below : (q : ℕ) → (stands_in t.order q || stands_in t.left q) ≡ true → q < t.ints
   pub left_apart : (q : ℕ) → stands_in t.left q ≡ true → stands_in t.order q ≡ false
-  pub named : (i : ℕ) → i < length t.held → (q : ℕ) → is_zero (coefficient_at (row_at t.held i).terms q) ≡ false → (stands_in t.order q || stands_in t.left q) ≡ true
+  pub named : (i : ℕ) → i < length t.held → (q : ℕ)
+      → is_zero (coefficient_at (row_at t.held i).terms q) ≡ false
+      → (stands_in t.order q || stands_in t.left q) ≡ true
 
 -- besides, no held row is a contradiction, no two are equal, and there are fewer than the limit
 pub record IsTableau (rows : List Row) (t : Tableau) : Type 0 where
@@ -39,7 +41,8 @@ pub record IsTableau (rows : List Row) (t : Tableau) : Type 0 where
 
 -- the given rows up to a number are held, tightened
 abbrev pub AreTaken : List Row → ℕ → List Row → Type 0
-AreTaken rows n held = (m : ℕ) → m < n → (i : ℕ) × (i < length held) × (row_at held i ≡ tightened (row_at rows m))
+AreTaken rows n held =
+    (m : ℕ) → m < n → (i : ℕ) × (i < length held) × (row_at held i ≡ tightened (row_at rows m))
 
 -- while given rows are taken: no place is eliminated, and each that a given row names is left
 pub record IsTaking (rows : List Row) (n : ℕ) (t : Tableau) : Type 0 where
@@ -48,7 +51,8 @@ pub record IsTaking (rows : List Row) (n : ℕ) (t : Tableau) : Type 0 where
   pub no_steps : t.steps ≡ []
   pub no_order : t.order ≡ []
   pub taken : AreTaken rows n t.held
-  pub left : (m : ℕ) → m < length rows → (q : ℕ) → is_zero (coefficient_at (row_at rows m).terms q) ≡ false → stands_in t.left q ≡ true
+  pub left : (m : ℕ) → m < length rows → (q : ℕ)
+      → is_zero (coefficient_at (row_at rows m).terms q) ≡ false → stands_in t.left q ≡ true
 
 -- places are eliminated: all given rows are held, and each pair at an eliminated place is combined
 pub record IsElimination (rows : List Row) (t : Tableau) : Type 0 where
@@ -83,9 +87,13 @@ pub record IsGrown (rows : List Row) (t : Tableau) (u : Tableau) : Type 0 where
 
 -- each of some upper rows may be combined with each of some lower ones
 abbrev pub CanAllMeet : Tableau → ℕ → List ℕ → List ℕ → Type 0
-CanAllMeet t place highs lows = (a b : ℕ) → a < length highs → b < length lows → CanMeet t place (slice_index_or highs a 0) (slice_index_or lows b 0)
+CanAllMeet t place highs lows =
+    (a b : ℕ) → a < length highs → b < length lows
+    → CanMeet t place (slice_index_or highs a 0) (slice_index_or lows b 0)
 
 -- each of the first upper rows is combined with each of the first lower ones
 abbrev pub AreCombined : List Row → ℕ → List ℕ → ℕ → List ℕ → ℕ → Type 0
 AreCombined held place highs m lows n =
-    (a b : ℕ) → a < m → b < n → IsCombinedAt place held (row_at held (slice_index_or highs a 0)) (row_at held (slice_index_or lows b 0))
+    (a b : ℕ) → a < m → b < n
+    → IsCombinedAt place held (row_at held (slice_index_or highs a 0))
+    (row_at held (slice_index_or lows b 0))

@@ -12,10 +12,10 @@
 // terms and with a negative bound is made, no whole numbers satisfy the given rows, and the steps so far are a Farkas line: Conflict,
 // which is trimmed to the rows and steps that the contradiction rests on.
 // (2) Say that all rows that come after a place are true at the values chosen so far. The rows of the place then name no place without a
-// value but that one, so each is a bound for it, a fraction; and as the combination of an upper row u and a lower row l is true, the
+// value but that one, so each is a bound for it, a fraction. As the combination of an upper row u and a lower row l is true, the
 // fraction of l is at most that of u. So over fractions there is always a value. Over whole numbers there is one unless the greatest
 // ceiling of the lower fractions is above the least floor of the upper ones. Then both fractions of the two rows that give these lie
-// strictly between one whole number and the next, and this is the gap of a Split: no given row says on which side of it the place is,
+// strictly between one whole number and the next, and this is the gap of a Split. No given row says on which side of it the place is,
 // for such a row would be among the upper or the lower ones. (3) Where there is no gap at any place, all held rows are true in the end,
 // and so are the given ones: Model.
 //

@@ -13,7 +13,8 @@ pub record AgreeButDropped (s t : State) : Type 0 where
   pub ints : s.ints ≡ t.ints
   pub given : s.given ≡ t.given
   pub count : length s.slots ≡ length t.slots
-  pub clauses : (n : ℕ) → is_live s n ≡ true → is_live t n ≡ true → live_clause s n ≡ live_clause t n
+  pub clauses : (n : ℕ) → is_live s n ≡ true → is_live t n ≡ true
+      → live_clause s n ≡ live_clause t n
   pub empty : s.empty ≡ t.empty
 
 -- a log is accepted: it breaks no rule, and an empty clause was among the clauses

@@ -34,7 +34,8 @@ drop_line (n ∷ ns) = Drop (n ∷ ns) ∷ []
 abbrev pub unless_drop : Line → List Line
 unless_drop (Resolve left right pivot) = Resolve left right pivot ∷ []
 unless_drop (Farkas used steps) = Farkas used steps ∷ []
-unless_drop (Split place at used steps low high values) = Split place at used steps low high values ∷ []
+unless_drop (Split place at used steps low high values) =
+    Split place at used steps low high values ∷ []
 unless_drop (Drop clauses) = []
 
 -- THE UPGRADED LOG: the log without its Drop lines, with a Drop line behind each line that names clauses which no later line

@@ -1,4 +1,4 @@
-// Upgraded logs: each clause is dropped behind the last line that names it, so that a checker keeps as few clauses as it can.
+// Upgraded logs: each clause is dropped after the last line that names it, so that a checker keeps as few clauses as it can.
 //
 // It stands on `proof_lines`, whose lines these are, and on `proof_kernel`, whose rules judge them. The definitions are in specs/:
 // `Upgraded` (the upgraded log), `Agreement` (what stands after a log and after the upgraded one). A log is gone through once, from

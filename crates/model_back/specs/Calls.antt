@@ -10,5 +10,6 @@ abbrev pub argument_by : (ℕ → ℕ) → (ℕ → ℤ) → GroundArg → ℤ
 argument_by element value (arg.Elem c) = pos (element c)
 argument_by element value (arg.Int n) = value n
 
+-- a call: its operation at these values of its arguments
 abbrev pub call_by : (ℕ → ℕ) → (ℕ → ℤ) → GroundCall → Call
 call_by element value g = record { op = g.op; args = map (argument_by element value) g.args }

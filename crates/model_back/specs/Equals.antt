@@ -12,11 +12,12 @@ equal_of b (same_atom a c) = cond b (record { lesser = a; greater = c } ∷ []) 
 equal_of b (has_atom k r u) = []
 equal_of b (row_atom r) = []
 
--- those of these atoms in their order, the first of which has this number
+-- the equal constants of true atoms, in their order; the first atom has this number
 abbrev pub equals_from : (ℕ → Bool) → ℕ → List Atom → List Equal
 equals_from v n [] = []
 equals_from v n (a ∷ more) = equal_of (v n) a ++ equals_from v (suc n) more
 
+-- an equality of two constants is listed
 abbrev pub is_listed : List Equal → ℕ → ℕ → Bool
 is_listed es a b = list_any (λ e. (e.lesser == a) && (e.greater == b)) es
 
@@ -28,9 +29,10 @@ alike_by es a b = cond (a == b) true (cond (ltb a b) (is_listed es a b) (is_list
 abbrev pub with_class : (ℕ → ℕ → Bool) → Bool → ℕ → List ℕ → List ℕ
 with_class like own c cs = cond (own && not (any_like like c cs)) (cs ++ c ∷ []) cs
 
--- the classes of a sort, and the element of a constant
+-- the classes of a sort, each by its first constant
 abbrev pub classes_by : (ℕ → ℕ → Bool) → List ℕ → ℕ → List ℕ
 classes_by like sorts s = firsts like [] (of_sort 0 sorts s)
 
+-- the element of a constant: the place of its class among those of its sort
 abbrev pub element_by : (ℕ → ℕ → Bool) → List ℕ → ℕ → ℕ
 element_by like sorts c = place_like like c (classes_by like sorts (slice_index sorts c))

@@ -2,9 +2,9 @@
 //
 // It stands on `instances`, whose ground problem it is given, and on the law of `ground_problem` that such values break the obligation.
 // Whoever has an interpretation that makes the formulas of the problem true, with whole numbers in the range of a state, gets a witness
-// by `witness_of`. The constants that the interpretation makes equal are listed once (`equals`); the classes of each sort are its
-// elements (`classes`, `values`) and make the world (`world`); the readings that have a number are put into an empty state (`state`);
-// and the calls and the elements of the conclusion are those of their constants (`calls`, `witness`).
+// by `witness_of`. The constants that the interpretation makes equal are listed once (`equals`). The classes of each sort are its
+// elements (`classes`, `values`) and make the world (`world`). The readings that have a number are put into an empty state (`state`).
+// The calls and the elements of the conclusion are those of their constants (`calls`, `witness`).
 //
 // Definitions, in specs/: `Witnesses` (the witness that an interpretation gives), `Calls` (calls at elements and whole numbers).
 // `Equals` and `Filling` say what a program lists and fills in, and serve the proofs.

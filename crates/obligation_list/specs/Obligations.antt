@@ -42,7 +42,7 @@ commute_from d o = flat_map (commute_of d o) (filter (nat_le o) (below (length d
 abbrev pub stable_of : Specification → ℕ → ℕ → List Obligation
 stable_of d o l = map (λ p. Stable o l p) (below (length d.operations))
 
--- So does each of its requires lines.
+-- Each requires line of an operation stays true after each operation.
 abbrev pub stable_from : Specification → ℕ → List Obligation
 stable_from d o = flat_map (stable_of d o) (below (length (op_of d o).requires_))
 

@@ -23,15 +23,19 @@ pub record IsRefutation (d : Specification) (ob : Obligation) (w : World) (s : L
 
 -- ---- the test, kind by kind
 
+-- a call of this operation, with the arguments that it takes
 abbrev pub is_call_of : Specification → World → ℕ → Call → Bool
 is_call_of d w o a = (a.op == o) && call_fits d w a
 
+-- the invariants hold in a state, both calls are ready there, and they don't conflict
 abbrev pub may_run_together : Specification → World → Reads → Call → Call → Bool
 may_run_together d w r a b = inv d w r && pre d w a r && pre d w b r && not (conflicts d w a b)
 
+-- in the initial state the invariant fails, at these elements
 abbrev pub refutes_init : Specification → ℕ → World → Reads → List ℕ → Bool
 refutes_init d i w r es = starts d w r && not (line_at w r [] (invariant_line d i) es)
 
+-- a call that is ready in a state with the invariants leads to one in which an invariant fails, at these elements
 abbrev pub refutes_safety : Specification → ℕ → ℕ → World → Reads → Call → List ℕ → Bool
 refutes_safety d o i w r a es = is_call_of d w o a && inv d w r && pre d w a r && not (line_at w (after d w a r) [] (invariant_line d i) es)
 
@@ -39,12 +43,15 @@ refutes_safety d o i w r a es = is_call_of d w o a && inv d w r && pre d w a r &
 abbrev pub are_together : Specification → ℕ → ℕ → World → Reads → Call → Call → Bool
 are_together d o p w r a b = is_call_of d w o a && is_call_of d w p b && may_run_together d w r a b
 
+-- two calls that may run together leave different readings of the thing in their two orders, at these elements
 abbrev pub refutes_commute : Specification → ℕ → ℕ → Thing → World → Reads → Call → Call → List ℕ → Bool
 refutes_commute d o p x w r a b es = are_together d o p w r a b && not (reads_same x es (after d w b (after d w a r)) (after d w a (after d w b r)))
 
+-- after the second of two calls that may run together, a requires line of the first fails, at these elements
 abbrev pub refutes_stable : Specification → ℕ → ℕ → ℕ → World → Reads → Call → Call → List ℕ → Bool
 refutes_stable d o l p w r a b es = are_together d o p w r a b && not (line_at w (after d w b r) a.args (requires_line d o l) es)
 
+-- these calls and elements refute an obligation in a state
 abbrev pub refutes_in : Specification → Obligation → World → Reads → List Call → List ℕ → Bool
 refutes_in d (Init i) w r [] es = refutes_init d i w r es
 refutes_in d (Init i) w r (a ∷ cs) es = false

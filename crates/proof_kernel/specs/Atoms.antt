@@ -8,6 +8,7 @@ use Rattle.proof_lines.specs.declared.problem.AtomKind.TheVariants.{Plain, Row a
 
 -- THE INDEX of the rows `place <= at` of atoms. No clause of a call outside src/atoms.rt names it.
 
+-- two pairs of a place and a bound are equal
 abbrev pub same_pair : ℕ × ℤ → ℕ × ℤ → Bool
 same_pair x y = (x.0 == y.0) && int_eq x.1 y.1
 
@@ -15,6 +16,7 @@ same_pair x y = (x.0 == y.0) && int_eq x.1 y.1
 abbrev pub has_pair : {S : Type 0} → HashSet (ℕ × ℤ) S → ℕ → ℤ → Bool
 has_pair pairs p k = contains same_pair pairs (p, k)
 
+-- for how many pairs more a set has memory
 abbrev pub room : {S : Type 0} → HashSet (ℕ × ℤ) S → ℕ
 room pairs = spare pairs
 
@@ -24,10 +26,12 @@ pair_at bound [] = None
 pair_at bound (t ∷ []) = cond (int_eq t.coef (pos 1)) (Some (t.place, bound)) None
 pair_at bound (t ∷ u ∷ ts) = None
 
+-- the place and the bound of an atom whose row is `place <= bound`
 abbrev pub pair_of : AtomKind → Option (ℕ × ℤ)
 pair_of Plain = None
 pair_of (OfRow r) = pair_at r.bound r.terms
 
+-- a pair is there, and has this place and this bound
 abbrev pub is_pair : Option (ℕ × ℤ) → ℕ → ℤ → Bool
 is_pair None p k = false
 is_pair (Some x) p k = (x.0 == p) && int_eq x.1 k

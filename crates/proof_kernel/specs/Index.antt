@@ -9,11 +9,12 @@ use Rattle.proof_kernel.specs.Evidence.{is_new}
 
 -- THE INDEX by which fresh logs are checked. No clause of a call outside src/freshness.rt names it.
 
+-- the number of a sign, by which the two literals of an atom differ
 abbrev pub sign_number : Bool → ℕ
 sign_number true = 2
 sign_number false = 1
 
--- the spot of a literal, of so many spots
+-- the spot of a literal among m spots
 abbrev pub spot : ℕ → Lit → ℕ
 spot m l = (2 * l.atom + sign_number l.positive) % m
 
@@ -30,11 +31,11 @@ slot_within c None = false
 abbrev pub spots_among : ℕ → List Lit → Entry → Bool
 spots_among m c e = stands_in (spots m c) e.second && (stands_in (spots m c) e.third && stands_in (spots m c) e.fourth)
 
--- and the clause of its number lies within that clause
+-- the spots of an entry are spots of a clause, and the clause of its number lies within that clause
 abbrev pub entry_within : ℕ → List (Option (List Lit)) → List Lit → Entry → Bool
 entry_within m slots c e = spots_among m c e && slot_within c (slice_index_or slots e.number None)
 
--- one such entry stands in a list of the clause's spots
+-- an entry within a clause stands in a list of the clause's spots
 abbrev pub finds : ℕ → List (Option (List Lit)) → List (List Entry) → List Lit → Bool
 finds m slots lists c = list_any (λ k. list_any (entry_within m slots c) (slice_index_or lists k [])) (spots m c)
 
@@ -59,9 +60,11 @@ pub record PutsOne (m : ℕ) (c : List Lit) (number : ℕ) (old new : List (List
 abbrev pub with_marks : ℕ → List Bool → List Lit → Bool → List Bool
 with_marks m marks c b = fold (λ ms l. slice_set ms (spot m l) b) marks c
 
+-- a spot is marked, as spot 0 always is
 abbrev pub marked : List Bool → ℕ → Bool
 marked marks k = (0 == k) || slice_index_or marks k false
 
+-- the three spots of an entry are marked
 abbrev pub all_marked : List Bool → Entry → Bool
 all_marked marks e = marked marks e.second && (marked marks e.third && marked marks e.fourth)
 
@@ -69,10 +72,11 @@ all_marked marks e = marked marks e.second && (marked marks e.third && marked ma
 abbrev pub lits_marked : ℕ → List Bool → List Lit → Bool
 lits_marked m marks d = list_all (λ l. marked marks (spot m l)) d
 
--- the spot of some literal's opposite is
+-- the spot of some literal's opposite is marked
 abbrev pub any_opposite_marked : ℕ → List Bool → List Lit → Bool
 any_opposite_marked m marks c = list_any (λ l. marked marks (spot m (flip l))) c
 
+-- a clause holds some atom both ways, as far as it is asked: only where a literal's opposite is marked
 abbrev pub marked_both_ways : ℕ → List Bool → List Lit → Bool
 marked_both_ways m marks c = any_opposite_marked m marks c && holds_both_ways c
 
@@ -81,15 +85,19 @@ abbrev pub marked_slot_within : ℕ → List Bool → List Lit → Option (List 
 marked_slot_within m marks c (Some d) = lits_marked m marks d && sub d c
 marked_slot_within m marks c None = false
 
+-- an entry has marked spots alone, and so has its clause, which lies within another one
 abbrev pub marked_within : ℕ → List Bool → List (Option (List Lit)) → List Lit → Entry → Bool
 marked_within m marks slots c e = all_marked marks e && marked_slot_within m marks c (slice_index_or slots e.number None)
 
+-- one such entry stands in a list of that clause's spots
 abbrev pub finds_marked : ℕ → List Bool → List (Option (List Lit)) → List (List Entry) → List Lit → Bool
 finds_marked m marks slots lists c = list_any (λ k. list_any (marked_within m marks slots c) (slice_index_or lists k [])) (spots m c)
 
+-- no spot is marked
 abbrev pub HasNoMark : List Bool → Type 0
 HasNoMark marks = (k : ℕ) → slice_index_or marks k false ≡ false
 
+-- all lists are empty
 abbrev pub HasNoEntry : List (List Entry) → Type 0
 HasNoEntry lists = (k : ℕ) → slice_index_or lists k [] ≡ []
 

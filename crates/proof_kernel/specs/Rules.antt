@@ -49,17 +49,20 @@ start p = record { atoms = p.atoms; ints = p.ints; given = length p.clauses; slo
 abbrev pub live_clause : State → ℕ → Option (List Lit)
 live_clause s i = slice_index_or s.slots i None
 
+-- a clause has this number and isn't dropped
 abbrev pub is_live : State → ℕ → Bool
 is_live s i = is_some (live_clause s i)
 
+-- the clause, or the empty one where there is none
 abbrev pub clause_or_empty : Option (List Lit) → List Lit
 clause_or_empty (Some c) = c
 clause_or_empty None = []
 
+-- the clause of a number, or the empty one where none is live
 abbrev pub clause_at : State → ℕ → List Lit
 clause_at s i = clause_or_empty (live_clause s i)
 
--- with one more clause
+-- the state with one more clause
 abbrev pub grown : State → List Lit → State
 grown s c = record { atoms = s.atoms; ints = s.ints; given = s.given; slots = s.slots ++ Some c ∷ []; empty = s.empty || is_empty c }
 
@@ -76,12 +79,13 @@ resolved s left right pivot =
 abbrev pub combined_after : State → List Lit → List Row → Result State Why
 combined_after s used rows = need (ends_badly rows) Contradiction (Ok (grown s (negations used)))
 
+-- a Farkas line, by the rows of its used literals and of its steps
 abbrev pub combined : State → List Lit → List RowStep → Result State Why
 combined s used steps = then_ (line_rows s.atoms used steps) (combined_after s used)
 
 -- SPLIT, by the order of its tests.
 
--- with an atom for a row
+-- the state with one more atom, which has this row
 abbrev pub named : State → Row → State
 named s r = record { atoms = s.atoms ++ OfRow r ∷ []; ints = s.ints; given = s.given; slots = s.slots; empty = s.empty }
 
@@ -98,19 +102,23 @@ split s place at used steps low high values =
     need (nat_lt place s.ints) Place
     (then_ (line_rows s.atoms used steps) (λ rows. split_after s place at rows low high values))
 
--- DROP. Place: the list is empty, or one of its numbers isn't below the number of clauses. Dropped: a number stands in it twice,
--- or an earlier line dropped it.
+-- DROP, by the order of its tests.
+
+-- the line names a number
 abbrev pub is_some_number : List ℕ → Bool
 is_some_number [] = false
 is_some_number (n ∷ ns) = true
 
--- without the clauses of some numbers
+-- the clauses without those of some numbers
 abbrev pub cleared : List (Option (List Lit)) → List ℕ → List (Option (List Lit))
 cleared slots ns = fold (λ left n. slice_set left n None) slots ns
 
+-- the state with the clauses of these numbers dropped
 abbrev pub without_clauses : State → List ℕ → State
 without_clauses s ns = record { atoms = s.atoms; ints = s.ints; given = s.given; slots = cleared s.slots ns; empty = s.empty }
 
+-- Place: the list is empty, or one of its numbers isn't below the number of clauses. Dropped: a number stands in it twice,
+-- or an earlier line dropped it.
 abbrev pub dropped : State → List ℕ → Result State Why
 dropped s ns =
     need (is_some_number ns && list_all (λ n. nat_lt n (length s.slots)) ns) Place

@@ -3,13 +3,16 @@ use Rattle.std.specs.Prelude.{ℕ, Bool, true, false, not, cond, ◌&&◌, ◌==
 use Rattle.std.specs.List.{filter, list_any, list_all, fold}
 use Rattle.proof_lines.specs.declared.clause.Lit.{Lit}
 
+-- two truth values are equal
 abbrev pub same_bool : Bool → Bool → Bool
 same_bool true b = b
 same_bool false b = not b
 
+-- two literals have one atom and one sign
 abbrev pub same_lit : Lit → Lit → Bool
 same_lit a b = (a.atom == b.atom) && same_bool a.positive b.positive
 
+-- the literal of an atom: the atom itself where the sign is true, else its negation
 abbrev pub lit_of : ℕ → Bool → Lit
 lit_of a p = record { atom = a; positive = p }
 
@@ -27,10 +30,12 @@ has c l = list_any (λ x. same_lit x l) c
 abbrev pub sub : List Lit → List Lit → Bool
 sub c d = list_all (has d) c
 
+-- no literal stands twice in the list
 abbrev pub distinct : List Lit → Bool
 distinct [] = true
 distinct (x ∷ xs) = not (has xs x) && distinct xs
 
+-- the clause has no literal
 abbrev pub is_empty : List Lit → Bool
 is_empty [] = true
 is_empty (l ∷ c) = false
@@ -39,14 +44,15 @@ is_empty (l ∷ c) = false
 abbrev pub holds_both_ways : List Lit → Bool
 holds_both_ways c = list_any (λ l. has c (flip l)) c
 
--- with one more literal, unless it is there
+-- the clause with one more literal, unless it is there
 abbrev pub insert : List Lit → Lit → List Lit
 insert c l = cond (has c l) c (c ++ l ∷ [])
 
--- with the literals of the second
+-- the first clause with the literals of the second
 abbrev pub join : List Lit → List Lit → List Lit
 join c d = fold insert c d
 
+-- the clause without one literal
 abbrev pub without : Lit → List Lit → List Lit
 without l c = filter (λ x. not (same_lit x l)) c
 
@@ -66,5 +72,6 @@ lit_true v l = same_bool (v l.atom) l.positive
 abbrev pub clause_true : (ℕ → Bool) → List Lit → Bool
 clause_true v c = list_any (lit_true v) c
 
+-- each of these clauses is true
 abbrev pub all_true : (ℕ → Bool) → List (List Lit) → Bool
 all_true v cs = list_all (clause_true v) cs

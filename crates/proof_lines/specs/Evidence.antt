@@ -22,22 +22,28 @@ cancels_at l r s place =
     (is_positive (coefficient_at l.terms place) && is_negative (coefficient_at r.terms place))
     && (int_eq s.first (first_factor l r place) && int_eq s.second (second_factor l r place))
 
+-- a step cancels some place that the left one of its two rows names
 abbrev pub cancels_some : Row → Row → RowStep → Bool
 cancels_some l r s = list_any (λ t. cancels_at l r s t.place) l.terms
 
+-- both rows of a step are there, and it cancels some place
 abbrev pub cancels : List Row → RowStep → Bool
-cancels rows s = (nat_lt s.left (length rows) && nat_lt s.right (length rows)) && cancels_some (row_at rows s.left) (row_at rows s.right) s
+cancels rows s =
+    (nat_lt s.left (length rows) && nat_lt s.right (length rows))
+    && cancels_some (row_at rows s.left) (row_at rows s.right) s
 
 -- each step cancels some place
 abbrev pub all_cancel : List Row → List RowStep → Bool
 all_cancel rows steps = list_all (cancels rows) steps
 
+-- two lists have equal terms in the same order
 abbrev pub same_terms : List RowTerm → List RowTerm → Bool
 same_terms [] [] = true
 same_terms [] (u ∷ us) = false
 same_terms (t ∷ ts) [] = false
 same_terms (t ∷ ts) (u ∷ us) = (t.place == u.place) && (int_eq t.coef u.coef && same_terms ts us)
 
+-- two rows have equal terms and equal bounds
 abbrev pub same_row : Row → Row → Bool
 same_row r q = int_eq r.bound q.bound && same_terms r.terms q.terms
 
@@ -50,8 +56,8 @@ all_different (r ∷ rows) = not (list_any (same_row r) rows) && all_different r
 abbrev pub row_limit : ℕ
 row_limit = 10000
 
--- TOO MANY ROWS: so many different rows. No atom is used both ways, and the rows and steps keep the rules of a Farkas line but for
--- its contradiction.
+-- TOO MANY ROWS: the rows and steps keep the rules of a Farkas line but for its contradiction, each step cancels some place, and the
+-- rows are pairwise different.
 abbrev pub rows_shown : List RowStep → Result (List Row) Why → Bool
 rows_shown steps (Ok rows) = all_different rows && all_cancel rows steps
 rows_shown steps (Err w) = false
@@ -68,6 +74,7 @@ values_fit rows i place values =
     (nat_lt i (length rows) && not (is_zero (coefficient_at (row_at rows i).terms place)))
     && ((length values == length (other_names place (row_at rows i ∷ []))) && list_all in_state values)
 
+-- the sum of a row's terms at names other than the place, with these values for them, where it stays in range
 abbrev pub rest_with : Row → ℕ → List ℤ → Option ℤ
 rest_with r place values = rest_at (point (other_names place (r ∷ [])) values) r
 
@@ -77,19 +84,26 @@ abbrev pub leaves_state : Row → ℕ → Option ℤ → Bool
 leaves_state r place (Some rest) = int_lt (pos (10 ^ 15) *ℤ size_at r place) (rest -ℤ r.bound)
 leaves_state r place None = false
 
+-- the least multiples of two rows that cancel a place have a product or a sum beyond the range of a row
 abbrev pub product_leaves : Row → Row → ℕ → Bool
 product_leaves l r place =
-    (is_positive (coefficient_at l.terms place) && is_negative (coefficient_at r.terms place)) && is_none (cancelled l r place)
+    (is_positive (coefficient_at l.terms place) && is_negative (coefficient_at r.terms place))
+    && is_none (cancelled l r place)
 
 -- Product: the left row has a positive coefficient at the place and the right row a negative one, and the least sum that cancels
 -- it leaves the range of a row. Value: no product or partial sum leaves the range of a row, and the row allows no number in the
 -- range of a state. Sum: a product or partial sum leaves the range of a row
 abbrev pub is_beyond : List Row → RangeWhat → Bool
 is_beyond rows (Product left right place) =
-    (nat_lt left (length rows) && nat_lt right (length rows)) && product_leaves (row_at rows left) (row_at rows right) place
-is_beyond rows (Value i place values) = values_fit rows i place values && leaves_state (row_at rows i) place (rest_with (row_at rows i) place values)
-is_beyond rows (Sum i place values) = values_fit rows i place values && is_none (rest_with (row_at rows i) place values)
+    (nat_lt left (length rows) && nat_lt right (length rows))
+    && product_leaves (row_at rows left) (row_at rows right) place
+is_beyond rows (Value i place values) =
+    values_fit rows i place values
+    && leaves_state (row_at rows i) place (rest_with (row_at rows i) place values)
+is_beyond rows (Sum i place values) =
+    values_fit rows i place values && is_none (rest_with (row_at rows i) place values)
 
+-- a line's evidence of a number beyond the range: each step cancels some place, and that number is shown
 abbrev pub range_shown : List RowStep → RangeWhat → Result (List Row) Why → Bool
 range_shown steps what (Ok rows) = all_cancel rows steps && is_beyond rows what
 range_shown steps what (Err w) = false

@@ -47,6 +47,7 @@ kind_true m a (Some (OfRow r)) = row_true m.number r
 kind_true m a (Some Plain) = m.truth a
 kind_true m a None = m.truth a
 
+-- the truth of an atom of a list, by its number
 abbrev pub atom_true : Meaning → List AtomKind → ℕ → Bool
 atom_true m atoms a = kind_true m a (slice_get atoms a)
 
@@ -60,4 +61,7 @@ HasNoInterpretation p = (m : Meaning) → makes_true m p ≡ true → ⊥
 
 -- the meaning of an interpretation; names beyond its lists are false and 0
 abbrev pub meaning_of : Interpretation → Meaning
-meaning_of i = record { truth = λ a. slice_index_or i.truths a false; number = λ n. slice_index_or i.ints n (pos 0) }
+meaning_of i = record {
+  truth = λ a. slice_index_or i.truths a false;
+  number = λ n. slice_index_or i.ints n (pos 0);
+}

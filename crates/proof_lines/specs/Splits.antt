@@ -18,18 +18,21 @@ use Rattle.proof_lines.specs.Steps.{row_at, is_negative, is_positive, held_rows}
 -- a number in a rising list of different ones
 abbrev pub put_rising : List ℕ → ℕ → List ℕ
 put_rising [] n = n ∷ []
-put_rising (m ∷ ms) n = cond (nat_lt n m) (n ∷ m ∷ ms) (cond (n == m) (m ∷ ms) (m ∷ put_rising ms n))
+put_rising (m ∷ ms) n =
+    cond (nat_lt n m) (n ∷ m ∷ ms) (cond (n == m) (m ∷ ms) (m ∷ put_rising ms n))
 
 -- the terms at other names than one
 abbrev pub other_terms : ℕ → List RowTerm → List RowTerm
 other_terms place ts = filter (λ t. not (t.place == place)) ts
 
+-- the places that some terms name, in their order
 abbrev pub places_of : List RowTerm → List ℕ
 places_of ts = map (λ t. t.place) ts
 
 -- the names other than one of some rows, in rising order
 abbrev pub other_names : ℕ → List Row → List ℕ
-other_names place rows = fold (λ names r. fold put_rising names (places_of (other_terms place r.terms))) [] rows
+other_names place rows =
+    fold (λ names r. fold put_rising names (places_of (other_terms place r.terms))) [] rows
 
 -- the values of names, one for each; other names have 0
 abbrev pub point : List ℕ → List ℤ → ℕ → ℤ
@@ -47,7 +50,7 @@ rest_at x r = sum_from x (pos 0) r.terms
 abbrev pub is_in_gap : ℤ → ℤ → ℤ → Bool
 is_in_gap at n d = int_lt (at *ℤ d) n && int_lt n ((at +ℤ pos 1) *ℤ d)
 
--- the same of a fraction that isn't whole, by its sign and the quotient of its size
+-- the greatest whole number below a fraction that isn't whole, tested by its sign and the quotient of its size
 abbrev pub is_floor : ℤ → Bool → ℕ → Bool
 is_floor (pos k) true quotient = k == quotient
 is_floor (negsuc k) true quotient = false
@@ -62,10 +65,13 @@ size_at r place = pos (unsigned_abs (coefficient_at r.terms place))
 -- `high` it is positive, so that q = (bound - rest) / size
 abbrev pub in_gap : ℤ → ℕ → Row → ℤ → Row → ℤ → Bool
 in_gap at place low rest_low high rest_high =
-    is_in_gap at (rest_low -ℤ low.bound) (size_at low place) && is_in_gap at (high.bound -ℤ rest_high) (size_at high place)
+    is_in_gap at (rest_low -ℤ low.bound) (size_at low place)
+    && is_in_gap at (high.bound -ℤ rest_high) (size_at high place)
 
+-- the last two tests of a Split, with the rests of its two rows: both are in range, and both fractions lie in the gap
 abbrev pub with_rests : ℤ → ℕ → Row → Option ℤ → Row → Option ℤ → Result (Unit {0}) Why
-with_rests at place low (Some l) high (Some h) = need (in_gap at place low l high h) SplitCause (Ok tt)
+with_rests at place low (Some l) high (Some h) =
+    need (in_gap at place low l high h) SplitCause (Ok tt)
 with_rests at place low (Some l) high None = Err Range
 with_rests at place low None high h = Err Range
 
@@ -77,18 +83,25 @@ split_point place low high values = point (other_names place (low ∷ high ∷ [
 -- the range of a row. SplitCause: the fractions don't lie strictly between `at` and the next whole number
 abbrev pub split_cause : ℕ → ℤ → Row → Row → List ℤ → Result (Unit {0}) Why
 split_cause place at low high values =
-    need (is_negative (coefficient_at low.terms place) && is_positive (coefficient_at high.terms place)) SplitCause
-    (with_rests at place low (rest_at (split_point place low high values) low) high (rest_at (split_point place low high values) high))
+    need
+    (is_negative (coefficient_at low.terms place) && is_positive (coefficient_at high.terms place)) SplitCause
+    (with_rests at place
+    low (rest_at (split_point place low high values) low)
+    high (rest_at (split_point place low high values) high))
 
 -- `low` and `high` are rows, and there is one value for each name other than the place in the two rows
 abbrev pub split_fits : List Row → ℕ → ℕ → ℕ → List ℤ → Bool
 split_fits rows place low high values =
-    nat_lt low (length rows) && (nat_lt high (length rows) && (length values == length (other_names place (row_at rows low ∷ row_at rows high ∷ []))))
+    nat_lt low (length rows)
+    && (nat_lt high (length rows)
+    && (length values == length (other_names place (row_at rows low ∷ row_at rows high ∷ []))))
 
 -- the rule of a Split over given rows, but for what it says of atoms and of the number of integer names
 abbrev pub splits : List Row → List RowStep → ℕ → ℤ → ℕ → ℕ → List ℤ → Result (Unit {0}) Why
 splits given steps place at low high values =
-    then_ (held_rows given steps) (λ rows. need (split_fits rows place low high values) Place (split_cause place at (row_at rows low) (row_at rows high) values))
+    then_ (held_rows given steps)
+    (λ rows. need (split_fits rows place low high values) Place
+    (split_cause place at (row_at rows low) (row_at rows high) values))
 
 -- THE ROW OF A SPLIT.
 
@@ -102,6 +115,7 @@ is_alone place [] = false
 is_alone place (t ∷ []) = (t.place == place) && int_eq t.coef (pos 1)
 is_alone place (t ∷ u ∷ ts) = false
 
+-- the atom has the row `place <= at`
 abbrev pub is_at_most : ℕ → ℤ → AtomKind → Bool
 is_at_most place at Plain = false
 is_at_most place at (OfRow r) = is_alone place r.terms && int_eq r.bound at

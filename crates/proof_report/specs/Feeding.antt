@@ -208,17 +208,17 @@ place_line d version t (places.Showing stages.Calls p) = shown_line d p.world (d
 place_line d version t places.Last = last_line
 place_line d version t places.Over = none
 
--- the same of a state
+-- the format of the line that may come in a state
 abbrev pub line_at : Specification → State → Format Event
 line_at d s = place_line d s.version s.tally s.place
 
 -- ---- what it must say
 
--- the same counts
+-- two tallies are equal
 abbrev pub same_tally : Tally → Tally → Bool
 same_tally t u = (t.proved == u.proved) && ((t.refuted == u.refuted) && (t.undecided == u.undecided))
 
--- the same last word
+-- two last words are equal
 abbrev pub same_outcome : Outcome → Outcome → Bool
 same_outcome outcomes.Accepted outcomes.Accepted = true
 same_outcome outcomes.Rejected outcomes.Rejected = true
@@ -385,7 +385,7 @@ abbrev pub unread_due : Bool → ReportKind
 unread_due true = kinds.Form
 unread_due false = kinds.Obligation
 
--- the same of a place
+-- the kind of the fault where a line can't be read at a place of a report
 abbrev pub unread : Specification → Tally → Place → ReportKind
 unread d t places.Due = unread_due (told t == obligation_count d)
 unread d t _ = kinds.Form
@@ -417,8 +417,8 @@ is_over _ = false
 
 -- ---- many lines
 
--- goes on with what was read, or stops at the fault
 infixl 10 ◌>>=◌
+-- goes on with what was read, or stops at the fault
 abbrev pub ◌>>=◌ : {A B : Type 0} → Result A ReportKind → (A → Result B ReportKind) → Result B ReportKind
 (Ok x) >>= f = f x
 (Err k) >>= f = Err k
@@ -438,6 +438,7 @@ IsFed d lines es = (u : State) × (fed_all d start lines ≡ Ok (es, u)) × (is_
 abbrev pub goes : Specification → State → Event → Bool
 goes d s e = (line_at d s).fits e && says d s e
 
+-- events may be said from a state on, one after the other, to the end of the report
 unfoldable pub admits : Specification → State → List Event → Bool
 admits d s [] = is_over s.place
 admits d s (e ∷ es) = goes d s e && admits d (after d s e) es

@@ -78,7 +78,7 @@ log_end log_of.Proved (suc zero) = Some end_proved
 log_end log_of.Lines (suc zero) = Some end_lines
 log_end _ _ = None
 
--- the same of a place
+-- how a log ends behind the next line at a place, where it does
 abbrev pub log_end_at : Place → Option EndForm
 log_end_at (places.Log k n) = log_end k n
 log_end_at _ = None
@@ -139,7 +139,7 @@ pub record Tells (d : Specification) (s : State) (e : Event) (f : Fed) : Type 0 
 abbrev pub fact_fits : Specification → World → Fact → Bool
 fact_fits d w f = nat_lt f.relation (length d.relations) && fits_places w (relation_places d f.relation) f.tuple
 
--- so do a key and its value
+-- a key and its value fit the world
 abbrev pub reading_fits : Specification → World → Reading → Bool
 reading_fits d w r = nat_lt r.counter (length d.counters) && (fits_places w (counter_keys d r.counter) r.key && in_state_range r.value)
 
@@ -210,7 +210,7 @@ abbrev pub read_on : ReaderForm → Result (Event × State) ReportKind → Resul
 read_on r (Ok x) = Ok (x.0, record { spec = r.spec; state = x.1; number = suc r.number; budget = stated (budget_of x.0) r.budget; fault = None })
 read_on r (Err k) = Err (record { number = suc r.number; kind = k })
 
--- the same of a reader that has met a fault already, which stays
+-- the reader after a line; a fault that it has met already stays
 abbrev pub read_behind : ReaderForm → List (List ℕ) → Option Fault → Result (Event × ReaderForm) Fault
 read_behind r words (Some f) = Err f
 read_behind r words None = read_on r (fed r.spec r.state words)

@@ -101,7 +101,7 @@ abbrev pub are_facts : Specification → World → Option Fact → List Fact →
 are_facts d w last [] = true
 are_facts d w last (f ∷ fs) = ((fact_format d w (relation_due last)).fits f && fact_behind last f) && are_facts d w (Some f) fs
 
--- so a value, by its counter and key
+-- a value stands behind another one, by its counter and its key
 abbrev pub reading_behind : Option Reading → Reading → Bool
 reading_behind None r = true
 reading_behind (Some q) r = stands_before q.counter q.key r.counter r.key

@@ -10,7 +10,8 @@ use Rattle.replica_replay.specs.Steps.{state_of}
 
 -- the invariants hold in the state after the first k events that a replica has taken
 abbrev pub HoldsAt : Specification → World → Held → ℕ → ℕ → Type 0
-HoldsAt d w held replica k = broken_at d w (state_of d w held (take k (get_or held.taken replica []))) ≡ None
+HoldsAt d w held replica k =
+    broken_at d w (state_of d w held (take k (get_or held.taken replica []))) ≡ None
 
 -- they hold in each state that a replica has had
 abbrev pub AllHeld : Specification → World → Held → Type 0

@@ -30,6 +30,7 @@ abbrev pub unless_broken : Option ℕ → Held → Course → Course
 unless_broken None held next = next
 unless_broken (Some place) held next = stopped (stop.Broken place) held
 
+-- the replica of a step
 abbrev pub replica_of : Step → ℕ
 replica_of (step.Call replica name args) = replica
 replica_of (step.Take replica e) = replica
@@ -41,13 +42,17 @@ state_at d w held replica = state_of d w held (get_or held.taken replica [])
 -- It stops at a step that is refused. After an accepted one the invariants are asked of the state of its replica.
 abbrev pub after_outcome : Specification → World → ℕ → Held → Outcome → (Held → Course) → Course
 after_outcome d w replica held (refused why) next = stopped (stop.Refused why) held
-after_outcome d w replica held (accepted e after) next = with_event e (unless_broken (broken_at d w (state_at d w after replica)) after (next after))
+after_outcome d w replica held (accepted e after) next =
+    with_event e (unless_broken (broken_at d w (state_at d w after replica)) after (next after))
 
 -- the course of some steps, from what is held
 abbrev pub course_from : Specification → World → Held → List Step → Course
 course_from d w held [] = stopped stop.Done held
-course_from d w held (s ∷ ss) = after_outcome d w (replica_of s) held (outcome d w held s) (λ after. course_from d w after ss)
+course_from d w held (s ∷ ss) =
+    after_outcome d w (replica_of s) held (outcome d w held s) (λ after. course_from d w after ss)
 
 -- The course of a replay of so many replicas. The invariants are asked of the initial state first.
 abbrev pub course : Specification → World → ℕ → List Step → Course
-course d w replicas steps = unless_broken (broken_at d w (state_of d w (none_held replicas) [])) (none_held replicas) (course_from d w (none_held replicas) steps)
+course d w replicas steps =
+    unless_broken (broken_at d w (state_of d w (none_held replicas) [])) (none_held replicas)
+    (course_from d w (none_held replicas) steps)

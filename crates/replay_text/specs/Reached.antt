@@ -14,11 +14,15 @@ use Rattle.replay_text.specs.Text.{step_lines}
 
 -- a step was accepted, with its event, and what is held then breaks this invariant; or it was refused, and nothing changed
 abbrev pub IsStepped : Specification → World → Held → Step → Stepped → Held → Type 0
-IsStepped d w held s (stepped.Accepted e place) after = (outcome d w held s ≡ accepted e after) × (place ≡ broken_at d w (state_at d w after (replica_of s)))
-IsStepped d w held s (stepped.Refused why) after = (outcome d w held s ≡ refused why) × (after ≡ held)
+IsStepped d w held s (stepped.Accepted e place) after =
+    (outcome d w held s ≡ accepted e after)
+    × (place ≡ broken_at d w (state_at d w after (replica_of s)))
+IsStepped d w held s (stepped.Refused why) after =
+    (outcome d w held s ≡ refused why) × (after ≡ held)
 
 -- a course of some steps was gone through, and the lines of the accepted ones were added to a text
-pub record IsReached (c : Course) (steps : List Step) (before text : List ℕ) (count : ℕ) (stop : Stop) (after : Held) : Type 0 where
+pub record IsReached (c : Course) (steps : List Step) (before text : List ℕ) (count : ℕ)
+    (stop : Stop) (after : Held) : Type 0 where
   pub text_is : before ++ step_lines 0 steps c.events ≡ text
   pub count_is : length c.events ≡ count
   pub stop_is : c.stop ≡ stop

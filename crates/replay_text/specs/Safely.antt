@@ -11,7 +11,8 @@ use Rattle.replay_text.specs.Course.{Course}
 -- replicas that have taken the same events, in whichever order, print the same lines of their states
 abbrev pub PrintAlike : Specification → World → Course → Type 0
 PrintAlike d w c = (p q : ℕ) (one other : List ℕ)
-    → slice_get c.held.taken p ≡ Some one → slice_get c.held.taken q ≡ Some other → AreIn one other → AreIn other one
+    → slice_get c.held.taken p ≡ Some one → slice_get c.held.taken q ≡ Some other → AreIn one other
+    → AreIn other one
     → state_text d w (state_of d w c.held one) ≡ state_text d w (state_of d w c.held other)
 
 -- No state breaks an invariant, and replicas that have taken the same events print alike.

@@ -44,7 +44,8 @@ refusal_words d refusal.NoEvent = codes "noevent"
 refusal_words d refusal.Seen = codes "seen"
 refusal_words d (refusal.Missing e) = codes "missing " ++ decimal e
 refusal_words d (refusal.Range counter key value) =
-    codes "range " ++ (get_or d.counters counter no_counter).name ++ spaced key ++ 32 ∷ [] ++ signed_decimal value
+    codes "range " ++ (get_or d.counters counter no_counter).name ++ spaced key ++ 32 ∷ []
+    ++ signed_decimal value
 refusal_words d refusal.Memory = []
 refusal_words d (refusal.Observation line) = codes "observation " ++ decimal line
 
@@ -56,26 +57,33 @@ broken_words (suc k) = decimal k
 -- the line that says how it stops, after so many accepted steps
 abbrev pub stop_line : Specification → ℕ → Stop → List ℕ
 stop_line d n stop.Done = codes "done " ++ decimal n ++ 10 ∷ []
-stop_line d n (stop.Broken place) = codes "broken " ++ broken_words n ++ 32 ∷ [] ++ (get_or d.invariants place no_invariant).name ++ 10 ∷ []
-stop_line d n (stop.Refused why) = codes "refused " ++ decimal n ++ 32 ∷ [] ++ refusal_words d why ++ 10 ∷ []
+stop_line d n (stop.Broken place) =
+    codes "broken " ++ broken_words n ++ 32 ∷ [] ++ (get_or d.invariants place no_invariant).name
+    ++ 10 ∷ []
+stop_line d n (stop.Refused why) =
+    codes "refused " ++ decimal n ++ 32 ∷ [] ++ refusal_words d why ++ 10 ∷ []
 
 -- ---- the replicas
 
 -- a replica, with how many events it has taken, and the lines of its state
 abbrev pub replica_text : Specification → World → Held → ℕ → List ℕ → List ℕ
 replica_text d w held replica taken =
-    codes "replica " ++ decimal replica ++ codes " taken " ++ decimal (length taken) ++ 10 ∷ [] ++ state_text d w (state_of d w held taken)
+    codes "replica " ++ decimal replica ++ codes " taken " ++ decimal (length taken) ++ 10 ∷ []
+    ++ state_text d w (state_of d w held taken)
 
 -- the replicas that have taken these, numbered on from here
 abbrev pub replica_texts : Specification → World → Held → ℕ → List (List ℕ) → List ℕ
 replica_texts d w held replica [] = []
-replica_texts d w held replica (taken ∷ more) = replica_text d w held replica taken ++ replica_texts d w held (suc replica) more
+replica_texts d w held replica (taken ∷ more) =
+    replica_text d w held replica taken ++ replica_texts d w held (suc replica) more
 
 -- ---- the whole
 
+-- the text of a course: a first line, the accepted steps, how it stops, and the replicas
 abbrev pub course_text : Specification → World → List Step → Course → List ℕ
 course_text d w steps c =
-    codes "cise replay 1\n" ++ step_lines 0 steps c.events ++ stop_line d (length c.events) c.stop ++ replica_texts d w c.held 0 c.held.taken
+    codes "cise replay 1\n" ++ step_lines 0 steps c.events ++ stop_line d (length c.events) c.stop
+    ++ replica_texts d w c.held 0 c.held.taken
 
 -- The text of a replay: the accepted steps, how it stops, and then the replicas.
 abbrev pub replay_text : Specification → World → ℕ → List Step → List ℕ
@@ -87,5 +95,6 @@ status_of stop.Done = 0
 status_of (stop.Broken place) = 1
 status_of (stop.Refused why) = 4
 
+-- the status of a replay, by how it stops
 abbrev pub replay_status : Specification → World → ℕ → List Step → ℕ
 replay_status d w replicas steps = status_of (course d w replicas steps).stop

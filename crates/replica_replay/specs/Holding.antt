@@ -17,12 +17,15 @@ use Rattle.replica_replay.specs.Steps.{state_of}
 abbrev pub seen_by_event : List (List ℕ) → Happened → List ℕ
 seen_by_event orders h = take h.before (get_or orders h.replica [])
 
+-- the event that is kept so
 abbrev pub event_of : List (List ℕ) → Happened → Event Call
 event_of orders h = record { call = h.call; seen = seen_by_event orders h }
 
+-- what each replica has taken, in its order
 abbrev pub orders_of : List Replica → List (List ℕ)
 orders_of replicas = map (λ r. r.order) replicas
 
+-- the calls of the events, in their order
 abbrev pub calls_of : List Happened → List Call
 calls_of happened = map (λ h. h.call) happened
 

@@ -33,13 +33,15 @@ least_unseen d w taken call n (other ∷ others) = cond (conflicts d w other cal
 abbrev pub first_untaken : List ℕ → List ℕ → Option ℕ
 first_untaken taken events = find (λ e. not (is_taken taken e)) events
 
--- a line's number: lines are counted from 1
+-- a requires line is false; lines are counted from 1
 abbrev pub false_requires : ℕ → StepRefused
 false_requires place = Precondition (place + 1)
 
+-- an observes line is false; lines are counted from 1
 abbrev pub false_observes : ℕ → StepRefused
 false_observes place = Observation (place + 1)
 
+-- the counter, the key and the value at which an effect leads beyond the range of a state
 abbrev pub beyond_range : Beyond → StepRefused
 beyond_range b = Range b.counter b.key b.value
 
@@ -56,6 +58,7 @@ call_asked d w calls taken r call next =
     (unless (first_false w r call.args (op_of d call.op).observes) false_observes
     next)))
 
+-- Why a call is refused at such a replica: what is asked of it, and then its effect.
 abbrev pub call_refused : Specification → World → List Call → List ℕ → Reads → Call → Option StepRefused
 call_refused d w calls taken r call = call_asked d w calls taken r call (effect_refused d w r call)
 
@@ -66,5 +69,6 @@ taking_asked taken e seen next =
     (unless (first_untaken taken seen) Missing
     next)
 
+-- Why a taking is refused at such a replica: what is asked of the event, and then its effect.
 abbrev pub taking_refused : Specification → World → List ℕ → Reads → ℕ → List ℕ → Call → Option StepRefused
 taking_refused d w taken r e seen call = taking_asked taken e seen (effect_refused d w r call)

@@ -30,6 +30,7 @@ pub data Outcome : Type 0 where
   accepted : ℕ → Held → Outcome
   refused : StepRefused → Outcome
 
+-- a step is accepted, unless there is a cause against it
 abbrev pub decided : Option StepRefused → ℕ → Held → Outcome
 decided None e held = accepted e held
 decided (Some why) e held = refused why
@@ -50,19 +51,22 @@ taking_outcome d w held replica taken e event =
     decided (taking_refused d w taken (state_of d w held taken) e event.seen event.call) e
     (record { events = held.events; taken = with_taken held.taken replica taken e })
 
+-- what a call gives at such a replica, where its operation is there
 abbrev pub named_outcome : Specification → World → Held → ℕ → List ℕ → List ℤ → Option ℕ → Outcome
 named_outcome d w held replica taken args None = refused refusal.Operation
 named_outcome d w held replica taken args (Some op) = call_outcome d w held replica taken (record { op = op; args = args })
 
+-- what a taking gives at such a replica, where its event is there
 abbrev pub found_outcome : Specification → World → Held → ℕ → List ℕ → ℕ → Option (Event Call) → Outcome
 found_outcome d w held replica taken e None = refused refusal.NoEvent
 found_outcome d w held replica taken e (Some event) = taking_outcome d w held replica taken e event
 
--- What a step gives at a replica that has taken these events, if there is such a replica.
+-- what a call gives, where the replica is there
 abbrev pub called : Specification → World → Held → ℕ → List ℕ → List ℤ → Option (List ℕ) → Outcome
 called d w held replica name args None = refused refusal.Replica
 called d w held replica name args (Some taken) = named_outcome d w held replica taken args (operation_named d name)
 
+-- what a taking gives, where the replica is there
 abbrev pub took : Specification → World → Held → ℕ → ℕ → Option (List ℕ) → Outcome
 took d w held replica e None = refused refusal.Replica
 took d w held replica e (Some taken) = found_outcome d w held replica taken e (slice_get held.events e)

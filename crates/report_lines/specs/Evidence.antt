@@ -17,7 +17,7 @@ use Rattle.report_lines.specs.Logs.{used_words, decision_words}
 abbrev pub to_rows : List Lit × List RowStep → RowsLine
 to_rows x = record { used = x.0; steps = x.1 }
 
--- and the parts of it
+-- the parts of the evidence of rows
 abbrev pub of_rows : RowsLine → List Lit × List RowStep
 of_rows r = (r.used, r.steps)
 
@@ -51,7 +51,7 @@ of_what rows (Product left right place) = inl (rows, (left, (right, place)))
 of_what rows (Value row place values) = inr (inl (rows, (row, (place, values))))
 of_what rows (Sum row place values) = inr (inr (rows, (row, (place, values))))
 
--- and the parts of the evidence
+-- the parts of the evidence of a range
 abbrev pub of_range : RangeLine → RangeParts
 of_range r = of_what (r.used, r.steps) r.what
 

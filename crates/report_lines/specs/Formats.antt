@@ -9,6 +9,7 @@ use Rattle.word_cut.specs.Whole.{size_read, read_of}
 use Rattle.report_lines.specs.Words.{parts, joined, is_part}
 
 infixl 10 ◌>>=◌
+-- goes on with what was read, or stops where nothing was
 abbrev pub ◌>>=◌ : {A B : Type 0} → Option A → (A → Option B) → Option B
 (Some x) >>= f = f x
 None >>= f = None
@@ -170,11 +171,12 @@ or_else k f g = record { put = or_put k f g; get = or_at k f g; fits = or_fits f
 
 -- ---- lists
 
+-- what is read from words: this many values of a format, one after the other
 unfoldable pub times_at : {A : Type 0} → Format A → ℕ → List (List ℕ) → Read (List A)
 times_at f zero ws = Some ([], ws)
 times_at f (suc n) ws = f.get ws >>= λ x. times_at f n x.1 >>= λ y. Some (x.0 ∷ y.0, y.1)
 
--- so many of them
+-- this many values of a format, one after the other
 abbrev pub times : {A : Type 0} → Format A → ℕ → Format (List A)
 times f n = record { put = flat_map f.put; get = times_at f n; fits = λ xs. (length xs == n) && list_all f.fits xs }
 

@@ -84,7 +84,7 @@ to_line (inr (inl x)) = Farkas x.0 x.1
 to_line (inr (inr (inl x))) = Split x.0 x.1.0 x.1.1.0.0 x.1.1.0.1 x.1.1.1.0 x.1.1.1.1.0 x.1.1.1.1.1
 to_line (inr (inr (inr cs))) = Drop cs
 
--- and the parts of a line
+-- the parts of a line
 abbrev pub of_line : Line → LineParts
 of_line (Resolve left right pivot) = inl (left, (right, pivot))
 of_line (Farkas used steps) = inr (inl (used, steps))

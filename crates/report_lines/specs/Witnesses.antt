@@ -37,11 +37,11 @@ tuple_words w sorts = each_of (λ s. element_format (size_of w s)) sorts
 abbrev pub relation_names : Specification → List (List ℕ)
 relation_names d = map (λ r. r.name) d.relations
 
--- those of the counters
+-- the names of the counters
 abbrev pub counter_names : Specification → List (List ℕ)
 counter_names d = map (λ c. c.name) d.counters
 
--- those of the operations
+-- the names of the operations
 abbrev pub operation_names : Specification → List (List ℕ)
 operation_names d = map (λ o. o.name) d.operations
 
@@ -49,7 +49,7 @@ operation_names d = map (λ o. o.name) d.operations
 abbrev pub to_fact : ℕ × List ℕ → Fact
 to_fact x = record { relation = x.0; tuple = x.1 }
 
--- and the parts of it
+-- the parts of a tuple: its relation and its elements
 abbrev pub of_fact : Fact → ℕ × List ℕ
 of_fact f = (f.relation, f.tuple)
 
@@ -65,7 +65,7 @@ fact_format d w from = seen to_fact of_fact (fact_words d w from)
 abbrev pub to_reading : ℕ × (List ℕ × ℤ) → Reading
 to_reading x = record { counter = x.0; key = x.1.0; value = x.1.1 }
 
--- and the parts of it
+-- the parts of a value: its counter, its key and itself
 abbrev pub of_reading : Reading → ℕ × (List ℕ × ℤ)
 of_reading r = (r.counter, (r.key, r.value))
 
@@ -105,7 +105,7 @@ arguments_words params = each_of (λ p. argument_format p.kind) params
 abbrev pub to_call : ℕ × List ℤ → Call
 to_call x = record { op = x.0; args = x.1 }
 
--- and the parts of it
+-- the parts of a call: its operation and its arguments
 abbrev pub of_call : Call → ℕ × List ℤ
 of_call c = (c.op, c.args)
 
@@ -134,7 +134,7 @@ to_shown (inr (inl r)) = shown.Reading r
 to_shown (inr (inr (inl c))) = shown.Call c
 to_shown (inr (inr (inr es))) = shown.At es
 
--- and the parts of it
+-- the parts of what a line of a witness shows
 abbrev pub of_shown : Shown → ShownParts
 of_shown (shown.Fact f) = inl f
 of_shown (shown.Reading r) = inr (inl r)

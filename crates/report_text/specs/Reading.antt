@@ -19,6 +19,7 @@ use Rattle.report_text.specs.Bytes.{report_bytes, lines_of, unended}
 -- ---- the first fault
 
 infixl 10 ◌>>=◌
+-- goes on with what was read, or stops at the fault
 abbrev pub ◌>>=◌ : {A B : Type 0} → Result A Fault → (A → Result B Fault) → Result B Fault
 (Ok x) >>= f = f x
 (Err k) >>= f = Err k
@@ -48,7 +49,8 @@ pub record BlockForm : Type 0 where
 -- the blocks of some verdicts behind so many lines: the line of an obligation stands before its verdict
 abbrev pub blocks_behind : ℕ → List VerdictForm → List BlockForm
 blocks_behind n [] = []
-blocks_behind n (v ∷ vs) = record { line = n + 2; verdict = v } ∷ blocks_behind (n + 1 + length (verdict_lines v [])) vs
+blocks_behind n (v ∷ vs) =
+    record { line = n + 2; verdict = v } ∷ blocks_behind (n + 1 + length (verdict_lines v [])) vs
 
 -- the blocks of a report stand behind its first three lines
 abbrev pub blocks_of : ReportForm → List BlockForm
@@ -59,7 +61,8 @@ abbrev pub IsCause : VerdictForm → Cause → Type 0
 IsCause instances causes.Instances = Unit {0}
 IsCause (lines log) (causes.Lines l) = l ≡ log
 IsCause (rows log r) (causes.Rows e) = (e.log ≡ log) × (e.used ≡ r.used) × (e.steps ≡ r.steps)
-IsCause (range log r) (causes.Range e) = (e.log ≡ log) × (e.used ≡ r.used) × (e.steps ≡ r.steps) × (e.what ≡ r.what)
+IsCause (range log r) (causes.Range e) =
+    (e.log ≡ log) × (e.used ≡ r.used) × (e.steps ≡ r.steps) × (e.what ≡ r.what)
 IsCause _ _ = ⊥
 
 -- a verdict is the one that is shown
@@ -69,10 +72,11 @@ IsVerdict d (refuted p es) (verdicts.Refuted w) = IsShownBy d p es w
 IsVerdict d v (verdicts.Undecided cause) = IsCause v cause
 IsVerdict d _ _ = ⊥
 
--- so is each of some blocks
+-- each of some blocks is a block that was read: of its line, with its verdict
 abbrev pub AreBlocks : Specification → List BlockForm → List Block → Type 0
 AreBlocks d [] [] = Unit {0}
-AreBlocks d (f ∷ fs) (b ∷ bs) = (b.line ≡ f.line) × IsVerdict d f.verdict b.verdict × AreBlocks d fs bs
+AreBlocks d (f ∷ fs) (b ∷ bs) =
+    (b.line ≡ f.line) × IsVerdict d f.verdict b.verdict × AreBlocks d fs bs
 AreBlocks d _ _ = ⊥
 
 -- A report is the one that is shown.
@@ -83,6 +87,8 @@ pub record IsReport (d : Specification) (r : ReportForm) (x : Report) : Type 0 w
 
 -- What is read from bytes: the report whose bytes they are, or their first fault.
 abbrev pub IsRead : Specification → List ℕ → Result Report ReportRefused → Type 0
-IsRead d bytes (Ok x) = (r : ReportForm) × (is_report d r ≡ true) × (bytes ≡ report_bytes d r) × IsReport d r x
-IsRead d bytes (Err (refused.Line n k)) = first_fault d bytes ≡ Some (record { number = n; kind = k })
+IsRead d bytes (Ok x) =
+    (r : ReportForm) × (is_report d r ≡ true) × (bytes ≡ report_bytes d r) × IsReport d r x
+IsRead d bytes (Err (refused.Line n k)) =
+    first_fault d bytes ≡ Some (record { number = n; kind = k })
 IsRead d bytes (Err refused.Memory) = Unit {0}

@@ -36,12 +36,15 @@ reading_of r k t = record { counter = k; key = t; value = r.count k t }
 -- of each relation, those from a number on, the tuples that read true, rising
 abbrev pub facts_from : World → Reads → ℕ → List Relation → List Fact
 facts_from w r k [] = []
-facts_from w r k (x ∷ xs) = map (fact_of k) (filter (r.has k) (tuples w x.places)) ++ facts_from w r (suc k) xs
+facts_from w r k (x ∷ xs) =
+    map (fact_of k) (filter (r.has k) (tuples w x.places)) ++ facts_from w r (suc k) xs
 
 -- of each counter, those from a number on, the keys whose value isn't 0, rising
 abbrev pub readings_from : World → Reads → ℕ → List Counter → List Reading
 readings_from w r k [] = []
-readings_from w r k (c ∷ cs) = map (reading_of r k) (filter (λ t. is_other (r.count k t)) (tuples w c.keys)) ++ readings_from w r (suc k) cs
+readings_from w r k (c ∷ cs) =
+    map (reading_of r k) (filter (λ t. is_other (r.count k t)) (tuples w c.keys))
+    ++ readings_from w r (suc k) cs
 
 -- What is shown of a witness.
 abbrev pub shown_by : Specification → Witness → PartialWitness
@@ -59,7 +62,8 @@ abbrev pub shown_cause : Cause → VerdictForm
 shown_cause causes.Instances = instances
 shown_cause (causes.Lines log) = lines log
 shown_cause (causes.Rows e) = rows e.log (record { used = e.used; steps = e.steps })
-shown_cause (causes.Range e) = range e.log (record { used = e.used; steps = e.steps; what = e.what })
+shown_cause (causes.Range e) =
+    range e.log (record { used = e.used; steps = e.steps; what = e.what })
 
 -- What is shown of a verdict.
 abbrev pub shown_verdict : Specification → Verdict → VerdictForm
@@ -69,7 +73,8 @@ shown_verdict d (verdicts.Undecided cause) = shown_cause cause
 
 -- A report of some verdicts.
 abbrev pub report_on : Specification → ℕ → ℕ → List Verdict → ReportForm
-report_on d version budget vs = record { version = version; budget = budget; verdicts = map (shown_verdict d) vs }
+report_on d version budget vs =
+    record { version = version; budget = budget; verdicts = map (shown_verdict d) vs }
 
 -- ---- the text as it is written
 
@@ -90,7 +95,9 @@ counted t (v ∷ vs) = counted (with_verdict v t) vs
 
 -- The lines before the blocks, the blocks, and the lines behind them.
 abbrev pub written_text : Specification → ℕ → ℕ → List Verdict → List ℕ
-written_text d version budget vs = head_text d version budget ++ (blocks_text d 0 vs ++ end_text (counted no_verdicts (map (shown_verdict d) vs)))
+written_text d version budget vs =
+    head_text d version budget
+    ++ (blocks_text d 0 vs ++ end_text (counted no_verdicts (map (shown_verdict d) vs)))
 
 -- ---- what can be shown
 
@@ -108,7 +115,8 @@ IsFit d version ob (verdicts.Proved log) = is_log (may_drop version) log ≡ tru
 IsFit d version ob (verdicts.Refuted w) = CanBeShown d ob w
 IsFit d version ob (verdicts.Undecided cause) = is_verdict d version ob (shown_cause cause) ≡ true
 
--- So can each of some verdicts, one for each obligation from a place on.
+-- Each of some verdicts can be written, one for each obligation from a place on.
 abbrev pub AllFit : Specification → ℕ → ℕ → List Verdict → Type 0
 AllFit d version i [] = i ≡ obligation_count d
-AllFit d version i (v ∷ vs) = (i < obligation_count d) × IsFit d version (obligation_at d i) v × AllFit d version (suc i) vs
+AllFit d version i (v ∷ vs) =
+    (i < obligation_count d) × IsFit d version (obligation_at d i) v × AllFit d version (suc i) vs

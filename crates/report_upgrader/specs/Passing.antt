@@ -33,6 +33,7 @@ held_with None b l = None
 held_with (Some h) b (Some l) = Some (record { due = h.due; log = h.log ++ l ∷ [] })
 held_with (Some h) b None = None
 
+-- what is held of a log once an event of a report has come
 abbrev pub held_at : Option Held → Event → Option Held
 held_at h e = held_with h (begin_of e) (log_of_event e)
 
@@ -63,15 +64,19 @@ passed h (e ∷ es) = lines_out e (held_at h e) ++ passed (held_on (held_at h e)
 
 -- ---- their text
 
+-- the text of these lines
 abbrev pub text_of : Specification → List Event → List ℕ
 text_of d es = flat_map line_text (map (words d) es)
 
+-- the text of a proved verdict and its log
 abbrev pub proved_text : List Line → List ℕ
 proved_text log = line_text (verdict_format.put (word.Proved (length log))) ++ log_text log
 
+-- the text of a whole log with its verdict, upgraded; nothing while lines are due
 abbrev pub whole_text : Held → List ℕ
 whole_text h = if is_due h then [] else proved_text (upgraded h.log)
 
+-- the text that is written behind a line: the line itself, where no log is held
 abbrev pub text_out : List ℕ → Option Held → List ℕ
 text_out line None = line ++ 10 ∷ []
 text_out line (Some h) = whole_text h

@@ -1,4 +1,4 @@
--- The same of what a reader tells of a line, step by step. It mirrors the code.
+-- What a verifier makes of a line that its reader has read, step by step. It mirrors the code.
 use Rattle.std.specs.Prelude.{◌≡◌, ℕ, ◌==◌, Bool, true, false, ◌&&◌, Option, Some, None, Result, Ok, Err}
 use Rattle.spec_core.specs.Specification.{Specification}
 use Rattle.obligation_list.specs.declared.obligation.Obligation.{Obligation}

@@ -14,7 +14,7 @@ use Rattle.proof_report.specs.declared.place.PartialWitness.{PartialWitness}
 use Rattle.proof_report.specs.Verdicts.{VerdictForm, proved, refuted, instances, lines, rows, range, obligation_at}
 use Rattle.proof_report.specs.Reader.{reads_of}
 
--- an obligation has no more formulas than may be, or more
+-- the obligation has few enough formulas to be decided
 abbrev pub HasFew : Specification → Obligation → Type 0
 HasFew d ob = length (formulas_of d ob) ≤ most_formulas
 
@@ -56,7 +56,7 @@ IsValid d budget ob (lines log) = IsSpent d ob budget log
 IsValid d budget ob (rows log r) = HasFew d ob × (s : State) × Leads d ob log s × (is_fresh s ≡ true) × (rows_hold s r.used r.steps ≡ true)
 IsValid d budget ob (range log r) = HasFew d ob × (s : State) × Leads d ob log s × (is_fresh s ≡ true) × (range_holds s r.used r.steps r.what ≡ true)
 
--- So is each of some verdicts, on the obligations from a place of the list on.
+-- Each of some verdicts is valid, on the obligations from a place of the list on.
 abbrev pub AreValid : Specification → ℕ → ℕ → List VerdictForm → Type 0
 AreValid d budget i [] = Unit {0}
 AreValid d budget i (v ∷ vs) = IsValid d budget (obligation_at d i) v × AreValid d budget (suc i) vs

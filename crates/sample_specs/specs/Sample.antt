@@ -27,10 +27,11 @@ use Rattle.spec_core.specs.World.{below}
 abbrev pub numbered : List ℕ → ℕ → List ℕ
 numbered word i = word ++ decimal i
 
--- the one sort, `Item`, and the one token, `t`
+-- the one sort, `Item`
 abbrev pub item : ℕ
 item = 0
 
+-- the one token, `t`
 abbrev pub t : ℕ
 t = 0
 
@@ -54,7 +55,10 @@ the_rule = record { left = pattern; right = pattern }
 
 -- `invariant needs(i) forall x : Item . ( r(i) ( x ) implies r(i-1) ( x ) )`
 abbrev pub needs : ℕ → Invariant
-needs i = record { name = numbered (codes "needs") i; line = record { prefix = Forall; vars = item ∷ []; body = implies_form (has_form i (elem.Var 0 ∷ [])) (has_form (i - 1) (elem.Var 0 ∷ [])) } }
+needs i = record {
+  name = numbered (codes "needs") i;
+  line = record { prefix = Forall; vars = item ∷ []; body = implies_form (has_form i (elem.Var 0 ∷ [])) (has_form (i - 1) (elem.Var 0 ∷ [])) };
+}
 
 -- ---- operations on one item x
 
@@ -72,7 +76,12 @@ requires_line f = record { prefix = Plain; vars = []; body = f }
 
 -- an update `insert r(i) ( x )` or `remove r(i) ( x )`
 abbrev pub update_of : Change → ℕ → UpdateLine
-update_of change i = record { thing = thing.Relation i; at = One (elem.Param 0) ∷ []; change = change; guard = true_form }
+update_of change i = record {
+  thing = thing.Relation i;
+  at = One (elem.Param 0) ∷ [];
+  change = change;
+  guard = true_form;
+}
 
 -- `takes t ( x )`
 abbrev pub takes_item : Take
@@ -80,15 +89,27 @@ takes_item = record { token = t; args = elem.Param 0 ∷ []; shared = false }
 
 -- an operation on one item, which takes the item's token
 abbrev pub on_item : List ℕ → List Line → UpdateLine → Operation
-on_item name requires_ update = record { name = name; params = an_item; requires_ = requires_; updates = update ∷ []; takes = takes_item ∷ []; observes = [] }
+on_item name requires_ update = record {
+  name = name;
+  params = an_item;
+  requires_ = requires_;
+  updates = update ∷ [];
+  takes = takes_item ∷ [];
+  observes = [];
+}
 
 -- `add(i)` puts x into r(i); from i = 1 on it `requires r(i-1) ( x )`
 abbrev pub adding : ℕ → Operation
-adding i = on_item (numbered (codes "add") i) (if nat_lt 0 i then requires_line (has_item (i - 1)) ∷ [] else []) (update_of Insert i)
+adding i =
+    on_item (numbered (codes "add") i)
+    (if nat_lt 0 i then requires_line (has_item (i - 1)) ∷ [] else []) (update_of Insert i)
 
 -- `del(i)` takes x out of r(i); where there is a next relation, it `requires not r(i+1) ( x )`
 abbrev pub deleting : ℕ → ℕ → Operation
-deleting n i = on_item (numbered (codes "del") i) (if nat_lt (i + 1) n then requires_line (not_form (has_item (i + 1))) ∷ [] else []) (update_of Remove i)
+deleting n i =
+    on_item (numbered (codes "del") i)
+    (if nat_lt (i + 1) n then requires_line (not_form (has_item (i + 1))) ∷ [] else [])
+    (update_of Remove i)
 
 -- ---- the whole
 

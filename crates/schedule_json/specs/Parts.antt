@@ -11,6 +11,7 @@ use Rattle.serde_json.specs.Events.{members_len}
 abbrev pub whole : Data → Option ℤ
 whole v = option_and_then as_i64 (as_number v)
 
+-- a whole number, where it isn't negative
 abbrev pub not_negative : ℤ → Option ℕ
 not_negative (pos n) = Some n
 not_negative (negsuc n) = None
@@ -25,6 +26,7 @@ natural v = option_and_then not_negative (whole v)
 abbrev pub member_count : Data → Option ℕ
 member_count v = option_map members_len (as_object v)
 
+-- there is a count, and it is this one
 abbrev pub is_count : ℕ → Option ℕ → Bool
 is_count n None = false
 is_count n (Some count) = count == n

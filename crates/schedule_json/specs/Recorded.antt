@@ -11,6 +11,7 @@ use Rattle.schedule_json.specs.declared.refusal.ScheduleRefused.TheVariants as r
 use Rattle.schedule_json.specs.Parts.{whole, natural, has_exactly}
 use Rattle.schedule_json.specs.Checks.{Checked, need, with_some, with_first}
 
+-- how many steps a schedule has at most
 abbrev pub most_steps : ℕ
 most_steps = 10000
 
@@ -31,21 +32,28 @@ wholes (item v vs) = option_and_then (λ n. option_map (λ ns. n ∷ ns) (wholes
 abbrev pub arguments : Data → Option (List ℤ)
 arguments v = option_and_then wholes (as_array v)
 
+-- the keys of a call
 abbrev pub call_keys : List (List ℕ)
 call_keys = codes "replica" ∷ codes "call" ∷ codes "args" ∷ []
 
+-- the keys of a taking
 abbrev pub taking_keys : List (List ℕ)
 taking_keys = codes "replica" ∷ codes "take" ∷ []
 
 -- a call, from what stands at its keys
 abbrev pub call_from : Option Data → Option Data → Option Data → Option Step
 call_from replica called args =
-    option_and_then (λ r. option_and_then (λ op. option_map (λ as_. step.Call r op as_) (option_and_then arguments args)) (option_and_then name called))
+    option_and_then
+    (λ r. option_and_then
+    (λ op. option_map (λ as_. step.Call r op as_) (option_and_then arguments args))
+    (option_and_then name called))
     (option_and_then number replica)
 
 -- a taking, from what stands at its keys
 abbrev pub taking_from : Option Data → Option Data → Option Step
-taking_from replica taken = option_and_then (λ r. option_map (λ e. step.Take r e) (option_and_then number taken)) (option_and_then number replica)
+taking_from replica taken =
+    option_and_then (λ r. option_map (λ e. step.Take r e) (option_and_then number taken))
+    (option_and_then number replica)
 
 -- A step: an object with exactly the keys of a call, or with exactly those of a taking.
 abbrev pub step_of : Data → Option Step
@@ -53,6 +61,7 @@ step_of v =
     if has_exactly call_keys v then call_from (get (codes "replica") v) (get (codes "call") v) (get (codes "args") v)
     else (if has_exactly taking_keys v then taking_from (get (codes "replica") v) (get (codes "take") v) else None)
 
+-- the step of this number, or the fault there
 abbrev pub at_step : ℕ → Option Step → Checked Step
 at_step k None = Err (refused.Shape (path.Step k))
 at_step k (Some s) = Ok s

@@ -19,9 +19,11 @@ use Rattle.schedule_json.specs.Recorded.{steps_of}
 abbrev pub value_of : List ℕ → Option Data
 value_of bytes = if is_utf8 bytes then read bytes else None
 
+-- how many replicas a schedule has at most
 abbrev pub most_replicas : ℕ
 most_replicas = 16
 
+-- a number of replicas: none is a fault of shape, one out of range a fault of size
 abbrev pub count_of : Option ℤ → Result ℕ Fault
 count_of None = Err fault.Shape
 count_of (Some (pos n)) = if nat_le 1 n && nat_le n most_replicas then Ok n else Err fault.Size
@@ -31,6 +33,7 @@ count_of (Some (negsuc n)) = Err fault.Size
 abbrev pub replicas_of : Option Data → Checked ℕ
 replicas_of v = located path.Replicas (count_of (option_and_then whole v))
 
+-- the keys of a schedule
 abbrev pub schedule_keys : List (List ℕ)
 schedule_keys = codes "sizes" ∷ codes "constants" ∷ codes "replicas" ∷ codes "steps" ∷ []
 

@@ -9,6 +9,7 @@ use Rattle.schedule_json.specs.declared.refusal.ScheduleRefused.TheVariants as r
 abbrev pub most_schedule_bytes : ℕ
 most_schedule_bytes = 16777216
 
+-- the words of a place in a schedule
 abbrev pub path_text : Path → List ℕ
 path_text path.Top = codes "top"
 path_text path.Sizes = codes "sizes"

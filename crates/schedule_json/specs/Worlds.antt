@@ -16,6 +16,7 @@ use Rattle.schedule_json.specs.Checks.{Checked, located, need, with_some, and_th
 abbrev pub size_limit : ℕ
 size_limit = 65
 
+-- a number below a limit: none is a fault of shape, a greater one a fault of size
 abbrev pub in_limit : ℕ → Option ℕ → Result ℕ Fault
 in_limit limit None = Err fault.Shape
 in_limit limit (Some n) = if nat_lt n limit then Ok n else Err fault.Size
@@ -27,18 +28,24 @@ number_below limit v = in_limit limit (option_and_then natural v)
 -- the size of each sort, by name
 abbrev pub sizes_at : List (List ℕ) → Data → Checked (List ℕ)
 sizes_at [] v = Ok []
-sizes_at (name ∷ names) v = with_first (located (path.Size name) (number_below size_limit (get name v))) (sizes_at names v)
+sizes_at (name ∷ names) v =
+    with_first (located (path.Size name) (number_below size_limit (get name v))) (sizes_at names v)
 
 -- An object with exactly the sorts as keys, and at each a size.
 abbrev pub sizes_of : Specification → Option Data → Checked (List ℕ)
-sizes_of d v = with_some v (refused.Shape path.Sizes) (λ found. need (has_exactly d.sorts found) (refused.Shape path.Sizes) (sizes_at d.sorts found))
+sizes_of d v =
+    with_some v (refused.Shape path.Sizes)
+    (λ found. need (has_exactly d.sorts found) (refused.Shape path.Sizes) (sizes_at d.sorts found))
 
 -- the element of each constant: below the size of its sort
 abbrev pub elements_at : List ℕ → List Const → Data → Checked (List ℕ)
 elements_at sizes [] v = Ok []
 elements_at sizes (c ∷ cs) v =
-    with_first (located (path.Constant c.name) (number_below (get_or sizes c.sort 0) (get c.name v))) (elements_at sizes cs v)
+    with_first
+    (located (path.Constant c.name) (number_below (get_or sizes c.sort 0) (get c.name v)))
+    (elements_at sizes cs v)
 
+-- the names of constants
 abbrev pub const_names : List Const → List (List ℕ)
 const_names cs = map (λ c. c.name) cs
 
@@ -46,8 +53,10 @@ const_names cs = map (λ c. c.name) cs
 abbrev pub elements_of : Specification → List ℕ → Option Data → Checked (List ℕ)
 elements_of d sizes v =
     with_some v (refused.Shape path.Constants)
-    (λ found. need (has_exactly (const_names d.consts) found) (refused.Shape path.Constants) (elements_at sizes d.consts found))
+    (λ found. need (has_exactly (const_names d.consts) found) (refused.Shape path.Constants)
+    (elements_at sizes d.consts found))
 
+-- the world of these sizes and these elements of constants
 abbrev pub world_from : List ℕ → List ℕ → Checked World
 world_from sizes elements = Ok (record { sizes = sizes; consts = elements })
 

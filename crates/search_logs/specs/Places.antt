@@ -36,10 +36,12 @@ abbrev pub decision_places : List Entry → List ℕ
 decision_places [] = []
 decision_places (e ∷ t) = with_decision e.reason (length t) (decision_places t)
 
+-- there is a place
 abbrev pub some_place : List ℕ → Bool
 some_place [] = false
 some_place (n ∷ places) = true
 
+-- the first place of a list, or 0 where there is none
 abbrev pub top_place : List ℕ → ℕ
 top_place [] = 0
 top_place (n ∷ places) = n

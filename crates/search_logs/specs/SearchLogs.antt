@@ -96,6 +96,7 @@ is_split (Farkas used steps) = false
 is_split (Split place at used steps low high values) = true
 is_split (Drop clauses) = false
 
+-- how many Split lines there are
 abbrev pub splits : List Line → ℕ
 splits [] = 0
 splits (l ∷ ls) = cond (is_split l) (1 + splits ls) (splits ls)

@@ -12,7 +12,7 @@ use Rattle.search_logs.specs.declared.trail.Entry.{Entry}
 abbrev pub in_trail : List Entry → Lit → Bool
 in_trail t l = list_any (λ e. same_lit e.lit l) t
 
--- its negation is
+-- the negation of the literal is in the trail
 abbrev pub negated : List Entry → Lit → Bool
 negated t l = in_trail t (flip l)
 
@@ -54,9 +54,11 @@ open_in t (l ∷ c) = cond (negated t l) (open_in t c) (1 + open_in t c)
 abbrev pub is_decision : Entry → Bool
 is_decision e = is_none e.reason
 
+-- a trail has a decision
 abbrev pub has_decision : List Entry → Bool
 has_decision t = list_any is_decision t
 
+-- a trail as it goes on behind an entry: the entries before it where it is a decision, else the others
 abbrev pub after : Option ℕ → List Entry → List Entry → List Entry
 after None t s = t
 after (Some r) t s = s

@@ -103,12 +103,14 @@ with_done sim m = record { net = sim.net; dones = sim.dones ++ m ∷ []; grants 
 
 -- A call of a replica was run: it is this event, whose Done has this number. The invariants are asked.
 abbrev pub ran : Specification → World → ℕ → ℕ → ℕ → Simulated → Part
-ran d w r e m sim = saying (said.Call e) (asked_at d w r (with_done sim m) (goes_on [] (with_done sim m)))
+ran d w r e m sim =
+    saying (said.Call e) (asked_at d w r (with_done sim m) (goes_on [] (with_done sim m)))
 
--- so many replicas hear a message, one after the other
+-- the network when its first n replicas have heard a message, one after the other
 abbrev pub heard_by : Specification → World → ℕ → ℕ → Network → Network
 heard_by d w m zero net = net
-heard_by d w m (suc n) net = (let before = heard_by d w m n net in network_after before (outcome d w before (step.Hear n m)))
+heard_by d w m (suc n) net =
+    (let before = heard_by d w m n net in network_after before (outcome d w before (step.Hear n m)))
 
 -- all replicas hear it
 abbrev pub heard_by_all : Specification → World → ℕ → Network → Network
@@ -127,7 +129,8 @@ waits_on false id = []
 
 -- What a replica answers to the grant of its waiting call, before which these messages had been sent: the call is run, is void, or
 -- waits on. Nothing is said of other answers.
-abbrev pub granted : Specification → World → ℕ → ℕ → Bool → Result NetDid SimulateRefused → Simulated → Part
+abbrev pub granted : Specification → World → ℕ → ℕ → Bool → Result NetDid SimulateRefused
+    → Simulated → Part
 granted d w r sent tells (Err why) sim = stops (stop.Refused why) sim
 granted d w r sent tells (Ok (did.Ran e)) sim = ran d w r e sent sim
 granted d w r sent tells (Ok (did.Void cause m)) sim = void d w cause m sim
@@ -141,7 +144,8 @@ granted d w r sent tells (Ok did.Old) sim = goes_on [] sim
 -- a replica hears the grant of its waiting call
 abbrev pub hears_grant : Specification → World → ℕ → ℕ → Bool → Simulated → Part
 hears_grant d w r m tells sim =
-    (let o = outcome d w sim.net (step.Hear r m) in granted d w r (length sim.net.messages) tells (told o) (stepped sim o))
+    (let o = outcome d w sim.net (step.Hear r m) in
+    granted d w r (length sim.net.messages) tells (told o) (stepped sim o))
 
 -- the network when the manager has got a request
 abbrev pub asked_once : Specification → World → ℕ → Network → Network
@@ -176,21 +180,28 @@ begun d w r sent (Ok did.Old) sim = goes_on [] sim
 -- a replica makes a call
 abbrev pub begins : Specification → World → ℕ → Call → Simulated → Part
 begins d w r call sim =
-    (let o = outcome d w sim.net (step.Begin r call) in begun d w r (length sim.net.messages) (told o) (stepped sim o))
+    (let o = outcome d w sim.net (step.Begin r call) in
+    begun d w r (length sim.net.messages) (told o) (stepped sim o))
 
+-- a recorded call, where its operation is there
 abbrev pub calls : Specification → World → ℕ → List ℤ → Option ℕ → Simulated → Part
 calls d w r args None sim = stops (stop.Refused refusal.Operation) sim
-calls d w r args (Some op) sim = begins d w r (let call : Call = record { op = op; args = args } in call) sim
+calls d w r args (Some op) sim =
+    begins d w r (let call : Call = record { op = op; args = args } in call) sim
 
 -- ---- a taking
 
+-- there is a replica, and a call of it waits
 abbrev pub is_waiting : Option Replica → Bool
 is_waiting None = false
 is_waiting (Some at) = is_some at.node.waiting
 
 -- Where a call of a replica waits, it hears its grant again. That it waits on isn't told.
 abbrev pub tries_again : Specification → World → ℕ → Simulated → Part
-tries_again d w r sim = cond (is_waiting (slice_get sim.net.replicas r)) (hears_grant d w r (get_or sim.grants r 0) false sim) (goes_on [] sim)
+tries_again d w r sim =
+    cond (is_waiting (slice_get sim.net.replicas r))
+    (hears_grant d w r (get_or sim.grants r 0) false sim)
+    (goes_on [] sim)
 
 -- What a replica answers to the Done of this event.
 abbrev pub taken : Specification → World → ℕ → ℕ → Result NetDid SimulateRefused → Simulated → Part
@@ -199,24 +210,30 @@ taken d w r e (Ok (did.Ran n)) sim = goes_on [] sim
 taken d w r e (Ok (did.Void cause m)) sim = goes_on [] sim
 taken d w r e (Ok (did.Asked q)) sim = goes_on [] sim
 taken d w r e (Ok (did.Granted m)) sim = goes_on [] sim
-taken d w r e (Ok (did.Took n)) sim = saying (said.Take e) (asked_at d w r sim (tries_again d w r sim))
-taken d w r e (Ok (did.Awaits id)) sim = goes_on (said.Early (number_of sim.net.happened id) ∷ []) sim
+taken d w r e (Ok (did.Took n)) sim =
+    saying (said.Take e) (asked_at d w r sim (tries_again d w r sim))
+taken d w r e (Ok (did.Awaits id)) sim =
+    goes_on (said.Early (number_of sim.net.happened id) ∷ []) sim
 taken d w r e (Ok did.Noted) sim = goes_on [] sim
 taken d w r e (Ok did.Old) sim = goes_on (said.Old e ∷ []) sim
 
+-- a recorded taking, where its event is there
 abbrev pub takes : Specification → World → ℕ → ℕ → Option ℕ → Simulated → Part
 takes d w r e None sim = stops (stop.Refused refusal.NoEvent) sim
-takes d w r e (Some m) sim = (let o = outcome d w sim.net (step.Hear r m) in taken d w r e (told o) (stepped sim o))
+takes d w r e (Some m) sim =
+    (let o = outcome d w sim.net (step.Hear r m) in taken d w r e (told o) (stepped sim o))
 
 -- ---- steps
 
 -- a step at a replica is refused where there is no such replica
 abbrev pub at_replica : ℕ → Simulated → Part → Part
-at_replica r sim part = cond (nat_lt r (length sim.net.replicas)) part (stops (stop.Refused refusal.Replica) sim)
+at_replica r sim part =
+    cond (nat_lt r (length sim.net.replicas)) part (stops (stop.Refused refusal.Replica) sim)
 
 -- what a recorded step comes to
 abbrev pub part_of : Specification → World → Step → Simulated → Part
-part_of d w (recorded.Call r name args) sim = at_replica r sim (calls d w r args (operation_named d name) sim)
+part_of d w (recorded.Call r name args) sim =
+    at_replica r sim (calls d w r args (operation_named d name) sim)
 part_of d w (recorded.Take r e) sim = at_replica r sim (takes d w r e (slice_get sim.dones e) sim)
 
 -- The lines of the steps, the number of the step at which it stops (of all steps, where it is done), how it stops, and what it is then.
@@ -226,30 +243,39 @@ pub record Course : Type 0 where
   pub stop : Stop
   pub after : Simulated
 
+-- the replica of a recorded step
 abbrev pub replica_of : Step → ℕ
 replica_of (recorded.Call r name args) = r
 replica_of (recorded.Take r e) = r
 
--- it stops at this step, or there are the lines of the step, and then a course
+-- the course stops at this step, or has the lines of the step and goes on
 abbrev pub unless_stopped : Option Stop → ℕ → List ℕ → Simulated → Course → Course
-unless_stopped (Some how) k lines sim next = record { lines = lines; at = k; stop = how; after = sim }
-unless_stopped None k lines sim next = record { lines = lines ++ next.lines; at = next.at; stop = next.stop; after = next.after }
+unless_stopped (Some how) k lines sim next =
+    record { lines = lines; at = k; stop = how; after = sim }
+unless_stopped None k lines sim next =
+    record { lines = lines ++ next.lines; at = next.at; stop = next.stop; after = next.after }
 
 -- the course of some steps, numbered on from here
 abbrev pub course_from : Specification → World → ℕ → List Step → Simulated → Course
 course_from d w k [] sim = record { lines = []; at = k; stop = stop.Done; after = sim }
 course_from d w k (s ∷ ss) sim =
-    (let part = part_of d w s sim in unless_stopped part.stop k (said_lines d k (replica_of s) part.said) part.after (course_from d w (suc k) ss part.after))
+    (let part = part_of d w s sim in
+    unless_stopped part.stop k (said_lines d k (replica_of s) part.said) part.after
+    (course_from d w (suc k) ss part.after))
 
 -- the simulation before its first step
 abbrev pub first_simulated : Specification → World → ℕ → Simulated
-first_simulated d w replicas = record { net = first_network d w replicas; dones = []; grants = replicate replicas 0 }
+first_simulated d w replicas =
+    record { net = first_network d w replicas; dones = []; grants = replicate replicas 0 }
 
+-- stops before the first step where the initial state breaks an invariant
 abbrev pub unless_broken_first : Option ℕ → Simulated → Course → Course
 unless_broken_first None sim next = next
-unless_broken_first (Some place) sim next = record { lines = []; at = 0; stop = stop.BrokenFirst place; after = sim }
+unless_broken_first (Some place) sim next =
+    record { lines = []; at = 0; stop = stop.BrokenFirst place; after = sim }
 
 -- The course of a simulation of so many replicas. The invariants are asked of the initial state first.
 abbrev pub course : Specification → World → ℕ → List Step → Course
 course d w replicas steps =
-    (let sim = first_simulated d w replicas in unless_broken_first (broken_at d w (reads (initial d w))) sim (course_from d w 0 steps sim))
+    (let sim = first_simulated d w replicas in
+    unless_broken_first (broken_at d w (reads (initial d w))) sim (course_from d w 0 steps sim))

@@ -14,7 +14,9 @@ use Rattle.simulate_text.specs.declared.said.Stop.TheVariants as stop
 
 -- a counter with its key and a value beyond the range of a state
 abbrev pub range_words : Specification → ℕ → List ℕ → ℤ → List ℕ
-range_words d counter key value = codes "range " ++ (get_or d.counters counter no_counter).name ++ spaced key ++ 32 ∷ [] ++ signed_decimal value
+range_words d counter key value =
+    codes "range " ++ (get_or d.counters counter no_counter).name ++ spaced key ++ 32 ∷ []
+    ++ signed_decimal value
 
 -- why a call is void
 abbrev pub void_words : Specification → WhyVoid → List ℕ
@@ -33,8 +35,11 @@ said_words d (said.Void cause) = codes "void " ++ void_words d cause
 
 -- a line of a step at a replica
 abbrev pub said_line : Specification → ℕ → ℕ → Said → List ℕ
-said_line d k r what = codes "step " ++ decimal k ++ codes " replica " ++ decimal r ++ 32 ∷ [] ++ said_words d what ++ 10 ∷ []
+said_line d k r what =
+    codes "step " ++ decimal k ++ codes " replica " ++ decimal r ++ 32 ∷ [] ++ said_words d what
+    ++ 10 ∷ []
 
+-- the lines of a step, in their order
 abbrev pub said_lines : Specification → ℕ → ℕ → List Said → List ℕ
 said_lines d k r [] = []
 said_lines d k r (what ∷ more) = said_line d k r what ++ said_lines d k r more
@@ -56,5 +61,7 @@ invariant_name d place = (get_or d.invariants place no_invariant).name
 abbrev pub stop_line : Specification → ℕ → Stop → List ℕ
 stop_line d k stop.Done = codes "done " ++ decimal k ++ 10 ∷ []
 stop_line d k (stop.BrokenFirst place) = codes "broken start " ++ invariant_name d place ++ 10 ∷ []
-stop_line d k (stop.Broken place) = codes "broken " ++ decimal k ++ 32 ∷ [] ++ invariant_name d place ++ 10 ∷ []
-stop_line d k (stop.Refused cause) = codes "refused " ++ decimal k ++ 32 ∷ [] ++ refusal_words d cause ++ 10 ∷ []
+stop_line d k (stop.Broken place) =
+    codes "broken " ++ decimal k ++ 32 ∷ [] ++ invariant_name d place ++ 10 ∷ []
+stop_line d k (stop.Refused cause) =
+    codes "refused " ++ decimal k ++ 32 ∷ [] ++ refusal_words d cause ++ 10 ∷ []

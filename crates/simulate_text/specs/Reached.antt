@@ -15,7 +15,8 @@ use Rattle.simulate_text.specs.Course.{Simulated, Part, Course, told, replica_of
 
 -- the simulation that the code holds
 abbrev pub simulated_in : {R : Type 0} → Simulation R → Simulated
-simulated_in sim = record { net = network_held sim.net; dones = sim.dones.items; grants = sim.grants.items }
+simulated_in sim =
+    record { net = network_held sim.net; dones = sim.dones.items; grants = sim.grants.items }
 
 -- a network of this specification in this world
 pub record IsOf (d : Specification) (w : World) (net : HeldNet) : Type 0 where
@@ -23,32 +24,38 @@ pub record IsOf (d : Specification) (w : World) (net : HeldNet) : Type 0 where
   pub world : net.world ≡ w
 
 -- a step of a network, with this outcome, was carried out
-pub record IsGone (d : Specification) (w : World) (o : Outcome) (before : Network) (it : Result NetDid SimulateRefused) (after : HeldNet) : Type 0 where
+pub record IsGone (d : Specification) (w : World) (o : Outcome) (before : Network)
+    (it : Result NetDid SimulateRefused) (after : HeldNet) : Type 0 where
   pub told_is : told o ≡ it
   pub net_is : network_after before o ≡ network_held after
   pub of : IsOf d w after
 
 -- A part of a step was carried out: what it says was added to what was said, and this is how it stops and what is left.
-pub record IsPart {R : Type 0} (d : Specification) (w : World) (part : Part) (before said : List Said) (stop : Option Stop) (after : Simulation R) : Type 0 where
+pub record IsPart {R : Type 0} (d : Specification) (w : World) (part : Part)
+    (before said : List Said) (stop : Option Stop) (after : Simulation R) : Type 0 where
   pub said_is : before ++ part.said ≡ said
   pub stop_is : part.stop ≡ stop
   pub after_is : part.after ≡ simulated_in after
   pub of : IsOf d w after.net
 
 -- This part was carried out, whatever the specification and the world of the network are.
-abbrev pub Does : {R : Type 0} → (Specification → World → Simulated → Part) → Simulation R → List Said → List Said → Option Stop → Simulation R → Type 0
+abbrev pub Does : {R : Type 0} → (Specification → World → Simulated → Part) → Simulation R
+    → List Said → List Said → Option Stop → Simulation R → Type 0
 Does part old before said stop new =
-    (d : Specification) (w : World) → IsOf d w old.net → IsPart d w (part d w (simulated_in old)) before said stop new
+    (d : Specification) (w : World) → IsOf d w old.net
+    → IsPart d w (part d w (simulated_in old)) before said stop new
 
 -- a step was carried out, and its lines were added to a text
-pub record IsStep {R : Type 0} (d : Specification) (w : World) (part : Part) (k : ℕ) (s : Step) (before text : List ℕ) (stop : Option Stop) (after : Simulation R) : Type 0 where
+pub record IsStep {R : Type 0} (d : Specification) (w : World) (part : Part) (k : ℕ) (s : Step)
+    (before text : List ℕ) (stop : Option Stop) (after : Simulation R) : Type 0 where
   pub text_is : text ≡ before ++ said_lines d k (replica_of s) part.said
   pub stop_is : part.stop ≡ stop
   pub after_is : part.after ≡ simulated_in after
   pub of : IsOf d w after.net
 
 -- a course was gone through, and its lines were added to a text
-pub record IsReached {R : Type 0} (d : Specification) (w : World) (c : Course) (before text : List ℕ) (at : ℕ) (stop : Stop) (after : Simulation R) : Type 0 where
+pub record IsReached {R : Type 0} (d : Specification) (w : World) (c : Course)
+    (before text : List ℕ) (at : ℕ) (stop : Stop) (after : Simulation R) : Type 0 where
   pub text_is : before ++ c.lines ≡ text
   pub at_is : c.at ≡ at
   pub stop_is : c.stop ≡ stop

@@ -12,14 +12,18 @@ abbrev pub status_read : Specification → Checked Schedule → ℕ
 status_read d (Ok s) = simulate_status d s.world s.replicas s.steps
 status_read d (Err why) = 4
 
--- and the refusal is written
+-- a schedule that was read is simulated; where there is none, the refusal is written
 abbrev pub text_read : Specification → Checked Schedule → List ℕ
 text_read d (Ok s) = simulate_text d s.world s.replicas s.steps
 text_read d (Err why) = refusal_text why
 
--- The status and the text that some bytes come to. Too many bytes are refused before they are read.
+-- The status that some bytes come to. Too many bytes are refused before they are read.
 abbrev pub simulated_status : Specification → List ℕ → ℕ
-simulated_status d bytes = if nat_le (length bytes) most_schedule_bytes then status_read d (schedule_from d bytes) else 4
+simulated_status d bytes =
+    if nat_le (length bytes) most_schedule_bytes then status_read d (schedule_from d bytes) else 4
 
+-- The text that some bytes come to. Too many bytes are refused before they are read.
 abbrev pub simulated_text : Specification → List ℕ → List ℕ
-simulated_text d bytes = if nat_le (length bytes) most_schedule_bytes then text_read d (schedule_from d bytes) else long_text
+simulated_text d bytes =
+    if nat_le (length bytes) most_schedule_bytes then text_read d (schedule_from d bytes)
+    else long_text

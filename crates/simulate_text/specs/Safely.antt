@@ -11,7 +11,8 @@ use Rattle.simulate_text.specs.Course.{Course}
 -- replicas that have taken the same events, in whichever order, print the same lines of their states
 abbrev pub PrintAlike : Specification → World → Course → Type 0
 PrintAlike d w c = (p q : ℕ) (one other : Replica)
-    → slice_get c.after.net.replicas p ≡ Some one → slice_get c.after.net.replicas q ≡ Some other → AreIn one.taken other.taken → AreIn other.taken one.taken
+    → slice_get c.after.net.replicas p ≡ Some one → slice_get c.after.net.replicas q ≡ Some other
+    → AreIn one.taken other.taken → AreIn other.taken one.taken
     → state_text d w one.node.state ≡ state_text d w other.node.state
 
 -- No state breaks an invariant, and replicas that have taken the same events print alike.

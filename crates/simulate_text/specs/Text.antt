@@ -12,15 +12,20 @@ use Rattle.simulate_text.specs.Course.{Course, course}
 
 -- a replica, with how many events it has taken, and the lines of its state
 abbrev pub replica_text : Specification → World → ℕ → Replica → List ℕ
-replica_text d w r at = codes "replica " ++ decimal r ++ codes " taken " ++ decimal (length at.taken) ++ 10 ∷ [] ++ state_text d w at.node.state
+replica_text d w r at =
+    codes "replica " ++ decimal r ++ codes " taken " ++ decimal (length at.taken) ++ 10 ∷ []
+    ++ state_text d w at.node.state
 
--- these replicas, numbered on from here
+-- the texts of these replicas, numbered on from here
 abbrev pub replica_texts : Specification → World → ℕ → List Replica → List ℕ
 replica_texts d w r [] = []
 replica_texts d w r (at ∷ more) = replica_text d w r at ++ replica_texts d w (suc r) more
 
+-- the text of a course: a first line, the lines of its steps, how it stops, and the replicas
 abbrev pub course_text : Specification → World → Course → List ℕ
-course_text d w c = codes "cise simulate 1\n" ++ c.lines ++ stop_line d c.at c.stop ++ replica_texts d w 0 c.after.net.replicas
+course_text d w c =
+    codes "cise simulate 1\n" ++ c.lines ++ stop_line d c.at c.stop
+    ++ replica_texts d w 0 c.after.net.replicas
 
 -- The text of a simulation: what its steps did, how it stops, and then the replicas.
 abbrev pub simulate_text : Specification → World → ℕ → List Step → List ℕ
@@ -33,5 +38,6 @@ status_of (stop.BrokenFirst place) = 1
 status_of (stop.Broken place) = 1
 status_of (stop.Refused cause) = 4
 
+-- the status of a simulation, by how it stops
 abbrev pub simulate_status : Specification → World → ℕ → List Step → ℕ
 simulate_status d w replicas steps = status_of (course d w replicas steps).stop

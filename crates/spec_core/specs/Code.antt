@@ -24,6 +24,7 @@ formula_of (same_form a b) = Same a b
 formula_of (differ_form a b) = Differ a b
 formula_of (compare_form t c u) = Compare t c u
 
+-- the formula that is made of a form has this form
 pub form_of-formula_of : (f : Form) → form_of (formula_of f) ≡ f
 form_of-formula_of true_form = refl
 form_of-formula_of false_form = refl

@@ -3,6 +3,7 @@ use Rattle.std.specs.Prelude.{ℕ, ◌^◌}
 
 -- ---- of a specification
 
+-- how many sorts a specification has at most
 abbrev pub most_sorts : ℕ
 most_sorts = 8
 
@@ -10,6 +11,7 @@ most_sorts = 8
 abbrev pub most_constants : ℕ
 most_constants = 4
 
+-- how many relations it has at most
 abbrev pub most_relations : ℕ
 most_relations = 16
 
@@ -17,6 +19,7 @@ most_relations = 16
 abbrev pub most_places : ℕ
 most_places = 3
 
+-- how many counters it has at most
 abbrev pub most_counters : ℕ
 most_counters = 8
 
@@ -24,6 +27,7 @@ most_counters = 8
 abbrev pub most_keys : ℕ
 most_keys = 2
 
+-- how many tokens it has at most
 abbrev pub most_tokens : ℕ
 most_tokens = 16
 
@@ -31,14 +35,17 @@ most_tokens = 16
 abbrev pub most_rules : ℕ
 most_rules = 32
 
+-- how many invariants it has at most
 abbrev pub most_invariants : ℕ
 most_invariants = 16
 
+-- how many operations it has at most
 abbrev pub most_operations : ℕ
 most_operations = 24
 
 -- ---- of an operation
 
+-- how many parameters an operation has at most
 abbrev pub most_parameters : ℕ
 most_parameters = 6
 
@@ -46,6 +53,7 @@ most_parameters = 6
 abbrev pub most_requires : ℕ
 most_requires = 8
 
+-- how many updates it has at most
 abbrev pub most_updates : ℕ
 most_updates = 16
 

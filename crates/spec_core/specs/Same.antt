@@ -14,7 +14,7 @@ lists_within (l ∷ ls) (o ∷ os) = list_all (λ t. is_in t o) l && lists_withi
 abbrev pub agrees_at_keys : List (List ℕ × ℤ) → List (List ℕ × ℤ) → Bool
 agrees_at_keys l o = list_all (λ q. int_eq (count_in l q) (count_in o q)) (listed_keys l)
 
--- the same of all counters
+-- all counters have one value at each key of the first
 abbrev pub values_agree : List (List (List ℕ × ℤ)) → List (List (List ℕ × ℤ)) → Bool
 values_agree [] os = true
 values_agree (l ∷ ls) [] = agrees_at_keys l [] && values_agree ls []

@@ -36,6 +36,7 @@ nothing = record { has = λ k t. false; count = λ k t. pos 0 }
 abbrev pub with_has : Reads → ℕ → List ℕ → Bool → Reads
 with_has r k t b = record { has = λ j q. cond ((j == k) && bytes_eq q t) b (r.has j q); count = r.count }
 
+-- the same readings but for one counter's value at one key
 abbrev pub with_count : Reads → ℕ → List ℕ → ℤ → Reads
 with_count r k t v = record { has = r.has; count = λ j q. cond ((j == k) && bytes_eq q t) v (r.count j q) }
 

@@ -68,6 +68,7 @@ truth w r args vars (same_form a b) = elem_of w args vars a == elem_of w args va
 truth w r args vars (differ_form a b) = not (elem_of w args vars a == elem_of w args vars b)
 truth w r args vars (compare_form t c u) = compare_of c (term_of w r args vars t) (term_of w r args vars u)
 
+-- a line begins with `exists`
 abbrev pub is_exists : Prefix → Bool
 is_exists Plain = false
 is_exists Forall = false

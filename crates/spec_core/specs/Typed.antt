@@ -72,6 +72,7 @@ elems_typed d params vars (s ∷ ss) (e ∷ es) = is_sort (sort_of d params vars
 
 -- ---- terms and formulas
 
+-- a whole number, and no element of a sort
 abbrev pub is_int : Kind → Bool
 is_int (Sort s) = false
 is_int Int = true
@@ -171,6 +172,7 @@ abbrev pub spot_typed : Specification → List Parameter → ℕ → Spot → Bo
 spot_typed d params s Every = true
 spot_typed d params s (One e) = is_sort (sort_of d params [] e) s
 
+-- one spot for each place, and each is typed
 abbrev pub spots_typed : Specification → List Parameter → List ℕ → List Spot → Bool
 spots_typed d params [] [] = true
 spots_typed d params [] (x ∷ xs) = false
@@ -241,22 +243,27 @@ is_rule d r = is_pattern d r.left && is_pattern d r.right
 abbrev pub is_invariant : Specification → Invariant → Bool
 is_invariant d i = not (is_exists i.line.prefix) && is_line d [] i.line
 
--- the names that are declared for the whole specification, those of each kind before those of the later kinds
+-- the names of invariants and operations
 abbrev pub names_from_invariants : Specification → List (List ℕ)
 names_from_invariants d = map (λ i. i.name) d.invariants ++ map (λ o. o.name) d.operations
 
+-- the names of tokens, invariants and operations
 abbrev pub names_from_tokens : Specification → List (List ℕ)
 names_from_tokens d = map (λ t. t.name) d.tokens ++ names_from_invariants d
 
+-- the names of counters, and of all kinds that come after them
 abbrev pub names_from_counters : Specification → List (List ℕ)
 names_from_counters d = map (λ c. c.name) d.counters ++ names_from_tokens d
 
+-- the names of relations, and of all kinds that come after them
 abbrev pub names_from_relations : Specification → List (List ℕ)
 names_from_relations d = map (λ r. r.name) d.relations ++ names_from_counters d
 
+-- the names of constants, and of all kinds that come after them
 abbrev pub names_from_consts : Specification → List (List ℕ)
 names_from_consts d = map (λ c. c.name) d.consts ++ names_from_relations d
 
+-- all names that are declared for the whole specification
 abbrev pub global_names : Specification → List (List ℕ)
 global_names d = d.sorts ++ names_from_consts d
 

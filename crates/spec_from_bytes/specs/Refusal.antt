@@ -41,19 +41,22 @@ pub data Refusal : Type 0 where
 -- the bytes are words, no spelling, and the longest front of the words with which a spelling begins has n words
 abbrev pub IsUnreadAt : List ℕ → ℕ → Type 0
 IsUnreadAt bytes n =
-    (words : List Word) × IsCut bytes words × IsPlace (texts_of bytes words) n × ((t : TreeForm) → IsRead bytes words t → ⊥)
+    (words : List Word) × IsCut bytes words × IsPlace (texts_of bytes words) n
+    × ((t : TreeForm) → IsRead bytes words t → ⊥)
 
 -- Why these bytes are no specification. At most one of the cases holds.
 abbrev pub IsRefusal : List ℕ → Refusal → Type 0
 IsRefusal bytes too_long = 65536 < length bytes
 IsRefusal bytes (strange_letter at) = (length bytes ≤ 65536) × IsRefused bytes (cutting.Letter at)
 IsRefusal bytes (long_name at) = (length bytes ≤ 65536) × IsRefused bytes (cutting.TooLongName at)
-IsRefusal bytes (long_number at) = (length bytes ≤ 65536) × IsRefused bytes (cutting.TooLongNumber at)
+IsRefusal bytes (long_number at) =
+    (length bytes ≤ 65536) × IsRefused bytes (cutting.TooLongNumber at)
 IsRefusal bytes (no_reading n) = (length bytes ≤ 65536) × IsUnreadAt bytes n
 IsRefusal bytes (faulty f) = (t : TreeForm) × IsTreeOf bytes t × (typing t ≡ Err f)
 
 -- ---- texts
 
+-- the word of a limit
 abbrev pub which_word : Which → List ℕ
 which_word which.Sorts = codes "sorts"
 which_word which.Constants = codes "constants"
@@ -78,13 +81,16 @@ which_word which.Literal = codes "literal"
 abbrev pub named_words : List ℕ → List ℕ → ℕ → List (List ℕ)
 named_words what name word = what ∷ name ∷ codes "word" ∷ decimal word ∷ []
 
+-- the words of a fault: its kind, a name or the limit, and the place of its word
 abbrev pub fault_words : Fault → List (List ℕ)
 fault_words (unknown_fault name word) = named_words (codes "unknown") name word
 fault_words (twice_fault name word) = named_words (codes "twice") name word
 fault_words (kind_fault name word) = named_words (codes "kind") name word
 fault_words (count_fault name word) = named_words (codes "count") name word
-fault_words (limit_fault which number word) = codes "limit" ∷ named_words (which_word which) (decimal number) word
+fault_words (limit_fault which number word) =
+    codes "limit" ∷ named_words (which_word which) (decimal number) word
 
+-- the words of a refusal: its kind and its place
 abbrev pub refusal_words : Refusal → List (List ℕ)
 refusal_words too_long = codes "long" ∷ []
 refusal_words (strange_letter at) = codes "letter" ∷ codes "at" ∷ decimal at ∷ []

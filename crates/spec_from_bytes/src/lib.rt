@@ -1,12 +1,12 @@
 // From bytes to a specification, or to the text that says why they are none.
 //
-// `read_bytes` cuts bytes into words, reads their tree and types it; `read_specification` does so for what a source gives, and
-// stops at one byte more than the limit. The first of these steps that fails names the refusal, and its text is made at once.
-// `reading` puts the steps together, `faults` has the texts of faults of typing, `texts` the lines that all texts are made of,
-// and `law` says that bytes are read as one tree at most, places and all, that they are one specification, or refused for one reason, and
-// never both, and that this is the least fault of a tree, where a fault is the reason.
+// `read_bytes` cuts bytes into words, reads their tree and types it; `read_specification` does so for what a source gives, and stops at
+// one byte more than the limit. The first of these steps that fails names the refusal, and its text is made at once. `reading` puts the
+// steps together, `faults` has the texts of faults of typing, and `texts` the lines that all texts are made of. `law` says that bytes
+// are read as one tree at most, places and all. They are one specification, or refused for one reason, and never both; where a fault is
+// the reason, it is the least fault of their tree.
 //
-// It stands on the layers of the language, from `word_cut` to `spec_types`, and on `byte_ports`, which says which bytes a source tells.
+// It stands on the layers of the language, from `word_cut` to `spec_types`, and on `byte_ports`, which says which bytes a source gives.
 // The definitions stand in specs/, in this order: Lines (a line of words), Refusal (which specification some bytes are, why they are
 // none, and the text that says so), Reading (what a call answers of bytes and of a source).
 #![tactic(auto)]

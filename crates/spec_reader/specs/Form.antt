@@ -69,16 +69,16 @@ form_of (Connect' w l f c m g) = connect_form w (form_of f) c (form_of g)
 form_of (Has w r) = has_form w r
 form_of (Compare w s c t) = compare_form w s.value c t.value
 
--- so a condition
+-- a condition of the code, without the addresses of its parts
 abbrev pub guard_of : Option Formula → Option Form
 guard_of None = None
 guard_of (Some f) = Some (form_of f)
 
--- so a formula with its prefix
+-- a formula of the code with its prefix, without the addresses of its parts
 abbrev pub sentence_of : Prefixed → Sentence
 sentence_of p = record { prefix = p.prefix; body = form_of p.body }
 
--- so a line
+-- a line of the code, without the addresses of its parts
 abbrev pub line_of : Line → LineForm
 line_of (line.Requires w p) = requires_form w (sentence_of p)
 line_of (line.Insert w m ss g) = insert_form w m ss (guard_of g)
@@ -88,7 +88,7 @@ line_of (line.Set w m ss t g) = set_form w m ss t (guard_of g)
 line_of (line.Takes w r m) = takes_form w r m
 line_of (line.Observes w p) = observes_form w (sentence_of p)
 
--- so a declaration
+-- a declaration of the code, without the addresses of its parts
 abbrev pub item_of : Item → ItemForm
 item_of (item.Sort w m) = sort_form w m
 item_of (item.Const w m s) = const_form w m s

@@ -37,8 +37,10 @@ begins_indented _ = false
 
 -- what stands before a word that isn't the first; in the second version `observes` begins a line after two spaces too
 abbrev pub before : Version → Symbol → List ℕ
-before v (symbol.Key k) = if begins_line k then codes "\n" else (if begins_indented k then codes "\n  " else codes " ")
-before v (symbol.Name text) = if not (is_first v) && bytes_eq text observes_text then codes "\n  " else codes " "
+before v (symbol.Key k) =
+    if begins_line k then codes "\n" else (if begins_indented k then codes "\n  " else codes " ")
+before v (symbol.Name text) =
+    if not (is_first v) && bytes_eq text observes_text then codes "\n  " else codes " "
 before v (symbol.Number n) = codes " "
 
 -- the words behind the first, and the line feed at the end

@@ -25,7 +25,8 @@ IsRead bytes words t = IsTree t × (spelling t ≡ texts_of bytes words) × IsPl
 
 -- Some spelling, of either version, begins with the first n words.
 abbrev pub Begins : List (List ℕ) → ℕ → Type 0
-Begins texts n = (t : TreeForm) × (more : List (List ℕ)) × IsTree t × (spelling t ≡ take n texts ++ more)
+Begins texts n =
+    (t : TreeForm) × (more : List (List ℕ)) × IsTree t × (spelling t ≡ take n texts ++ more)
 
 -- The length of the longest prefix with which some spelling begins.
 pub record IsPlace (texts : List (List ℕ)) (n : ℕ) : Type 0 where

@@ -73,7 +73,9 @@ times_at v = mapped second (both (sign_at keys.Star) (reading_at v))
 
 -- reads a number, a number times a reading, or a reading
 unfoldable pub product_at : Version → List Token → Read Product
-product_at v = mapped to_product (either is_number (both figure_at (perhaps (is_key keys.Star) (times_at v))) (reading_at v))
+product_at v =
+    mapped to_product
+    (either is_number (both figure_at (perhaps (is_key keys.Star) (times_at v))) (reading_at v))
 
 -- a summand of its place and its product
 abbrev pub to_summand : ℕ × Product → Summand
@@ -128,11 +130,20 @@ term_at v = mapped to_term (both minus_at (both (summand_at v) (more_at v)))
 
 -- a sign that compares
 abbrev pub is_comparison : Kind → Bool
-is_comparison k = is_key keys.Equal k || (is_key keys.Unequal k || (is_key keys.Less k || (is_key keys.AtMost k || (is_key keys.Greater k || is_key keys.AtLeast k))))
+is_comparison k =
+    is_key keys.Equal k
+    || (is_key keys.Unequal k || (is_key keys.Less k || (is_key keys.AtMost k
+    || (is_key keys.Greater k || is_key keys.AtLeast k))))
 
 -- which comparison it is
 abbrev pub comparison_of : Kind → Comparison
-comparison_of k = if is_key keys.Equal k then comparisons.Equal else (if is_key keys.Unequal k then comparisons.Unequal else (if is_key keys.Less k then comparisons.Less else (if is_key keys.AtMost k then comparisons.AtMost else (if is_key keys.Greater k then comparisons.Greater else comparisons.AtLeast))))
+comparison_of k =
+    if is_key keys.Equal k then comparisons.Equal
+    else (if is_key keys.Unequal k then comparisons.Unequal
+    else (if is_key keys.Less k then comparisons.Less
+    else (if is_key keys.AtMost k then comparisons.AtMost
+    else (if is_key keys.Greater k then comparisons.Greater
+    else comparisons.AtLeast))))
 
 -- reads a sign that compares
 abbrev pub comparison_at : List Token → Read Comparison
@@ -144,7 +155,9 @@ is_connective k = is_key keys.And k || (is_key keys.Or k || is_key keys.Implies 
 
 -- which connective it is
 abbrev pub connective_of : Kind → Connective
-connective_of k = if is_key keys.And k then connectives.And else (if is_key keys.Or k then connectives.Or else connectives.Implies)
+connective_of k =
+    if is_key keys.And k then connectives.And
+    else (if is_key keys.Or k then connectives.Or else connectives.Implies)
 
 -- reads a word that connects
 abbrev pub connective_at : List Token → Read Connective
@@ -172,15 +185,19 @@ abbrev pub After : Type 0
 After = (Connective × Form) ⊎ (List Signed × (Comparison × Term))
 
 -- What stands in brackets, of what was read: two sums, or two formulas. A reading may begin either.
-abbrev pub to_inside : (Term × (Comparison × Term)) ⊎ (((ℕ × Reading) × After) ⊎ (Form × (Connective × Form))) → Inside
+abbrev pub to_inside : (Term × (Comparison × Term)) ⊎ (((ℕ × Reading) × After) ⊎ (Form × (Connective × Form)))
+    → Inside
 to_inside (inl x) = compared x.0 x.1.0 x.1.1
 to_inside (inr (inl (r, inl x))) = connected (has_form r.0 r.1) x.0 x.1
-to_inside (inr (inl (r, inr x))) = compared (record { minus = false; first = record { word = r.0; product = products.Reading r.1 }; more = x.0 }) x.1.0 x.1.1
+to_inside (inr (inl (r, inr x))) =
+    compared
+    (record { minus = false; first = record { word = r.0; product = products.Reading r.1 }; more = x.0 }) x.1.0 x.1.1
 to_inside (inr (inr x)) = connected x.0 x.1.0 x.1.1
 
 -- reads what follows a reading in brackets
 abbrev pub after_at : Version → (List Token → Read Form) → List Token → Read After
-after_at v r = either is_connective (both connective_at r) (both (more_at v) (both comparison_at (term_at v)))
+after_at v r =
+    either is_connective (both connective_at r) (both (more_at v) (both comparison_at (term_at v)))
 
 -- a reading with its place
 unfoldable pub atom_at : Version → List Token → Read (ℕ × Reading)
@@ -188,7 +205,11 @@ atom_at v = placed (reading_at v)
 
 -- reads what stands in brackets, with this reader of formulas
 unfoldable pub inside_at : Version → (List Token → Read Form) → List Token → Read Inside
-inside_at v r = mapped to_inside (either starts_term (both (only starts_term (term_at v)) (both comparison_at (term_at v))) (either (is_name v) (both (atom_at v) (after_at v r)) (both (only (λ k. not (is_name v k)) r) (both connective_at r))))
+inside_at v r =
+    mapped to_inside
+    (either starts_term (both (only starts_term (term_at v)) (both comparison_at (term_at v)))
+    (either (is_name v) (both (atom_at v) (after_at v r))
+    (both (only (λ k. not (is_name v k)) r) (both connective_at r))))
 
 -- the formula in brackets, with the place of the opening one
 abbrev pub to_bracket : ℕ × (Inside × Unit {0}) → Form
@@ -208,7 +229,11 @@ to_plain (inr (inr (inr r))) = has_form r.0 r.1
 
 -- a formula, where the brackets are read so
 abbrev pub plain_at : Version → (List Token → Read Inside) → List Token → Read Form
-plain_at v r = mapped to_plain (either (is_key keys.True) (key_at keys.True) (either (is_key keys.False) (key_at keys.False) (either (is_key keys.Open) (bracket_at r) (atom_at v))))
+plain_at v r =
+    mapped to_plain
+    (either (is_key keys.True) (key_at keys.True)
+    (either (is_key keys.False) (key_at keys.False)
+    (either (is_key keys.Open) (bracket_at r) (atom_at v))))
 
 -- a formula, with its `not` or without
 abbrev pub to_form : (ℕ × Form) ⊎ Form → Form
@@ -218,7 +243,9 @@ to_form (inr f) = f
 -- with at most d levels below the uppermost
 unfoldable pub form_at : Version → ℕ → List Token → Read Form
 form_at v zero = plain_at v (compared_at v)
-form_at v (suc d) = mapped to_form (either (is_key keys.Not) (both (key_at keys.Not) (form_at v d)) (plain_at v (inside_at v (form_at v d))))
+form_at v (suc d) =
+    mapped to_form
+    (either (is_key keys.Not) (both (key_at keys.Not) (form_at v d)) (plain_at v (inside_at v (form_at v d))))
 
 -- what stands in the brackets of a formula
 unfoldable pub inner_at : Version → ℕ → List Token → Read Inside
@@ -321,7 +348,8 @@ to_mode (Some m) = m
 -- reads how a token is taken, which version 2 alone says
 unfoldable pub mode_at : Version → List Token → Read Mode
 mode_at version.First ws = Ok (modes.Missing, ws)
-mode_at version.Second ws = mapped to_mode (perhaps is_mode (word_at is_mode (λ t. mode_of (kind_of t.symbol)))) ws
+mode_at version.Second ws =
+    mapped to_mode (perhaps is_mode (word_at is_mode (λ t. mode_of (kind_of t.symbol)))) ws
 
 -- a name, spots and what guards them
 abbrev pub Change : Type 0
@@ -337,7 +365,8 @@ change_at k v d = both (key_at k) (both (name_at v) (both (spots_at v) (guard_at
 
 -- reads an add or a set line, by its word
 unfoldable pub amount_at : Key → Version → ℕ → List Token → Read Amount
-amount_at k v d = both (key_at k) (both (name_at v) (both (spots_at v) (both (term_at v) (guard_at v d))))
+amount_at k v d =
+    both (key_at k) (both (name_at v) (both (spots_at v) (both (term_at v) (guard_at v d))))
 
 -- reads a takes line
 unfoldable pub takes_at : Version → List Token → Read (ℕ × (Reading × Mode))
@@ -348,7 +377,8 @@ unfoldable pub requires_at : Version → ℕ → List Token → Read (ℕ × Sen
 requires_at v d = both (key_at keys.Requires) (sentence_at v d)
 
 -- a line of what was read, by the word that it begins with
-abbrev pub to_old_line : (ℕ × Sentence) ⊎ (Change ⊎ (Change ⊎ (Amount ⊎ (Amount ⊎ (ℕ × (Reading × Mode)))))) → LineForm
+abbrev pub to_old_line : (ℕ × Sentence) ⊎ (Change ⊎ (Change ⊎ (Amount ⊎ (Amount ⊎ (ℕ × (Reading × Mode))))))
+    → LineForm
 to_old_line (inl x) = requires_form x.0 x.1
 to_old_line (inr (inl x)) = insert_form x.0 x.1.0 x.1.1.0 x.1.1.1
 to_old_line (inr (inr (inl x))) = remove_form x.0 x.1.0 x.1.1.0 x.1.1.1
@@ -358,7 +388,13 @@ to_old_line (inr (inr (inr (inr (inr x))))) = takes_form x.0 x.1.0 x.1.1
 
 -- the lines that both versions have
 unfoldable pub old_line_at : Version → ℕ → List Token → Read LineForm
-old_line_at v d = mapped to_old_line (either (is_key keys.Requires) (requires_at v d) (either (is_key keys.Insert) (change_at keys.Insert v d) (either (is_key keys.Remove) (change_at keys.Remove v d) (either (is_key keys.Add) (amount_at keys.Add v d) (either (is_key keys.Set) (amount_at keys.Set v d) (takes_at v))))))
+old_line_at v d =
+    mapped to_old_line
+    (either (is_key keys.Requires) (requires_at v d)
+    (either (is_key keys.Insert) (change_at keys.Insert v d)
+    (either (is_key keys.Remove) (change_at keys.Remove v d)
+    (either (is_key keys.Add) (amount_at keys.Add v d)
+    (either (is_key keys.Set) (amount_at keys.Set v d) (takes_at v))))))
 
 -- the word `observes`
 abbrev pub is_observes : Kind → Bool
@@ -377,11 +413,16 @@ to_line (inr l) = l
 -- reads a line of an operation
 unfoldable pub line_at : Version → ℕ → List Token → Read LineForm
 line_at version.First d ws = old_line_at version.First d ws
-line_at version.Second d ws = mapped to_line (either is_observes (observes_at version.Second d) (old_line_at version.Second d)) ws
+line_at version.Second d ws =
+    mapped to_line
+    (either is_observes (observes_at version.Second d) (old_line_at version.Second d)) ws
 
 -- a word with which a line of both versions begins
 abbrev pub starts_old_line : Kind → Bool
-starts_old_line k = is_key keys.Requires k || (is_key keys.Insert k || (is_key keys.Remove k || (is_key keys.Add k || (is_key keys.Set k || is_key keys.Takes k))))
+starts_old_line k =
+    is_key keys.Requires k
+    || (is_key keys.Insert k || (is_key keys.Remove k || (is_key keys.Add k || (is_key keys.Set k
+    || is_key keys.Takes k))))
 
 -- a word with which a line of the version begins
 abbrev pub starts_line : Version → Kind → Bool
@@ -402,7 +443,10 @@ to_value (inr (inr x)) = values.Number x.0 x.1
 
 -- reads an initial value
 unfoldable pub value_at : List Token → Read Value
-value_at = mapped to_value (either (is_key keys.True) (sign_at keys.True) (either (is_key keys.False) (sign_at keys.False) (both minus_at figure_at)))
+value_at =
+    mapped to_value
+    (either (is_key keys.True) (sign_at keys.True)
+    (either (is_key keys.False) (sign_at keys.False) (both minus_at figure_at)))
 
 -- what a parameter stands for: `int`, or a sort
 abbrev pub to_kind : Unit {0} ⊎ Mark → ParamKind
@@ -454,12 +498,19 @@ unfoldable pub invariant_at : Version → ℕ → List Token → Read (ℕ × (M
 invariant_at v d = both (key_at keys.Invariant) (both (name_at v) (sentence_at v d))
 
 -- reads an operation
-unfoldable pub operation_at : Version → ℕ → List Token → Read (ℕ × (Mark × (List Param × (List LineForm × Unit {0}))))
-operation_at v d = both (key_at keys.Operation) (both (name_at v) (both (params_at v) (both (lines_at v d) (sign_at keys.End))))
+unfoldable pub operation_at : Version → ℕ → List Token
+    → Read (ℕ × (Mark × (List Param × (List LineForm × Unit {0}))))
+operation_at v d =
+    both (key_at keys.Operation)
+    (both (name_at v) (both (params_at v) (both (lines_at v d) (sign_at keys.End))))
 
 -- the parts of a declaration, by the word that it begins with
 abbrev pub AnyItem : Type 0
-AnyItem = (ℕ × Mark) ⊎ ((ℕ × (Mark × (Unit {0} × Mark))) ⊎ (Places ⊎ (Places ⊎ ((ℕ × (Mark × Value)) ⊎ (Places ⊎ ((ℕ × (Reading × Reading)) ⊎ ((ℕ × (Mark × Sentence)) ⊎ (ℕ × (Mark × (List Param × (List LineForm × Unit {0})))))))))))
+AnyItem =
+    (ℕ × Mark)
+    ⊎ ((ℕ × (Mark × (Unit {0} × Mark))) ⊎ (Places ⊎ (Places ⊎ ((ℕ × (Mark × Value)) ⊎ (Places
+    ⊎ ((ℕ × (Reading × Reading)) ⊎ ((ℕ × (Mark × Sentence))
+    ⊎ (ℕ × (Mark × (List Param × (List LineForm × Unit {0})))))))))))
 
 -- the declaration of these parts
 abbrev pub to_item : AnyItem → ItemForm
@@ -471,15 +522,29 @@ to_item (inr (inr (inr (inr (inl x))))) = initially_form x.0 x.1.0 x.1.1
 to_item (inr (inr (inr (inr (inr (inl x)))))) = token_form x.0 x.1.0 x.1.1
 to_item (inr (inr (inr (inr (inr (inr (inl x))))))) = conflict_form x.0 x.1.0 x.1.1
 to_item (inr (inr (inr (inr (inr (inr (inr (inl x)))))))) = invariant_form x.0 x.1.0 x.1.1
-to_item (inr (inr (inr (inr (inr (inr (inr (inr x)))))))) = operation_form x.0 x.1.0 x.1.1.0 x.1.1.1.0
+to_item (inr (inr (inr (inr (inr (inr (inr (inr x)))))))) =
+    operation_form x.0 x.1.0 x.1.1.0 x.1.1.1.0
 
 -- reads a declaration, by the word that it begins with
 unfoldable pub item_at : Version → ℕ → List Token → Read ItemForm
-item_at v d = mapped to_item (either (is_key keys.Sort) (sort_at v) (either (is_key keys.Const) (const_at v) (either (is_key keys.Relation) (places_at keys.Relation v) (either (is_key keys.Counter) (places_at keys.Counter v) (either (is_key keys.Initially) (initially_at v) (either (is_key keys.Token) (places_at keys.Token v) (either (is_key keys.Conflict) (conflict_at v) (either (is_key keys.Invariant) (invariant_at v d) (operation_at v d)))))))))
+item_at v d =
+    mapped to_item
+    (either (is_key keys.Sort) (sort_at v)
+    (either (is_key keys.Const) (const_at v)
+    (either (is_key keys.Relation) (places_at keys.Relation v)
+    (either (is_key keys.Counter) (places_at keys.Counter v)
+    (either (is_key keys.Initially) (initially_at v)
+    (either (is_key keys.Token) (places_at keys.Token v)
+    (either (is_key keys.Conflict) (conflict_at v)
+    (either (is_key keys.Invariant) (invariant_at v d) (operation_at v d)))))))))
 
 -- a word with which a declaration begins
 abbrev pub starts_item : Kind → Bool
-starts_item k = is_key keys.Sort k || (is_key keys.Const k || (is_key keys.Relation k || (is_key keys.Counter k || (is_key keys.Initially k || (is_key keys.Token k || (is_key keys.Conflict k || (is_key keys.Invariant k || is_key keys.Operation k)))))))
+starts_item k =
+    is_key keys.Sort k
+    || (is_key keys.Const k || (is_key keys.Relation k || (is_key keys.Counter k
+    || (is_key keys.Initially k || (is_key keys.Token k || (is_key keys.Conflict k
+    || (is_key keys.Invariant k || is_key keys.Operation k)))))))
 
 -- reads declarations, as long as a word begins one
 unfoldable pub items_at : Version → ℕ → List Token → Read (List ItemForm)
@@ -504,7 +569,11 @@ to_tree (u, inr x) = record { version = version.Second; items = x.1 }
 
 -- reads a specification
 unfoldable pub tree_at : ℕ → List Token → Read TreeForm
-tree_at d = mapped to_tree (both (sign_at keys.Cise) (either is_one (both (word_at is_one (λ t. tt)) (items_at version.First d)) (both (word_at is_two (λ t. tt)) (items_at version.Second d))))
+tree_at d =
+    mapped to_tree
+    (both (sign_at keys.Cise)
+    (either is_one (both (word_at is_one (λ t. tt)) (items_at version.First d))
+    (both (word_at is_two (λ t. tt)) (items_at version.Second d))))
 
 -- all of the words
 unfoldable pub whole_at : ℕ → List Token → Result TreeForm ℕ
@@ -513,11 +582,15 @@ whole_at d ws = tree_at d ws >>= λ x. if (length x.1 == 0) then Ok x.0 else Err
 -- the version, as the code reads it
 abbrev pub version_at : List Token → Read Version
 version_at [] = Err 0
-version_at (t ∷ ts) = if is_one (kind_of t.symbol) then Ok (version.First, ts) else (if is_two (kind_of t.symbol) then Ok (version.Second, ts) else Err (suc (length ts)))
+version_at (t ∷ ts) =
+    if is_one (kind_of t.symbol) then Ok (version.First, ts)
+    else (if is_two (kind_of t.symbol) then Ok (version.Second, ts) else Err (suc (length ts)))
 
 -- reads a specification so
 abbrev pub tree_by : ℕ → List Token → Read TreeForm
-tree_by d ws = sign_at keys.Cise ws >>= λ a. version_at a.1 >>= λ v. items_at v.0 d v.1 >>= λ y. Ok (record { version = v.0; items = y.0 }, y.1)
+tree_by d ws =
+    sign_at keys.Cise ws >>= λ a. version_at a.1 >>= λ v. items_at v.0 d v.1
+    >>= λ y. Ok (record { version = v.0; items = y.0 }, y.1)
 
 -- reads all of the words so
 abbrev pub whole_by : ℕ → List Token → Result TreeForm ℕ
@@ -566,19 +639,23 @@ requires_line_at v d = mapped (λ (x : ℕ × Sentence). requires_form x.0 x.1) 
 
 -- reads an insert line
 abbrev pub insert_at : Version → ℕ → List Token → Read LineForm
-insert_at v d = mapped (λ (x : Change). insert_form x.0 x.1.0 x.1.1.0 x.1.1.1) (change_at keys.Insert v d)
+insert_at v d =
+    mapped (λ (x : Change). insert_form x.0 x.1.0 x.1.1.0 x.1.1.1) (change_at keys.Insert v d)
 
 -- reads a remove line
 abbrev pub remove_at : Version → ℕ → List Token → Read LineForm
-remove_at v d = mapped (λ (x : Change). remove_form x.0 x.1.0 x.1.1.0 x.1.1.1) (change_at keys.Remove v d)
+remove_at v d =
+    mapped (λ (x : Change). remove_form x.0 x.1.0 x.1.1.0 x.1.1.1) (change_at keys.Remove v d)
 
 -- reads an add line
 abbrev pub add_at : Version → ℕ → List Token → Read LineForm
-add_at v d = mapped (λ (x : Amount). add_form x.0 x.1.0 x.1.1.0 x.1.1.1.0 x.1.1.1.1) (amount_at keys.Add v d)
+add_at v d =
+    mapped (λ (x : Amount). add_form x.0 x.1.0 x.1.1.0 x.1.1.1.0 x.1.1.1.1) (amount_at keys.Add v d)
 
 -- reads a set line
 abbrev pub set_at : Version → ℕ → List Token → Read LineForm
-set_at v d = mapped (λ (x : Amount). set_form x.0 x.1.0 x.1.1.0 x.1.1.1.0 x.1.1.1.1) (amount_at keys.Set v d)
+set_at v d =
+    mapped (λ (x : Amount). set_form x.0 x.1.0 x.1.1.0 x.1.1.1.0 x.1.1.1.1) (amount_at keys.Set v d)
 
 -- reads a takes line
 abbrev pub takes_line_at : Version → List Token → Read LineForm
@@ -590,11 +667,13 @@ sort_item_at v = mapped (λ (x : ℕ × Mark). sort_form x.0 x.1) (sort_at v)
 
 -- reads that of a constant
 abbrev pub const_item_at : Version → List Token → Read ItemForm
-const_item_at v = mapped (λ (x : ℕ × (Mark × (Unit {0} × Mark))). const_form x.0 x.1.0 x.1.1.1) (const_at v)
+const_item_at v =
+    mapped (λ (x : ℕ × (Mark × (Unit {0} × Mark))). const_form x.0 x.1.0 x.1.1.1) (const_at v)
 
 -- reads that of a relation
 abbrev pub relation_item_at : Version → List Token → Read ItemForm
-relation_item_at v = mapped (λ (x : Places). relation_form x.0 x.1.0 x.1.1) (places_at keys.Relation v)
+relation_item_at v =
+    mapped (λ (x : Places). relation_form x.0 x.1.0 x.1.1) (places_at keys.Relation v)
 
 -- reads that of a counter
 abbrev pub counter_item_at : Version → List Token → Read ItemForm
@@ -602,7 +681,8 @@ counter_item_at v = mapped (λ (x : Places). counter_form x.0 x.1.0 x.1.1) (plac
 
 -- reads an initial value
 abbrev pub initially_item_at : Version → List Token → Read ItemForm
-initially_item_at v = mapped (λ (x : ℕ × (Mark × Value)). initially_form x.0 x.1.0 x.1.1) (initially_at v)
+initially_item_at v =
+    mapped (λ (x : ℕ × (Mark × Value)). initially_form x.0 x.1.0 x.1.1) (initially_at v)
 
 -- reads the declaration of a token
 abbrev pub token_item_at : Version → List Token → Read ItemForm
@@ -610,12 +690,17 @@ token_item_at v = mapped (λ (x : Places). token_form x.0 x.1.0 x.1.1) (places_a
 
 -- reads a conflict rule
 abbrev pub conflict_item_at : Version → List Token → Read ItemForm
-conflict_item_at v = mapped (λ (x : ℕ × (Reading × Reading)). conflict_form x.0 x.1.0 x.1.1) (conflict_at v)
+conflict_item_at v =
+    mapped (λ (x : ℕ × (Reading × Reading)). conflict_form x.0 x.1.0 x.1.1) (conflict_at v)
 
 -- reads an invariant
 abbrev pub invariant_item_at : Version → ℕ → List Token → Read ItemForm
-invariant_item_at v d = mapped (λ (x : ℕ × (Mark × Sentence)). invariant_form x.0 x.1.0 x.1.1) (invariant_at v d)
+invariant_item_at v d =
+    mapped (λ (x : ℕ × (Mark × Sentence)). invariant_form x.0 x.1.0 x.1.1) (invariant_at v d)
 
 -- reads an operation
 abbrev pub operation_item_at : Version → ℕ → List Token → Read ItemForm
-operation_item_at v d = mapped (λ (x : ℕ × (Mark × (List Param × (List LineForm × Unit {0})))). operation_form x.0 x.1.0 x.1.1.0 x.1.1.1.0) (operation_at v d)
+operation_item_at v d =
+    mapped
+    (λ (x : ℕ × (Mark × (List Param × (List LineForm × Unit {0})))). operation_form x.0 x.1.0 x.1.1.0 x.1.1.1.0)
+    (operation_at v d)

@@ -100,9 +100,11 @@ abbrev pub form : Form → List Spelt
 form (true_form w) = key keys.True w ∷ []
 form (false_form w) = key keys.False w ∷ []
 form (not_form w f) = key keys.Not w ∷ form f
-form (connect_form w f c g) = key keys.Open w ∷ ((form f ++ (sign (connective_key c) ∷ form g)) ++ sign keys.Close ∷ [])
+form (connect_form w f c g) =
+    key keys.Open w ∷ ((form f ++ (sign (connective_key c) ∷ form g)) ++ sign keys.Close ∷ [])
 form (has_form w r) = with_place w (reading r)
-form (compare_form w s c t) = key keys.Open w ∷ ((term s ++ (sign (comparison_key c) ∷ term t)) ++ sign keys.Close ∷ [])
+form (compare_form w s c t) =
+    key keys.Open w ∷ ((term s ++ (sign (comparison_key c) ∷ term t)) ++ sign keys.Close ∷ [])
 
 -- a variable and its sort
 abbrev pub variable : Variable → List Spelt
@@ -116,7 +118,8 @@ quantifier_key quantifiers.Exists = keys.Exists
 -- the quantifier with its variables and a dot, where there is one
 abbrev pub prefix : Option Prefix → List Spelt
 prefix None = []
-prefix (Some p) = key (quantifier_key p.quantifier) p.word ∷ (listed variable p.vars ++ sign keys.Dot ∷ [])
+prefix (Some p) =
+    key (quantifier_key p.quantifier) p.word ∷ (listed variable p.vars ++ sign keys.Dot ∷ [])
 
 -- a formula with its prefix
 abbrev pub sentence : Sentence → List Spelt
@@ -161,7 +164,8 @@ line (remove_form w m ss g) = key keys.Remove w ∷ mark m ∷ (group spot ss ++
 line (add_form w m ss t g) = key keys.Add w ∷ mark m ∷ (group spot ss ++ (term t ++ guard g))
 line (set_form w m ss t g) = key keys.Set w ∷ mark m ∷ (group spot ss ++ (term t ++ guard g))
 line (takes_form w r m) = key keys.Takes w ∷ (reading r ++ mode m)
-line (observes_form w s) = record { symbol = symbol.Name observes_text; claims = w ∷ [] } ∷ sentence s
+line (observes_form w s) =
+    record { symbol = symbol.Name observes_text; claims = w ∷ [] } ∷ sentence s
 
 -- a declaration, with its place at its first word
 abbrev pub item : ItemForm → List Spelt
@@ -173,7 +177,8 @@ item (initially_form w m v) = key keys.Initially w ∷ mark m ∷ value v
 item (token_form w m ps) = key keys.Token w ∷ mark m ∷ group one ps
 item (conflict_form w p q) = key keys.Conflict w ∷ (reading p ++ reading q)
 item (invariant_form w m s) = key keys.Invariant w ∷ mark m ∷ sentence s
-item (operation_form w m ps ls) = key keys.Operation w ∷ mark m ∷ (group param ps ++ (each line ls ++ sign keys.End ∷ []))
+item (operation_form w m ps ls) =
+    key keys.Operation w ∷ mark m ∷ (group param ps ++ (each line ls ++ sign keys.End ∷ []))
 
 -- the number of a version
 abbrev pub version_number : Version → ℕ
@@ -182,7 +187,9 @@ version_number version.Second = 2
 
 -- The words of a specification: `cise`, its version, and its declarations.
 abbrev pub tree : TreeForm → List Spelt
-tree t = sign keys.Cise ∷ record { symbol = symbol.Number (version_number t.version); claims = [] } ∷ each item t.items
+tree t =
+    sign keys.Cise ∷ record { symbol = symbol.Number (version_number t.version); claims = [] }
+    ∷ each item t.items
 
 -- the texts of a tree's words
 abbrev pub spelling : TreeForm → List (List ℕ)

@@ -33,25 +33,25 @@ use Rattle.spec_reader.specs.Spelling.{tree}
 abbrev pub IsFree : Version → Mark → Type 0
 IsFree v m = is_name v (name_kind m.text) ≡ true
 
--- its name and those of its arguments are free
+-- the name of a reading and those of its arguments are free
 abbrev pub ReadingFits : Version → Reading → Type 0
 ReadingFits v r = IsFree v r.name × AllByRecursion (IsFree v) r.args
 
--- so is the reading in it, where there is one
+-- the names in a product are free
 abbrev pub ProductFits : Version → Product → Type 0
 ProductFits v (products.Number f) = Unit {0}
 ProductFits v (products.Times f r) = ReadingFits v r
 ProductFits v (products.Reading r) = ReadingFits v r
 
--- so are the names in its product
+-- the names in a summand are free
 abbrev pub SummandFits : Version → Summand → Type 0
 SummandFits v s = ProductFits v s.product
 
--- so are they in the product of a signed summand
+-- the names in a signed summand are free
 abbrev pub SignedFits : Version → Signed → Type 0
 SignedFits v s = ProductFits v s.summand.product
 
--- so are they in each summand
+-- the names in each summand of a term are free
 abbrev pub TermFits : Version → Term → Type 0
 TermFits v t = SummandFits v t.first × AllByRecursion (SignedFits v) t.more
 
@@ -109,8 +109,10 @@ abbrev pub LineFits : Version → ℕ → LineForm → Type 0
 LineFits v d (requires_form w s) = SentenceFits v d s
 LineFits v d (insert_form w m ss g) = IsFree v m × AllByRecursion (SpotFits v) ss × GuardFits v d g
 LineFits v d (remove_form w m ss g) = IsFree v m × AllByRecursion (SpotFits v) ss × GuardFits v d g
-LineFits v d (add_form w m ss t g) = IsFree v m × AllByRecursion (SpotFits v) ss × TermFits v t × GuardFits v d g
-LineFits v d (set_form w m ss t g) = IsFree v m × AllByRecursion (SpotFits v) ss × TermFits v t × GuardFits v d g
+LineFits v d (add_form w m ss t g) =
+    IsFree v m × AllByRecursion (SpotFits v) ss × TermFits v t × GuardFits v d g
+LineFits v d (set_form w m ss t g) =
+    IsFree v m × AllByRecursion (SpotFits v) ss × TermFits v t × GuardFits v d g
 LineFits v d (takes_form w r m) = ReadingFits v r × ModeFits v m
 LineFits version.First d (observes_form w s) = ⊥
 LineFits version.Second d (observes_form w s) = SentenceFits version.Second d s
@@ -125,7 +127,8 @@ ItemFits v d (initially_form w m x) = IsFree v m
 ItemFits v d (token_form w m ps) = IsFree v m × AllByRecursion (IsFree v) ps
 ItemFits v d (conflict_form w p q) = ReadingFits v p × ReadingFits v q
 ItemFits v d (invariant_form w m s) = IsFree v m × SentenceFits v d s
-ItemFits v d (operation_form w m ps ls) = IsFree v m × AllByRecursion (ParamFits v) ps × AllByRecursion (LineFits v d) ls
+ItemFits v d (operation_form w m ps ls) =
+    IsFree v m × AllByRecursion (ParamFits v) ps × AllByRecursion (LineFits v d) ls
 
 -- each name is free in the tree's version, and formulas nest as deep as they may
 abbrev pub TreeFits : ℕ → TreeForm → Type 0
@@ -149,26 +152,26 @@ SameFigure f g = f.value ≡ g.value
 abbrev pub SameReading : Reading → Reading → Type 0
 SameReading r s = SameMark r.name s.name × AllSame SameMark r.args s.args
 
--- the same numbers and readings, of one form
+-- two products are of one form, with equal numbers and readings
 abbrev pub SameProduct : Product → Product → Type 0
 SameProduct (products.Number f) (products.Number g) = SameFigure f g
 SameProduct (products.Times f r) (products.Times g s) = SameFigure f g × SameReading r s
 SameProduct (products.Reading r) (products.Reading s) = SameReading r s
 SameProduct _ _ = ⊥
 
--- the same product
+-- two summands have the same product
 abbrev pub SameSummand : Summand → Summand → Type 0
 SameSummand s t = SameProduct s.product t.product
 
--- the same sign and summand
+-- two signed summands have the same sign and the same summand
 abbrev pub SameSigned : Signed → Signed → Type 0
 SameSigned s t = (s.sign ≡ t.sign) × SameSummand s.summand t.summand
 
--- the same summands, both with a `-` before them or both without
+-- two terms have the same summands, both with a `-` before them or both without
 abbrev pub SameTerm : Term → Term → Type 0
 SameTerm s t = (s.minus ≡ t.minus) × SameSummand s.first t.first × AllSame SameSigned s.more t.more
 
--- The same formula: of one form, with the same parts.
+-- Two formulas are of one form, with the same parts.
 abbrev pub SameForm : Form → Form → Type 0
 SameForm (true_form w) (true_form x) = Unit {0}
 SameForm (false_form w) (false_form x) = Unit {0}
@@ -182,24 +185,24 @@ SameForm _ _ = ⊥
 abbrev pub SameVariable : Variable → Variable → Type 0
 SameVariable x y = SameMark x.name y.name × SameMark x.sort y.sort
 
--- the same quantifier with the same variables, or none
+-- two prefixes have one quantifier with the same variables, or both are missing
 abbrev pub SamePrefix : Option Prefix → Option Prefix → Type 0
 SamePrefix None None = Unit {0}
 SamePrefix (Some p) (Some q) = (p.quantifier ≡ q.quantifier) × AllSame SameVariable p.vars q.vars
 SamePrefix _ _ = ⊥
 
--- the same prefix and body
+-- two sentences have the same prefix and the same body
 abbrev pub SameSentence : Sentence → Sentence → Type 0
 SameSentence s t = SamePrefix s.prefix t.prefix × SameForm s.body t.body
 
--- the same value
+-- two initial values are equal
 abbrev pub SameValue : Value → Value → Type 0
 SameValue values.True values.True = Unit {0}
 SameValue values.False values.False = Unit {0}
 SameValue (values.Number m f) (values.Number n g) = (m ≡ n) × SameFigure f g
 SameValue _ _ = ⊥
 
--- the same sort, or `int`
+-- two kinds of a parameter are one sort, or both `int`
 abbrev pub SameKind : ParamKind → ParamKind → Type 0
 SameKind (kinds.Sort m) (kinds.Sort n) = SameMark m n
 SameKind kinds.Int kinds.Int = Unit {0}
@@ -209,30 +212,34 @@ SameKind _ _ = ⊥
 abbrev pub SameParam : Param → Param → Type 0
 SameParam p q = SameMark p.name q.name × SameKind p.kind q.kind
 
--- the same element, or `*`
+-- two spots are one element, or both `*`
 abbrev pub SameSpot : Spot → Spot → Type 0
 SameSpot (spots.One m) (spots.One n) = SameMark m n
 SameSpot spots.Every spots.Every = Unit {0}
 SameSpot _ _ = ⊥
 
--- the same condition, or none
+-- two conditions are the same, or both are missing
 abbrev pub SameGuard : Option Form → Option Form → Type 0
 SameGuard None None = Unit {0}
 SameGuard (Some f) (Some g) = SameForm f g
 SameGuard _ _ = ⊥
 
--- The same line: of one form, with the same parts.
+-- Two lines are of one form, with the same parts.
 abbrev pub SameLine : LineForm → LineForm → Type 0
 SameLine (requires_form w s) (requires_form x t) = SameSentence s t
-SameLine (insert_form w m ss g) (insert_form x n ts h) = SameMark m n × AllSame SameSpot ss ts × SameGuard g h
-SameLine (remove_form w m ss g) (remove_form x n ts h) = SameMark m n × AllSame SameSpot ss ts × SameGuard g h
-SameLine (add_form w m ss s g) (add_form x n ts t h) = SameMark m n × AllSame SameSpot ss ts × SameTerm s t × SameGuard g h
-SameLine (set_form w m ss s g) (set_form x n ts t h) = SameMark m n × AllSame SameSpot ss ts × SameTerm s t × SameGuard g h
+SameLine (insert_form w m ss g) (insert_form x n ts h) =
+    SameMark m n × AllSame SameSpot ss ts × SameGuard g h
+SameLine (remove_form w m ss g) (remove_form x n ts h) =
+    SameMark m n × AllSame SameSpot ss ts × SameGuard g h
+SameLine (add_form w m ss s g) (add_form x n ts t h) =
+    SameMark m n × AllSame SameSpot ss ts × SameTerm s t × SameGuard g h
+SameLine (set_form w m ss s g) (set_form x n ts t h) =
+    SameMark m n × AllSame SameSpot ss ts × SameTerm s t × SameGuard g h
 SameLine (takes_form w r m) (takes_form x s n) = SameReading r s × (m ≡ n)
 SameLine (observes_form w s) (observes_form x t) = SameSentence s t
 SameLine _ _ = ⊥
 
--- The same declaration: of one form, with the same parts.
+-- Two declarations are of one form, with the same parts.
 abbrev pub SameItem : ItemForm → ItemForm → Type 0
 SameItem (sort_form w m) (sort_form x n) = SameMark m n
 SameItem (const_form w m s) (const_form x n t) = SameMark m n × SameMark s t
@@ -242,9 +249,10 @@ SameItem (initially_form w m a) (initially_form x n b) = SameMark m n × SameVal
 SameItem (token_form w m ps) (token_form x n qs) = SameMark m n × AllSame SameMark ps qs
 SameItem (conflict_form w p q) (conflict_form x r s) = SameReading p r × SameReading q s
 SameItem (invariant_form w m s) (invariant_form x n t) = SameMark m n × SameSentence s t
-SameItem (operation_form w m ps ls) (operation_form x n qs ks) = SameMark m n × AllSame SameParam ps qs × AllSame SameLine ls ks
+SameItem (operation_form w m ps ls) (operation_form x n qs ks) =
+    SameMark m n × AllSame SameParam ps qs × AllSame SameLine ls ks
 SameItem _ _ = ⊥
 
--- The same specification, but for the places of its words: one version, and the same declarations.
+-- Two specifications are the same, but for the places of their words: one version, and the same declarations.
 abbrev pub SameTree : TreeForm → TreeForm → Type 0
 SameTree s t = (s.version ≡ t.version) × AllSame SameItem s.items t.items

@@ -1,10 +1,10 @@
 // Reading and spelling specifications: words to a tree, and a tree to text.
 //
-// The grammar of both versions of the language is the definition of how a tree is spelled, in `specs/Spelling.antt`; which
-// trees there are stands in `specs/Trees.antt`, and what it means that bytes are read as a tree, and where no spelling goes
-// on, in `specs/Place.antt`. The code reads words into trees by the readers of `specs/Reading.antt`; `proofs/` shows that
-// each of them is an exact part of the grammar. The crate stands on word_cut (words), token_readers (how parts of a grammar
-// are put together) and spec_core (names).
+// The grammar of both versions of the language is the definition of how a tree is spelled, in `specs/Spelling.antt`. Which trees there
+// are stands in `specs/Trees.antt`, and what it means that bytes are read as a tree, and where no spelling goes on, in
+// `specs/Place.antt`. The code reads words into trees by the readers of `specs/Reading.antt`; `proofs/` shows that each of them is an
+// exact part of the grammar. The crate stands on word_cut (words), token_readers (how parts of a grammar are put together) and
+// spec_core (names).
 #![tactic(auto)]
 
 /// What a call returns, or its error, before which the values named are dropped: a `?` while they are alive would be

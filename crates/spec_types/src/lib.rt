@@ -1,9 +1,9 @@
 // From trees to specifications.
 //
 // It stands on `typing_rules`, whose definitions say which specification a tree is and what is wrong with one that is none, on
-// `typing_faults`, which says it by rules, and on `type_faults`, which looks for what is wrong. `known` is what is known behind some items.
+// `typing_faults`, which says it by rules, and on `type_faults`, which looks for what is wrong. `known` is what is known after some items.
 // `making` and `making_lines` copy the parts of a tree that have no fault; `declaring`, `initials`, `rules` and `operations` have the items,
-// `refusal` the answer that tells a fault, and `typing` the whole.
+// `refusal` the answer with a fault, and `typing` the whole.
 #![tactic(auto)]
 
 /// What a call returns, or its error, before which the values named are dropped: a `?` while they are alive would be

@@ -29,10 +29,12 @@ pub record MadeParts : Type 0 where
   pub known : Known
   pub parts : Option Numbered
 
+-- the parts with those of these formulas, each made in turn
 abbrev pub make_parts : Option Numbered → Known → List Symbolic → MadeParts
 make_parts so_far k [] = record { known = k; parts = so_far }
 make_parts so_far k (f ∷ fs) = make_parts (Some (joined so_far (make k f).form)) (make k f).known fs
 
+-- the parts as one formula
 abbrev pub made_parts : MadeParts → Made
 made_parts m = record { known = m.known; form = all_of m.parts }
 
@@ -50,18 +52,21 @@ abbrev pub has_step : Readings → Caller → Thing → List ℕ → Option Upda
 has_step r c x t None e = e
 has_step r c x t (Some u) e = cond (is_thing u.thing x) (has_then u.change (acts_on r c t u) e) e
 
--- what it reads after the first so many updates
+-- what a tuple reads after the first n updates
 abbrev pub has_upto : Readings → Caller → Thing → List ℕ → List UpdateLine → ℕ → Symbolic → Symbolic
 has_upto r c x t us zero e = e
 has_upto r c x t us (suc n) e = has_step r c x t (slice_get us n) (has_upto r c x t us n e)
 
 -- the two formulas of one update of a counter
-abbrev pub value_defined : Readings → Caller → List ℕ → List Part → List Part → UpdateLine → List Symbolic
+abbrev pub value_defined : Readings → Caller → List ℕ → List Part → List Part → UpdateLine
+    → List Symbolic
 value_defined r c t next v u =
-    either (negated (acts_on r c t u)) (equal next (count_then r c u.change v)) ∷ either (acts_on r c t u) (equal next v) ∷ []
+    either (negated (acts_on r c t u)) (equal next (count_then r c u.change v))
+    ∷ either (acts_on r c t u) (equal next v) ∷ []
 
--- those of the updates of a list that are updates of this counter
-abbrev pub values_upto : Readings → Caller → Stage → ℕ → List ℕ → ℕ → List Part → List UpdateLine → List Symbolic
+-- the formulas of a list's updates of this counter, in their order
+abbrev pub values_upto : Readings → Caller → Stage → ℕ → List ℕ → ℕ → List Part → List UpdateLine
+    → List Symbolic
 values_upto r c k i t n v [] = []
 values_upto r c k i t n v (u ∷ us) =
     let next = multiple (pos 1) (value_after (updates_of (thing.Counter i) us) n k i t) ∷ [] in
@@ -69,5 +74,10 @@ values_upto r c k i t n v (u ∷ us) =
     (value_defined r c t next v u ++ values_upto r c k i t (suc n) next us)
     (values_upto r c k i t n v us)
 
-abbrev pub count_defined : Readings → Caller → Stage → ℕ → List ℕ → List Part → List UpdateLine → List Symbolic
-count_defined r c k i t v us = cond (list_any (λ u. is_thing u.thing (thing.Counter i)) us) (values_upto r c k i t 1 v us) (equal (multiple (pos 1) (reading k i t) ∷ []) v ∷ [])
+-- what defines a counter's reading: the formulas of its updates in turn, or that it is what it was
+abbrev pub count_defined : Readings → Caller → Stage → ℕ → List ℕ → List Part → List UpdateLine
+    → List Symbolic
+count_defined r c k i t v us =
+    cond (list_any (λ u. is_thing u.thing (thing.Counter i)) us)
+    (values_upto r c k i t 1 v us)
+    (equal (multiple (pos 1) (reading k i t) ∷ []) v ∷ [])

@@ -21,9 +21,11 @@ abbrev pub readings_of : Specification → Stage → Readings
 readings_of d Initial = at_start d
 readings_of d (Numbered k) = at_stage (stage_of k)
 
+-- the readings of a setting
 abbrev pub readings_in : Setting → Readings
 readings_in s = readings_of s.spec.now s.stage
 
+-- the call of a setting, with the constants of its parameters
 abbrev pub caller_in : Setting → Caller
 caller_in s = record { call = s.call; params = consts_of_args s.args.now }
 
@@ -33,17 +35,23 @@ IsMade old f new made = make old f ≡ record { known = new; form = form_of made
 
 -- ---- definitions of the readings at a stage after the entry, by the call that it follows
 
+-- the call that led to a stage, with the constants of its parameters
 abbrev pub caller_at : GroundCall → ℕ → Caller
 caller_at call k = record { call = latest_call k; params = consts_of_args call.args }
 
+-- the readings at the stage before
 abbrev pub before : ℕ → Readings
 before k = at_stage (stage_of (stage_before k))
 
+-- what defines a relation's reading at a stage
 abbrev pub has_definition : Specification → GroundCall → ℕ → ℕ → List ℕ → List Symbolic
-has_definition d call k r t = define_has (before k) (caller_at call k) (op_of d call.op).updates (has (stage_of k) r t) r t
+has_definition d call k r t =
+    define_has (before k) (caller_at call k) (op_of d call.op).updates (has (stage_of k) r t) r t
 
+-- what defines a counter's reading at a stage
 abbrev pub count_definition : Specification → GroundCall → ℕ → ℕ → List ℕ → List Symbolic
-count_definition d call k i t = define_count (before k) (caller_at call k) (op_of d call.op).updates (stage_of k) i t
+count_definition d call k i t =
+    define_count (before k) (caller_at call k) (op_of d call.op).updates (stage_of k) i t
 
 -- what updates make of a relation's reading
 abbrev pub updated : Readings → Caller → List UpdateLine → ℕ → List ℕ → Symbolic

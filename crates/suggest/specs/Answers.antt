@@ -41,7 +41,8 @@ abbrev pub HasNoRefutation : Specification → ℕ → Obligation → Type 0
 HasNoRefutation d budget ob = (v : VerdictForm) × IsGood d budget ob v × (is_unrefuted v ≡ true)
 
 -- The first of these obligations that is refuted, by what is shown of a witness: those before it have verdicts that don't refute them.
-pub record IsFirstRefuted (d : Specification) (budget : ℕ) (obs : List Obligation) (ob : Obligation) (w : Witness) : Type 0 where
+pub record IsFirstRefuted (d : Specification) (budget : ℕ) (obs : List Obligation) (ob : Obligation)
+    (w : Witness) : Type 0 where
   pub before : List Obligation
   pub behind : List Obligation
   pub listed : obs ≡ before ++ ob ∷ behind
@@ -50,7 +51,8 @@ pub record IsFirstRefuted (d : Specification) (budget : ℕ) (obs : List Obligat
 
 -- None of these obligations is refuted, and this is the first one that is undecided, with the evidence of a cause: those before it are
 -- proved.
-pub record IsFirstUndecided (d : Specification) (budget : ℕ) (obs : List Obligation) (ob : Obligation) (cause : Cause) : Type 0 where
+pub record IsFirstUndecided (d : Specification) (budget : ℕ) (obs : List Obligation)
+    (ob : Obligation) (cause : Cause) : Type 0 where
   pub before : List Obligation
   pub behind : List Obligation
   pub listed : obs ≡ before ++ ob ∷ behind
@@ -64,23 +66,26 @@ IsFound d budget obs found.Proved = (x : Obligation) → Contains obs x → HasP
 IsFound d budget obs (found.Refuted ob w) = IsFirstRefuted d budget obs ob w
 IsFound d budget obs (found.Undecided ob cause) = IsFirstUndecided d budget obs ob cause
 
--- what those of a pair come to in a specification
+-- what the obligations of a pair come to in a specification
 pub record IsFoundIn (d : Specification) (budget a b : ℕ) (f : Found) : Type 0 where
   pub specified : is_specification d ≡ true
   pub comes_to : IsFound d budget (obligations_of_pair d a b) f
 
 -- ---- the answers
 
+-- one of the obligations is refuted
 abbrev pub is_refuted : Found → Bool
 is_refuted found.Proved = false
 is_refuted (found.Refuted ob w) = true
 is_refuted (found.Undecided ob cause) = false
 
+-- none of the obligations is refuted, and one is undecided
 abbrev pub is_undecided : Found → Bool
 is_undecided found.Proved = false
 is_undecided (found.Refuted ob w) = false
 is_undecided (found.Undecided ob cause) = true
 
+-- all obligations are proved
 abbrev pub is_proved : Found → Bool
 is_proved found.Proved = true
 is_proved (found.Refuted ob w) = false
@@ -98,7 +103,8 @@ AreKeyAnswers d budget a b [] [] = Unit {0}
 AreKeyAnswers d budget a b [] (y ∷ ys) = ⊥
 AreKeyAnswers d budget a b (k ∷ ks) [] = ⊥
 AreKeyAnswers d budget a b (k ∷ ks) (y ∷ ys) =
-    (y.key ≡ k) × IsFoundIn (keyed d a k.p b k.q) budget a b y.found × AreKeyAnswers d budget a b ks ys
+    (y.key ≡ k) × IsFoundIn (keyed d a k.p b k.q) budget a b y.found
+    × AreKeyAnswers d budget a b ks ys
 
 -- An answer for a pair: what it comes to in the bare specification, and, where it is needed, in each keyed one.
 pub record IsAnswer (d : Specification) (budget : ℕ) (pair : Pair) (x : PairAnswer) : Type 0 where
@@ -121,19 +127,24 @@ AreAnswersSoFar d budget (p ∷ ps) (x ∷ xs) = IsAnswer d budget p x × AreAns
 
 -- ---- how many there are
 
+-- nothing is counted yet
 abbrev pub no_answers : SuggestTally
 no_answers = record { needed = 0; free = 0; unknown = 0 }
 
+-- one answer more: a refuted pair is needed, a proved one free, and an undecided one unknown
 abbrev pub with_answer : Found → SuggestTally → SuggestTally
 with_answer found.Proved t = record { needed = t.needed; free = suc t.free; unknown = t.unknown }
-with_answer (found.Refuted ob w) t = record { needed = suc t.needed; free = t.free; unknown = t.unknown }
-with_answer (found.Undecided ob cause) t = record { needed = t.needed; free = t.free; unknown = suc t.unknown }
+with_answer (found.Refuted ob w) t =
+    record { needed = suc t.needed; free = t.free; unknown = t.unknown }
+with_answer (found.Undecided ob cause) t =
+    record { needed = t.needed; free = t.free; unknown = suc t.unknown }
 
--- how many answers of each kind there are, behind those that were counted
+-- how many answers of each kind there are, with those that were counted before
 abbrev pub counted_from : SuggestTally → List PairAnswer → SuggestTally
 counted_from t [] = t
 counted_from t (x ∷ xs) = counted_from (with_answer x.found t) xs
 
+-- how many answers of each kind there are
 abbrev pub counted : List PairAnswer → SuggestTally
 counted xs = counted_from no_answers xs
 
@@ -143,16 +154,19 @@ counted xs = counted_from no_answers xs
 abbrev pub is_for : ℕ → ℕ → PairAnswer → Bool
 is_for a b x = (x.pair.first == a) && (x.pair.second == b)
 
--- the pairs that are answered to be needed, and to be unknown
+-- the pairs that are answered to be needed
 abbrev pub is_needed : List PairAnswer → ℕ → ℕ → Bool
 is_needed xs a b = list_any (λ x. is_for a b x && is_refuted x.found) xs
 
+-- the pairs that are answered to be unknown
 abbrev pub is_unknown : List PairAnswer → ℕ → ℕ → Bool
 is_unknown xs a b = list_any (λ x. is_for a b x && is_undecided x.found) xs
 
--- the parameters at which a conflict on equal arguments is answered to be enough
+-- an entry for these two parameters
 abbrev pub is_key : ℕ → ℕ → KeyAnswer → Bool
 is_key p q y = (y.key.p == p) && (y.key.q == q)
 
+-- a conflict of a pair on equal arguments at these two parameters is answered to be enough
 abbrev pub is_enough_by : List PairAnswer → ℕ → ℕ → ℕ → ℕ → Bool
-is_enough_by xs a b p q = list_any (λ x. is_for a b x && list_any (λ y. is_key p q y && is_proved y.found) x.keys) xs
+is_enough_by xs a b p q =
+    list_any (λ x. is_for a b x && list_any (λ y. is_key p q y && is_proved y.found) x.keys) xs

@@ -38,24 +38,28 @@ pub record IsPair (d : Specification) (a b : ℕ) : Type 0 where
 abbrev pub IsEnough : Specification → (ℕ → ℕ → Bool) → Type 0
 IsEnough d inside = (a b : ℕ) → IsPair d a b → inside a b ≡ false → PairHolds (bare d) a b
 
+-- the pair of two operations
 abbrev pub pair_at : ℕ → ℕ → Pair
 pair_at a b = record { first = a; second = b }
 
+-- the key of two parameters, one of each operation
 abbrev pub key_at : ℕ → ℕ → Key
 key_at p q = record { p = p; q = q }
 
--- all pairs, by the first operation, and then by the second from the first on
+-- the pairs of one operation with itself and each later one
 abbrev pub pairs_from : ℕ → ℕ → List Pair
 pairs_from n a = flat_map (λ b. if nat_le a b then pair_at a b ∷ [] else []) (below n)
 
+-- all pairs, by the first operation, and then by the second
 abbrev pub pairs_of : Specification → List Pair
 pairs_of d = flat_map (pairs_from (length d.operations)) (below (length d.operations))
 
--- a parameter of each operation of a pair, where both have one sort: by the first parameter, and then by the second
+-- the keys of one parameter of the first operation: with each parameter of the second that has the same sort
 abbrev pub keys_from : Specification → ℕ → ℕ → ℕ → List Key
 keys_from d a b p =
     flat_map (λ q. if same_sort (sort_of_parameter d a p) (sort_of_parameter d b q) then key_at p q ∷ [] else [])
     (below (length (op_of d b).params))
 
+-- all keys of a pair: two parameters of one sort, by the first one, and then by the second
 abbrev pub keys_of : Specification → ℕ → ℕ → List Key
 keys_of d a b = flat_map (keys_from d a b) (below (length (op_of d a).params))

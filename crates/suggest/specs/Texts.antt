@@ -24,6 +24,7 @@ use Rattle.suggest.specs.declared.answer.SuggestTally.{SuggestTally}
 abbrev pub no_param : Param
 no_param = record { name = []; kind = Int }
 
+-- the name of an operation's parameter
 abbrev pub param_name : Specification → ℕ → ℕ → List ℕ
 param_name d o p = (get_or (op_of d o).params p no_param).name
 
@@ -54,24 +55,32 @@ key_text d pair y =
 -- `free A B`; or `needed A B`, the block and the parameters; or `unknown A B` and the block
 abbrev pub pair_text : Specification → PairAnswer → List ℕ
 pair_text d x =
-    (line_text (pair_word x.found ∷ operation_name d x.pair.first ∷ operation_name d x.pair.second ∷ []) ++ found_text (bare d) x.found)
+    (line_text (pair_word x.found ∷ operation_name d x.pair.first ∷ operation_name d x.pair.second ∷ [])
+    ++ found_text (bare d) x.found)
     ++ flat_map (key_text d x.pair) x.keys
 
 -- the lines before the pairs
 abbrev pub head_text : Specification → List ℕ
-head_text d = line_text (codes "cise" ∷ codes "suggest" ∷ codes "1" ∷ []) ++ line_text (codes "pairs" ∷ decimal (length (pairs_of d)) ∷ [])
+head_text d =
+    line_text (codes "cise" ∷ codes "suggest" ∷ codes "1" ∷ [])
+    ++ line_text (codes "pairs" ∷ decimal (length (pairs_of d)) ∷ [])
 
 -- `complete` where no pair is unknown
 abbrev pub last_word : ℕ → List ℕ
 last_word zero = codes "complete"
 last_word (suc n) = codes "undecided"
 
--- the lines behind them
+-- the lines after the pairs
 abbrev pub end_text : SuggestTally → List ℕ
 end_text t =
-    line_text (codes "summary" ∷ codes "needed" ∷ decimal t.needed ∷ codes "free" ∷ decimal t.free ∷ codes "unknown" ∷ decimal t.unknown ∷ [])
+    line_text
+    (codes "summary"
+    ∷ codes "needed" ∷ decimal t.needed
+    ∷ codes "free" ∷ decimal t.free
+    ∷ codes "unknown" ∷ decimal t.unknown ∷ [])
     ++ line_text (last_word t.unknown ∷ [])
 
+-- the texts of answers, one after the other
 abbrev pub pairs_text : Specification → List PairAnswer → List ℕ
 pairs_text d xs = flat_map (pair_text d) xs
 
@@ -80,7 +89,8 @@ abbrev pub suggest_text : Specification → List PairAnswer → List ℕ
 suggest_text d xs = head_text d ++ (pairs_text d xs ++ end_text (counted xs))
 
 -- A suggestion for a specification: a good answer for each of its pairs, in order, how many there are of each kind, and their text.
-pub record IsSuggestion (d : Specification) (budget : ℕ) (tally : SuggestTally) (text : List ℕ) : Type 0 where
+pub record IsSuggestion (d : Specification) (budget : ℕ) (tally : SuggestTally)
+    (text : List ℕ) : Type 0 where
   pub answers : List PairAnswer
   pub good : AreAnswers d budget (pairs_of d) answers
   pub tally_is : tally ≡ counted answers
@@ -94,5 +104,7 @@ opening_text d xs = head_text d ++ pairs_text d xs
 -- it didn't reach.
 abbrev pub IsSuggestionFront : Specification → ℕ → List ℕ → Type 0
 IsSuggestionFront d budget front =
-    ((tally : SuggestTally) × (text : List ℕ) × (n : ℕ) × IsSuggestion d budget tally text × (front ≡ take n text))
-    ⊎ ((xs : List PairAnswer) × (n : ℕ) × AreAnswersSoFar d budget (pairs_of d) xs × (front ≡ take n (opening_text d xs)))
+    ((tally : SuggestTally) × (text : List ℕ) × (n : ℕ) × IsSuggestion d budget tally text
+    × (front ≡ take n text))
+    ⊎ ((xs : List PairAnswer) × (n : ℕ) × AreAnswersSoFar d budget (pairs_of d) xs
+    × (front ≡ take n (opening_text d xs)))

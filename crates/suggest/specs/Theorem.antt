@@ -20,7 +20,8 @@ use Rattle.suggest.specs.declared.answer.PairAnswer.{PairAnswer}
 
 -- What a block shows: it names an obligation of a pair, and the calls of its witness break this one in its world and in the state that is
 -- shown, at its elements.
-pub record IsShownToBreak (d : Specification) (a b : ℕ) (ob : Obligation) (w : Witness) : Type 0 where
+pub record IsShownToBreak (d : Specification) (a b : ℕ) (ob : Obligation)
+    (w : Witness) : Type 0 where
   pub of_pair : Contains (obligations_of_pair d a b) ob
   pub breaks : Breaks d ob w.world (listing_of d (shown_by d w)) w.calls w.elements
 
@@ -36,18 +37,23 @@ pub record IsBroken (d : Specification) (a b : ℕ) : Type 0 where
 
 -- What answers for the pairs of a specification say.
 pub record IsRight (d : Specification) (answers : List PairAnswer) : Type 0 where
-  -- Each block under `needed` breaks an obligation of its pair in the bare specification, and each under `notby` in the keyed one.
-  pub needed_shown : (x : PairAnswer) (ob : Obligation) (w : Witness) → Contains answers x → x.found ≡ found.Refuted ob w
+  -- Each block under `needed` breaks an obligation of its pair in the bare specification. Each block under `notby` does so in the keyed
+  -- one.
+  pub needed_shown : (x : PairAnswer) (ob : Obligation) (w : Witness) → Contains answers x
+      → x.found ≡ found.Refuted ob w
       → IsShownToBreak (bare d) x.pair.first x.pair.second ob w
-  pub notby_shown : (x : PairAnswer) (y : KeyAnswer) (ob : Obligation) (w : Witness) → Contains answers x → Contains x.keys y → y.found ≡ found.Refuted ob w
+  pub notby_shown : (x : PairAnswer) (y : KeyAnswer) (ob : Obligation) (w : Witness)
+      → Contains answers x → Contains x.keys y → y.found ≡ found.Refuted ob w
       → IsShownToBreak (keyed d x.pair.first y.key.p x.pair.second y.key.q) x.pair.first x.pair.second ob w
-  -- An obligation of each needed pair is broken where nothing conflicts,
+  -- An obligation of each needed pair is broken where nothing conflicts.
   pub broken : (a b : ℕ) → is_needed answers a b ≡ true → IsBroken (bare d) a b
-  -- so each set of pairs that is enough contains all needed ones.
-  pub least : (inside : ℕ → ℕ → Bool) → IsEnough d inside → (a b : ℕ) → is_needed answers a b ≡ true → inside a b ≡ true
-  -- All obligations of the other pairs that aren't unknown hold,
-  pub free : (a b : ℕ) → IsPair d a b → is_needed answers a b ≡ false → is_unknown answers a b ≡ false → PairHolds (bare d) a b
-  -- so where none is unknown the needed pairs are enough.
+  -- Each set of pairs that is enough contains all needed ones.
+  pub least : (inside : ℕ → ℕ → Bool) → IsEnough d inside → (a b : ℕ) → is_needed answers a b ≡ true
+      → inside a b ≡ true
+  -- All obligations of a pair hold that is neither needed nor unknown.
+  pub free : (a b : ℕ) → IsPair d a b → is_needed answers a b ≡ false
+      → is_unknown answers a b ≡ false → PairHolds (bare d) a b
+  -- Where no pair is unknown the needed pairs are enough.
   pub enough : ((a b : ℕ) → is_unknown answers a b ≡ false) → IsEnough d (is_needed answers)
   -- Where `by P Q` stands, a conflict on equal arguments there is enough for the pair.
   pub keyed : (a b p q : ℕ) → is_enough_by answers a b p q ≡ true → PairHolds (keyed d a p b q) a b

@@ -31,45 +31,65 @@ CanBeWritten d (found.Undecided ob cause) = IsObligation d ob
 -- the entry of two parameters was appended, which is good
 abbrev pub IsKeyAppended : Specification → ℕ → Pair → Key → List ℕ → List ℕ → Type 0
 IsKeyAppended d budget pair k old new =
-    (y : KeyAnswer) × (y.key ≡ k) × IsFoundIn (keyed d pair.first k.p pair.second k.q) budget pair.first pair.second y.found × (new ≡ old ++ key_text d pair y)
+    (y : KeyAnswer) × (y.key ≡ k)
+    × IsFoundIn (keyed d pair.first k.p pair.second k.q) budget pair.first pair.second y.found
+    × (new ≡ old ++ key_text d pair y)
 
 -- the entries of some parameters were
 abbrev pub AreKeysAppended : Specification → ℕ → Pair → List Key → List ℕ → List ℕ → Type 0
 AreKeysAppended d budget pair ks old new =
-    (ys : List KeyAnswer) × AreKeyAnswers d budget pair.first pair.second ks ys × (new ≡ old ++ flat_map (key_text d pair) ys)
+    (ys : List KeyAnswer) × AreKeyAnswers d budget pair.first pair.second ks ys
+    × (new ≡ old ++ flat_map (key_text d pair) ys)
 
 -- what a pair comes to in the bare specification was appended and counted
-abbrev pub IsBareAppended : Specification → ℕ → Pair → SuggestTally → Bool → SuggestTally → List ℕ → List ℕ → Type 0
+abbrev pub IsBareAppended : Specification → ℕ → Pair → SuggestTally → Bool → SuggestTally → List ℕ
+    → List ℕ → Type 0
 IsBareAppended d budget pair told needed now old new =
-    (f : Found) × IsFoundIn (bare d) budget pair.first pair.second f × (needed ≡ is_refuted f) × (now ≡ with_answer f told)
-    × (new ≡ old ++ (line_text (pair_word f ∷ operation_name d pair.first ∷ operation_name d pair.second ∷ []) ++ found_text (bare d) f))
+    (f : Found) × IsFoundIn (bare d) budget pair.first pair.second f × (needed ≡ is_refuted f)
+    × (now ≡ with_answer f told)
+    × (new ≡ old
+    ++ (line_text (pair_word f ∷ operation_name d pair.first ∷ operation_name d pair.second ∷ [])
+    ++ found_text (bare d) f))
 
 -- the text of a good answer for a pair was appended, and the answer counted
-abbrev pub IsPairAppended : Specification → ℕ → Pair → SuggestTally → SuggestTally → List ℕ → List ℕ → Type 0
+abbrev pub IsPairAppended : Specification → ℕ → Pair → SuggestTally → SuggestTally → List ℕ → List ℕ
+    → Type 0
 IsPairAppended d budget pair told now old new =
-    (x : PairAnswer) × IsAnswer d budget pair x × (now ≡ with_answer x.found told) × (new ≡ old ++ pair_text d x)
+    (x : PairAnswer) × IsAnswer d budget pair x × (now ≡ with_answer x.found told)
+    × (new ≡ old ++ pair_text d x)
 
 -- the text of a good answer was written, and the answer counted; or a front of it was written; or nothing
-abbrev pub IsPairWritten : Specification → ℕ → Pair → SuggestTally → Option (List ℕ) → Option (List ℕ) → Result SuggestTally WriteOut → Type 0
+abbrev pub IsPairWritten : Specification → ℕ → Pair → SuggestTally → Option (List ℕ)
+    → Option (List ℕ) → Result SuggestTally WriteOut → Type 0
 IsPairWritten d budget pair told before after (Ok now) =
-    (x : PairAnswer) × IsAnswer d budget pair x × (now ≡ with_answer x.found told) × Appends before after (pair_text d x)
-IsPairWritten d budget pair told before after (Err Fault) = (x : PairAnswer) × (n : ℕ) × IsAnswer d budget pair x × Appends before after (take n (pair_text d x))
+    (x : PairAnswer) × IsAnswer d budget pair x × (now ≡ with_answer x.found told)
+    × Appends before after (pair_text d x)
+IsPairWritten d budget pair told before after (Err Fault) =
+    (x : PairAnswer) × (n : ℕ) × IsAnswer d budget pair x
+    × Appends before after (take n (pair_text d x))
 IsPairWritten d budget pair told before after (Err Memory) = Appends before after []
 
 -- the texts of good answers for the first pairs were written
-pub record AreWritten (d : Specification) (budget n : ℕ) (tally : SuggestTally) (before after : Option (List ℕ)) : Type 0 where
+pub record AreWritten (d : Specification) (budget n : ℕ) (tally : SuggestTally)
+    (before after : Option (List ℕ)) : Type 0 where
   pub answers : List PairAnswer
   pub good : AreAnswers d budget (take n (pairs_of d)) answers
   pub tally_is : tally ≡ counted answers
   pub written : Appends before after (pairs_text d answers)
 
--- those of all were, or a front of them
-abbrev pub ArePairs : Specification → ℕ → Option (List ℕ) → Option (List ℕ) → Result SuggestTally WriteOut → Type 0
-ArePairs d budget before after (Ok tally) = AreWritten d budget (length (pairs_of d)) tally before after
+-- the texts of good answers for all pairs were written, or a front of the first of them
+abbrev pub ArePairs : Specification → ℕ → Option (List ℕ) → Option (List ℕ)
+    → Result SuggestTally WriteOut → Type 0
+ArePairs d budget before after (Ok tally) =
+    AreWritten d budget (length (pairs_of d)) tally before after
 ArePairs d budget before after (Err why) =
-    (xs : List PairAnswer) × (n : ℕ) × AreAnswersSoFar d budget (pairs_of d) xs × Appends before after (take n (pairs_text d xs))
+    (xs : List PairAnswer) × (n : ℕ) × AreAnswersSoFar d budget (pairs_of d) xs
+    × Appends before after (take n (pairs_text d xs))
 
 -- The text of a suggestion was written, and its answers counted; or a front of it.
-abbrev pub IsSuggested : Specification → ℕ → Option (List ℕ) → Option (List ℕ) → Result SuggestTally WriteOut → Type 0
-IsSuggested d budget before after (Ok tally) = (text : List ℕ) × IsSuggestion d budget tally text × Appends before after text
-IsSuggested d budget before after (Err why) = (front : List ℕ) × IsSuggestionFront d budget front × Appends before after front
+abbrev pub IsSuggested : Specification → ℕ → Option (List ℕ) → Option (List ℕ)
+    → Result SuggestTally WriteOut → Type 0
+IsSuggested d budget before after (Ok tally) =
+    (text : List ℕ) × IsSuggestion d budget tally text × Appends before after text
+IsSuggested d budget before after (Err why) =
+    (front : List ℕ) × IsSuggestionFront d budget front × Appends before after front

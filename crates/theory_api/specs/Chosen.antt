@@ -29,26 +29,34 @@ is_filled choices r = list_all (λ t. is_named choices t.place) r.terms
 
 -- with the earlier values put in, a row that names nothing else allows a value for a name
 abbrev pub allows : List Choice → ℕ → Row → ℤ → Bool
-allows earlier place r value = row_true (chosen_point (record { place = place; value = value } ∷ earlier)) r
+allows earlier place r value =
+    row_true (chosen_point (record { place = place; value = value } ∷ earlier)) r
 
 -- the value is the least whole number that the row allows
 abbrev pub is_least : List Choice → Choice → Row → Bool
-is_least earlier c r = is_filled (c ∷ earlier) r && (allows earlier c.place r c.value && not (allows earlier c.place r (c.value -ℤ pos 1)))
+is_least earlier c r =
+    is_filled (c ∷ earlier) r
+    && (allows earlier c.place r c.value && not (allows earlier c.place r (c.value -ℤ pos 1)))
 
 -- the value is the greatest whole number that the row allows
 abbrev pub is_greatest : List Choice → Choice → Row → Bool
-is_greatest earlier c r = is_filled (c ∷ earlier) r && (allows earlier c.place r c.value && not (allows earlier c.place r (c.value +ℤ pos 1)))
+is_greatest earlier c r =
+    is_filled (c ∷ earlier) r
+    && (allows earlier c.place r c.value && not (allows earlier c.place r (c.value +ℤ pos 1)))
 
 -- a value is 0, or positive and the least that one row allows, or negative and the greatest that one row allows
 abbrev pub is_driven : List Row → List Choice → Choice → Bool
 is_driven rows earlier c =
     is_zero c.value
-    || ((is_positive c.value && list_any (is_least earlier c) rows) || (is_negative c.value && list_any (is_greatest earlier c) rows))
+    || ((is_positive c.value && list_any (is_least earlier c) rows)
+    || (is_negative c.value && list_any (is_greatest earlier c) rows))
 
 -- different names, each with a value that the rows drive it to once the values before it are put in
 abbrev pub are_driven : List Row → List Choice → List Choice → Bool
 are_driven rows earlier [] = true
-are_driven rows earlier (c ∷ choices) = not (is_named earlier c.place) && (is_driven rows earlier c && are_driven rows (c ∷ earlier) choices)
+are_driven rows earlier (c ∷ choices) =
+    not (is_named earlier c.place)
+    && (is_driven rows earlier c && are_driven rows (c ∷ earlier) choices)
 
 -- the name has that value
 abbrev pub is_among : List Choice → ℕ → ℤ → Bool

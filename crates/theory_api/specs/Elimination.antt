@@ -23,7 +23,9 @@ first_place order r = slice_index_or order (stage order r) 0
 
 -- both rows have the same first name of the order, and it doesn't stand before a given stage
 abbrev pub meet : List ℕ → ℕ → Row → Row → Bool
-meet order least l r = nat_le least (stage order l) && (nat_lt (stage order l) (length order) && (stage order r == stage order l))
+meet order least l r =
+    nat_le least (stage order l)
+    && (nat_lt (stage order l) (length order) && (stage order r == stage order l))
 
 -- a step cancels the first name of both its rows
 abbrev pub eliminates : List ℕ → ℕ → Row → Row → RowStep → Bool
@@ -32,7 +34,8 @@ eliminates order least l r s = meet order least l r && cancels_at l r s (first_p
 -- a product beyond the range counts as one more step
 abbrev pub ends_in_order : List ℕ → List Row → ℕ → Option RangeWhat → Bool
 ends_in_order order rows least (Some (Product left right place)) =
-    meet order least (row_at rows left) (row_at rows right) && (first_place order (row_at rows left) == place)
+    meet order least (row_at rows left) (row_at rows right)
+    && (first_place order (row_at rows left) == place)
 ends_in_order order rows least (Some (Value i place values)) = true
 ends_in_order order rows least (Some (Sum i place values)) = true
 ends_in_order order rows least None = true
@@ -41,10 +44,12 @@ ends_in_order order rows least None = true
 abbrev pub eliminate : List ℕ → List Row → ℕ → List RowStep → Option RangeWhat → Bool
 eliminate order rows least [] what = ends_in_order order rows least what
 eliminate order rows least (s ∷ steps) what =
-    eliminates order least (row_at rows s.left) (row_at rows s.right) s && eliminate order rows (stage order (row_at rows s.left)) steps what
+    eliminates order least (row_at rows s.left) (row_at rows s.right) s
+    && eliminate order rows (stage order (row_at rows s.left)) steps what
 
 -- the steps among the rows, and the number beyond the range, if there is one, go by some order of different names
-pub record AreEliminations (rows : List Row) (steps : List RowStep) (what : Option RangeWhat) : Type 0 where
+pub record AreEliminations (rows : List Row) (steps : List RowStep)
+    (what : Option RangeWhat) : Type 0 where
   pub order : List ℕ
   pub different : are_different order ≡ true
   pub in_order : eliminate order rows 0 steps what ≡ true

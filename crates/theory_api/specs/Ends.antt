@@ -11,7 +11,8 @@ use Rattle.theory_api.specs.Elimination.{stage}
 -- the stage of the last of some steps; a given one where there are none
 abbrev pub last_stage : List ℕ → List Row → ℕ → List RowStep → ℕ
 last_stage order rows least [] = least
-last_stage order rows least (s ∷ steps) = last_stage order rows (stage order (row_at rows s.left)) steps
+last_stage order rows least (s ∷ steps) =
+    last_stage order rows (stage order (row_at rows s.left)) steps
 
 -- the rows of each step are below a number
 abbrev pub steps_below : ℕ → List RowStep → Bool

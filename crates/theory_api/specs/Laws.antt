@@ -24,6 +24,7 @@ all_below ints rows = list_all (places_below ints) rows
 abbrev pub rows_at : List Row → List ℕ → List Row
 rows_at rows used = map (row_at rows) used
 
+-- there is a row among those used
 abbrev pub is_some_row : List ℕ → Bool
 is_some_row [] = false
 is_some_row (u ∷ used) = true
@@ -61,7 +62,8 @@ abbrev pub settles : ℕ → ℤ → Row → Bool
 settles place at r = same_row r (at_most place at) || is_that (negated (at_most place at)) r
 
 -- SPLIT: the rows leave a gap between `at` and `at + 1` for a name, by the proof kernel's rule, and no given row settles it.
-pub record IsSplit (ints : ℕ) (rows : List Row) (place : ℕ) (at : ℤ) (used : List ℕ) (steps : List RowStep) (low : ℕ) (high : ℕ) (values : List ℤ) : Type 0 where
+pub record IsSplit (ints : ℕ) (rows : List Row) (place : ℕ) (at : ℤ) (used : List ℕ)
+    (steps : List RowStep) (low : ℕ) (high : ℕ) (values : List ℤ) : Type 0 where
   pub place_below : place < ints
   pub given : are_given rows used ≡ true
   pub unsettled : list_any (settles place at) rows ≡ false
@@ -83,11 +85,13 @@ pub record IsTooMany (rows : List Row) (used : List ℕ) (steps : List RowStep) 
 -- the values of a number beyond the range are chosen; a product has none
 abbrev pub HasChosen : List Row → RangeWhat → Type 0
 HasChosen held (Product left right place) = Unit {0}
-HasChosen held (Value i place values) = AreChosen held (other_names place (row_at held i ∷ [])) values
+HasChosen held (Value i place values) =
+    AreChosen held (other_names place (row_at held i ∷ [])) values
 HasChosen held (Sum i place values) = AreChosen held (other_names place (row_at held i ∷ [])) values
 
 -- RANGE: a number beyond its range, met by elimination with chosen values.
-pub record IsBeyond (rows : List Row) (used : List ℕ) (steps : List RowStep) (what : RangeWhat) : Type 0 where
+pub record IsBeyond (rows : List Row) (used : List ℕ) (steps : List RowStep)
+    (what : RangeWhat) : Type 0 where
   pub given : are_given rows used ≡ true
   pub shown : range_shown steps what (held_rows (rows_at rows used) steps) ≡ true
   pub held : List Row
@@ -100,7 +104,9 @@ pub record IsBeyond (rows : List Row) (used : List ℕ) (steps : List RowStep) (
 abbrev pub IsAnswer : Bool → Bool → ℕ → List Row → TheoryAnswer → Type 0
 IsAnswer split stop ints rows (Model values) = IsModel ints rows values
 IsAnswer split stop ints rows (Conflict used steps) = IsConflict rows used steps
-IsAnswer split stop ints rows (Split place at used steps low high values) = (split ≡ true) × IsSplit ints rows place at used steps low high values
+IsAnswer split stop ints rows (Split place at used steps low high values) =
+    (split ≡ true) × IsSplit ints rows place at used steps low high values
 IsAnswer split stop ints rows (Rows used steps) = (stop ≡ true) × IsTooMany rows used steps
-IsAnswer split stop ints rows (Range used steps what) = (stop ≡ true) × IsBeyond rows used steps what
+IsAnswer split stop ints rows (Range used steps what) =
+    (stop ≡ true) × IsBeyond rows used steps what
 IsAnswer split stop ints rows Memory = Unit {0}

@@ -12,14 +12,17 @@ use Rattle.token_protocol.specs.declared.node.NodeRefused.TheVariants as refusal
 use Rattle.token_core.specs.declared.node.Ended.{Ended}
 use Rattle.token_core.specs.declared.node.Ended.TheVariants.{Happened, Voided}
 
+-- how a call ended that was run: it happened, or it is void, with the message that is to be sent
 abbrev pub ended_of : Run → Ended
 ended_of (ran id call seen node) = Happened (message.Done id call seen)
 ended_of (void cause id node) = Voided cause (message.Void id)
 
+-- what a node answers where a call that it made was run at once
 abbrev pub begun_of : Ended → Begun
 begun_of (Happened done) = begun.Ran done
 begun_of (Voided cause told) = begun.Void cause told
 
+-- what a node answers where a call that had waited was run
 abbrev pub heard_of : Ended → Heard
 heard_of (Happened done) = heard.Ran done
 heard_of (Voided cause told) = heard.Void cause told

@@ -15,10 +15,11 @@ use Rattle.token_core.specs.Log.{lists_of, network_with}
 abbrev pub held_replica : Replica → HeldReplica
 held_replica r = record { node = r.node; taken = r.taken.items }
 
--- the replica that it is
+-- a replica, as the protocol sees it
 abbrev pub replica_at : Replica → ReplicaOf
 replica_at r = replica_of (held_replica r)
 
+-- the replicas, as the protocol sees them
 abbrev pub replicas_in : List Replica → List ReplicaOf
 replicas_in replicas = map replica_of (map held_replica replicas)
 
@@ -26,7 +27,7 @@ replicas_in replicas = map replica_of (map held_replica replicas)
 abbrev pub network_in : List Replica → List Granted → Log → Network
 network_in replicas granted log = network_with (replicas_in replicas) granted (lists_of log)
 
--- the same, as contracts see it
+-- the network that the fields hold, as contracts see it
 abbrev pub held_in : Specification → World → ℕ → List Replica → List Granted → Log → HeldNet
 held_in d w steps replicas granted log = record {
   spec = d;
@@ -40,11 +41,15 @@ held_in d w steps replicas granted log = record {
 }
 
 -- What the fields keep: the network is kept, and the state of each node is one of the world.
-pub record IsNet (d : Specification) (w : World) (replicas : List Replica) (granted : List Granted) (log : Log) : Type 0 where
+pub record IsNet (d : Specification) (w : World) (replicas : List Replica) (granted : List Granted)
+    (log : Log) : Type 0 where
   pub kept : IsKept d w (network_in replicas granted log)
-  pub fit : (r : ℕ) (at : Replica) → slice_get replicas r ≡ Some at → is_state d w at.node.state ≡ true
+  pub fit : (r : ℕ) (at : Replica) → slice_get replicas r ≡ Some at
+      → is_state d w at.node.state ≡ true
 
 -- Replicas before the first step.
-pub record IsFirst (d : Specification) (w : World) (count : ℕ) (replicas : List Replica) : Type 0 where
+pub record IsFirst (d : Specification) (w : World) (count : ℕ)
+    (replicas : List Replica) : Type 0 where
   pub first : replicas_in replicas ≡ first_replicas d w 0 count
-  pub fit : (r : ℕ) (at : Replica) → slice_get replicas r ≡ Some at → is_state d w at.node.state ≡ true
+  pub fit : (r : ℕ) (at : Replica) → slice_get replicas r ≡ Some at
+      → is_state d w at.node.state ≡ true

@@ -10,6 +10,7 @@ use Rattle.token_protocol.specs.declared.message.Message.{Message}
 use Rattle.token_protocol.specs.declared.message.Message.TheVariants as message
 use Rattle.token_protocol.specs.Node.{Node}
 
+-- a node whose state is a listing
 pub record HeldNode : Type 0 where
   pub replica : ℕ
   pub turn : ℕ
@@ -18,16 +19,23 @@ pub record HeldNode : Type 0 where
   pub void : List EventId
   pub waiting : Option Request
 
--- the node that is held
+-- the node that it is, with what the listing reads as its state
 abbrev pub node_of : HeldNode → Node
-node_of n = record { replica = n.replica; turn = n.turn; state = reads n.state; taken = n.taken; void = n.void; waiting = n.waiting }
+node_of n = record {
+  replica = n.replica;
+  turn = n.turn;
+  state = reads n.state;
+  taken = n.taken;
+  void = n.void;
+  waiting = n.waiting;
+}
 
 -- the call that waits, if one does, has the arguments of its operation
 abbrev pub waiting_fits : Specification → World → Option Request → Bool
 waiting_fits d w None = true
 waiting_fits d w (Some request) = call_fits d w request.call
 
--- so has the call of a Done
+-- the call of a Done has the arguments of its operation
 abbrev pub message_fits : Specification → World → Message → Bool
 message_fits d w (message.Grant id named) = true
 message_fits d w (message.Done id call seen) = call_fits d w call

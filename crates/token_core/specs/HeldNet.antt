@@ -30,4 +30,10 @@ pub record HeldNet : Type 0 where
 
 -- the network that is held
 abbrev pub network_held : HeldNet → Network
-network_held n = record { replicas = map replica_of n.replicas; granted = n.granted; requests = n.requests; messages = n.messages; happened = n.happened }
+network_held n = record {
+  replicas = map replica_of n.replicas;
+  granted = n.granted;
+  requests = n.requests;
+  messages = n.messages;
+  happened = n.happened;
+}

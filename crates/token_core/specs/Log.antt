@@ -24,9 +24,15 @@ pub record Lists : Type 0 where
   pub messages : List Message
   pub happened : List Happened
 
+-- the lists that a log holds
 abbrev pub lists_of : Log → Lists
-lists_of log = record { requests = log.requests.items; messages = log.messages.items; happened = log.happened.items }
+lists_of log = record {
+  requests = log.requests.items;
+  messages = log.messages.items;
+  happened = log.happened.items;
+}
 
+-- the lists before the first step
 abbrev pub no_lists : Lists
 no_lists = record { requests = []; messages = []; happened = [] }
 
@@ -41,7 +47,13 @@ pub record HasRoom (log : Log) : Type 0 where
 
 -- the network of these parts
 abbrev pub network_with : List Replica → List Granted → Lists → Network
-network_with replicas granted lists = record { replicas = replicas; granted = granted; requests = lists.requests; messages = lists.messages; happened = lists.happened }
+network_with replicas granted lists = record {
+  replicas = replicas;
+  granted = granted;
+  requests = lists.requests;
+  messages = lists.messages;
+  happened = lists.happened;
+}
 
 -- ---- what is left of a step
 
@@ -61,17 +73,20 @@ id_of (message.Void id) = id
 abbrev pub event_of : Call → List ℕ → Event Call
 event_of call taken = record { call = call; seen = taken }
 
+-- what is left where a call was run: one event more, which the replica takes, and its message
 abbrev pub after_ran : Lists → List ℕ → Event Call → Message → Left
 after_ran lists taken event done = record {
   did = did.Ran (length lists.happened);
   lists = record {
     requests = lists.requests;
     messages = lists.messages ++ done ∷ [];
-    happened = lists.happened ++ (let h : Happened = record { id = id_of done; event = event } in h) ∷ [];
+    happened = lists.happened
+        ++ (let h : Happened = record { id = id_of done; event = event } in h) ∷ [];
   };
   taken = taken ++ length lists.happened ∷ [];
 }
 
+-- what is left where a call is void: the message that says so
 abbrev pub after_void : Lists → List ℕ → WhyVoid → Message → Left
 after_void lists taken cause told = record {
   did = did.Void cause (length lists.messages);
@@ -79,6 +94,7 @@ after_void lists taken cause told = record {
   taken = taken;
 }
 
+-- what is left where a call waits: one request more
 abbrev pub after_asked : Lists → List ℕ → Request → Left
 after_asked lists taken request = record {
   did = did.Asked (length lists.requests);
@@ -86,9 +102,12 @@ after_asked lists taken request = record {
   taken = taken;
 }
 
+-- what is left where an event was taken: nothing is sent
 abbrev pub after_took : Lists → List ℕ → ℕ → Left
-after_took lists taken number = record { did = did.Took number; lists = lists; taken = taken ++ number ∷ [] }
+after_took lists taken number =
+    record { did = did.Took number; lists = lists; taken = taken ++ number ∷ [] }
 
+-- what is left where nothing was sent, run or taken
 abbrev pub after_none : NetDid → Lists → List ℕ → Left
 after_none what lists taken = record { did = what; lists = lists; taken = taken }
 
@@ -100,7 +119,8 @@ after_begun lists taken event (begun.Void cause told) = after_void lists taken c
 
 -- the event that a message may bring about: only a Grant lets the waiting call run
 abbrev pub event_for : List ℕ → Option Request → Message → Option (Event Call)
-event_for taken waiting (message.Grant id named) = option_map (λ (q : Request). event_of q.call taken) waiting
+event_for taken waiting (message.Grant id named) =
+    option_map (λ (q : Request). event_of q.call taken) waiting
 event_for taken waiting (message.Done id call seen) = None
 event_for taken waiting (message.Void id) = None
 
@@ -112,9 +132,12 @@ IsAfterRan lists taken (Some event) done left = left ≡ after_ran lists taken e
 -- What is left where a node answers so to a message that tells of this call.
 abbrev pub IsAfterHeard : Lists → List ℕ → EventId → Option (Event Call) → Heard → Left → Type 0
 IsAfterHeard lists taken id event (heard.Ran done) left = IsAfterRan lists taken event done left
-IsAfterHeard lists taken id event (heard.Void cause told) left = left ≡ after_void lists taken cause told
-IsAfterHeard lists taken id event (heard.Awaits other) left = left ≡ after_none (did.Awaits other) lists taken
-IsAfterHeard lists taken id event heard.Took left = left ≡ after_took lists taken (number_of lists.happened id)
+IsAfterHeard lists taken id event (heard.Void cause told) left =
+    left ≡ after_void lists taken cause told
+IsAfterHeard lists taken id event (heard.Awaits other) left =
+    left ≡ after_none (did.Awaits other) lists taken
+IsAfterHeard lists taken id event heard.Took left =
+    left ≡ after_took lists taken (number_of lists.happened id)
 IsAfterHeard lists taken id event heard.Noted left = left ≡ after_none did.Noted lists taken
 IsAfterHeard lists taken id event heard.Old left = left ≡ after_none did.Old lists taken
 

@@ -3,6 +3,7 @@ use Rattle.std.specs.Prelude.{ℕ, ◌==◌, ◌&&◌, Bool}
 use Rattle.std.specs.HashSet.{contains, HashSet, spare}
 use Rattle.token_protocol.specs.declared.message.EventId.{EventId}
 
+-- two pairs of numbers are equal
 abbrev pub same_pair : ℕ × ℕ → ℕ × ℕ → Bool
 same_pair x y = (x.0 == y.0) && (x.1 == y.1)
 
@@ -10,5 +11,6 @@ same_pair x y = (x.0 == y.0) && (x.1 == y.1)
 abbrev pub has_id : {S : Type 0} → HashSet (ℕ × ℕ) S → EventId → Bool
 has_id pairs id = contains same_pair pairs (id.replica, id.turn)
 
+-- for how many pairs more a set has memory
 abbrev pub room : {S : Type 0} → HashSet (ℕ × ℕ) S → ℕ
 room pairs = spare pairs

@@ -9,8 +9,10 @@ use Rattle.token_core.specs.HeldNet.{HeldNet, network_held}
 
 -- The answer is the definition's, or want of memory. An accepted step leaves the network that the definition gives, of the same
 -- specification in the same world, and a refused one changes nothing. The step isn't counted yet.
-pub record IsStepped (old new : HeldNet) (step : NetStep) (result : Result NetDid NetRefused) : Type 0 where
-  pub answer : (result ≡ Err unable.Memory) ⊎ (result ≡ answer (outcome old.spec old.world (network_held old) step))
+pub record IsStepped (old new : HeldNet) (step : NetStep)
+    (result : Result NetDid NetRefused) : Type 0 where
+  pub answer : (result ≡ Err unable.Memory)
+      ⊎ (result ≡ answer (outcome old.spec old.world (network_held old) step))
   pub ok : OnOk result (network_held new ≡ network_after (network_held old) (outcome old.spec old.world (network_held old) step))
   pub spec : new.spec ≡ old.spec
   pub world : new.world ≡ old.world

@@ -12,5 +12,6 @@ use Rattle.token_core.specs.declared.trying.Tried.TheVariants.{Ready, Never}
 
 -- the state after the call, or why it can't run
 abbrev pub IsTried : Specification → World → Reads → Call → Tried → Type 0
-IsTried d w r call (Ready next) = (why_void d w r call ≡ None) × (is_state d w next ≡ true) × (reads next ≡ after d w call r)
+IsTried d w r call (Ready next) =
+    (why_void d w r call ≡ None) × (is_state d w next ≡ true) × (reads next ≡ after d w call r)
 IsTried d w r call (Never cause) = why_void d w r call ≡ Some cause

@@ -21,7 +21,9 @@ IsVoid net id = Contains net.messages (message.Void id)
 
 -- an event with this id is among these events
 abbrev pub IsOneOf : Network → List ℕ → EventId → Type 0
-IsOneOf net numbers id = (k : ℕ) × (h : Happened) × Contains numbers k × (slice_get net.happened k ≡ Some h) × (h.id ≡ id)
+IsOneOf net numbers id =
+    (k : ℕ) × (h : Happened) × Contains numbers k × (slice_get net.happened k ≡ Some h)
+    × (h.id ≡ id)
 
 -- the grant with which a call was run: what it names had been taken there before, or is void
 pub record RanByGrant (net : Network) (h : Happened) : Type 0 where
@@ -35,16 +37,23 @@ pub record RanByGrant (net : Network) (h : Happened) : Type 0 where
 -- the state after that.
 pub record IsExecuted (d : Specification) (w : World) (net : Network) : Type 0 where
   pub run : IsExecution (system_of d w) (events_of net)
-  pub orders : (r : ℕ) (at : Replica) → slice_get net.replicas r ≡ Some at → IsOrder (events_of net) at.taken
-  pub states : (r : ℕ) (at : Replica) → slice_get net.replicas r ≡ Some at → at.node.state ≡ state_after (system_of d w) (events_of net) at.taken
+  pub orders : (r : ℕ) (at : Replica) → slice_get net.replicas r ≡ Some at
+      → IsOrder (events_of net) at.taken
+  pub states : (r : ℕ) (at : Replica) → slice_get net.replicas r ≡ Some at
+      → at.node.state ≡ state_after (system_of d w) (events_of net) at.taken
 
 -- What this rests on. Of two grants whose calls conflict the later names the earlier. A call that takes tokens was run by a grant.
 -- A call that is void never runs, and no call runs twice.
 pub record IsGranted (d : Specification) (w : World) (net : Network) : Type 0 where
-  pub later_names_earlier : (i j : ℕ) (g h : Granted) → i < j → slice_get net.granted i ≡ Some g → slice_get net.granted j ≡ Some h → conflicts d w g.call h.call ≡ true → Contains h.after g.id
-  pub run_by_grant : (k : ℕ) (h : Happened) → slice_get net.happened k ≡ Some h → takes_none d h.event.call ≡ false → RanByGrant net h
-  pub void_never_runs : (k : ℕ) (h : Happened) → slice_get net.happened k ≡ Some h → ¬ IsVoid net h.id
-  pub runs_once : (i j : ℕ) (g h : Happened) → slice_get net.happened i ≡ Some g → slice_get net.happened j ≡ Some h → g.id ≡ h.id → i ≡ j
+  pub later_names_earlier : (i j : ℕ) (g h : Granted) → i < j → slice_get net.granted i ≡ Some g
+      → slice_get net.granted j ≡ Some h → conflicts d w g.call h.call ≡ true
+      → Contains h.after g.id
+  pub run_by_grant : (k : ℕ) (h : Happened) → slice_get net.happened k ≡ Some h
+      → takes_none d h.event.call ≡ false → RanByGrant net h
+  pub void_never_runs : (k : ℕ) (h : Happened) → slice_get net.happened k ≡ Some h
+      → ¬ IsVoid net h.id
+  pub runs_once : (i j : ℕ) (g h : Happened) → slice_get net.happened i ≡ Some g
+      → slice_get net.happened j ≡ Some h → g.id ≡ h.id → i ≡ j
 
 -- two replicas are in one state, which satisfies the invariant
 pub record AreInOneState (d : Specification) (w : World) (one other : Replica) : Type 0 where

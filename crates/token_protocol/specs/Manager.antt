@@ -22,7 +22,8 @@ grant_of granted id = find (λ g. same_id g.id id) granted
 
 -- the grant of a call that has none so far
 abbrev pub new_grant : Specification → World → List Granted → Request → Granted
-new_grant d w granted request = record { id = request.id; call = request.call; after = conflicting d w granted request.call }
+new_grant d w granted request =
+    record { id = request.id; call = request.call; after = conflicting d w granted request.call }
 
 -- the message that tells of a grant
 abbrev pub grant_message : Granted → Message
@@ -33,9 +34,13 @@ pub record Asked : Type 0 where
   pub message : Message
   pub granted : List Granted
 
+-- what the manager sends for a request: what was granted to its id before, if anything was, else a new grant
 abbrev pub asked_with : Specification → World → List Granted → Request → Option Granted → Asked
 asked_with d w granted request (Some g) = record { message = grant_message g; granted = granted }
-asked_with d w granted request None = record { message = grant_message (new_grant d w granted request); granted = granted ++ new_grant d w granted request ∷ [] }
+asked_with d w granted request None = record {
+  message = grant_message (new_grant d w granted request);
+  granted = granted ++ new_grant d w granted request ∷ [];
+}
 
 -- The manager is asked for a grant.
 abbrev pub asked : Specification → World → List Granted → Request → Asked

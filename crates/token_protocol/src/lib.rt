@@ -4,8 +4,8 @@
 // call once, and the grant names the calls granted before with which the call conflicts; the replica runs the call when it has
 // taken each of these or knows that it will never run. Messages may be lost, repeated and reordered.
 //
-// `specs/Ids.antt` has the ids of calls, `specs/Manager.antt` what the manager grants, `specs/Node.antt` what a node answers to a
-// call and to a message, `specs/Network.antt` the network after a list of steps, `specs/Executed.antt` what holds of every network:
+// `specs/Ids.antt` has the ids of calls, `specs/Manager.antt` what the manager grants, `specs/Node.antt` what a node answers to a call
+// and to a message, and `specs/Network.antt` the network after a list of steps. `specs/Executed.antt` has what holds of every network:
 // its events form an execution, and each replica has taken a delivery order of it.
 //
 // Why this is so. Of two calls that conflict both have grants, and the later grant names the earlier call. If the event that ran

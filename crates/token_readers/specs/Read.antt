@@ -12,6 +12,7 @@ abbrev pub Read : Type 0 → Type 0
 Read A = Result (A × List Token) ℕ
 
 infixl 10 ◌>>=◌
+-- goes on with what was read, or stops where reading failed
 abbrev pub ◌>>=◌ : {A B : Type 0} → Result A ℕ → (A → Result B ℕ) → Result B ℕ
 (Ok x) >>= f = f x
 (Err e) >>= f = Err e
@@ -21,15 +22,18 @@ abbrev pub mapped : {A B : Type 0} → (A → B) → (List Token → Read A) →
 mapped f read ws = read ws >>= λ x. Ok (f x.0, x.1)
 
 -- reads one part, and then another
-abbrev pub both : {A B : Type 0} → (List Token → Read A) → (List Token → Read B) → List Token → Read (A × B)
+abbrev pub both : {A B : Type 0} → (List Token → Read A) → (List Token → Read B) → List Token
+    → Read (A × B)
 both r s ws = r ws >>= λ x. s x.1 >>= λ y. Ok ((x.0, y.0), y.1)
 
 -- reads the one where the next word begins it, and else the other
-abbrev pub either : {A B : Type 0} → (Kind → Bool) → (List Token → Read A) → (List Token → Read B) → List Token → Read (A ⊎ B)
+abbrev pub either : {A B : Type 0} → (Kind → Bool) → (List Token → Read A) → (List Token → Read B)
+    → List Token → Read (A ⊎ B)
 either starts r s ws = if starts (next (seen ws)) then mapped inl r ws else mapped inr s ws
 
 -- reads a part where the next word begins it
-abbrev pub perhaps : {A : Type 0} → (Kind → Bool) → (List Token → Read A) → List Token → Read (Option A)
+abbrev pub perhaps : {A : Type 0} → (Kind → Bool) → (List Token → Read A) → List Token
+    → Read (Option A)
 perhaps starts r ws = if starts (next (seen ws)) then mapped Some r ws else Ok (None, ws)
 
 -- reads a part that the next word has to begin
@@ -37,9 +41,12 @@ abbrev pub only : {A : Type 0} → (Kind → Bool) → (List Token → Read A) �
 only starts r ws = if starts (next (seen ws)) then r ws else Err (length ws)
 
 -- as often as a word begins one, at most n times
-unfoldable pub times : {A : Type 0} → (Kind → Bool) → (List Token → Read A) → ℕ → List Token → Read (List A)
+unfoldable pub times : {A : Type 0} → (Kind → Bool) → (List Token → Read A) → ℕ → List Token
+    → Read (List A)
 times starts r zero ws = Ok ([], ws)
-times starts r (suc n) ws = if starts (next (seen ws)) then (r ws >>= λ x. times starts r n x.1 >>= λ y. Ok (x.0 ∷ y.0, y.1)) else Ok ([], ws)
+times starts r (suc n) ws =
+    if starts (next (seen ws)) then (r ws >>= λ x. times starts r n x.1 >>= λ y. Ok (x.0 ∷ y.0, y.1))
+    else Ok ([], ws)
 
 -- each one takes a word, so this is as often as there are some
 abbrev pub many : {A : Type 0} → (Kind → Bool) → (List Token → Read A) → List Token → Read (List A)
@@ -48,7 +55,8 @@ many starts r ws = times starts r (length ws) ws
 -- one word of the right kind
 abbrev pub word_at : {A : Type 0} → (Kind → Bool) → (Token → A) → List Token → Read A
 word_at right make [] = Err 0
-word_at right make (t ∷ ts) = if right (kind_of t.symbol) then Ok (make t, ts) else Err (suc (length ts))
+word_at right make (t ∷ ts) =
+    if right (kind_of t.symbol) then Ok (make t, ts) else Err (suc (length ts))
 
 -- a reserved name or a sign, with its place and without
 abbrev pub key_at : Key → List Token → Read ℕ
@@ -94,4 +102,6 @@ between x = x.1.0
 
 -- some in brackets, or none without brackets
 abbrev pub group_at : {A : Type 0} → (List Token → Read A) → List Token → Read (List A)
-group_at r = mapped list_of (perhaps (is_key keys.Open) (mapped between (both (sign_at keys.Open) (both (listed_at r) (sign_at keys.Close)))))
+group_at r =
+    mapped list_of
+    (perhaps (is_key keys.Open) (mapped between (both (sign_at keys.Open) (both (listed_at r) (sign_at keys.Close)))))

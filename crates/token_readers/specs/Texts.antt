@@ -56,7 +56,13 @@ key_text keys.Int = codes "int"
 
 -- each reserved name and each sign
 abbrev pub all_keys : List Key
-all_keys = keys.Open ∷ keys.Close ∷ keys.Comma ∷ keys.Colon ∷ keys.Dot ∷ keys.Star ∷ keys.Plus ∷ keys.Minus ∷ keys.Equal ∷ keys.Unequal ∷ keys.Less ∷ keys.AtMost ∷ keys.Greater ∷ keys.AtLeast ∷ keys.Cise ∷ keys.Sort ∷ keys.Const ∷ keys.Relation ∷ keys.Counter ∷ keys.Initially ∷ keys.Token ∷ keys.Conflict ∷ keys.Invariant ∷ keys.Operation ∷ keys.End ∷ keys.Requires ∷ keys.Insert ∷ keys.Remove ∷ keys.Add ∷ keys.Set ∷ keys.Takes ∷ keys.When ∷ keys.Forall ∷ keys.Exists ∷ keys.True ∷ keys.False ∷ keys.Not ∷ keys.And ∷ keys.Or ∷ keys.Implies ∷ keys.Int ∷ []
+all_keys =
+    keys.Open ∷ keys.Close ∷ keys.Comma ∷ keys.Colon ∷ keys.Dot ∷ keys.Star ∷ keys.Plus ∷ keys.Minus
+    ∷ keys.Equal ∷ keys.Unequal ∷ keys.Less ∷ keys.AtMost ∷ keys.Greater ∷ keys.AtLeast ∷ keys.Cise
+    ∷ keys.Sort ∷ keys.Const ∷ keys.Relation ∷ keys.Counter ∷ keys.Initially ∷ keys.Token
+    ∷ keys.Conflict ∷ keys.Invariant ∷ keys.Operation ∷ keys.End ∷ keys.Requires ∷ keys.Insert
+    ∷ keys.Remove ∷ keys.Add ∷ keys.Set ∷ keys.Takes ∷ keys.When ∷ keys.Forall ∷ keys.Exists
+    ∷ keys.True ∷ keys.False ∷ keys.Not ∷ keys.And ∷ keys.Or ∷ keys.Implies ∷ keys.Int ∷ []
 
 -- the text of a word, as it is spelled
 abbrev pub text_of : Symbol → List ℕ
@@ -88,10 +94,10 @@ is_word (symbol.Name text) = is_name text && (not (is_reserved text) && not (is_
 is_word (symbol.Number n) = nat_lt n 100000000000000000000000000000000000000
 is_word (symbol.Key k) = true
 
--- the same as a fact
+-- A symbol can be spelled by a word.
 abbrev pub IsWord : Symbol → Type 0
 IsWord s = is_word s ≡ true
 
--- each of them can
+-- Each of some symbols can be spelled by a word.
 abbrev pub AreWords : List Symbol → Type 0
 AreWords = AllByRecursion IsWord

@@ -33,7 +33,12 @@ observes_text = codes "observes"
 
 -- A name has 1 to 32 bytes.
 abbrev pub name_kind : List ℕ → Kind
-name_kind text = if bytes_eq text shared_text then kind.Shared else (if bytes_eq text exclusive_text then kind.Exclusive else (if bytes_eq text observes_text then kind.Observes else (if (length text == 0) || nat_lt longest_name (length text) then kind.Unnamed else kind.Name)))
+name_kind text =
+    if bytes_eq text shared_text then kind.Shared
+    else (if bytes_eq text exclusive_text then kind.Exclusive
+    else (if bytes_eq text observes_text then kind.Observes
+    else (if (length text == 0) || nat_lt longest_name (length text) then kind.Unnamed
+    else kind.Name)))
 
 -- 1 and 2 stand apart, since versions are numbered by them
 abbrev pub number_kind : ℕ → Kind
@@ -69,7 +74,8 @@ plain (s ∷ ss) = s.symbol ∷ plain ss
 abbrev pub Matches : List Spelt → List Token → List Token → Type 0
 Matches [] ts rest = ts ≡ rest
 Matches (s ∷ ss) [] rest = ⊥
-Matches (s ∷ ss) (t ∷ ts) rest = (t.symbol ≡ s.symbol) × AllByRecursion (λ w. w ≡ t.word) s.claims × Matches ss ts rest
+Matches (s ∷ ss) (t ∷ ts) rest =
+    (t.symbol ≡ s.symbol) × AllByRecursion (λ w. w ≡ t.word) s.claims × Matches ss ts rest
 
 -- one further number for the place of the first word
 abbrev pub with_place : ℕ → List Spelt → List Spelt

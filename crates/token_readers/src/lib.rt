@@ -1,11 +1,11 @@
 // Readers over tokens: the pieces that a grammar is put together from, with what is known of each.
 //
-// A part of a grammar is a type of trees, the words that spell a tree, and a reader from words to a tree. The record `Part`
-// says that the reader is exact: what it reads is spelled so, with each place in the tree the place of its word; where it
-// stops, the words before begin a spelling and no spelling goes on with the next word; and one spelling has one tree but for
-// places. Parts are put together as the readers are (one after the other, one or the other, perhaps, as often as there are
-// some, a list with commas), so a grammar of any size is exact by its shape alone. Words and readers are defined in `specs/`,
-// the parts are in `proofs/`; `Loop` there is for code that reads one after the other.
+// A part of a grammar is a type of trees, the words that spell a tree, and a reader from words to a tree. The record `Part` says that
+// the reader is exact. What it reads is spelled so, with each place in the tree the place of its word. Where it stops, the words before
+// begin a spelling and no spelling goes on with the next word. And one spelling has one tree but for places. Parts are put together as
+// the readers are (one after the other, one or the other, perhaps, as often as there are some, a list with commas), so a grammar of any
+// size is exact by its shape alone. Words and readers are defined in `specs/`, the parts are in `proofs/`; `Loop` there is for code
+// that reads one after the other.
 #![tactic(auto)]
 
 mod brackets;

@@ -20,7 +20,8 @@ abbrev pub one_assignment : List ℕ → List ℕ → List ℕ → List ℕ → 
 one_assignment [] [] us fs = assigned us fs
 one_assignment [] (e ∷ es) us fs = false
 one_assignment (v ∷ vs) [] us fs = false
-one_assignment (v ∷ vs) (e ∷ es) us fs = stands_for v e vs es && stands_for v e us fs && one_assignment vs es us fs
+one_assignment (v ∷ vs) (e ∷ es) us fs =
+    stands_for v e vs es && stands_for v e us fs && one_assignment vs es us fs
 
 -- an assignment that gives both lists of elements
 pub record Assigns (vs es us fs : List ℕ) (value : ℕ → ℕ) : Type 0 where

@@ -11,10 +11,13 @@ use Rattle.token_rules.specs.declared.rivals.Rivalry.TheVariants.{Never, Tied, F
 
 -- a rule matches the tokens of two takes lines that aren't both shared, its left pattern at the first
 abbrev pub tokens_match : Rule → Take → Take → Bool
-tokens_match rule t u = not (t.shared && u.shared) && (rule.left.token == t.token) && (rule.right.token == u.token)
+tokens_match rule t u =
+    not (t.shared && u.shared) && (rule.left.token == t.token) && (rule.right.token == u.token)
 
+-- some rule matches the tokens of a line of each list, its left pattern at the first list
 abbrev pub some_rule_may : List Rule → List Take → List Take → Bool
-some_rule_may rules first second = list_any (λ rule. list_any (λ t. list_any (λ u. tokens_match rule t u) second) first) rules
+some_rule_may rules first second =
+    list_any (λ rule. list_any (λ t. list_any (λ u. tokens_match rule t u) second) first) rules
 
 -- some rule matches the tokens of a line of the one list and of a line of the other, in either order
 abbrev pub are_rivals : List Rule → List Take → List Take → Bool
@@ -33,15 +36,20 @@ same_first [] us = false
 same_first (v ∷ vs) [] = false
 same_first (v ∷ vs) (u ∷ us) = v == u
 
--- where the rule matches the tokens of two takes lines, it wants one element for these parameters, j at the first line and k at the
--- second
+-- where the rule matches the tokens of two takes lines, it asks for one element for these parameters, j at the first line and k at
+-- the second
 abbrev pub tied_by : ℕ → ℕ → Rule → Take → Take → Bool
-tied_by j k rule t u = not (tokens_match rule t u) || (same_first rule.left.vars rule.right.vars && (starts_with j t.args && starts_with k u.args))
+tied_by j k rule t u =
+    not (tokens_match rule t u)
+    || (same_first rule.left.vars rule.right.vars && (starts_with j t.args && starts_with k u.args))
 
+-- each rule that matches the tokens of a line of each list, its left pattern at the first list, asks for one element for
+-- these parameters
 abbrev pub all_tied : ℕ → ℕ → List Rule → List Take → List Take → Bool
-all_tied j k rules first second = list_all (λ rule. list_all (λ t. list_all (λ u. tied_by j k rule t u) second) first) rules
+all_tied j k rules first second =
+    list_all (λ rule. list_all (λ t. list_all (λ u. tied_by j k rule t u) second) first) rules
 
--- each rule that matches tokens of a line of the one list and of a line of the other, in either order, wants one element for
+-- each rule that matches tokens of a line of the one list and of a line of the other, in either order, asks for one element for
 -- these parameters, j of the one and k of the other
 abbrev pub are_tied : ℕ → ℕ → List Rule → List Take → List Take → Bool
 are_tied j k rules one other = all_tied j k rules one other && all_tied k j rules other one

@@ -4,7 +4,7 @@
 // variables of a rule gives two lists of elements.
 //
 // Most calls can be passed over before they are compared rule by rule: where no rule matches the tokens of their operations, and where
-// each rule that does wants one element for an argument of each and they differ. `rivals_of` and `may_conflict` say which. What is passed
+// each rule that does asks for one element for an argument of each and they differ. `rivals_of` and `may_conflict` say which. What is passed
 // over doesn't conflict, by the lemma `no_conflict` of proofs/Tokens. `specs/Rivals.antt` mirrors this code.
 #![tactic(auto)]
 

@@ -10,6 +10,7 @@ use Rattle.type_faults.specs.declared.fault.Fault.TheVariants as held
 use Rattle.type_faults.specs.declared.scope.Scope.{Scope as HeldScope}
 use Rattle.type_faults.specs.Names.{meaning_in}
 
+-- the fault that a program holds
 abbrev pub fault_of : Held → Fault
 fault_of (held.Unknown m) = unknown_fault m.now.text m.now.word
 fault_of (held.Twice m) = twice_fault m.now.text m.now.word
@@ -18,6 +19,7 @@ fault_of (held.Exists w) = kind_fault (codes "exists") w
 fault_of (held.Count m) = count_fault m.now.text m.now.word
 fault_of (held.Limit which n w) = limit_fault which n w
 
+-- the fault that a program has found, if it has found one
 abbrev pub faulted : Option Held → Option Fault
 faulted f = option_map fault_of f
 
@@ -25,5 +27,11 @@ faulted f = option_map fault_of f
 abbrev pub marked : Option (Bor Mark) → Option Mark
 marked m = option_map (λ x. x.now) m
 
+-- the scope that a program holds
 abbrev pub scope_of : HeldScope → Scope
-scope_of s = record { design = s.draft.now; names = meaning_in s.names.now; params = s.params.now; vars = s.vars.now }
+scope_of s = record {
+  design = s.draft.now;
+  names = meaning_in s.names.now;
+  params = s.params.now;
+  vars = s.vars.now;
+}

@@ -22,29 +22,42 @@ use Rattle.typing_faults.specs.Sites.{Need, meets, Site, declared, used, applied
 -- The rules: what is wrong with what stands at a word.
 pub data IsWrong : Site → Fault → Type 0 where
   -- A name that is used and isn't in scope is unknown.
-  not_in_scope : (sc : Scope) (need : Need) (m : Mark) → in_scope sc m.text ≡ false → IsWrong (used sc need m) (unknown_fault m.text m.word)
+  not_in_scope : (sc : Scope) (need : Need) (m : Mark) → in_scope sc m.text ≡ false
+      → IsWrong (used sc need m) (unknown_fault m.text m.word)
   -- A name that is declared while it is in scope is declared twice.
-  in_scope_already : (sc : Scope) (m : Mark) → in_scope sc m.text ≡ true → IsWrong (declared sc m) (twice_fault m.text m.word)
-  -- So is a second initial value for a name that is in scope.
-  stated_already : (k : Known) (m : Mark) → is_some (k.names m.text) ≡ true → is_some (k.stated m.text) ≡ true → IsWrong (stated k m) (twice_fault m.text m.word)
+  in_scope_already : (sc : Scope) (m : Mark) → in_scope sc m.text ≡ true
+      → IsWrong (declared sc m) (twice_fault m.text m.word)
+  -- An initial value is stated twice for a name that is in scope.
+  stated_already : (k : Known) (m : Mark) → is_some (k.names m.text) ≡ true
+      → is_some (k.stated m.text) ≡ true → IsWrong (stated k m) (twice_fault m.text m.word)
   -- A name that is in scope and isn't what it has to be is of a wrong kind.
-  not_as_needed : (sc : Scope) (need : Need) (m : Mark) → in_scope sc m.text ≡ true → meets sc need m.text ≡ false → IsWrong (used sc need m) (kind_fault m.text m.word)
-  -- So is the right one of two elements that are compared and are of two sorts,
-  of_two_sorts : (sc : Scope) (a b : Mark) → same_sort (sort_named sc a.text) (sort_named sc b.text) ≡ false → IsWrong (compared sc a b) (kind_fault b.text b.word)
-  -- `exists` before an invariant,
+  not_as_needed : (sc : Scope) (need : Need) (m : Mark) → in_scope sc m.text ≡ true
+      → meets sc need m.text ≡ false → IsWrong (used sc need m) (kind_fault m.text m.word)
+  -- Where two elements are compared that are of two sorts, the right one is of a wrong kind.
+  of_two_sorts : (sc : Scope) (a b : Mark)
+      → same_sort (sort_named sc a.text) (sort_named sc b.text) ≡ false
+      → IsWrong (compared sc a b) (kind_fault b.text b.word)
+  -- An invariant that begins with `exists` is of a wrong kind.
   not_for_all : (word : ℕ) → IsWrong (claimed_exists word) (kind_fault (codes "exists") word)
-  -- a name of the whole specification in the place of a rule variable,
-  global_in_rule : (k : Known) (m : Mark) → is_some (k.names m.text) ≡ true → IsWrong (rule_variable k m) (kind_fault m.text m.word)
-  -- and a rule variable at a place of another sort than that of its first place in the rule.
-  at_two_sorts : (k : Known) (p q : Reading) (s : ℕ) (m : Mark) → is_sort (first_place_sort k p q m.text) s ≡ false → IsWrong (rule_place k p q s m) (kind_fault m.text m.word)
+  -- A name of the whole specification is of a wrong kind in the place of a rule variable.
+  global_in_rule : (k : Known) (m : Mark) → is_some (k.names m.text) ≡ true
+      → IsWrong (rule_variable k m) (kind_fault m.text m.word)
+  -- A rule variable is of a wrong kind at a place of another sort than that of its first place in the rule.
+  at_two_sorts : (k : Known) (p q : Reading) (s : ℕ) (m : Mark)
+      → is_sort (first_place_sort k p q m.text) s ≡ false
+      → IsWrong (rule_place k p q s m) (kind_fault m.text m.word)
   -- A relation, counter or token needs as many arguments, spots or pattern names as it has places or keys.
-  wrong_number : (places n : ℕ) (m : Mark) → (places == n) ≡ false → IsWrong (applied places n m) (count_fault m.text m.word)
-  -- One is too many where there are as many as there may be.
-  one_too_many : (what : Which) (most n word : ℕ) → most ≤ n → IsWrong (one_more what most n word) (limit_fault what (most + 1) word)
+  wrong_number : (places n : ℕ) (m : Mark) → (places == n) ≡ false
+      → IsWrong (applied places n m) (count_fault m.text m.word)
+  -- One thing more is too many where there are as many as there may be.
+  one_too_many : (what : Which) (most n word : ℕ) → most ≤ n
+      → IsWrong (one_more what most n word) (limit_fault what (most + 1) word)
   -- A formula has too many nodes.
-  too_many_nodes : (f : Form) → most_nodes < node_count f → IsWrong (formula f) (limit_fault which.Nodes (node_count f) (first_word f))
+  too_many_nodes : (f : Form) → most_nodes < node_count f
+      → IsWrong (formula f) (limit_fault which.Nodes (node_count f) (first_word f))
   -- A literal or coefficient is too large.
-  too_large : (f : Figure) → greatest_literal < f.value → IsWrong (literal f) (limit_fault which.Literal f.value f.word)
+  too_large : (f : Figure) → greatest_literal < f.value
+      → IsWrong (literal f) (limit_fault which.Literal f.value f.word)
 
 -- A tree has a fault where something that stands in it is wrong.
 abbrev pub HasFault : TreeForm → Fault → Type 0

@@ -61,7 +61,8 @@ meets sc an_element name = is_some (sort_named sc name)
 meets sc a_relation name = is_some (relation_meant (sc.names name))
 meets sc a_counter name = is_some (counter_meant (sc.names name))
 meets sc a_token name = is_some (token_meant (sc.names name))
-meets sc a_number name = is_some (number_named sc name) || has_no_keys sc.design (counter_meant (sc.names name))
+meets sc a_number name =
+    is_some (number_named sc name) || has_no_keys sc.design (counter_meant (sc.names name))
 
 -- ---- what may stand at a word
 
@@ -101,25 +102,32 @@ element_sites sc (s ∷ ss) (m ∷ ms) = used sc (an_element_of s) m ∷ element
 -- the arguments of a name, by the places that it has, if it has any
 abbrev pub argument_sites : Scope → Reading → Option (List ℕ) → List Site
 argument_sites sc r None = element_sites sc [] r.args
-argument_sites sc r (Some places) = applied (length places) (length r.args) r.name ∷ element_sites sc places r.args
+argument_sites sc r (Some places) =
+    applied (length places) (length r.args) r.name ∷ element_sites sc places r.args
 
 -- an atom
 abbrev pub atom_sites : Scope → Reading → List Site
-atom_sites sc r = used sc a_relation r.name ∷ argument_sites sc r (option_map (relation_places sc.design) (relation_meant (sc.names r.name.text)))
+atom_sites sc r =
+    used sc a_relation r.name
+    ∷ argument_sites sc r (option_map (relation_places sc.design) (relation_meant (sc.names r.name.text)))
 
 -- a name alone in an amount; where it is no parameter and a counter, it has no arguments
 abbrev pub lone_sites : Scope → Mark → Option ℕ → Option ℕ → List Site
 lone_sites sc m (Some n) counter = used sc a_number m ∷ []
-lone_sites sc m None (Some k) = used sc a_number m ∷ applied (length (counter_keys sc.design k)) 0 m ∷ []
+lone_sites sc m None (Some k) =
+    used sc a_number m ∷ applied (length (counter_keys sc.design k)) 0 m ∷ []
 lone_sites sc m None None = used sc a_number m ∷ []
 
 -- a counter with arguments in an amount
 abbrev pub count_sites : Scope → Reading → List Site
-count_sites sc r = used sc a_counter r.name ∷ argument_sites sc r (option_map (counter_keys sc.design) (counter_meant (sc.names r.name.text)))
+count_sites sc r =
+    used sc a_counter r.name
+    ∷ argument_sites sc r (option_map (counter_keys sc.design) (counter_meant (sc.names r.name.text)))
 
 -- a name alone, or a counter with its keys
 abbrev pub amount_sites_by : Scope → Reading → List Mark → List Site
-amount_sites_by sc r [] = lone_sites sc r.name (number_named sc r.name.text) (counter_meant (sc.names r.name.text))
+amount_sites_by sc r [] =
+    lone_sites sc r.name (number_named sc r.name.text) (counter_meant (sc.names r.name.text))
 amount_sites_by sc r (m ∷ ms) = count_sites sc r
 
 -- what is read in a term
@@ -135,7 +143,9 @@ product_sites sc (products.Reading r) = amount_sites sc r
 -- summands behind n others
 abbrev pub signed_sites : Scope → ℕ → List Signed → List Site
 signed_sites sc n [] = []
-signed_sites sc n (s ∷ ss) = one_more which.Summands most_summands n s.summand.word ∷ (product_sites sc s.summand.product ++ signed_sites sc (n + 1) ss)
+signed_sites sc n (s ∷ ss) =
+    one_more which.Summands most_summands n s.summand.word
+    ∷ (product_sites sc s.summand.product ++ signed_sites sc (n + 1) ss)
 
 -- the summands of a term
 abbrev pub term_sites : Scope → Term → List Site
@@ -156,7 +166,8 @@ part_sites sc (false_form w) = []
 part_sites sc (not_form w f) = part_sites sc f
 part_sites sc (connect_form w f c g) = part_sites sc f ++ part_sites sc g
 part_sites sc (has_form w r) = atom_sites sc r
-part_sites sc (compare_form w s c t) = compare_sites sc s t (side_element sc c s) (side_element sc c t)
+part_sites sc (compare_form w s c t) =
+    compare_sites sc s t (side_element sc c s) (side_element sc c t)
 
 -- a formula as a whole, and its parts
 abbrev pub formula_sites : Scope → Form → List Site
@@ -166,12 +177,15 @@ formula_sites sc f = formula f ∷ part_sites sc f
 abbrev pub variable_sites : Scope → List Variable → List Variable → List Site
 variable_sites sc before [] = []
 variable_sites sc before (v ∷ vs) =
-    declared (with_vars sc before) v.name ∷ one_more which.Variables most_variables (length before) v.name.word
+    declared (with_vars sc before) v.name
+    ∷ one_more which.Variables most_variables (length before) v.name.word
     ∷ used (with_vars sc (before ++ v ∷ [])) a_sort v.sort ∷ variable_sites sc (before ++ v ∷ []) vs
 
 -- a formula with its variables
 abbrev pub sentence_sites : Scope → Sentence → List Site
-sentence_sites sc s = variable_sites sc [] (vars_of s.prefix) ++ formula_sites (with_vars sc (vars_of s.prefix)) s.body
+sentence_sites sc s =
+    variable_sites sc [] (vars_of s.prefix)
+    ++ formula_sites (with_vars sc (vars_of s.prefix)) s.body
 
 -- ---- lines of an operation
 
@@ -186,15 +200,20 @@ spot_sites sc (s ∷ ss) (spots.One m ∷ xs) = used sc (an_element_of s) m ∷ 
 -- the name that an update changes, and its spots
 abbrev pub target_sites : Scope → Need → Mark → List Spot → Option (List ℕ) → List Site
 target_sites sc need m xs None = used sc need m ∷ spot_sites sc [] xs
-target_sites sc need m xs (Some places) = used sc need m ∷ applied (length places) (length xs) m ∷ spot_sites sc places xs
+target_sites sc need m xs (Some places) =
+    used sc need m ∷ applied (length places) (length xs) m ∷ spot_sites sc places xs
 
 -- what is inserted into or removed from, and what is added to or set
 abbrev pub relation_sites : Scope → Mark → List Spot → List Site
-relation_sites sc m xs = target_sites sc a_relation m xs (option_map (relation_places sc.design) (relation_meant (sc.names m.text)))
+relation_sites sc m xs =
+    target_sites sc a_relation m xs
+    (option_map (relation_places sc.design) (relation_meant (sc.names m.text)))
 
 -- the counter that an update changes, and its spots
 abbrev pub counter_sites : Scope → Mark → List Spot → List Site
-counter_sites sc m xs = target_sites sc a_counter m xs (option_map (counter_keys sc.design) (counter_meant (sc.names m.text)))
+counter_sites sc m xs =
+    target_sites sc a_counter m xs
+    (option_map (counter_keys sc.design) (counter_meant (sc.names m.text)))
 
 -- the condition of an update, where there is one
 abbrev pub guard_sites : Scope → Option Form → List Site
@@ -203,17 +222,30 @@ guard_sites sc (Some f) = formula_sites sc f
 
 -- what is taken
 abbrev pub taking_sites : Scope → Reading → List Site
-taking_sites sc r = used sc a_token r.name ∷ argument_sites sc r (option_map (token_places sc.design) (token_meant (sc.names r.name.text)))
+taking_sites sc r =
+    used sc a_token r.name
+    ∷ argument_sites sc r (option_map (token_places sc.design) (token_meant (sc.names r.name.text)))
 
 -- a line behind those that an operation has
 abbrev pub line_sites : Scope → Operation → LineForm → List Site
-line_sites sc o (requires_form w s) = one_more which.Requires most_requires (length o.requires_) w ∷ sentence_sites sc s
-line_sites sc o (insert_form w m xs g) = one_more which.Updates most_updates (length o.updates) w ∷ (relation_sites sc m xs ++ guard_sites sc g)
-line_sites sc o (remove_form w m xs g) = one_more which.Updates most_updates (length o.updates) w ∷ (relation_sites sc m xs ++ guard_sites sc g)
-line_sites sc o (add_form w m xs t g) = one_more which.Updates most_updates (length o.updates) w ∷ (counter_sites sc m xs ++ (term_sites sc t ++ guard_sites sc g))
-line_sites sc o (set_form w m xs t g) = one_more which.Updates most_updates (length o.updates) w ∷ (counter_sites sc m xs ++ (term_sites sc t ++ guard_sites sc g))
-line_sites sc o (takes_form w r m) = one_more which.Takes most_takes (length o.takes) w ∷ taking_sites sc r
-line_sites sc o (observes_form w s) = one_more which.Observes (most_observed sc.design) (length o.observes) w ∷ sentence_sites sc s
+line_sites sc o (requires_form w s) =
+    one_more which.Requires most_requires (length o.requires_) w ∷ sentence_sites sc s
+line_sites sc o (insert_form w m xs g) =
+    one_more which.Updates most_updates (length o.updates) w
+    ∷ (relation_sites sc m xs ++ guard_sites sc g)
+line_sites sc o (remove_form w m xs g) =
+    one_more which.Updates most_updates (length o.updates) w
+    ∷ (relation_sites sc m xs ++ guard_sites sc g)
+line_sites sc o (add_form w m xs t g) =
+    one_more which.Updates most_updates (length o.updates) w
+    ∷ (counter_sites sc m xs ++ (term_sites sc t ++ guard_sites sc g))
+line_sites sc o (set_form w m xs t g) =
+    one_more which.Updates most_updates (length o.updates) w
+    ∷ (counter_sites sc m xs ++ (term_sites sc t ++ guard_sites sc g))
+line_sites sc o (takes_form w r m) =
+    one_more which.Takes most_takes (length o.takes) w ∷ taking_sites sc r
+line_sites sc o (observes_form w s) =
+    one_more which.Observes (most_observed sc.design) (length o.observes) w ∷ sentence_sites sc s
 
 -- the lines of an operation, each with those before it
 abbrev pub lines_sites : Scope → Operation → List LineForm → List Site
@@ -234,7 +266,8 @@ kind_sites sc kinds.Int = []
 abbrev pub param_sites : Scope → List Param → List Param → List Site
 param_sites sc before [] = []
 param_sites sc before (p ∷ ps) =
-    declared (with_params sc before) p.name ∷ one_more which.Parameters most_parameters (length before) p.name.word
+    declared (with_params sc before) p.name
+    ∷ one_more which.Parameters most_parameters (length before) p.name.word
     ∷ (kind_sites (with_params sc (before ++ p ∷ [])) p.kind ++ param_sites sc (before ++ p ∷ []) ps)
 
 -- ---- items
@@ -246,12 +279,14 @@ heading_sites k which most n m = declared (scope_in k) m ∷ one_more which most
 -- the sorts of places or keys, behind n others
 abbrev pub place_sites : Scope → ℕ → ℕ → List Mark → List Site
 place_sites sc most n [] = []
-place_sites sc most n (m ∷ ms) = used sc a_sort m ∷ one_more which.Places most n m.word ∷ place_sites sc most (n + 1) ms
+place_sites sc most n (m ∷ ms) =
+    used sc a_sort m ∷ one_more which.Places most n m.word ∷ place_sites sc most (n + 1) ms
 
 -- constants are counted by their sorts
 abbrev pub few_const_sites : Specification → Mark → Option ℕ → List Site
 few_const_sites d m None = []
-few_const_sites d m (Some s) = one_more which.Constants most_constants (count_by (λ c. c.sort == s) d.consts) m.word ∷ []
+few_const_sites d m (Some s) =
+    one_more which.Constants most_constants (count_by (λ c. c.sort == s) d.consts) m.word ∷ []
 
 -- what has an initial value of this kind
 abbrev pub need_of_value : Value → Need
@@ -273,22 +308,27 @@ sorts_at d (Some t) = token_places d t
 -- the sort of the first place at which a variable stands in a rule; what isn't behind a token stands at no place
 abbrev pub first_place_sort : Known → Reading → Reading → List ℕ → Option ℕ
 first_place_sort k p q name =
-    option_or (first_sort name (sorts_at k.design (token_meant (k.names p.name.text))) p.args) (first_sort name (sorts_at k.design (token_meant (k.names q.name.text))) q.args)
+    option_or (first_sort name (sorts_at k.design (token_meant (k.names p.name.text))) p.args)
+    (first_sort name (sorts_at k.design (token_meant (k.names q.name.text))) q.args)
 
 -- the variables of a pattern of a rule, whose token has places of these sorts
 abbrev pub pattern_variable_sites : Known → Reading → Reading → List ℕ → List Mark → List Site
 pattern_variable_sites k p q ss [] = []
 pattern_variable_sites k p q [] (m ∷ ms) = rule_variable k m ∷ pattern_variable_sites k p q [] ms
-pattern_variable_sites k p q (s ∷ ss) (m ∷ ms) = rule_variable k m ∷ rule_place k p q s m ∷ pattern_variable_sites k p q ss ms
+pattern_variable_sites k p q (s ∷ ss) (m ∷ ms) =
+    rule_variable k m ∷ rule_place k p q s m ∷ pattern_variable_sites k p q ss ms
 
 -- the token of a pattern, and its variables
 abbrev pub pattern_sites_at : Known → Reading → Reading → Reading → Option (List ℕ) → List Site
 pattern_sites_at k p q r None = pattern_variable_sites k p q [] r.args
-pattern_sites_at k p q r (Some places) = applied (length places) (length r.args) r.name ∷ pattern_variable_sites k p q places r.args
+pattern_sites_at k p q r (Some places) =
+    applied (length places) (length r.args) r.name ∷ pattern_variable_sites k p q places r.args
 
 -- one of the two patterns of a rule
 abbrev pub pattern_sites : Known → Reading → Reading → Reading → List Site
-pattern_sites k p q r = used (scope_in k) a_token r.name ∷ pattern_sites_at k p q r (option_map (token_places k.design) (token_meant (k.names r.name.text)))
+pattern_sites k p q r =
+    used (scope_in k) a_token r.name
+    ∷ pattern_sites_at k p q r (option_map (token_places k.design) (token_meant (k.names r.name.text)))
 
 -- an invariant that begins with `exists`
 abbrev pub some_sites : ℕ → Quantifier → List Site
@@ -302,27 +342,46 @@ exists_sites (Some p) = some_sites p.word p.quantifier
 
 -- an operation behind its own name
 abbrev pub operation_sites : Known → Mark → List Param → List LineForm → List Site
-operation_sites k m ps ls = param_sites (scope_in k) [] ps ++ lines_sites (with_params (scope_in k) ps) (without_lines k m ps) ls
+operation_sites k m ps ls =
+    param_sites (scope_in k) [] ps
+    ++ lines_sites (with_params (scope_in k) ps) (without_lines k m ps) ls
 
 -- An item behind those that are known. A name that it declares is in scope from its own word on.
 abbrev pub item_sites : Known → ItemForm → List Site
 item_sites k (sort_form w m) = heading_sites k which.Sorts most_sorts (length k.design.sorts) m
-item_sites k (const_form w m s) = declared (scope_in k) m ∷ (few_const_sites k.design m (sort_meant (k.names s.text)) ++ used (scope_in (with_const k m s)) a_sort s ∷ [])
-item_sites k (relation_form w m ps) = heading_sites k which.Relations most_relations (length k.design.relations) m ++ place_sites (scope_in (with_relation k m ps)) most_places 0 ps
-item_sites k (counter_form w m ps) = heading_sites k which.Counters most_counters (length k.design.counters) m ++ place_sites (scope_in (with_counter k m ps)) most_keys 0 ps
-item_sites k (initially_form w m v) = stated k m ∷ used (scope_in k) (need_of_value v) m ∷ value_sites v
-item_sites k (token_form w m ps) = heading_sites k which.Tokens most_tokens (length k.design.tokens) m ++ place_sites (scope_in (with_token k m ps)) most_places 0 ps
-item_sites k (conflict_form w p q) = one_more which.Conflicts most_rules (length k.design.rules) w ∷ (pattern_sites k p q p ++ pattern_sites k p q q)
-item_sites k (invariant_form w m s) = heading_sites k which.Invariants most_invariants (length k.design.invariants) m ++ (exists_sites s.prefix ++ sentence_sites (scope_in (with_heading k m meaning.Invariant)) s)
-item_sites k (operation_form w m ps ls) = heading_sites k which.Operations most_operations (length k.design.operations) m ++ operation_sites (with_heading k m meaning.Operation) m ps ls
+item_sites k (const_form w m s) =
+    declared (scope_in k) m
+    ∷ (few_const_sites k.design m (sort_meant (k.names s.text)) ++ used (scope_in (with_const k m s)) a_sort s ∷ [])
+item_sites k (relation_form w m ps) =
+    heading_sites k which.Relations most_relations (length k.design.relations) m
+    ++ place_sites (scope_in (with_relation k m ps)) most_places 0 ps
+item_sites k (counter_form w m ps) =
+    heading_sites k which.Counters most_counters (length k.design.counters) m
+    ++ place_sites (scope_in (with_counter k m ps)) most_keys 0 ps
+item_sites k (initially_form w m v) =
+    stated k m ∷ used (scope_in k) (need_of_value v) m ∷ value_sites v
+item_sites k (token_form w m ps) =
+    heading_sites k which.Tokens most_tokens (length k.design.tokens) m
+    ++ place_sites (scope_in (with_token k m ps)) most_places 0 ps
+item_sites k (conflict_form w p q) =
+    one_more which.Conflicts most_rules (length k.design.rules) w
+    ∷ (pattern_sites k p q p ++ pattern_sites k p q q)
+item_sites k (invariant_form w m s) =
+    heading_sites k which.Invariants most_invariants (length k.design.invariants) m
+    ++ (exists_sites s.prefix ++ sentence_sites (scope_in (with_heading k m meaning.Invariant)) s)
+item_sites k (operation_form w m ps ls) =
+    heading_sites k which.Operations most_operations (length k.design.operations) m
+    ++ operation_sites (with_heading k m meaning.Operation) m ps ls
 
 -- one more operation
 abbrev pub with_operation : Known → Operation → Known
-with_operation k o = record k { design = record k.design { operations = k.design.operations ++ o ∷ [] } }
+with_operation k o =
+    record k { design = record k.design { operations = k.design.operations ++ o ∷ [] } }
 
 -- the operation with all of its lines
 abbrev pub with_lines : Known → Mark → List Param → List LineForm → Known
-with_lines k m ps ls = with_operation k (operation_behind (with_params (scope_in k) ps) (without_lines k m ps) ls)
+with_lines k m ps ls =
+    with_operation k (operation_behind (with_params (scope_in k) ps) (without_lines k m ps) ls)
 
 -- what is known behind one item more, whatever is wrong with it
 abbrev pub known_behind : Known → ItemForm → Known

@@ -1,9 +1,9 @@
 // What is wrong with a tree, as rules.
 //
 // It stands on `typing_rules`, whose `typing` asks for faults in the order of the words and answers the first. Here a fault of a tree
-// is something that is wrong at a word by one rule, without order, whatever else is wrong; and the law says that the answer is the
-// least fault, and that a tree without faults is what it declares. Definitions, in the order in which a reader needs them:
-// specs/Sites (what stands at the words of a tree, each in its scope) and specs/Faults (the rules; the least fault).
+// is something that is wrong at a word by one rule, without order, whatever else is wrong. The law says that the answer is the least
+// fault, and that a tree without faults is what it declares. Definitions, in the order in which a reader needs them: specs/Sites (what
+// stands at the words of a tree, each in its scope) and specs/Faults (the rules; the least fault).
 #![tactic(auto)]
 
 mod law;

@@ -45,4 +45,5 @@ count_at m = Some (count_fault m.text m.word)
 
 -- one more is one too many, where there are as many as there may be
 abbrev pub limit_at : Which → ℕ → ℕ → ℕ → Option Fault
-limit_at which most count word = if nat_lt count most then None else Some (limit_fault which (most + 1) word)
+limit_at which most count word =
+    if nat_lt count most then None else Some (limit_fault which (most + 1) word)

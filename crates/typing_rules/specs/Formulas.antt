@@ -91,7 +91,8 @@ side_element sc c t = if is_equality c then element_alone sc t else None
 
 -- two elements are compared where they are of one sort
 abbrev pub sorts_fault : Scope → Mark → Mark → Option Fault
-sorts_fault sc a b = if same_sort (sort_named sc a.text) (sort_named sc b.text) then None else kind_at b
+sorts_fault sc a b =
+    if same_sort (sort_named sc a.text) (sort_named sc b.text) then None else kind_at b
 
 -- what is wrong with two terms
 abbrev pub terms_fault : Scope → Term → Term → Option Fault
@@ -138,7 +139,9 @@ first_word (compare_form w s c t) = w
 
 -- few nodes; words are numbered below 2^32, so no text has more than 2^32 nodes
 abbrev pub nodes_fault : Form → Option Fault
-nodes_fault f = if nat_le (node_count f) most_nodes then None else Some (limit_fault Nodes (min (node_count f) 4294967296) (first_word f))
+nodes_fault f =
+    if nat_le (node_count f) most_nodes then None
+    else Some (limit_fault Nodes (min (node_count f) 4294967296) (first_word f))
 
 -- what is wrong with a formula: that it has too many nodes, and then its parts
 abbrev pub formula_fault : Scope → Form → Option Fault
@@ -191,7 +194,8 @@ formula_of sc (false_form w) = false_of
 formula_of sc (not_form w f) = not_of (formula_of sc f)
 formula_of sc (connect_form w f c g) = connected_of c (formula_of sc f) (formula_of sc g)
 formula_of sc (has_form w r) = atom_of sc r
-formula_of sc (compare_form w s c t) = compared_of sc s c t (side_element sc c s) (side_element sc c t)
+formula_of sc (compare_form w s c t) =
+    compared_of sc s c t (side_element sc c s) (side_element sc c t)
 
 -- ---- variables
 
@@ -201,7 +205,10 @@ with_vars sc vs = record sc { vars = vs }
 
 -- a variable, where those before it are in scope
 abbrev pub variable_fault : Scope → ℕ → Variable → Option Fault
-variable_fault sc n v = declared_fault sc v.name otherwise limit_at Variables most_variables n v.name.word otherwise sort_fault sc v.name.text v.sort
+variable_fault sc n v =
+    declared_fault sc v.name
+    otherwise limit_at Variables most_variables n v.name.word
+    otherwise sort_fault sc v.name.text v.sort
 
 -- what is wrong with some variables, in their order
 abbrev pub variables_fault : Scope → List Variable → Option Fault
@@ -214,7 +221,8 @@ vars_of (Some p) = p.vars
 
 -- a formula with its variables
 abbrev pub sentence_fault : Scope → Sentence → Option Fault
-sentence_fault sc s = variables_fault sc (vars_of s.prefix) otherwise formula_fault (with_vars sc (vars_of s.prefix)) s.body
+sentence_fault sc s =
+    variables_fault sc (vars_of s.prefix) otherwise formula_fault (with_vars sc (vars_of s.prefix)) s.body
 
 -- the prefix of a quantifier
 abbrev pub quantified : Quantifier → CorePrefix
@@ -228,4 +236,8 @@ prefix_of (Some p) = quantified p.quantifier
 
 -- The line that a formula with its variables is.
 abbrev pub sentence_of : Scope → Sentence → Line
-sentence_of sc s = record { prefix = prefix_of s.prefix; vars = var_sorts sc.names (vars_of s.prefix); body = formula_of (with_vars sc (vars_of s.prefix)) s.body }
+sentence_of sc s = record {
+  prefix = prefix_of s.prefix;
+  vars = var_sorts sc.names (vars_of s.prefix);
+  body = formula_of (with_vars sc (vars_of s.prefix)) s.body;
+}

@@ -50,7 +50,8 @@ scope_in k = record { design = k.design; names = k.names; params = []; vars = []
 
 -- a name is declared, of a kind of which there may be so many
 abbrev pub heading_fault : Known → Which → ℕ → ℕ → Mark → Option Fault
-heading_fault k which most count m = declared_fault (scope_in k) m otherwise limit_at which most count m.word
+heading_fault k which most count m =
+    declared_fault (scope_in k) m otherwise limit_at which most count m.word
 
 -- one of the sorts of places or keys, of which there may be so many
 abbrev pub place_fault : Scope → List ℕ → ℕ → ℕ → Mark → Option Fault
@@ -80,11 +81,14 @@ with_sort k m = record k {
 -- few constants of one sort
 abbrev pub few_consts_fault : Specification → Mark → Option ℕ → Option Fault
 few_consts_fault d m None = None
-few_consts_fault d m (Some s) = limit_at which.Constants most_constants (count_by (λ c. c.sort == s) d.consts) m.word
+few_consts_fault d m (Some s) =
+    limit_at which.Constants most_constants (count_by (λ c. c.sort == s) d.consts) m.word
 
 -- what is wrong with the declaration of a constant
 abbrev pub const_fault : Known → Mark → Mark → Option Fault
-const_fault k m s = declared_fault (scope_in k) m otherwise few_consts_fault k.design m (sort_meant (k.names s.text)) otherwise sort_fault (scope_in k) m.text s
+const_fault k m s =
+    declared_fault (scope_in k) m otherwise few_consts_fault k.design m
+    (sort_meant (k.names s.text)) otherwise sort_fault (scope_in k) m.text s
 
 -- a place as a byte numbers it: a specification has far fewer constants
 abbrev pub place_number : ℕ → ℕ
@@ -103,7 +107,9 @@ with_const k m s = record k {
 
 -- what is wrong with the declaration of a relation
 abbrev pub relation_fault : Known → Mark → List Mark → Option Fault
-relation_fault k m ps = heading_fault k which.Relations most_relations (length k.design.relations) m otherwise sorts_fault (scope_in k) m.text most_places ps
+relation_fault k m ps =
+    heading_fault k which.Relations most_relations (length k.design.relations) m otherwise sorts_fault
+    (scope_in k) m.text most_places ps
 
 -- the relation that is declared, which is false until its initial value is stated
 abbrev pub relation_of : Known → Mark → List Mark → Relation
@@ -118,7 +124,9 @@ with_relation k m ps = record k {
 
 -- what is wrong with the declaration of a counter
 abbrev pub counter_fault : Known → Mark → List Mark → Option Fault
-counter_fault k m ps = heading_fault k which.Counters most_counters (length k.design.counters) m otherwise sorts_fault (scope_in k) m.text most_keys ps
+counter_fault k m ps =
+    heading_fault k which.Counters most_counters (length k.design.counters) m otherwise sorts_fault
+    (scope_in k) m.text most_keys ps
 
 -- the counter that is declared, which is 0 until its initial value is stated
 abbrev pub counter_of : Known → Mark → List Mark → Counter
@@ -133,7 +141,9 @@ with_counter k m ps = record k {
 
 -- what is wrong with the declaration of a token
 abbrev pub token_fault : Known → Mark → List Mark → Option Fault
-token_fault k m ps = heading_fault k which.Tokens most_tokens (length k.design.tokens) m otherwise sorts_fault (scope_in k) m.text most_places ps
+token_fault k m ps =
+    heading_fault k which.Tokens most_tokens (length k.design.tokens) m otherwise sorts_fault
+    (scope_in k) m.text most_places ps
 
 -- the token that is declared
 abbrev pub token_of : Known → Mark → List Mark → Token
@@ -158,7 +168,8 @@ value_fault m None v = unknown_at m
 
 -- a second statement for one name is refused whatever its value
 abbrev pub initially_fault : Known → Mark → Value → Option Fault
-initially_fault k m v = if is_some (k.stated m.text) then twice_at m else value_fault m (k.names m.text) v
+initially_fault k m v =
+    if is_some (k.stated m.text) then twice_at m else value_fault m (k.names m.text) v
 
 -- the initial value of a relation; what is no truth value stands for false, and is refused
 abbrev pub truth_of : Value → Bool
@@ -175,22 +186,27 @@ number_of (values.Number minus f) = literal_of minus f
 -- the relation at a place has this initial value
 abbrev pub initial_truth : List Relation → ℕ → Bool → List Relation
 initial_truth [] n b = []
-initial_truth (r ∷ rs) n b = if n == 0 then record r { initial = b } ∷ rs else r ∷ initial_truth rs (n - 1) b
+initial_truth (r ∷ rs) n b =
+    if n == 0 then record r { initial = b } ∷ rs else r ∷ initial_truth rs (n - 1) b
 
--- so the counter at a place
+-- the counter at a place has this initial value
 abbrev pub initial_number : List Counter → ℕ → ℤ → List Counter
 initial_number [] n v = []
-initial_number (c ∷ cs) n v = if n == 0 then record c { initial = v } ∷ cs else c ∷ initial_number cs (n - 1) v
+initial_number (c ∷ cs) n v =
+    if n == 0 then record c { initial = v } ∷ cs else c ∷ initial_number cs (n - 1) v
 
 -- the specification in which the thing of this meaning has this initial value
 abbrev pub initial_design : Specification → Option Meaning → Value → Specification
-initial_design d (Some (meaning.Relation n)) v = record d { relations = initial_truth d.relations n (truth_of v) }
-initial_design d (Some (meaning.Counter n)) v = record d { counters = initial_number d.counters n (number_of v) }
+initial_design d (Some (meaning.Relation n)) v =
+    record d { relations = initial_truth d.relations n (truth_of v) }
+initial_design d (Some (meaning.Counter n)) v =
+    record d { counters = initial_number d.counters n (number_of v) }
 initial_design d _ v = d
 
 -- one more initial value
 abbrev pub with_initial : Known → Mark → Value → Known
-with_initial k m v = record k { design = initial_design k.design (k.names m.text) v; stated = with_name k.stated m.text meaning.Invariant }
+with_initial k m v =
+    record k { design = initial_design k.design (k.names m.text) v; stated = with_name k.stated m.text meaning.Invariant }
 
 -- ---- conflict rules
 
@@ -205,20 +221,26 @@ pattern_places k p = token_places k.design (unwrap_or (token_meant (k.names p.na
 
 -- the sort of the first place at which a variable stands in a rule
 abbrev pub rule_sort : Known → Reading → Reading → List ℕ → Option ℕ
-rule_sort k p q name = option_or (first_sort name (pattern_places k p) p.args) (first_sort name (pattern_places k q) q.args)
+rule_sort k p q name =
+    option_or (first_sort name (pattern_places k p) p.args)
+    (first_sort name (pattern_places k q) q.args)
 
 -- A rule variable stands at places of one sort alone. It isn't declared: a name of the whole specification is none.
 abbrev pub rule_variable_fault : Known → Reading → Reading → ℕ → Mark → Option Fault
-rule_variable_fault k p q s m = if is_none (k.names m.text) && is_sort (rule_sort k p q m.text) s then None else kind_at m
+rule_variable_fault k p q s m =
+    if is_none (k.names m.text) && is_sort (rule_sort k p q m.text) s then None else kind_at m
 
 -- the variables at places of these sorts
 abbrev pub rule_variables_fault : Known → Reading → Reading → List ℕ → List Mark → Option Fault
-rule_variables_fault k p q (s ∷ ss) (m ∷ ms) = rule_variable_fault k p q s m otherwise rule_variables_fault k p q ss ms
+rule_variables_fault k p q (s ∷ ss) (m ∷ ms) =
+    rule_variable_fault k p q s m otherwise rule_variables_fault k p q ss ms
 rule_variables_fault k p q ss ms = None
 
 -- the same, where it is known which token the name is
 abbrev pub pattern_fault_at : Known → Reading → Reading → Reading → Option ℕ → Option Fault
-pattern_fault_at k p q r (Some t) = places_fault r.name (token_places k.design t) (length r.args) otherwise rule_variables_fault k p q (token_places k.design t) r.args
+pattern_fault_at k p q r (Some t) =
+    places_fault r.name (token_places k.design t) (length r.args) otherwise rule_variables_fault k p q
+    (token_places k.design t) r.args
 pattern_fault_at k p q r None = stranger_fault (scope_in k) r.name
 
 -- one of the two patterns of a rule is a token with its variables
@@ -227,15 +249,22 @@ pattern_fault k p q r = pattern_fault_at k p q r (token_meant (k.names r.name.te
 
 -- what is wrong with a conflict rule
 abbrev pub conflict_fault : Known → ℕ → Reading → Reading → Option Fault
-conflict_fault k w p q = limit_at which.Conflicts most_rules (length k.design.rules) w otherwise pattern_fault k p q p otherwise pattern_fault k p q q
+conflict_fault k w p q =
+    limit_at which.Conflicts most_rules (length k.design.rules) w
+    otherwise pattern_fault k p q p
+    otherwise pattern_fault k p q q
 
 -- a variable is numbered by the first place at which it stands in the rule
 abbrev pub variable_number : Reading → Reading → Mark → ℕ
-variable_number p q m = unwrap_or (small (position (λ o. bytes_eq o.text m.text) (p.args ++ q.args))) 0
+variable_number p q m =
+    unwrap_or (small (position (λ o. bytes_eq o.text m.text) (p.args ++ q.args))) 0
 
 -- a pattern, with its variables by their numbers
 abbrev pub pattern_of : Known → Reading → Reading → Reading → Pattern
-pattern_of k p q r = record { token = unwrap_or (token_meant (k.names r.name.text)) 0; vars = map (variable_number p q) r.args }
+pattern_of k p q r = record {
+  token = unwrap_or (token_meant (k.names r.name.text)) 0;
+  vars = map (variable_number p q) r.args;
+}
 
 -- the rule of its two patterns
 abbrev pub rule_of : Known → Reading → Reading → Rule
@@ -243,7 +272,8 @@ rule_of k p q = record { left = pattern_of k p q p; right = pattern_of k p q q }
 
 -- one more rule
 abbrev pub with_rule : Known → Reading → Reading → Known
-with_rule k p q = record k { design = record k.design { rules = k.design.rules ++ rule_of k p q ∷ [] } }
+with_rule k p q =
+    record k { design = record k.design { rules = k.design.rules ++ rule_of k p q ∷ [] } }
 
 -- ---- invariants
 
@@ -271,7 +301,8 @@ invariant_of k m s = record { name = m.text; line = sentence_of (scope_in k) s }
 
 -- one more invariant
 abbrev pub with_invariant : Known → Mark → Sentence → Known
-with_invariant k m s = record k { design = record k.design { invariants = k.design.invariants ++ invariant_of k m s ∷ [] } }
+with_invariant k m s =
+    record k { design = record k.design { invariants = k.design.invariants ++ invariant_of k m s ∷ [] } }
 
 -- one more invariant, or what is wrong with it
 abbrev pub typed_invariant : Known → Mark → Sentence → Result Known Fault
@@ -290,7 +321,10 @@ param_kind_fault sc own kinds.Int = None
 
 -- a parameter, where those before it are in scope
 abbrev pub param_fault : Scope → ℕ → Param → Option Fault
-param_fault sc n p = declared_fault sc p.name otherwise limit_at which.Parameters most_parameters n p.name.word otherwise param_kind_fault sc p.name.text p.kind
+param_fault sc n p =
+    declared_fault sc p.name
+    otherwise limit_at which.Parameters most_parameters n p.name.word
+    otherwise param_kind_fault sc p.name.text p.kind
 
 -- what is wrong with some parameters, in their order
 abbrev pub params_fault : Scope → List Param → Option Fault
@@ -298,16 +332,26 @@ params_fault sc ps = first_fault (λ n p. param_fault (with_params sc (take n ps
 
 -- the operation of this name and these parameters, before its first line
 abbrev pub without_lines : Known → Mark → List Param → Operation
-without_lines k m ps = record { name = m.text; params = params_of k.names ps; requires_ = []; updates = []; takes = []; observes = [] }
+without_lines k m ps = record {
+  name = m.text;
+  params = params_of k.names ps;
+  requires_ = [];
+  updates = [];
+  takes = [];
+  observes = [];
+}
 
 -- one more operation, or what is wrong with it
 abbrev pub with_operation : Known → Result Operation Fault → Result Known Fault
-with_operation k (Ok o) = Ok (record k { design = record k.design { operations = k.design.operations ++ o ∷ [] } })
+with_operation k (Ok o) =
+    Ok (record k { design = record k.design { operations = k.design.operations ++ o ∷ [] } })
 with_operation k (Err f) = Err f
 
 -- An operation: its parameters, and then its lines.
 abbrev pub typed_operation : Known → Mark → List Param → List LineForm → Result Known Fault
-typed_operation k m ps ls = unless (params_fault (scope_in k) ps) (with_operation k (typed_lines (with_params (scope_in k) ps) (without_lines k m ps) ls))
+typed_operation k m ps ls =
+    unless (params_fault (scope_in k) ps)
+    (with_operation k (typed_lines (with_params (scope_in k) ps) (without_lines k m ps) ls))
 
 -- ---- the whole
 
@@ -320,11 +364,16 @@ typed_item k (counter_form w m ps) = unless (counter_fault k m ps) (Ok (with_cou
 typed_item k (initially_form w m v) = unless (initially_fault k m v) (Ok (with_initial k m v))
 typed_item k (token_form w m ps) = unless (token_fault k m ps) (Ok (with_token k m ps))
 typed_item k (conflict_form w p q) = unless (conflict_fault k w p q) (Ok (with_rule k p q))
-typed_item k (invariant_form w m s) = unless (heading_fault k which.Invariants most_invariants (length k.design.invariants) m) (typed_invariant (with_heading k m meaning.Invariant) m s)
-typed_item k (operation_form w m ps ls) = unless (heading_fault k which.Operations most_operations (length k.design.operations) m) (typed_operation (with_heading k m meaning.Operation) m ps ls)
+typed_item k (invariant_form w m s) =
+    unless (heading_fault k which.Invariants most_invariants (length k.design.invariants) m)
+    (typed_invariant (with_heading k m meaning.Invariant) m s)
+typed_item k (operation_form w m ps ls) =
+    unless (heading_fault k which.Operations most_operations (length k.design.operations) m)
+    (typed_operation (with_heading k m meaning.Operation) m ps ls)
 
 -- the rest of the items, unless one has a fault
-abbrev pub going_on : Result Known Fault → (Known → Result Specification Fault) → Result Specification Fault
+abbrev pub going_on : Result Known Fault → (Known → Result Specification Fault)
+    → Result Specification Fault
 going_on (Ok k) more = more k
 going_on (Err f) more = Err f
 

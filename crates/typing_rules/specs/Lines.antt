@@ -39,25 +39,26 @@ abbrev pub spots_fault : Scope → List ℕ → List Spot → Option Fault
 spots_fault sc (s ∷ ss) (x ∷ xs) = spot_fault sc s x otherwise spots_fault sc ss xs
 spots_fault sc ss xs = None
 
--- a spot
+-- the spot that a tree's spot is
 abbrev pub spot_of : Scope → Spot → CoreSpot
 spot_of sc (spots.One m) = spot.One (elem_of sc m)
 spot_of sc spots.Every = spot.Every
 
--- and all of them
+-- the spots that a tree's spots are
 abbrev pub spots_of : Scope → List Spot → List CoreSpot
 spots_of sc xs = map (spot_of sc) xs
 
 -- a name needs as many spots as it has places
 abbrev pub target_fault_at : Scope → Mark → List Spot → List ℕ → Option Fault
-target_fault_at sc m xs places = places_fault m places (length xs) otherwise spots_fault sc places xs
+target_fault_at sc m xs places =
+    places_fault m places (length xs) otherwise spots_fault sc places xs
 
--- the same of a relation, where it is known which one the name is
+-- what is wrong with the target of an update of a relation, where it is known which one the name is
 abbrev pub relation_fault_at : Scope → Mark → List Spot → Option ℕ → Option Fault
 relation_fault_at sc m xs (Some k) = target_fault_at sc m xs (relation_places sc.design k)
 relation_fault_at sc m xs None = stranger_fault sc m
 
--- the same of a counter
+-- what is wrong with the target of an update of a counter, where it is known which one the name is
 abbrev pub counter_fault_at : Scope → Mark → List Spot → Option ℕ → Option Fault
 counter_fault_at sc m xs (Some k) = target_fault_at sc m xs (counter_keys sc.design k)
 counter_fault_at sc m xs None = stranger_fault sc m
@@ -84,13 +85,14 @@ guard_formula sc (Some f) = formula_of sc f
 abbrev pub relation_target : Scope → Mark → Thing
 relation_target sc m = thing.Relation (unwrap_or (relation_meant (sc.names m.text)) 0)
 
--- so the counter
+-- the counter that a name is; what is none stands for the first one, and is refused
 abbrev pub counter_target : Scope → Mark → Thing
 counter_target sc m = thing.Counter (unwrap_or (counter_meant (sc.names m.text)) 0)
 
 -- an update of its parts
 abbrev pub update_of : Scope → Thing → List Spot → Change → Option Form → UpdateLine
-update_of sc t xs c g = record { thing = t; at = spots_of sc xs; change = c; guard = guard_formula sc g }
+update_of sc t xs c g =
+    record { thing = t; at = spots_of sc xs; change = c; guard = guard_formula sc g }
 
 -- ---- takings
 
@@ -111,7 +113,11 @@ is_shared modes.Exclusive = false
 
 -- only language version 2 has modes
 abbrev pub take_of : Scope → Reading → Mode → Take
-take_of sc r m = record { token = unwrap_or (token_meant (sc.names r.name.text)) 0; args = elems_of sc r.args; shared = is_shared m && (sc.design.version == 2) }
+take_of sc r m = record {
+  token = unwrap_or (token_meant (sc.names r.name.text)) 0;
+  args = elems_of sc r.args;
+  shared = is_shared m && (sc.design.version == 2);
+}
 
 -- ---- lines
 
@@ -121,13 +127,30 @@ most_observed d = if d.version == 2 then most_observes else 0
 
 -- A line of an operation that has these lines before it, of each kind of which there may be so many.
 abbrev pub line_fault : Scope → Operation → LineForm → Option Fault
-line_fault sc o (requires_form w s) = limit_at Requires most_requires (length o.requires_) w otherwise sentence_fault sc s
-line_fault sc o (insert_form w m xs g) = limit_at Updates most_updates (length o.updates) w otherwise relation_target_fault sc m xs otherwise guard_fault sc g
-line_fault sc o (remove_form w m xs g) = limit_at Updates most_updates (length o.updates) w otherwise relation_target_fault sc m xs otherwise guard_fault sc g
-line_fault sc o (add_form w m xs t g) = limit_at Updates most_updates (length o.updates) w otherwise counter_target_fault sc m xs otherwise term_fault sc t otherwise guard_fault sc g
-line_fault sc o (set_form w m xs t g) = limit_at Updates most_updates (length o.updates) w otherwise counter_target_fault sc m xs otherwise term_fault sc t otherwise guard_fault sc g
-line_fault sc o (takes_form w r m) = limit_at Takes most_takes (length o.takes) w otherwise taking_fault sc r
-line_fault sc o (observes_form w s) = limit_at Observes (most_observed sc.design) (length o.observes) w otherwise sentence_fault sc s
+line_fault sc o (requires_form w s) =
+    limit_at Requires most_requires (length o.requires_) w otherwise sentence_fault sc s
+line_fault sc o (insert_form w m xs g) =
+    limit_at Updates most_updates (length o.updates) w
+    otherwise relation_target_fault sc m xs
+    otherwise guard_fault sc g
+line_fault sc o (remove_form w m xs g) =
+    limit_at Updates most_updates (length o.updates) w
+    otherwise relation_target_fault sc m xs
+    otherwise guard_fault sc g
+line_fault sc o (add_form w m xs t g) =
+    limit_at Updates most_updates (length o.updates) w
+    otherwise counter_target_fault sc m xs
+    otherwise term_fault sc t
+    otherwise guard_fault sc g
+line_fault sc o (set_form w m xs t g) =
+    limit_at Updates most_updates (length o.updates) w
+    otherwise counter_target_fault sc m xs
+    otherwise term_fault sc t
+    otherwise guard_fault sc g
+line_fault sc o (takes_form w r m) =
+    limit_at Takes most_takes (length o.takes) w otherwise taking_fault sc r
+line_fault sc o (observes_form w s) =
+    limit_at Observes (most_observed sc.design) (length o.observes) w otherwise sentence_fault sc s
 
 -- the operation with one more update
 abbrev pub with_update : Operation → UpdateLine → Operation
@@ -136,10 +159,14 @@ with_update o u = record o { updates = o.updates ++ u ∷ [] }
 -- the operation with one more line
 abbrev pub with_line : Scope → Operation → LineForm → Operation
 with_line sc o (requires_form w s) = record o { requires_ = o.requires_ ++ sentence_of sc s ∷ [] }
-with_line sc o (insert_form w m xs g) = with_update o (update_of sc (relation_target sc m) xs change.Insert g)
-with_line sc o (remove_form w m xs g) = with_update o (update_of sc (relation_target sc m) xs change.Remove g)
-with_line sc o (add_form w m xs t g) = with_update o (update_of sc (counter_target sc m) xs (change.Add (term_of sc t)) g)
-with_line sc o (set_form w m xs t g) = with_update o (update_of sc (counter_target sc m) xs (change.Set (term_of sc t)) g)
+with_line sc o (insert_form w m xs g) =
+    with_update o (update_of sc (relation_target sc m) xs change.Insert g)
+with_line sc o (remove_form w m xs g) =
+    with_update o (update_of sc (relation_target sc m) xs change.Remove g)
+with_line sc o (add_form w m xs t g) =
+    with_update o (update_of sc (counter_target sc m) xs (change.Add (term_of sc t)) g)
+with_line sc o (set_form w m xs t g) =
+    with_update o (update_of sc (counter_target sc m) xs (change.Set (term_of sc t)) g)
 with_line sc o (takes_form w r m) = record o { takes = o.takes ++ take_of sc r m ∷ [] }
 with_line sc o (observes_form w s) = record o { observes = o.observes ++ sentence_of sc s ∷ [] }
 

@@ -94,19 +94,19 @@ abbrev pub sort_fault_at : Scope → List ℕ → Mark → Option ℕ → Option
 sort_fault_at sc own m (Some k) = None
 sort_fault_at sc own m None = if bytes_eq m.text own then kind_at m else stranger_fault sc m
 
--- the same of the name as it is in scope
+-- what is wrong with a name that needs to be a sort, by its meaning in scope
 abbrev pub sort_fault : Scope → List ℕ → Mark → Option Fault
 sort_fault sc own m = sort_fault_at sc own m (sort_meant (sc.names m.text))
 
--- the sorts of some variables
+-- the sort of a variable
 abbrev pub var_sort : Names → Variable → ℕ
 var_sort names v = sort_number names v.sort
 
--- and of all of them
+-- the sorts of some variables
 abbrev pub var_sorts : Names → List Variable → List ℕ
 var_sorts names vs = map (var_sort names) vs
 
--- the parameters of an operation
+-- the kind of a parameter
 abbrev pub kind_of : Names → ParamKind → Kind
 kind_of names (kinds.Sort m) = kind.Sort (sort_number names m)
 kind_of names kinds.Int = kind.Int
@@ -115,6 +115,6 @@ kind_of names kinds.Int = kind.Int
 abbrev pub param_of : Names → Param → Parameter
 param_of names p = record { name = p.name.text; kind = kind_of names p.kind }
 
--- and all of them
+-- the parameters with their kinds
 abbrev pub params_of : Names → List Param → List Parameter
 params_of names ps = map (param_of names) ps

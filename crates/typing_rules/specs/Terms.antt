@@ -42,12 +42,15 @@ elem_by None None const = option_map elem.Const const
 
 -- A name stands for an element where it is a variable, a parameter or a constant.
 abbrev pub elem_named : Scope → List ℕ → Option Elem
-elem_named sc name = elem_by (small (position (λ v. bytes_eq v.name.text name) sc.vars)) (small (position (λ p. bytes_eq p.name.text name) sc.params)) (const_meant (sc.names name))
+elem_named sc name =
+    elem_by (small (position (λ v. bytes_eq v.name.text name) sc.vars))
+    (small (position (λ p. bytes_eq p.name.text name) sc.params)) (const_meant (sc.names name))
 
 -- the sort of an element
 abbrev pub sort_of_elem : Scope → Option Elem → Option ℕ
 sort_of_elem sc None = None
-sort_of_elem sc (Some e) = sort_of sc.design (params_of sc.names sc.params) (var_sorts sc.names sc.vars) e
+sort_of_elem sc (Some e) =
+    sort_of sc.design (params_of sc.names sc.params) (var_sorts sc.names sc.vars) e
 
 -- the sort of the element that a name stands for; none where it stands for no element, as a parameter that is a number
 abbrev pub sort_named : Scope → List ℕ → Option ℕ
@@ -76,17 +79,21 @@ places_fault m places n = if length places == n then None else count_at m
 
 -- a name with arguments at its places
 abbrev pub args_fault : Scope → Reading → List ℕ → Option Fault
-args_fault sc r places = places_fault r.name places (length r.args) otherwise elems_fault sc places r.args
+args_fault sc r places =
+    places_fault r.name places (length r.args) otherwise elems_fault sc places r.args
 
 -- ---- terms
 
 -- literals and coefficients have a greatest size
 abbrev pub literal_fault : Figure → Option Fault
-literal_fault f = if nat_le f.value greatest_literal then None else Some (limit_fault Literal f.value f.word)
+literal_fault f =
+    if nat_le f.value greatest_literal then None else Some (limit_fault Literal f.value f.word)
 
 -- what is too large stands for 0, and is refused
 abbrev pub literal_of : Bool → Figure → ℤ
-literal_of minus f = if nat_le f.value greatest_literal then (if minus then pos 0 -ℤ pos f.value else pos f.value) else pos 0
+literal_of minus f =
+    if nat_le f.value greatest_literal then (if minus then pos 0 -ℤ pos f.value else pos f.value)
+    else pos 0
 
 -- a parameter of this kind is a whole number
 abbrev pub is_whole : ParamKind → Bool
@@ -95,7 +102,8 @@ is_whole kinds.Int = true
 
 -- a parameter that is a whole number
 abbrev pub number_named : Scope → List ℕ → Option ℕ
-number_named sc name = small (position (λ p. bytes_eq p.name.text name && is_whole p.kind) sc.params)
+number_named sc name =
+    small (position (λ p. bytes_eq p.name.text name && is_whole p.kind) sc.params)
 
 -- A counter is read where all its keys are given.
 abbrev pub counter_fault : Scope → Reading → Option ℕ → Option Fault
@@ -110,7 +118,8 @@ lone_fault sc m None None = stranger_fault sc m
 
 -- a name alone, or a counter with its keys
 abbrev pub amount_fault_by : Scope → Reading → List Mark → Option Fault
-amount_fault_by sc r [] = lone_fault sc r.name (number_named sc r.name.text) (counter_meant (sc.names r.name.text))
+amount_fault_by sc r [] =
+    lone_fault sc r.name (number_named sc r.name.text) (counter_meant (sc.names r.name.text))
 amount_fault_by sc r (m ∷ ms) = counter_fault sc r (counter_meant (sc.names r.name.text))
 
 -- what is read in a term
@@ -125,7 +134,8 @@ product_fault sc (products.Reading r) = amount_fault sc r
 
 -- a summand behind the first, which is numbered 0
 abbrev pub signed_fault : Scope → ℕ → Signed → Option Fault
-signed_fault sc n s = limit_at Summands most_summands (n + 1) s.summand.word otherwise product_fault sc s.summand.product
+signed_fault sc n s =
+    limit_at Summands most_summands (n + 1) s.summand.word otherwise product_fault sc s.summand.product
 
 -- what is wrong with a term: its summands, in their order
 abbrev pub term_fault : Scope → Term → Option Fault
@@ -182,4 +192,5 @@ signed_of sc s = summand_of sc (is_minus s.sign) s.summand.product
 
 -- The term that a tree's term is: its summands, in their order.
 abbrev pub term_of : Scope → Term → CoreTerm
-term_of sc t = record { summands = summand_of sc t.minus t.first.product ∷ map (signed_of sc) t.more }
+term_of sc t =
+    record { summands = summand_of sc t.minus t.first.product ∷ map (signed_of sc) t.more }

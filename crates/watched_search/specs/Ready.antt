@@ -17,6 +17,7 @@ abbrev pub IsReadyWith : Option ℕ → List (List Lit) → List Entry → Watch
 IsReadyWith (Some i) cs t w = (i < length cs) × (is_false t (slice_index_or cs i []) ≡ true) × AllKept cs t w
 IsReadyWith None cs t w = AllWatched cs t w
 
+-- the clause that a propagation found is false, or all clauses are watched
 abbrev pub IsReady : List (List Lit) → List Entry → Propagation → Type 0
 IsReady cs t p = IsReadyWith p.conflict cs t p.watches
 

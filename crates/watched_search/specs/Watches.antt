@@ -70,10 +70,11 @@ pub record AreKept (n : ℕ) (cs : List (List Lit)) (t : List Entry) (from : ℕ
   pub many : length w.pairs.items ≡ n
   pub each : (i : ℕ) → i < n → IsKept (slice_index_or cs i []) t from left w.lists.items i (pair_at w.pairs.items i)
 
+-- all clauses are kept so, and none is left to be looked at
 abbrev pub AllKept : List (List Lit) → List Entry → Watches → Type 0
 AllKept cs t w = AreKept (length cs) cs t 0 [] w
 
--- and quiet
+-- the first `n` clauses are kept so, and quiet
 pub record AreWatched (n : ℕ) (cs : List (List Lit)) (t : List Entry) (from : ℕ) (left : List ℕ) (w : Watches) : Type 0 where
   pub kept : AreKept n cs t from left w
   pub quiet : (i : ℕ) → i < n → is_quiet t left w.units i (pair_at w.pairs.items i) ≡ true

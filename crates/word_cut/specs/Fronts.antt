@@ -36,7 +36,8 @@ double_at b (c ∷ cs) = is_double_sign b && (c == 61)
 -- the first n bytes are the longest word there, or n is 0 and no word begins there
 abbrev pub IsWordFront : List ℕ → ℕ → Type 0
 IsWordFront bytes zero = (text rest : List ℕ) → bytes ≡ text ++ rest → is_word text ≡ false
-IsWordFront bytes (suc n) = (suc n ≤ length bytes) × IsLongest (take (suc n) bytes) (drop (suc n) bytes)
+IsWordFront bytes (suc n) =
+    (suc n ≤ length bytes) × IsLongest (take (suc n) bytes) (drop (suc n) bytes)
 
 -- a word, short enough, stands at the front
 pub record IsWordHere (bytes : List ℕ) (at line : ℕ) (word : Word) : Type 0 where
@@ -56,6 +57,7 @@ IsStuck bytes at (refusals.TooLongName p) = (p ≡ at) × Begins is_long_name by
 IsStuck bytes at (refusals.TooLongNumber p) = (p ≡ at) × Begins is_long_number bytes
 IsStuck bytes at refusals.Memory = ⊥
 
+-- what a word's reader gives: the word at the front of these bytes, or why there is none
 abbrev pub GivesWord : List ℕ → ℕ → ℕ → Result Word CutRefused → Type 0
 GivesWord bytes at line (Ok word) = IsWordHere bytes at line word
 GivesWord bytes at line (Err why) = IsStuck bytes at why
@@ -74,7 +76,9 @@ pub record IsNextWord (bytes : List ℕ) (at line : ℕ) (word : Word) : Type 0 
   pub within : word.at + word.len ≤ length bytes
   pub lines : word.line ≤ word.at + 1
 
+-- what a reader of the next word gives: the word behind a gap, nothing where only a gap is left, or why there is no word
 abbrev pub GivesNext : List ℕ → ℕ → ℕ → Result (Option Word) CutRefused → Type 0
 GivesNext bytes at line (Ok (Some word)) = IsNextWord bytes at line word
 GivesNext bytes at line (Ok None) = is_gap false (drop at bytes) [] ≡ true
-GivesNext bytes at line (Err why) = (place : ℕ) × (rest : List ℕ) × Behind bytes at place rest × IsStuck rest place why
+GivesNext bytes at line (Err why) =
+    (place : ℕ) × (rest : List ℕ) × Behind bytes at place rest × IsStuck rest place why

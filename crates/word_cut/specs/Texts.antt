@@ -26,6 +26,7 @@ abbrev pub is_name : List ℕ → Bool
 is_name [] = false
 is_name (b ∷ bs) = is_letter b && list_all is_name_byte bs
 
+-- there is no byte
 abbrev pub is_empty : List ℕ → Bool
 is_empty [] = true
 is_empty (b ∷ bs) = false
@@ -54,45 +55,59 @@ is_sign (b ∷ c ∷ d ∷ bs) = false
 abbrev pub is_word : List ℕ → Bool
 is_word text = is_name text || (is_number text || is_sign text)
 
--- The names that the language keeps for itself: those that begin an item or end one,
+-- the reserved names that begin an item of a specification, or end one
 abbrev pub item_names : List (List ℕ)
-item_names = codes "sort" ∷ codes "const" ∷ codes "relation" ∷ codes "counter" ∷ codes "initially" ∷ codes "token" ∷ codes "conflict" ∷ codes "invariant" ∷ codes "operation" ∷ codes "end" ∷ []
+item_names =
+    codes "sort" ∷ codes "const" ∷ codes "relation" ∷ codes "counter" ∷ codes "initially"
+    ∷ codes "token" ∷ codes "conflict" ∷ codes "invariant" ∷ codes "operation" ∷ codes "end" ∷ []
 
--- those that begin a line of an operation,
+-- the reserved names that begin a line of an operation
 abbrev pub line_names : List (List ℕ)
-line_names = codes "requires" ∷ codes "insert" ∷ codes "remove" ∷ codes "add" ∷ codes "set" ∷ codes "takes" ∷ []
+line_names =
+    codes "requires" ∷ codes "insert" ∷ codes "remove" ∷ codes "add" ∷ codes "set" ∷ codes "takes"
+    ∷ []
 
--- those of formulas,
+-- the reserved names of formulas
 abbrev pub formula_names : List (List ℕ)
-formula_names = codes "forall" ∷ codes "exists" ∷ codes "true" ∷ codes "false" ∷ codes "not" ∷ codes "and" ∷ codes "or" ∷ codes "implies" ∷ []
+formula_names =
+    codes "forall" ∷ codes "exists" ∷ codes "true" ∷ codes "false" ∷ codes "not" ∷ codes "and"
+    ∷ codes "or" ∷ codes "implies" ∷ []
 
--- and the others.
+-- the other reserved names
 abbrev pub other_names : List (List ℕ)
 other_names = codes "cise" ∷ codes "when" ∷ codes "int" ∷ []
 
+-- a text is one of some names
 abbrev pub is_among : List (List ℕ) → List ℕ → Bool
 is_among names text = list_any (bytes_eq text) names
 
+-- a name that the language keeps for itself
 unfoldable pub is_reserved : List ℕ → Bool
-is_reserved text = is_among item_names text || (is_among line_names text || (is_among formula_names text || is_among other_names text))
+is_reserved text =
+    is_among item_names text
+    || (is_among line_names text || (is_among formula_names text || is_among other_names text))
 
 -- the kind of a text that is a word and isn't reserved
 abbrev pub free_kind : List ℕ → WordKind
-free_kind text = if is_name text then kinds.Name else (if is_number text then kinds.Number else kinds.Sign)
+free_kind text =
+    if is_name text then kinds.Name else (if is_number text then kinds.Number else kinds.Sign)
 
 -- the kind of a text that is a word
 abbrev pub kind_of : List ℕ → WordKind
 kind_of text = if is_reserved text then kinds.Reserved else free_kind text
 
--- the most bytes that a name may have, and a number
+-- the most bytes that a name may have
 abbrev pub longest_name : ℕ
 longest_name = 32
 
+-- the most bytes that a number may have
 abbrev pub longest_number : ℕ
 longest_number = 38
 
+-- a name of more bytes than it may have
 abbrev pub is_long_name : List ℕ → Bool
 is_long_name text = is_name text && nat_lt longest_name (length text)
 
+-- a number of more bytes than it may have
 abbrev pub is_long_number : List ℕ → Bool
 is_long_number text = is_number text && nat_lt longest_number (length text)

@@ -15,7 +15,8 @@ number_of text = digits_behind 0 text
 -- a number, or a - before a number that is not 0
 abbrev pub is_whole : List ℕ → Bool
 is_whole [] = false
-is_whole (b ∷ bs) = if b == 45 then (is_number bs && not (bytes_eq bs (codes "0"))) else is_number (b ∷ bs)
+is_whole (b ∷ bs) =
+    if b == 45 then (is_number bs && not (bytes_eq bs (codes "0"))) else is_number (b ∷ bs)
 
 -- the whole number that such a text writes
 abbrev pub whole_of : List ℕ → ℤ
@@ -28,8 +29,11 @@ greatest = 170141183460469231731687303715884105727
 
 -- the whole number that a text writes, if it writes one and its size isn't too great
 abbrev pub read_of : List ℕ → Option ℤ
-read_of text = if (is_whole text && nat_le (unsigned_abs (whole_of text)) greatest) then Some (whole_of text) else None
+read_of text =
+    if (is_whole text && nat_le (unsigned_abs (whole_of text)) greatest) then Some (whole_of text)
+    else None
 
--- the same of a number without a sign
+-- the number without a sign that a text writes, if it writes one and it isn't too great
 abbrev pub size_read : List ℕ → Option ℕ
-size_read text = if (is_number text && nat_le (number_of text) greatest) then Some (number_of text) else None
+size_read text =
+    if (is_number text && nat_le (number_of text) greatest) then Some (number_of text) else None

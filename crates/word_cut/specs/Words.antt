@@ -10,7 +10,8 @@ use Rattle.word_cut.specs.Texts.{is_space, is_empty, is_word, kind_of, is_long_n
 abbrev pub is_gap : Bool → List ℕ → List ℕ → Bool
 is_gap commented [] rest = not commented || is_empty rest
 is_gap true (b ∷ bs) rest = is_gap (not (b == 10)) bs rest
-is_gap false (b ∷ bs) rest = if b == 35 then is_gap true bs rest else (is_space b && is_gap false bs rest)
+is_gap false (b ∷ bs) rest =
+    if b == 35 then is_gap true bs rest else (is_space b && is_gap false bs rest)
 
 -- how many lines end in some bytes
 abbrev pub line_feeds : List ℕ → ℕ
@@ -19,7 +20,8 @@ line_feeds bytes = count_by (λ b. b == 10) bytes
 -- text is the longest word at the front of text ++ rest
 pub record IsLongest (text rest : List ℕ) : Type 0 where
   pub is_one : is_word text ≡ true
-  pub no_longer : (more after : List ℕ) → rest ≡ more ++ after → is_word (text ++ more) ≡ true → more ≡ []
+  pub no_longer : (more after : List ℕ) → rest ≡ more ++ after → is_word (text ++ more) ≡ true
+      → more ≡ []
 
 -- The bytes from a place on, in a line, are a gap, then the longest word there, then rest; and word says so.
 pub record Next (at line : ℕ) (bytes : List ℕ) (word : Word) (rest : List ℕ) : Type 0 where
@@ -37,8 +39,10 @@ pub record Next (at line : ℕ) (bytes : List ℕ) (word : Word) (rest : List �
 
 -- The bytes from a place on, in a line, are these words with gaps before each and a gap behind the last, then rest.
 abbrev pub Leaves : ℕ → ℕ → List ℕ → List Word → List ℕ → Type 0
-Leaves at line bytes [] rest = (gap : List ℕ) × (bytes ≡ gap ++ rest) × (is_gap false gap rest ≡ true)
-Leaves at line bytes (w ∷ ws) rest = (after : List ℕ) × Next at line bytes w after × Leaves (w.at + w.len) w.line after ws rest
+Leaves at line bytes [] rest =
+    (gap : List ℕ) × (bytes ≡ gap ++ rest) × (is_gap false gap rest ≡ true)
+Leaves at line bytes (w ∷ ws) rest =
+    (after : List ℕ) × Next at line bytes w after × Leaves (w.at + w.len) w.line after ws rest
 
 -- The bytes are these words and gaps, and nothing else. Places count from 0, lines from 1.
 abbrev pub IsCut : List ℕ → List Word → Type 0
@@ -46,7 +50,8 @@ IsCut bytes words = Leaves 0 1 bytes words []
 
 -- at is the place of rest, where what stands before it is words and gaps
 abbrev pub IsReached : List ℕ → ℕ → List ℕ → Type 0
-IsReached bytes at rest = (words : List Word) × Leaves 0 1 bytes words rest × (at + length rest ≡ length bytes)
+IsReached bytes at rest =
+    (words : List Word) × Leaves 0 1 bytes words rest × (at + length rest ≡ length bytes)
 
 -- a byte stands at the front that is in no gap and begins no word
 pub record BeginsNoWord (bytes : List ℕ) : Type 0 where
@@ -67,8 +72,10 @@ pub record Begins (test : List ℕ → Bool) (bytes : List ℕ) : Type 0 where
 -- The first place where the bytes are no words and gaps, and why.
 abbrev pub IsRefused : List ℕ → CutRefused → Type 0
 IsRefused bytes (refusals.Letter at) = (rest : List ℕ) × IsReached bytes at rest × BeginsNoWord rest
-IsRefused bytes (refusals.TooLongName at) = (rest : List ℕ) × IsReached bytes at rest × Begins is_long_name rest
-IsRefused bytes (refusals.TooLongNumber at) = (rest : List ℕ) × IsReached bytes at rest × Begins is_long_number rest
+IsRefused bytes (refusals.TooLongName at) =
+    (rest : List ℕ) × IsReached bytes at rest × Begins is_long_name rest
+IsRefused bytes (refusals.TooLongNumber at) =
+    (rest : List ℕ) × IsReached bytes at rest × Begins is_long_number rest
 IsRefused bytes refusals.Memory = Unit {0}
 
 -- the bytes of a word

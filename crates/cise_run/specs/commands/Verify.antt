@@ -15,6 +15,7 @@ use Rattle.report_verifier.specs.Verified.{IsVerified}
 
 -- ---- texts
 
+-- the word of a kind of fault
 abbrev pub kind_word : ReportKind → List ℕ
 kind_word kind.Form = codes "form"
 kind_word kind.Obligation = codes "obligation"
