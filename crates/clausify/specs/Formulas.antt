@@ -1,16 +1,36 @@
--- What the formulas of the code are, once truth values are folded.
-use Rattle.clausify.specs.declared.normal.Normal as code
-use Rattle.clausify.specs.declared.normal.Folded.{Folded as CodeFolded}
-use Rattle.clausify.specs.declared.normal.Folded.TheVariants as code_folded
+-- Formulas without truth values, and what is left of a formula once its truth values are folded.
+use Rattle.std.specs.Prelude.{Bool, true, false, not, ◌&&◌}
+use Rattle.proof_lines.specs.Clauses.{same_bool, lit_of}
+use Rattle.ground_numbers.specs.Numbered.{Numbered, known, literal, negation, conjunction, disjunction}
 use Rattle.ground_numbers.specs.Clauses.{Normal, lit, all, any, Folded, settled, unsettled}
+use Rattle.ground_atoms.specs.Formulas.{form_of}
+use Rattle.clausify.specs.declared.bare.Folded.{Folded as CodeFolded}
+use Rattle.clausify.specs.declared.bare.Folded.TheVariants as code
 
--- a formula, wherever its parts lie in memory
-abbrev pub normal_of : code.Normal → Normal
-normal_of (code.Lit l) = lit l
-normal_of (code.All' l f m g) = all (normal_of f) (normal_of g)
-normal_of (code.Any' l f m g) = any (normal_of f) (normal_of g)
+-- Whether a formula is bare: no part of it is a truth value.
+abbrev pub is_bare : Numbered → Bool
+is_bare (known b) = false
+is_bare (literal a t) = true
+is_bare (negation f) = is_bare f
+is_bare (conjunction f g) = is_bare f && is_bare g
+is_bare (disjunction f g) = is_bare f && is_bare g
 
--- the folded formula that a program holds
+-- A bare formula, or its negation where the sign is false, with "not" at its literals alone. A truth value has no such form.
+abbrev pub normal : Bool → Numbered → Normal
+normal s (known b) = lit (lit_of 0 b)
+normal s (literal a t) = lit (lit_of a (same_bool s t))
+normal s (negation f) = normal (not s) f
+normal true (conjunction f g) = all (normal true f) (normal true g)
+normal false (conjunction f g) = any (normal false f) (normal false g)
+normal true (disjunction f g) = any (normal true f) (normal true g)
+normal false (disjunction f g) = all (normal false f) (normal false g)
+
+-- what the code has of a folded formula
 abbrev pub folded_of : CodeFolded → Folded
-folded_of (code_folded.Settled b) = settled b
-folded_of (code_folded.Unsettled f) = unsettled (normal_of f)
+folded_of (code.Settled b) = settled b
+folded_of (code.Unsettled f) = unsettled (normal true (form_of f))
+
+-- Whether a formula that isn't settled is bare.
+abbrev pub is_bare_if_unsettled : CodeFolded → Bool
+is_bare_if_unsettled (code.Settled b) = true
+is_bare_if_unsettled (code.Unsettled f) = is_bare (form_of f)

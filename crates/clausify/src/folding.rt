@@ -1,17 +1,18 @@
 // Truth values are folded, and "not" is moved inward to the literals.
 ghost use Rattle.std.specs.Prelude.{◌≡◌, true, false, IfOk};
-ghost use Rattle.proof_lines.specs.Clauses.{same_bool};
 ghost use Rattle.ground_numbers.specs.Clauses.{folded, fold_all, fold_any};
 ghost use Rattle.ground_atoms.specs.Formulas.{form_of};
-ghost use Rattle.clausify.specs.Formulas.{folded_of};
+ghost use Rattle.clausify.specs.Formulas.{folded_of, is_bare_if_unsettled};
 
-use crate::normal::{Folded, Normal};
+use crate::bare::{Folded, signed};
 use ground_atoms::GroundFormula;
-use proof_lines::Lit;
 use std::alloc::{AllocError, Global};
 
 fn fold_all(alloc: Global, left: Folded, right: Folded) -> Result<Folded, AllocError>
-    ensures { IfOk result (λ f. folded_of f ≡ fold_all (folded_of left) (folded_of right)) }
+    requires left { is_bare_if_unsettled left ≡ true }
+    requires right { is_bare_if_unsettled right ≡ true }
+    ensures equal { IfOk result (λ f. folded_of f ≡ fold_all (folded_of left) (folded_of right)) }
+    ensures bare { IfOk result (λ f. is_bare_if_unsettled f ≡ true) }
 {
     match left {
         Folded::Settled(true) => Ok(right),
@@ -19,7 +20,7 @@ fn fold_all(alloc: Global, left: Folded, right: Folded) -> Result<Folded, AllocE
         Folded::Unsettled(f) => match right {
             Folded::Settled(true) => Ok(Folded::Unsettled(f)),
             Folded::Settled(false) => Ok(Folded::Settled(false)),
-            Folded::Unsettled(g) => Ok(Folded::Unsettled(Normal::All(
+            Folded::Unsettled(g) => Ok(Folded::Unsettled(GroundFormula::And(
                 Box::new(alloc, f)?,
                 Box::new(alloc, g)?,
             ))),
@@ -28,7 +29,10 @@ fn fold_all(alloc: Global, left: Folded, right: Folded) -> Result<Folded, AllocE
 }
 
 fn fold_any(alloc: Global, left: Folded, right: Folded) -> Result<Folded, AllocError>
-    ensures { IfOk result (λ f. folded_of f ≡ fold_any (folded_of left) (folded_of right)) }
+    requires left { is_bare_if_unsettled left ≡ true }
+    requires right { is_bare_if_unsettled right ≡ true }
+    ensures equal { IfOk result (λ f. folded_of f ≡ fold_any (folded_of left) (folded_of right)) }
+    ensures bare { IfOk result (λ f. is_bare_if_unsettled f ≡ true) }
 {
     match left {
         Folded::Settled(true) => Ok(Folded::Settled(true)),
@@ -36,7 +40,7 @@ fn fold_any(alloc: Global, left: Folded, right: Folded) -> Result<Folded, AllocE
         Folded::Unsettled(f) => match right {
             Folded::Settled(true) => Ok(Folded::Settled(true)),
             Folded::Settled(false) => Ok(Folded::Unsettled(f)),
-            Folded::Unsettled(g) => Ok(Folded::Unsettled(Normal::Any(
+            Folded::Unsettled(g) => Ok(Folded::Unsettled(GroundFormula::Or(
                 Box::new(alloc, f)?,
                 Box::new(alloc, g)?,
             ))),
@@ -46,8 +50,11 @@ fn fold_any(alloc: Global, left: Folded, right: Folded) -> Result<Folded, AllocE
 
 // "And" of two folded formulas, or "or" where `all` is false.
 fn fold(alloc: Global, all: bool, left: Folded, right: Folded) -> Result<Folded, AllocError>
+    requires left { is_bare_if_unsettled left ≡ true }
+    requires right { is_bare_if_unsettled right ≡ true }
     ensures all { all ≡ true → IfOk result (λ f. folded_of f ≡ fold_all (folded_of left) (folded_of right)) }
     ensures any { all ≡ false → IfOk result (λ f. folded_of f ≡ fold_any (folded_of left) (folded_of right)) }
+    ensures bare { IfOk result (λ f. is_bare_if_unsettled f ≡ true) }
 {
     if all {
         fold_all(alloc, left, right)
@@ -56,24 +63,15 @@ fn fold(alloc: Global, all: bool, left: Folded, right: Folded) -> Result<Folded,
     }
 }
 
-// The value, or its negation where `sign` is false.
-fn signed(sign: bool, value: bool) -> bool
-    ensures { result ≡ same_bool sign value }
-{
-    if sign { value } else { !value }
-}
-
 /// The formula, or its negation where `sign` is false, with truth values folded and "not" at the literals alone.
 pub fn folded(alloc: Global, sign: bool, form: &GroundFormula) -> Result<Folded, AllocError>
-    ensures { IfOk result (λ f. folded_of f ≡ folded sign (form_of form.now)) }
+    ensures equal { IfOk result (λ f. folded_of f ≡ folded sign (form_of form.now)) }
+    ensures bare { IfOk result (λ f. is_bare_if_unsettled f ≡ true) }
 {
     match form {
         GroundFormula::Truth(value) => Ok(Folded::Settled(signed(sign, *value))),
         GroundFormula::Lit(atom, positive) => {
-            Ok(Folded::Unsettled(Normal::Lit(Lit {
-                atom: *atom,
-                positive: signed(sign, *positive),
-            })))
+            Ok(Folded::Unsettled(GroundFormula::Lit(*atom, signed(sign, *positive))))
         }
         GroundFormula::Not(inner) => folded(alloc, !sign, inner),
         GroundFormula::And(left, right) => {

@@ -6,9 +6,9 @@
 // makes. specs/Formulas says what the formulas of the code are.
 #![tactic(auto)]
 
+mod bare;
 mod folding;
 mod listing;
-mod normal;
 mod problem;
 mod writing;
 

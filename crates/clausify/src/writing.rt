@@ -1,34 +1,63 @@
-// The clauses of a formula: each "and" inside an "or" is named by a new atom.
-ghost use Rattle.std.specs.Prelude.{◌≡◌, ◌+◌, ◌∷◌, ◌++◌, [], IfOk, OnOk};
+// The clauses of a bare formula: each "and" inside an "or" is named by a new atom. A sign goes with each part: where it is false, the
+// negation of that part is written, so that an "and" is an "or" and an "or" is an "and".
+ghost use Rattle.std.specs.Prelude.{◌≡◌, ◌+◌, ◌∷◌, ◌++◌, [], true, IfOk, OnOk};
 ghost use Rattle.ground_numbers.specs.Clauses.{names, literals, new_names, inner_names, written, whole, parts, in_front, clause_of, clauses_of, names_of};
-ghost use Rattle.proof_lines.specs.Clauses.{join};
-ghost use Rattle.clausify.specs.Formulas.{normal_of, folded_of};
+ghost use Rattle.proof_lines.specs.Clauses.{join, lit_of};
+ghost use Rattle.ground_atoms.specs.Formulas.{form_of};
+ghost use Rattle.clausify.specs.Formulas.{is_bare, is_bare_if_unsettled, normal, folded_of};
 
-use crate::normal::{Folded, Normal};
+use crate::bare::{Folded, signed};
+use ground_atoms::GroundFormula;
 use items::Items;
 use proof_lines::{Clause, Lit};
 use std::alloc::{AllocError, Global};
 
+// Adds the atom that names an "and" to a clause, and answers the next one.
+fn add_name(name: u32, clause: &mut Clause) -> Result<u32, AllocError>
+    ensures made { OnOk result (clause.new ≡ join clause.old (lit_of name true ∷ [])) }
+    ensures next { IfOk result (λ n. n ≡ name + 1) }
+{
+    clause.insert(Lit {
+        atom: name,
+        positive: true,
+    })?;
+    name.checked_add(1).ok_or(AllocError)
+}
+
 // Adds the parts of an "or" to a clause, and answers the naming atom that is next after `name`.
-fn add_literals(name: u32, form: &Normal, clause: &mut Clause) -> Result<u32, AllocError>
-    ensures made { OnOk result (clause.new ≡ join clause.old (literals name (normal_of form.now))) }
-    ensures next { IfOk result (λ n. n ≡ name + names (normal_of form.now)) }
+fn add_literals(
+    sign: bool,
+    name: u32,
+    form: &GroundFormula,
+    clause: &mut Clause,
+) -> Result<u32, AllocError>
+    requires { is_bare (form_of form.now) ≡ true }
+    ensures made { OnOk result (clause.new ≡ join clause.old (literals name (normal sign (form_of form.now)))) }
+    ensures next { IfOk result (λ n. n ≡ name + names (normal sign (form_of form.now))) }
 {
     match form {
-        Normal::Lit(lit) => {
-            clause.insert(*lit)?;
+        GroundFormula::Truth(_) => unreachable!(),
+        GroundFormula::Lit(atom, positive) => {
+            clause.insert(Lit {
+                atom: *atom,
+                positive: signed(sign, *positive),
+            })?;
             Ok(name)
         }
-        Normal::All(_, _) => {
-            clause.insert(Lit {
-                atom: name,
-                positive: true,
-            })?;
-            name.checked_add(1).ok_or(AllocError)
+        GroundFormula::Not(inner) => add_literals(!sign, name, inner, clause),
+        GroundFormula::And(left, right) => {
+            if sign {
+                return add_name(name, clause);
+            }
+            let next = add_literals(false, name, left, clause)?;
+            add_literals(false, next, right, clause)
         }
-        Normal::Any(left, right) => {
-            let next = add_literals(name, left, clause)?;
-            add_literals(next, right, clause)
+        GroundFormula::Or(left, right) => {
+            if !sign {
+                return add_name(name, clause);
+            }
+            let next = add_literals(true, name, left, clause)?;
+            add_literals(true, next, right, clause)
         }
     }
 }
@@ -54,49 +83,69 @@ fn clause_after(alloc: Global, front: Option<Lit>) -> Result<Clause, AllocError>
 // Appends the clause of the parts of an "or", after the literal in front, if any. `name` names its first "and".
 fn write_clause(
     alloc: Global,
+    sign: bool,
     front: Option<Lit>,
     name: u32,
-    form: &Normal,
+    form: &GroundFormula,
     out: &mut Items<Clause>,
 ) -> Result<u32, AllocError>
-    ensures made { OnOk result (out.new ≡ out.old ++ clause_of front name (normal_of form.now) ∷ []) }
-    ensures next { IfOk result (λ n. n ≡ name + names (normal_of form.now)) }
+    requires { is_bare (form_of form.now) ≡ true }
+    ensures made { OnOk result (out.new ≡ out.old ++ clause_of front name (normal sign (form_of form.now)) ∷ []) }
+    ensures next { IfOk result (λ n. n ≡ name + names (normal sign (form_of form.now))) }
 {
     let mut clause = clause_after(alloc, front)?;
-    let next = add_literals(name, form, &mut clause)?;
+    let next = add_literals(sign, name, form, &mut clause)?;
     out.push(clause)?;
     Ok(next)
 }
 
-// Appends the clauses of a formula, each after the literal in front, if any. `next` is the next naming atom.
+/// Appends the clauses of a bare formula, each after the literal in front, if any. `next` is the next naming atom.
 #[cycle(writing)]
-fn write_whole(
+pub fn write_whole(
     alloc: Global,
+    sign: bool,
     front: Option<Lit>,
     next: u32,
-    form: &Normal,
+    form: &GroundFormula,
     out: &mut Items<Clause>,
 ) -> Result<u32, AllocError>
-    ensures made { OnOk result (out.new ≡ out.old ++ written (whole front) next (normal_of form.now)) }
-    ensures next { IfOk result (λ n. n ≡ next + new_names (normal_of form.now)) }
+    requires { is_bare (form_of form.now) ≡ true }
+    ensures made { OnOk result (out.new ≡ out.old ++ written (whole front) next (normal sign (form_of form.now))) }
+    ensures next { IfOk result (λ n. n ≡ next + new_names (normal sign (form_of form.now))) }
 {
     match form {
-        Normal::Lit(_) => {
-            let _ = write_clause(alloc, front, next, form, out)?;
+        GroundFormula::Truth(_) => unreachable!(),
+        GroundFormula::Lit(_, _) => {
+            let _ = write_clause(alloc, sign, front, next, form, out)?;
             Ok(next)
         }
-        Normal::All(left, right) => {
-            let after = write_whole(alloc, front, next, left, out)?;
-            write_whole(alloc, front, after, right, out)
-        }
-        Normal::Any(left, right) => {
-            let from = write_clause(alloc, front, next, form, out)?;
+        GroundFormula::Not(inner) => write_whole(alloc, !sign, front, next, inner, out),
+        GroundFormula::And(left, right) => {
+            if sign {
+                let after = write_whole(alloc, true, front, next, left, out)?;
+                return write_whole(alloc, true, front, after, right, out);
+            }
+            let from = write_clause(alloc, false, front, next, form, out)?;
             let start = Naming {
                 name: next,
                 next: from,
             };
-            let after = write_parts(alloc, start, left, out)?;
-            let end = write_parts(alloc, after, right, out)?;
+            let after = write_parts(alloc, false, start, left, out)?;
+            let end = write_parts(alloc, false, after, right, out)?;
+            Ok(end.next)
+        }
+        GroundFormula::Or(left, right) => {
+            if !sign {
+                let after = write_whole(alloc, false, front, next, left, out)?;
+                return write_whole(alloc, false, front, after, right, out);
+            }
+            let from = write_clause(alloc, true, front, next, form, out)?;
+            let start = Naming {
+                name: next,
+                next: from,
+            };
+            let after = write_parts(alloc, true, start, left, out)?;
+            let end = write_parts(alloc, true, after, right, out)?;
             Ok(end.next)
         }
     }
@@ -106,29 +155,47 @@ fn write_whole(
 #[cycle(writing)]
 fn write_parts(
     alloc: Global,
+    sign: bool,
     at: Naming,
-    form: &Normal,
+    form: &GroundFormula,
     out: &mut Items<Clause>,
 ) -> Result<Naming, AllocError>
-    ensures made { OnOk result (out.new ≡ out.old ++ written (parts at.name) at.next (normal_of form.now)) }
-    ensures name { IfOk result (λ r. r.name ≡ at.name + names (normal_of form.now)) }
-    ensures next { IfOk result (λ r. r.next ≡ at.next + inner_names (normal_of form.now)) }
+    requires { is_bare (form_of form.now) ≡ true }
+    ensures made { OnOk result (out.new ≡ out.old ++ written (parts at.name) at.next (normal sign (form_of form.now))) }
+    ensures name { IfOk result (λ r. r.name ≡ at.name + names (normal sign (form_of form.now))) }
+    ensures next { IfOk result (λ r. r.next ≡ at.next + inner_names (normal sign (form_of form.now))) }
 {
     match form {
-        Normal::Lit(_) => Ok(at),
-        Normal::All(left, right) => {
-            let front = Some(Lit {
-                atom: at.name,
-                positive: false,
-            });
-            let after = write_whole(alloc, front, at.next, left, out)?;
-            let next = write_whole(alloc, front, after, right, out)?;
-            let name = at.name.checked_add(1).ok_or(AllocError)?;
-            Ok(Naming { name, next })
+        GroundFormula::Truth(_) => unreachable!(),
+        GroundFormula::Lit(_, _) => Ok(at),
+        GroundFormula::Not(inner) => write_parts(alloc, !sign, at, inner, out),
+        GroundFormula::And(left, right) => {
+            if sign {
+                let front = Some(Lit {
+                    atom: at.name,
+                    positive: false,
+                });
+                let after = write_whole(alloc, true, front, at.next, left, out)?;
+                let next = write_whole(alloc, true, front, after, right, out)?;
+                let name = at.name.checked_add(1).ok_or(AllocError)?;
+                return Ok(Naming { name, next });
+            }
+            let after = write_parts(alloc, false, at, left, out)?;
+            write_parts(alloc, false, after, right, out)
         }
-        Normal::Any(left, right) => {
-            let after = write_parts(alloc, at, left, out)?;
-            write_parts(alloc, after, right, out)
+        GroundFormula::Or(left, right) => {
+            if !sign {
+                let front = Some(Lit {
+                    atom: at.name,
+                    positive: false,
+                });
+                let after = write_whole(alloc, false, front, at.next, left, out)?;
+                let next = write_whole(alloc, false, front, after, right, out)?;
+                let name = at.name.checked_add(1).ok_or(AllocError)?;
+                return Ok(Naming { name, next });
+            }
+            let after = write_parts(alloc, true, at, left, out)?;
+            write_parts(alloc, true, after, right, out)
         }
     }
 }
@@ -140,6 +207,7 @@ pub fn write_folded(
     form: &Folded,
     out: &mut Items<Clause>,
 ) -> Result<u32, AllocError>
+    requires { is_bare_if_unsettled form.now ≡ true }
     ensures made { OnOk result (out.new ≡ out.old ++ clauses_of next (folded_of form.now)) }
     ensures next { IfOk result (λ n. n ≡ next + names_of (folded_of form.now)) }
 {
@@ -149,6 +217,6 @@ pub fn write_folded(
             out.push(Clause::empty(alloc))?;
             Ok(next)
         }
-        Folded::Unsettled(plain) => write_whole(alloc, None, next, plain, out),
+        Folded::Unsettled(plain) => write_whole(alloc, true, None, next, plain, out),
     }
 }
