@@ -1,11 +1,16 @@
 // Gomory's cuts, as steps of a Farkas line.
 //
 // The equation of a basic name x says d * x = the sum of n * s over the columns, each s the sum of a row's terms, at most its bound b and
-// now equal to it. Take each row with the multiplier n mod d. What is added up is the sum of n * s less d times a sum of whole multiples of
-// terms; the first part is d * x, so each coefficient of the result is a multiple of d. Its bound is congruent to d * x modulo d, where x
-// has the value of the vertex; as x isn't whole there, it isn't a multiple of d. So tightening, which divides by d at least, rounds the
-// bound down, and the vertex, which satisfies the sum with equality, breaks the tightened row. All whole points of the rows satisfy it.
-// The multipliers of -n mod d give a second cut. A cut needs no Split, and what it is made of is what any Farkas line is made of.
+// at the vertex equal to it. Take each row with the multiplier n mod d, which isn't negative; so the sum is one of a Farkas line. What is
+// added up is the sum of n * s less d times a sum of whole multiples of terms; the first part is d * x, so each coefficient of the result
+// is a multiple of d. Its bound is the sum of n * b less a multiple of d; the first part is d * x at the vertex, where x isn't whole, so
+// the bound isn't a multiple of d. Nor are all coefficients 0, for the vertex satisfies the sum with equality, and 0 is a multiple of d.
+// So tightening, which divides by a multiple of d, rounds the bound down, and the vertex breaks the tightened row. All whole points of
+// the rows satisfy it. The multipliers -n mod d give a second cut.
+//
+// A name that is a column has no row to take. Where n is a multiple of d it needs none, since its coefficient is one then; else the
+// equation gives no cut. A cut needs no Split, and is a row like any other: it joins the tableau, and later cuts and refutations are sums
+// of it.
 use crate::combining::{Derivation, Multiple, combine, is_contradiction, row_at};
 use crate::joining::join;
 use lin_rows::{Row, same_row};

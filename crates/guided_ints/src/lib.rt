@@ -10,4 +10,4 @@
 
 mod solver;
 
-pub use solver::CuttingPlanes;
+pub use solver::{CuttingPlanes, tested};

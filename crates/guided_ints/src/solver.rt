@@ -106,8 +106,8 @@ fn conflict_of(
     }
 }
 
-// What the guide proposes, where the test says that it is so.
-fn tested(alloc: Global, rows: &[Row], ints: u32) -> Option<TheoryAnswer>
+/// What the guide proposes, where the test says that it is so.
+pub fn tested(alloc: Global, rows: &[Row], ints: u32) -> Option<TheoryAnswer>
     ensures { IfSome result (λ a. IsAnswer true true ints rows.now a) }
 {
     match propose(alloc, rows, ints) {

@@ -9,10 +9,11 @@
 // either way, a slack only down from its bound. Then the equation is solved for that variable and put into all others: the two have changed
 // places, and the tableau says the same of the same points. Where no slack is beyond its bound, the vertex satisfies all rows.
 //
-// Why an end without a vertex is a refutation. Where no column helps, the equation of the slack s reads d * s = the sum of n * t over columns
-// t that are slacks, d positive and each n negative. Each t is at most its bound, so n * t is at least n times that bound, and the sum is
-// at least d times the value that s has, which is beyond its bound. So the row of s, d times, and the rows of the t, -n times each, add
-// up to a row without terms whose bound is negative. (By the lemma of Farkas these two ends are all there are.)
+// Why an end without a vertex is a refutation. Where no column helps, no name has a multiplier in the equation of the slack s: it reads
+// d * s = the sum of n * t over columns t that are slacks, d positive and each n negative. Each t is at most its bound, so n * t is at
+// least n times that bound, and the sum is at least d times the value that s has, which is beyond its bound. So the row of s, d times,
+// and the rows of the t, -n times each, add up to a row without terms whose bound is negative. (By the lemma of Farkas these two ends are
+// all there are.)
 //
 // Why it ends. Of the slacks beyond their bounds, and of the columns that help, the least variable is taken each time, and then no tableau
 // comes twice (Bland). Nobody has to believe this: there is a limit of pivots.

@@ -6,5 +6,6 @@ mod Following
 mod Changing
 mod Going
 mod Rows
+mod Asking
 mod Solvers
 mod Evaluated

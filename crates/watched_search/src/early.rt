@@ -1,12 +1,19 @@
-// The solver of rows is asked before all atoms have values, about the rows of the trail so far.
-ghost use Rattle.std.specs.Prelude.{◌≡◌, List, true, OnOk, IfOk};
+// Asking about the rows of some literals of a trail: before all atoms have values about those that the trail has so far, and where all have
+// values about those of an implicant.
+//
+// What is wanted is numbers that satisfy the rows, or a few rows that contradict each other. Before all atoms have values nothing else
+// helps, and nothing is lost where neither comes: the same rows will be asked about again, with others. So there the guide of
+// cutting planes is asked alone, whose limits make an answer cheap. Elimination may hold thousands of rows before it stops.
+ghost use Rattle.std.specs.Prelude.{◌≡◌, List, true, OnOk, IfOk, IfSome};
 ghost use Rattle.lin_rows.specs.Rows.{Row as PlainRow};
 ghost use Rattle.proof_lines.specs.declared.clause.Lit.{Lit as PlainLit};
 ghost use Rattle.sat_core.specs.Answers.{AreRowsOf};
-ghost use Rattle.theory_api.specs.Laws.{all_below};
+ghost use Rattle.theory_api.specs.Laws.{all_below, IsAnswer};
 ghost use Rattle.watched_search.specs.Early.{AreHeld, IsSaid};
 
+use guided_ints::tested;
 use items::Items;
+use lin_rows::Row;
 use proof_lines::{AtomKind, Lit, Problem, RowStep};
 use sat_core::drawing::{Drawn, pick, row_of_sign};
 use search_logs::Trail;
@@ -74,20 +81,43 @@ fn draw_held(
     Ok(drawn)
 }
 
-/// Asks a solver about the rows of literals that a trail has.
-pub(crate) fn ask_early<T: Theory>(
+// Asks about rows: a solver that may stop only where all atoms have values, and else the guide in place of it.
+fn answer_of<T: Theory>(
+    alloc: Global,
+    theory: &mut T,
+    rows: &[Row],
+    ints: u32,
+    early: bool,
+) -> Option<TheoryAnswer>
+    requires places { all_below ints rows.now ≡ true }
+    requires taken { T.takes rows.now ints }
+    ensures { IfSome result (λ answer. IsAnswer true true ints rows.now answer) }
+{
+    if early && T::MAY_STOP {
+        return tested(alloc, rows, ints);
+    }
+    Some(theory.check(alloc, rows, ints))
+}
+
+/// Asks about the rows of those of some literals that a trail has. Early is before all atoms have values.
+pub(crate) fn ask_rows<T: Theory>(
     alloc: Global,
     theory: &mut T,
     problem: &Problem,
     trail: &Trail,
     lits: &[Lit],
+    early: bool,
 ) -> Result<Said, AllocError>
     requires taken { (lits : List PlainLit) (rows : List PlainRow) → AreRowsOf problem.now.atoms lits rows → all_below problem.now.ints rows ≡ true → T.takes rows problem.now.ints }
     ensures { IfOk result (λ said. IsSaid said problem.now trail.now) }
 {
     problem.law_fits();
     let drawn = draw_held(alloc, problem, trail, lits)?;
-    match theory.check(alloc, drawn.rows.as_slice(), problem.ints) {
+    let Some(answer) = answer_of(alloc, theory, drawn.rows.as_slice(), problem.ints, early) else {
+        drop(drawn);
+        return Ok(Said::Nothing);
+    };
+    match answer {
         TheoryAnswer::Model(numbers) => {
             drop(drawn);
             Ok(Said::Model(numbers))

@@ -30,6 +30,7 @@
 // are learned from at once, for the chain of a Farkas line wants no more than a settled trail. Numbers prove nothing there, since
 // they satisfy some of the rows only; but the rows that follow are decided by them, so that the solver isn't asked again before a row
 // is forced that they don't satisfy. Where the solver would split or stop, the search goes on: that is answered of a whole trail alone.
+// A solver that may stop can take long before it does; so before all atoms have values only its guide is asked, which has narrow limits.
 //
 // Where all atoms have values, the solver is asked about an implicant first: few rows by which, beside the plain atoms, each clause of the
 // problem is true. Numbers that satisfy these give every atom with a row its truth, and if then all clauses are true by evaluation, that

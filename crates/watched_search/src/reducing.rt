@@ -1,4 +1,9 @@
 // The solver of rows is asked about an implicant of a whole trail, which may have far fewer rows.
+//
+// Of its answers two help. Numbers give each atom that stands for a row its truth, the other atoms keep their values, and all clauses
+// are evaluated: where they are true, this is an interpretation, and no trust is put in the choice of the implicant. Rows that
+// contradict each other are those of literals of the trail, so their clause is learned as that of an early conflict, wherever on the
+// trail its newest literal stands. Of a split or a limit nothing is made here: these are answered of the whole trail alone.
 ghost use Rattle.std.specs.Prelude.{◌≡◌, List, true, IfOk};
 ghost use Rattle.lin_rows.specs.Rows.{Row as PlainRow};
 ghost use Rattle.proof_lines.specs.declared.clause.Lit.{Lit as PlainLit};
@@ -6,7 +11,7 @@ ghost use Rattle.sat_core.specs.Answers.{AreRowsOf};
 ghost use Rattle.theory_api.specs.Laws.{all_below};
 ghost use Rattle.watched_search.specs.Reduced.{IsReduced};
 
-use crate::early::{Clash, Said, ask_early};
+use crate::early::{Clash, Said, ask_rows};
 use crate::evaluating::evaluated;
 use implicants::{choose, relaxed};
 use items::Items;
@@ -60,7 +65,7 @@ fn ask_about<T: Theory>(
     if few.len() >= lits.len() {
         return Ok(Reduced::Nothing);
     }
-    match ask_early(alloc, theory, grown, trail, few)? {
+    match ask_rows(alloc, theory, grown, trail, few, false)? {
         Said::Model(numbers) => found_by(alloc, problem, grown, trail, values, numbers),
         Said::Clash(clash) => Ok(Reduced::Clash(clash)),
         Said::Nothing => Ok(Reduced::Nothing),

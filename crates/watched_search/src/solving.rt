@@ -15,7 +15,7 @@ ghost use Rattle.watched_search.specs.Watches.{AllKept, AreAtRest};
 ghost use Rattle.watched_search.specs.Ready.{IsReady, IsMet, MayPush, MayGo};
 ghost use Rattle.watched_search.specs.Early.{IsClash};
 
-use crate::early::{Clash, Said, ask_early};
+use crate::early::{Clash, Said, ask_rows};
 use crate::held::Held;
 use crate::hints::Hints;
 use crate::propagation::Propagation;
@@ -123,7 +123,7 @@ fn consult<T: Theory>(
         return Ok(None);
     }
     held.asked = held.lits.len();
-    match ask_early(alloc, theory, problem, trail, held.lits.as_slice())? {
+    match ask_rows(alloc, theory, problem, trail, held.lits.as_slice(), true)? {
         Said::Model(numbers) => {
             held.keep(numbers);
             Ok(None)
