@@ -7,3 +7,4 @@ pub mod Rounding
 pub mod Sums
 pub mod CancellingLemmas
 pub mod Least
+pub mod Ones

@@ -1,14 +1,15 @@
 // Sums of rows, and the combination of two rows in which a place cancels.
 ghost use Rattle.std.specs.Prelude.{◌≡◌, true, ◌≤ℤ◌, ℕ, ℤ, pos, IfOk};
+ghost use Rattle.std.specs.Option.{option_and_then};
 ghost use Rattle.lin_rows.specs.Answers.{Gives};
 ghost use Rattle.lin_rows.specs.Rows.{is_row, Satisfies};
 ghost use Rattle.lin_rows.specs.Sums.{times_row, plus_row, row_sum};
 
-use crate::number::{plus, times};
+use crate::number::{is_one, plus, times};
 use crate::refused::RowRefused;
 use crate::row::Row;
 use crate::terms::{merge, scale};
-use crate::tightening::tighten;
+use crate::tightening::tighten_own;
 use std::alloc::Global;
 
 fn times_row(alloc: Global, by: &i128, row: &Row) -> Result<Row, RowRefused>
@@ -28,6 +29,42 @@ fn plus_row(alloc: Global, left: &Row, right: &Row) -> Result<Row, RowRefused>
     Ok(Row::new(terms, bound))
 }
 
+// The left row plus a multiple of the right one, which isn't copied where it counts once.
+fn plus_multiple(alloc: Global, left: &Row, right: &Row, second: &i128) -> Result<Row, RowRefused>
+    ensures sum { Gives result (option_and_then (λ q. plus_row left.now q) (times_row second.now right.now)) }
+    ensures left { is_row left.now ≡ true }
+    ensures right { is_row right.now ≡ true }
+{
+    left.law_row();
+    right.law_row();
+    if is_one(second) {
+        return plus_row(alloc, left, right);
+    }
+    let right = times_row(alloc, second, right)?;
+    plus_row(alloc, left, &right)
+}
+
+// The sum of multiples of two rows, of which those aren't copied that count once.
+fn multiples(
+    alloc: Global,
+    left: &Row,
+    first: &i128,
+    right: &Row,
+    second: &i128,
+) -> Result<Row, RowRefused>
+    ensures sum { Gives result (option_and_then (λ p. option_and_then (λ q. plus_row p q) (times_row second.now right.now)) (times_row first.now left.now)) }
+    ensures left { is_row left.now ≡ true }
+    ensures right { is_row right.now ≡ true }
+{
+    left.law_row();
+    right.law_row();
+    if is_one(first) {
+        return plus_multiple(alloc, left, right, second);
+    }
+    let left = times_row(alloc, first, left)?;
+    plus_multiple(alloc, &left, right, second)
+}
+
 /// `first` times the left row plus `second` times the right row, tightened. Range comes exactly where a product or a sum,
 /// of terms or of bounds, leaves the range of a row.
 pub fn sum(
@@ -42,8 +79,6 @@ pub fn sum(
     ensures sum { Gives result (row_sum left.now first right.now second) }
     ensures points { IfOk result (λ out. (x : ℕ → ℤ) → Satisfies x left.now → Satisfies x right.now → Satisfies x out) }
 {
-    let left = times_row(alloc, &first, left)?;
-    let right = times_row(alloc, &second, right)?;
-    let sum = plus_row(alloc, &left, &right)?;
-    Ok(tighten(alloc, &sum)?)
+    let sum = multiples(alloc, left, &first, right, &second)?;
+    Ok(tighten_own(alloc, sum)?)
 }

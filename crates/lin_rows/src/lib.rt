@@ -29,5 +29,5 @@ pub use number::{add_product, plus, times};
 pub use refused::RowRefused;
 pub use row::{Row, same_row};
 pub use term::RowTerm;
-pub use tightening::tighten;
+pub use tightening::{tighten, tighten_own};
 pub use truth::truth_at;

@@ -14,7 +14,7 @@ fn opposites(alloc: Global, terms: &[RowTerm]) -> Result<Items<RowTerm>, AllocEr
     requires { all_in_range terms.now ≡ true }
     ensures { IfOk result (λ out. out ≡ map opposite terms.now) }
 {
-    let mut out = Vec::new(alloc);
+    let mut out = Vec::with_capacity(alloc, terms.len())?;
     for term in terms {
         out.push(RowTerm {
             place: term.place,

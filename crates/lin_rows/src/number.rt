@@ -69,3 +69,10 @@ pub fn same_number(left: &i128, right: &i128) -> bool
 {
     *left == *right
 }
+
+/// Whether a number is 1.
+pub fn is_one(a: &i128) -> bool
+    ensures { IsTrue result → a.now ≡ pos 1 }
+{
+    *a == 1
+}

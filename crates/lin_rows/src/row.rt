@@ -36,6 +36,13 @@ impl Row {
         Row { terms, bound }
     }
 
+    // What a row keeps.
+    pub(crate) fn law_row(&self)
+        ensures { is_row self.now ≡ true }
+    {
+        let _ = &self.bound;
+    }
+
     /// The terms, in rising place.
     pub fn terms(&self) -> &[RowTerm]
         ensures terms { result.now ≡ self.now.terms }

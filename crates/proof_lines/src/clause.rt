@@ -1,5 +1,5 @@
 // Literals, and clauses: sets of literals.
-ghost use Rattle.std.specs.Prelude.{◌≡◌, true, IfOk, OnOk, OnErr, []};
+ghost use Rattle.std.specs.Prelude.{◌≡◌, true, not, ◌&&◌, IfOk, OnOk, OnErr, [], ◌++◌};
 ghost use Rattle.proof_lines.specs.Clauses.{is_empty, has, resolvent, insert, join, same_lit, sub, distinct, without, flip, negations, holds_both_ways};
 
 use items::Items;
@@ -109,17 +109,15 @@ impl Clause {
             atom,
             positive: true,
         };
-        let lits = copy_without(alloc, left.lits(), up)?;
         left.law_distinct();
-        let mut clause = Clause {
+        right.law_distinct();
+        let most = (left.lits().len() + right.lits().len()).saturating_sub(2);
+        let mut lits = Vec::with_capacity(alloc, most)?;
+        put_without(&mut lits, left.lits(), up)?;
+        put_right(&mut lits, left.lits(), right.lits(), up)?;
+        Ok(Clause {
             lits: Items::from_vec(lits),
-        };
-        for lit in right.lits() {
-            if !lit.same(up.opposite()) {
-                clause.insert(*lit)?;
-            }
-        }
-        Ok(clause)
+        })
     }
 
     /// A copy of this clause.
@@ -178,8 +176,40 @@ pub fn holds_both_ways(lits: &[Lit]) -> bool
     lits.iter().any(|x| holds(lits, x.opposite()))
 }
 
-fn copy_without(alloc: Global, lits: &[Lit], lit: Lit) -> Result<Vec<Lit>, AllocError>
-    ensures { IfOk result (λ v. v.items ≡ without lit lits.now) }
+// Appends the literals other than one.
+fn put_without(out: &mut Vec<Lit>, lits: &[Lit], lit: Lit) -> Result<(), AllocError>
+    ensures { OnOk result (out.new.items ≡ out.old.items ++ without lit lits.now) }
 {
-    lits.iter().copied().filter(|x| !x.same(lit)).collect(alloc)
+    for x in lits {
+        if !x.same(lit) {
+            out.push(*x)?;
+        }
+    }
+    Ok(())
+}
+
+// Adds a literal of the right clause to a resolvent. The right clause has it once, so it is there only where the left one has it.
+fn put_new(out: &mut Vec<Lit>, left: &[Lit], up: Lit, lit: Lit) -> Result<(), AllocError>
+    requires { has out.old.items lit ≡ (not (same_lit lit up) && has left.now lit) }
+    ensures { OnOk result (out.new.items ≡ insert out.old.items lit) }
+{
+    if !lit.same(up) && holds(left, lit) {
+        return Ok(());
+    }
+    out.push(lit)?;
+    Ok(())
+}
+
+// Adds the literals of the right clause, other than the opposite, to those of the left one.
+fn put_right(out: &mut Vec<Lit>, left: &[Lit], right: &[Lit], up: Lit) -> Result<(), AllocError>
+    requires left { out.old.items ≡ without up left.now }
+    requires right { distinct right.now ≡ true }
+    ensures { OnOk result (out.new.items ≡ join (without up left.now) (without (flip up) right.now)) }
+{
+    for lit in right {
+        if !lit.same(up.opposite()) {
+            put_new(out, left, up, *lit)?;
+        }
+    }
+    Ok(())
 }

@@ -11,7 +11,7 @@ ghost use Rattle.proof_lines.specs.Refusals.{or_broken, IsTold};
 use crate::clause::Lit;
 use crate::line::{LineRefused, RowStep, Why};
 use crate::problem::AtomKind;
-use lin_rows::{MultiplesRefused, Row, RowRefused, negate, sum_of_multiples, tighten};
+use lin_rows::{MultiplesRefused, Row, RowRefused, negate, sum_of_multiples, tighten, tighten_own};
 use std::alloc::{AllocError, Global};
 
 // The row of an atom, if it is there and has one.
@@ -45,7 +45,7 @@ pub fn lit_row(alloc: Global, atoms: &[AtomKind], lit: Lit) -> Result<Row, LineR
         return Ok(tight);
     }
     match negate(alloc, row) {
-        Ok(opposite) => match tighten(alloc, &opposite) {
+        Ok(opposite) => match tighten_own(alloc, opposite) {
             Ok(tight) => Ok(tight),
             Err(_) => Err(LineRefused::Memory),
         },
