@@ -6,8 +6,8 @@ use Rattle.search_logs.specs.declared.trail.Entry.{Entry}
 use Rattle.search_logs.specs.Trails.{in_trail, negated, is_false, is_unit, Settled, NoneFalse, IsTrail}
 use Rattle.search_logs.proofs.Trails.{flip_back}
 use Rattle.watched_search.specs.declared.looking.Watched.{Watched}
-use Rattle.watched_search.specs.declared.looking.Look.{Look}
-use Rattle.watched_search.specs.declared.looking.Look.TheVariants.{False, Unit as OfUnit, Open}
+use Rattle.watched_search.specs.declared.looking.ClauseStatus.{ClauseStatus}
+use Rattle.watched_search.specs.declared.looking.ClauseStatus.TheVariants.{False, Unit as OfUnit, Open}
 use Rattle.watched_search.specs.declared.watches.Watches.{Watches}
 use Rattle.watched_search.specs.Watches.{is_among, list_at, code, rests, is_open, pair_at, is_listed, is_quiet, IsKept, AreKept, AllKept, AreWatched, AllWatched, AreAtRest, IsMoved, IsLooked, IsLook}
 use Rattle.watched_search.specs.Ready.{MayPush}
@@ -215,11 +215,11 @@ pub looked-false : (b : Bool) (c d : List Lit) (t : List Entry) (units : List �
 looked-false false c d t units i w h e q = subst (λ (z : List Lit). is_false t z ≡ true) q h
 looked-false true c d t units i w h e q = absurd cc
 
-pub look-unit : (k : Look) (l : Lit) (c d : List Lit) (t : List Entry) (w : Watched) → IsLook k c t w → k ≡ OfUnit l → c ≡ d → (is_unit t d l ≡ true) × (is_open t w ≡ true)
-look-unit k l c d t w h e q = subst (λ (z : List Lit). (is_unit t z l ≡ true) × (is_open t w ≡ true)) q (subst (λ (z : Look). IsLook z c t w) e h)
+pub look-unit : (k : ClauseStatus) (l : Lit) (c d : List Lit) (t : List Entry) (w : Watched) → IsLook k c t w → k ≡ OfUnit l → c ≡ d → (is_unit t d l ≡ true) × (is_open t w ≡ true)
+look-unit k l c d t w h e q = subst (λ (z : List Lit). (is_unit t z l ≡ true) × (is_open t w ≡ true)) q (subst (λ (z : ClauseStatus). IsLook z c t w) e h)
 
-pub look-rest : (k : Look) (c : List Lit) (t : List Entry) (w : Watched) → IsLook k c t w → k ≡ Open → rests t w ≡ true
-look-rest k c t w h e = subst (λ (z : Look). IsLook z c t w) e h
+pub look-rest : (k : ClauseStatus) (c : List Lit) (t : List Entry) (w : Watched) → IsLook k c t w → k ≡ Open → rests t w ≡ true
+look-rest k c t w h e = subst (λ (z : ClauseStatus). IsLook z c t w) e h
 
-pub look-false : (k : Look) (c d : List Lit) (t : List Entry) (w : Watched) → IsLook k c t w → k ≡ False → c ≡ d → is_false t d ≡ true
-look-false k c d t w h e q = subst (λ (z : List Lit). is_false t z ≡ true) q (subst (λ (z : Look). IsLook z c t w) e h)
+pub look-false : (k : ClauseStatus) (c d : List Lit) (t : List Entry) (w : Watched) → IsLook k c t w → k ≡ False → c ≡ d → is_false t d ≡ true
+look-false k c d t w h e q = subst (λ (z : List Lit). is_false t z ≡ true) q (subst (λ (z : ClauseStatus). IsLook z c t w) e h)

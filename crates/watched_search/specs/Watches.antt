@@ -7,8 +7,8 @@ use Rattle.search_logs.specs.declared.trail.Entry.{Entry}
 use Rattle.search_logs.specs.Trails.{in_trail, negated, is_false, is_unit, before_last, has_decision, open_in, NoneFalse}
 use Rattle.sat_core.specs.Searching.{IsBefore}
 use Rattle.watched_search.specs.declared.looking.Watched.{Watched}
-use Rattle.watched_search.specs.declared.looking.Look.{Look}
-use Rattle.watched_search.specs.declared.looking.Look.TheVariants.{False, Unit as OfUnit, Open}
+use Rattle.watched_search.specs.declared.looking.ClauseStatus.{ClauseStatus}
+use Rattle.watched_search.specs.declared.looking.ClauseStatus.TheVariants.{False, Unit as OfUnit, Open}
 use Rattle.watched_search.specs.declared.watches.Watches.{Watches}
 
 -- a number is one of a list's
@@ -108,7 +108,7 @@ IsLooked true c t units i w = is_quiet t [] units i w ≡ true
 IsLooked false c t units i w = is_false t c ≡ true
 
 -- a clause that may be unit was looked at again: it is false, or unit, or at rest
-abbrev pub IsLook : Look → List Lit → List Entry → Watched → Type 0
+abbrev pub IsLook : ClauseStatus → List Lit → List Entry → Watched → Type 0
 IsLook False c t w = is_false t c ≡ true
 IsLook (OfUnit l) c t w = (is_unit t c l ≡ true) × (is_open t w ≡ true)
 IsLook Open c t w = rests t w ≡ true

@@ -2,20 +2,24 @@
 ghost use Rattle.std.specs.Prelude.{◌≡◌, ◌<◌, ◌^◌, ℕ, true, false, length, MatchOption, IfSome};
 ghost use Rattle.search_logs.specs.Trails.{named};
 
-use crate::held::Held;
+use crate::row_hints::RowHints;
+use decision_queue::{DecisionQueue, Order};
 use proof_lines::{AtomKind, Lit, Problem};
 use sat_core::finding::unnamed;
 use search_logs::Trail;
 use std::alloc::{AllocError, Global};
+use std::cmp::min;
 
-/// A number below which all plain atoms had values when it was noted, one below which all atoms had, the values that atoms had last,
-/// and the rows of the trail.
+/// The atoms that may have no value, how many atoms and clauses were looked at, the atoms of the trail in its order, the values that
+/// atoms had last, and the rows of the trail.
 #[derive(Drop)]
 pub struct Hints {
-    pub from: u32,
-    pub rows_from: u32,
+    pub queue: DecisionQueue,
+    pub atoms: u32,
+    pub clauses: usize,
+    pub assigned: Vec<u32>,
     pub values: Vec<Option<bool>>,
-    pub held: Held,
+    pub rows: RowHints,
 }
 
 fn is_plain(problem: &Problem, atom: u32) -> bool {
@@ -25,14 +29,47 @@ fn is_plain(problem: &Problem, atom: u32) -> bool {
     }
 }
 
-impl Hints {
-    pub(crate) fn new(alloc: Global) -> Hints {
-        Hints {
-            from: 0,
-            rows_from: 0,
-            values: Vec::new(alloc),
-            held: Held::new(alloc),
+// The first atom of a queue that has no value. Those before it are taken out.
+fn first_unassigned(queue: &mut DecisionQueue, trail: &Trail, atoms: u32) -> Option<u32>
+    ensures { IfSome result (λ a. (a < atoms) × (named trail.now a ≡ false)) }
+{
+    for _ in 0..atoms {
+        let atom = queue.first()?;
+        if atom < atoms && !trail.names(atom) {
+            return Some(atom);
         }
+        queue.remove_first();
+    }
+    None
+}
+
+impl Hints {
+    pub(crate) fn new(alloc: Global, order: Order) -> Hints {
+        Hints {
+            queue: DecisionQueue::new(alloc, order),
+            atoms: 0,
+            clauses: 0,
+            assigned: Vec::new(alloc),
+            values: Vec::new(alloc),
+            rows: RowHints::new(alloc),
+        }
+    }
+
+    // Counts how many clauses of a problem name each atom.
+    fn count(&mut self, problem: &Problem) -> Result<(), AllocError> {
+        for clause in problem.clauses.as_slice() {
+            for lit in clause.lits() {
+                self.queue.count(lit.atom)?;
+            }
+        }
+        Ok(())
+    }
+
+    /// Takes note of a problem, under a trail without literals.
+    pub(crate) fn begin(&mut self, problem: &Problem, trail: &Trail) -> Result<(), AllocError> {
+        self.count(problem)?;
+        self.clauses = problem.clauses.len();
+        self.cut(problem, trail)
     }
 
     /// Notes the value that an atom got.
@@ -41,44 +78,63 @@ impl Hints {
             self.values.push(None)?;
         }
         self.values[lit.atom as usize] = Some(lit.positive);
-        self.held.note(problem, lit)
+        self.assigned.push(lit.atom)?;
+        self.rows.note(problem, lit)
     }
 
-    /// Forgets what no longer holds of a trail that was cut, or of a problem that has more atoms.
-    pub(crate) fn cut(&mut self, trail: &Trail) {
-        self.from = 0;
-        self.rows_from = 0;
-        self.held.cut(trail);
+    // Puts the atoms that the trail has no more among those that may have no value.
+    fn reopen(&mut self, problem: &Problem, trail: &Trail) -> Result<(), AllocError> {
+        while let Some(atom) = self.assigned.pop() {
+            if trail.names(atom) {
+                self.assigned.push(atom)?;
+                return Ok(());
+            }
+            self.queue.insert(atom, !is_plain(problem, atom))?;
+        }
+        Ok(())
     }
 
-    // A plain atom that has no value.
-    fn undecided_plain(&mut self, problem: &Problem, trail: &Trail, atoms: u32) -> Option<u32>
-        ensures { IfSome result (λ a. (a < atoms) × (named trail.now a ≡ false)) }
-    {
-        for atom in self.from..atoms {
-            if is_plain(problem, atom) && !trail.names(atom) {
-                self.from = atom;
-                return Some(atom);
+    // Raises the activity of the atoms of a clause.
+    fn raise(&mut self, lits: &[Lit]) {
+        for lit in lits {
+            self.queue.raise(lit.atom);
+        }
+    }
+
+    // Raises the activity of the atoms that further clauses name: those that the last conflict gave.
+    fn learn(&mut self, problem: &Problem) {
+        if self.clauses < problem.clauses.len() {
+            self.queue.fade();
+        }
+        for number in self.clauses..problem.clauses.len() {
+            if let Some(clause) = problem.clauses.get(number) {
+                self.raise(clause.lits());
             }
         }
-        self.from = atoms;
-        None
+        self.clauses = problem.clauses.len();
+    }
+
+    /// Takes note of a trail that was cut, and of a problem that has more atoms or clauses.
+    pub(crate) fn cut(&mut self, problem: &Problem, trail: &Trail) -> Result<(), AllocError> {
+        self.learn(problem);
+        self.reopen(problem, trail)?;
+        let atoms = min(problem.atoms.len(), u32::MAX as usize) as u32;
+        for atom in self.atoms..atoms {
+            self.queue.insert(atom, !is_plain(problem, atom))?;
+        }
+        self.atoms = atoms;
+        self.rows.cut(trail);
+        Ok(())
     }
 
     /// An atom that has no value: a plain one, as long as there is one.
-    pub(crate) fn undecided(&mut self, problem: &Problem, trail: &Trail, atoms: u32) -> Option<u32>
+    pub(crate) fn undecided(&mut self, trail: &Trail, atoms: u32) -> Option<u32>
         ensures { MatchOption result ((a : ℕ) → a < atoms → named trail.now a ≡ true) (λ a. (a < atoms) × (named trail.now a ≡ false)) }
     {
-        if let Some(atom) = self.undecided_plain(problem, trail, atoms) {
-            return Some(atom);
+        match first_unassigned(&mut self.queue, trail, atoms) {
+            Some(atom) => Some(atom),
+            None => unnamed(trail, atoms),
         }
-        for atom in self.rows_from..atoms {
-            if !trail.names(atom) {
-                self.rows_from = atom;
-                return Some(atom);
-            }
-        }
-        unnamed(trail, atoms)
     }
 
     /// The sign with which an atom is decided: a row by the numbers that the solver found last, any other atom as it was last.
@@ -86,7 +142,7 @@ impl Hints {
         requires { atom < length problem.now.atoms }
     {
         match &problem.atoms.as_slice()[atom as usize] {
-            AtomKind::Row(row) => self.held.truth(row),
+            AtomKind::Row(row) => self.rows.truth(row),
             AtomKind::Plain => match self.values.get(atom as usize) {
                 Some(Some(value)) => *value,
                 _ => true,

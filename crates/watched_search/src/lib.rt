@@ -42,10 +42,15 @@
 // Whoever asks sees one search: its answer is one that may have split and may have been stopped by rows, and where the problem fits the
 // solver of difference rows it neither did nor was.
 //
-// Plain atoms are decided before rows: what is asked of the solver then follows from fewer guesses.
+// Plain atoms are decided before rows: what is asked of the solver then follows from fewer guesses. Of either kind the atoms are decided
+// by number for a few lines. Where these don't suffice, the search begins anew and decides the most active atoms first
+// (`decision_queue`), and where that takes all lines of the budget, by number again. On pigeons the order by number has fewer lines, on
+// most else that by activity. So a budget suffices where it does for one of the two, and a log of all its lines is the evidence where
+// it does for neither.
 //
 // Definitions, in the order in which a reader needs them: specs/Watches (clauses at rest, what is watched), specs/Ready (where the
-// watched literals stand between the steps of a search), specs/Early (what is known of the rows that are asked about early), specs/Reduced (what an implicant says).
+// watched literals stand between the steps of a search), specs/Early (what is known of the rows that are asked about early), specs/Reduced (what an implicant says),
+// specs/Spent (when another order of decisions is tried).
 #![tactic(auto)]
 
 /// The value of a call; where it fails, lets go of these values and ends with its error. Values that are let go by name are let go
@@ -64,12 +69,12 @@ macro_rules! or_drop {
 
 mod early;
 mod evaluating;
-mod held;
 mod hints;
 mod lists;
 mod looking;
 mod propagation;
 mod reducing;
+mod row_hints;
 mod searching;
 mod solving;
 mod watches;

@@ -16,7 +16,7 @@ pub struct Watched {
 
 /// What a clause is under a trail.
 #[derive(Clone, Copy)]
-pub enum Look {
+pub enum ClauseStatus {
     /// All literals are false.
     False,
     /// All literals but this one are false, and this one has no value.
@@ -138,7 +138,7 @@ fn facing(trail: &Trail, watched: Watched) -> Watched
 /// What a clause was found to be, and the literals that it watches from then on.
 #[derive(Clone, Copy)]
 pub struct Looked {
-    pub look: Look,
+    pub look: ClauseStatus,
     pub pair: Watched,
 }
 
@@ -157,12 +157,12 @@ fn look_past(trail: &Trail, lits: &[Lit], pair: Watched) -> Looked
     let Some(one) = open_beside(trail, lits, pair.second) else {
         if trail.negates(pair.second) {
             return Looked {
-                look: Look::False,
+                look: ClauseStatus::False,
                 pair,
             };
         }
         return Looked {
-            look: Look::Unit(pair.second),
+            look: ClauseStatus::Unit(pair.second),
             pair,
         };
     };
@@ -172,20 +172,20 @@ fn look_past(trail: &Trail, lits: &[Lit], pair: Watched) -> Looked
     };
     if rests(trail, next) {
         return Looked {
-            look: Look::Open,
+            look: ClauseStatus::Open,
             pair: next,
         };
     }
     match open_beside(trail, lits, one) {
         Some(two) => Looked {
-            look: Look::Open,
+            look: ClauseStatus::Open,
             pair: Watched {
                 first: one,
                 second: two,
             },
         },
         None => Looked {
-            look: Look::Unit(one),
+            look: ClauseStatus::Unit(one),
             pair: next,
         },
     }

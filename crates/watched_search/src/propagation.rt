@@ -8,7 +8,7 @@ ghost use Rattle.watched_search.specs.Watches.{code, AreKept, AreWatched, IsResu
 ghost use Rattle.watched_search.specs.Ready.{IsReady, StayWatched, MayPush};
 
 use crate::lists::{code, enter, exchange};
-use crate::looking::Look;
+use crate::looking::ClauseStatus;
 use crate::watches::Watches;
 use items::Items;
 use proof_lines::{Lit, Problem};
@@ -85,7 +85,7 @@ impl Propagation {
         while let Some(clause) = self.left.pop() {
             if clause < clause_count(problem) {
                 let lits = lits_of(problem, clause);
-                if !self.watches.visit(alloc, trail, lits, clause, gone)? {
+                if !self.watches.visit_watch(alloc, trail, lits, clause, gone)? {
                     self.conflict = Some(clause);
                     self.put_back(alloc, gone)?;
                     return Ok(());
@@ -136,12 +136,12 @@ impl Propagation {
             if clause < clause_count(problem) {
                 let lits = lits_of(problem, clause);
                 match self.watches.consider(alloc, trail, lits, clause)? {
-                    Look::False => return Ok(Found::Conflict(clause)),
-                    Look::Unit(lit) => {
+                    ClauseStatus::False => return Ok(Found::Conflict(clause)),
+                    ClauseStatus::Unit(lit) => {
                         self.watches.units.push(clause)?;
                         return Ok(Found::Forced(clause, lit));
                     }
-                    Look::Open => {}
+                    ClauseStatus::Open => {}
                 }
             }
         }

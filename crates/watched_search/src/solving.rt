@@ -1,5 +1,5 @@
 // The search: it goes about its work as the plain one, and finds false and unit clauses by watched literals.
-ghost use Rattle.std.specs.Prelude.{◌≡◌, ◌<◌, ◌^◌, ◌⊎◌, ℕ, Bool, List, true, false, length, IfOk, IfSome};
+ghost use Rattle.std.specs.Prelude.{◌≡◌, ◌<◌, ◌≤◌, ◌^◌, ◌⊎◌, ℕ, Bool, List, true, false, length, IfOk, IfSome};
 ghost use Rattle.std.specs.List.{list_any};
 ghost use Rattle.lin_rows.specs.Rows.{Row as PlainRow};
 ghost use Rattle.proof_lines.specs.declared.clause.Lit.{Lit as PlainLit};
@@ -14,12 +14,14 @@ ghost use Rattle.sat_core.specs.Outcomes.{IsOutcome, IsPushed, IfGoes};
 ghost use Rattle.watched_search.specs.Watches.{AllKept, AreAtRest};
 ghost use Rattle.watched_search.specs.Ready.{IsReady, IsMet, MayPush, MayGo};
 ghost use Rattle.watched_search.specs.Early.{IsClash};
+ghost use Rattle.watched_search.specs.Spent.{is_spent};
 
 use crate::early::{Clash, Said, ask_rows};
-use crate::held::Held;
 use crate::hints::Hints;
 use crate::propagation::Propagation;
 use crate::reducing::{Reduced, ask_reduced};
+use crate::row_hints::RowHints;
+use decision_queue::Order;
 use items::Items;
 use proof_lines::problem::law_rows;
 use proof_lines::{Line, Lit, Problem, RangeEvidence, RowsEvidence};
@@ -32,31 +34,34 @@ use search_logs::{Entry, Trail};
 use std::alloc::{AllocError, Global};
 use theory_api::Theory;
 
+// So many lines are tried by number before the most active atoms are decided first.
+const FEW: u32 = 2000;
+
 /// What a search knows besides its problem, its trail and its log.
 #[derive(Drop)]
-struct Knowledge {
+struct SearchState {
     index: Propagation,
     hints: Hints,
 }
 
 // Takes a literal to be true.
-fn take(
+fn assign(
     alloc: Global,
     problem: &Problem,
     trail: &mut Trail,
-    knowledge: &mut Knowledge,
+    state: &mut SearchState,
     lit: Lit,
     reason: Option<u32>,
 ) -> Outcome
     requires few { length problem.now.clauses < 2 ^ 32 }
-    requires watched { MayPush reason problem.now.clauses trail.old knowledge.old.index.watches }
+    requires watched { MayPush reason problem.now.clauses trail.old state.old.index.watches }
     ensures pushed { IsPushed result trail.old lit reason trail.new }
-    ensures ready { IfGoes result (IsReady problem.now.clauses trail.new knowledge.new.index) }
+    ensures ready { IfGoes result (IsReady problem.now.clauses trail.new state.new.index) }
 {
-    if knowledge.hints.note(problem, lit).is_err() {
+    if state.hints.note(problem, lit).is_err() {
         return Outcome::Memory;
     }
-    match knowledge
+    match state
         .index
         .push(alloc, problem, trail, Entry { lit, reason })
     {
@@ -70,17 +75,19 @@ fn resume(
     alloc: Global,
     problem: &Problem,
     trail: &Trail,
-    knowledge: &mut Knowledge,
+    state: &mut SearchState,
     outcome: Outcome,
 ) -> Outcome
-    requires may_go { IfGoes outcome (MayGo problem.now.clauses trail.now knowledge.old.index.watches) }
+    requires may_go { IfGoes outcome (MayGo problem.now.clauses trail.now state.old.index.watches) }
     ensures same { (result ≡ outcome) ⊎ (result ≡ Memory) }
-    ensures ready { IfGoes result (IsReady problem.now.clauses trail.now knowledge.new.index) }
+    ensures ready { IfGoes result (IsReady problem.now.clauses trail.now state.new.index) }
 {
     match outcome {
         Outcome::Goes => {
-            knowledge.hints.cut(trail);
-            match knowledge.index.resume(alloc, problem, trail) {
+            let Ok(()) = state.hints.cut(problem, trail) else {
+                return Outcome::Memory;
+            };
+            match state.index.resume(alloc, problem, trail) {
                 Ok(()) => Outcome::Goes,
                 Err(_) => Outcome::Memory,
             }
@@ -90,42 +97,42 @@ fn resume(
 }
 
 // Explains why a clause is false.
-fn meet(
+fn analyze_conflict(
     alloc: Global,
     grown: &mut Problem,
     trail: &mut Trail,
     log: &mut Items<Line>,
-    knowledge: &mut Knowledge,
+    state: &mut SearchState,
     start: u32,
     budget: u32,
 ) -> Outcome
     requires chain { IsMet budget grown.old trail.old log.old start }
-    requires kept { AllKept grown.old.clauses trail.old knowledge.old.index.watches }
+    requires kept { AllKept grown.old.clauses trail.old state.old.index.watches }
     ensures outcome { (split stop : Bool) (p : PlainProblem) → InChain (record { problem = p; split = split }) budget (length log.old) grown.old trail.old log.old start → IsOutcome result split stop p budget grown.old trail.old log.old grown.new trail.new log.new }
-    ensures ready { IfGoes result (IsReady grown.new.clauses trail.new knowledge.new.index) }
+    ensures ready { IfGoes result (IsReady grown.new.clauses trail.new state.new.index) }
 {
     let outcome = explain(alloc, grown, trail, log, start, budget).outcome();
-    resume(alloc, grown, trail, knowledge, outcome)
+    resume(alloc, grown, trail, state, outcome)
 }
 
 // Asks the solver about the rows of a trail that may name some atoms only, where that is due. Rows in conflict are answered.
-fn consult<T: Theory>(
+fn theory_propagate<T: Theory>(
     alloc: Global,
     theory: &mut T,
     problem: &Problem,
     trail: &Trail,
-    held: &mut Held,
+    hints: &mut RowHints,
 ) -> Result<Option<Clash>, AllocError>
     requires taken { (lits : List PlainLit) (rows : List PlainRow) → AreRowsOf problem.now.atoms lits rows → all_below problem.now.ints rows ≡ true → T.takes rows problem.now.ints }
     ensures { IfOk result (λ found. IfSome found (λ clash. IsClash problem.now trail.now clash.used clash.steps)) }
 {
-    if !held.is_due() {
+    if !hints.is_due() {
         return Ok(None);
     }
-    held.asked = held.lits.len();
-    match ask_rows(alloc, theory, problem, trail, held.lits.as_slice(), true)? {
+    hints.asked = hints.lits.len();
+    match ask_rows(alloc, theory, problem, trail, hints.lits.as_slice(), true)? {
         Said::Model(numbers) => {
-            held.keep(numbers);
+            hints.keep(numbers);
             Ok(None)
         }
         Said::Clash(clash) => Ok(Some(clash)),
@@ -134,47 +141,47 @@ fn consult<T: Theory>(
 }
 
 // Learns from rows in conflict.
-fn meet_rows(
+fn analyze_theory_conflict(
     alloc: Global,
     grown: &mut Problem,
     trail: &mut Trail,
     log: &mut Items<Line>,
-    knowledge: &mut Knowledge,
+    state: &mut SearchState,
     clash: Clash,
     budget: u32,
 ) -> Outcome
     requires refutation { IsRefutation budget grown.old trail.old log.old clash.used clash.steps }
-    requires kept { AllKept grown.old.clauses trail.old knowledge.old.index.watches }
+    requires kept { AllKept grown.old.clauses trail.old state.old.index.watches }
     ensures outcome { (split stop : Bool) (p : PlainProblem) → InSearch (record { problem = p; split = split }) budget grown.old trail.old log.old → IsOutcome result split stop p budget grown.old trail.old log.old grown.new trail.new log.new }
-    ensures ready { IfGoes result (IsReady grown.new.clauses trail.new knowledge.new.index) }
+    ensures ready { IfGoes result (IsReady grown.new.clauses trail.new state.new.index) }
 {
     let Clash { used, steps } = clash;
     let outcome = refute(alloc, grown, trail, log, used, steps, budget).outcome();
-    resume(alloc, grown, trail, knowledge, outcome)
+    resume(alloc, grown, trail, state, outcome)
 }
 
 // Asks the solver about the rows of a whole trail.
-fn turn<T: Theory>(
+fn check_trail<T: Theory>(
     alloc: Global,
     theory: &mut T,
     problem: &Problem,
     grown: &mut Problem,
     trail: &mut Trail,
     log: &mut Items<Line>,
-    knowledge: &mut Knowledge,
+    state: &mut SearchState,
     budget: u32,
 ) -> Outcome
     requires search { InSearch (record { problem = problem.now; split = T.MAY_SPLIT }) budget grown.old trail.old log.old }
     requires settled { Settled trail.old grown.old.clauses }
     requires named { (a : ℕ) → a < length grown.old.atoms → named trail.old a ≡ true }
-    requires kept { AllKept grown.old.clauses trail.old knowledge.old.index.watches }
-    requires rest { AreAtRest (length grown.old.clauses) trail.old knowledge.old.index.watches }
+    requires kept { AllKept grown.old.clauses trail.old state.old.index.watches }
+    requires rest { AreAtRest (length grown.old.clauses) trail.old state.old.index.watches }
     requires taken { T.MAY_SPLIT ≡ false → (lits : List PlainLit) (rows : List PlainRow) → AreRowsOf problem.now.atoms lits rows → T.takes rows problem.now.ints }
     ensures outcome { IsOutcome result T.MAY_SPLIT T.MAY_STOP problem.now budget grown.old trail.old log.old grown.new trail.new log.new }
-    ensures ready { IfGoes result (IsReady grown.new.clauses trail.new knowledge.new.index) }
+    ensures ready { IfGoes result (IsReady grown.new.clauses trail.new state.new.index) }
 {
     match ask(alloc, theory, problem, grown, trail, log, budget) {
-        Ok(outcome) => resume(alloc, grown, trail, knowledge, outcome),
+        Ok(outcome) => resume(alloc, grown, trail, state, outcome),
         Err(_) => Outcome::Memory,
     }
 }
@@ -187,26 +194,28 @@ fn final_check<T: Theory>(
     grown: &mut Problem,
     trail: &mut Trail,
     log: &mut Items<Line>,
-    knowledge: &mut Knowledge,
+    state: &mut SearchState,
     budget: u32,
 ) -> Outcome
     requires search { InSearch (record { problem = problem.now; split = T.MAY_SPLIT }) budget grown.old trail.old log.old }
     requires settled { Settled trail.old grown.old.clauses }
     requires named { (a : ℕ) → a < length grown.old.atoms → named trail.old a ≡ true }
-    requires kept { AllKept grown.old.clauses trail.old knowledge.old.index.watches }
-    requires rest { AreAtRest (length grown.old.clauses) trail.old knowledge.old.index.watches }
+    requires kept { AllKept grown.old.clauses trail.old state.old.index.watches }
+    requires rest { AreAtRest (length grown.old.clauses) trail.old state.old.index.watches }
     requires taken { T.MAY_SPLIT ≡ false → (lits : List PlainLit) (rows : List PlainRow) → AreRowsOf problem.now.atoms lits rows → T.takes rows problem.now.ints }
     ensures outcome { IsOutcome result T.MAY_SPLIT T.MAY_STOP problem.now budget grown.old trail.old log.old grown.new trail.new log.new }
-    ensures ready { IfGoes result (IsReady grown.new.clauses trail.new knowledge.new.index) }
+    ensures ready { IfGoes result (IsReady grown.new.clauses trail.new state.new.index) }
 {
-    let lits = knowledge.hints.held.lits.as_slice();
+    let lits = state.hints.rows.lits.as_slice();
     let Ok(reduced) = ask_reduced(alloc, theory, problem, grown, trail, lits) else {
         return Outcome::Memory;
     };
     match reduced {
         Reduced::Found(found) => Outcome::Found(found),
-        Reduced::Clash(clash) => meet_rows(alloc, grown, trail, log, knowledge, clash, budget),
-        Reduced::Nothing => turn(alloc, theory, problem, grown, trail, log, knowledge, budget),
+        Reduced::Clash(clash) => analyze_theory_conflict(
+            alloc, grown, trail, log, state, clash, budget,
+        ),
+        Reduced::Nothing => check_trail(alloc, theory, problem, grown, trail, log, state, budget),
     }
 }
 
@@ -220,36 +229,38 @@ fn advance<T: Theory>(
     grown: &mut Problem,
     trail: &mut Trail,
     log: &mut Items<Line>,
-    knowledge: &mut Knowledge,
+    state: &mut SearchState,
     budget: u32,
 ) -> Outcome
     requires search { InSearch (record { problem = problem.now; split = T.MAY_SPLIT }) budget grown.old trail.old log.old }
-    requires ready { IsReady grown.old.clauses trail.old knowledge.old.index }
+    requires ready { IsReady grown.old.clauses trail.old state.old.index }
     requires taken { T.MAY_SPLIT ≡ false → (lits : List PlainLit) (rows : List PlainRow) → AreRowsOf problem.now.atoms lits rows → T.takes rows problem.now.ints }
     ensures outcome { IsOutcome result T.MAY_SPLIT T.MAY_STOP problem.now budget grown.old trail.old log.old grown.new trail.new log.new }
-    ensures ready { IfGoes result (IsReady grown.new.clauses trail.new knowledge.new.index) }
+    ensures ready { IfGoes result (IsReady grown.new.clauses trail.new state.new.index) }
 {
-    let Ok(found) = knowledge.index.find(alloc, grown, trail) else {
+    let Ok(found) = state.index.find(alloc, grown, trail) else {
         return Outcome::Memory;
     };
     match found {
-        Found::Conflict(start) => meet(alloc, grown, trail, log, knowledge, start, budget),
-        Found::Forced(reason, lit) => take(alloc, grown, trail, knowledge, lit, Some(reason)),
-        Found::Nothing => match knowledge.hints.undecided(grown, trail, atom_count(grown)) {
+        Found::Conflict(start) => analyze_conflict(alloc, grown, trail, log, state, start, budget),
+        Found::Forced(reason, lit) => assign(alloc, grown, trail, state, lit, Some(reason)),
+        Found::Nothing => match state.hints.undecided(trail, atom_count(grown)) {
             Some(atom) => {
-                let Ok(clash) = consult(alloc, theory, grown, trail, &mut knowledge.hints.held)
+                let Ok(clash) = theory_propagate(alloc, theory, grown, trail, &mut state.hints.rows)
                 else {
                     return Outcome::Memory;
                 };
                 match clash {
-                    Some(clash) => meet_rows(alloc, grown, trail, log, knowledge, clash, budget),
+                    Some(clash) => analyze_theory_conflict(
+                        alloc, grown, trail, log, state, clash, budget,
+                    ),
                     None => {
-                        let positive = knowledge.hints.sign(grown, atom);
-                        take(alloc, grown, trail, knowledge, Lit { atom, positive }, None)
+                        let positive = state.hints.sign(grown, atom);
+                        assign(alloc, grown, trail, state, Lit { atom, positive }, None)
                     }
                 }
             }
-            None => final_check(alloc, theory, problem, grown, trail, log, knowledge, budget),
+            None => final_check(alloc, theory, problem, grown, trail, log, state, budget),
         },
     }
 }
@@ -268,18 +279,18 @@ fn search_on<T: Theory>(
     grown: &mut Problem,
     trail: &mut Trail,
     log: Items<Line>,
-    knowledge: &mut Knowledge,
+    state: &mut SearchState,
     budget: u32,
 ) -> Answer
     requires search { InSearch (record { problem = problem.now; split = T.MAY_SPLIT }) budget grown.old trail.old log }
-    requires ready { IsReady grown.old.clauses trail.old knowledge.old.index }
+    requires ready { IsReady grown.old.clauses trail.old state.old.index }
     requires taken { T.MAY_SPLIT ≡ false → (lits : List PlainLit) (rows : List PlainRow) → AreRowsOf problem.now.atoms lits rows → T.takes rows problem.now.ints }
     ensures { IsAnswer T.MAY_SPLIT T.MAY_STOP problem.now budget result }
 {
     let mut log = log;
     'search: loop {
         match advance(
-            alloc, theory, problem, grown, trail, &mut log, knowledge, budget,
+            alloc, theory, problem, grown, trail, &mut log, state, budget,
         ) {
             Outcome::Goes => {}
             Outcome::Refuted => return Answer::Unsat(log),
@@ -301,14 +312,18 @@ fn search_on<T: Theory>(
     }
 }
 
-// The search, without the fact that its Unsat means that there is no interpretation.
-fn search<T: Theory>(alloc: Global, problem: &Problem, theory: &mut T, budget: u32) -> Answer
+// Searches from the beginning, deciding atoms in an order.
+fn search_in<T: Theory>(
+    alloc: Global,
+    problem: &Problem,
+    theory: &mut T,
+    order: Order,
+    budget: u32,
+) -> Answer
+    requires filled { list_any is_empty problem.now.clauses ≡ false }
     requires taken { T.MAY_SPLIT ≡ false → (lits : List PlainLit) (rows : List PlainRow) → AreRowsOf problem.now.atoms lits rows → T.takes rows problem.now.ints }
     ensures { IsAnswer T.MAY_SPLIT T.MAY_STOP problem.now budget result }
 {
-    if holds_empty(problem) {
-        return Answer::Unsat(Items::new(alloc));
-    }
     let Ok(mut grown) = problem.copy(alloc) else {
         return Answer::Memory;
     };
@@ -316,24 +331,73 @@ fn search<T: Theory>(alloc: Global, problem: &Problem, theory: &mut T, budget: u
         return Answer::Memory;
     }
     let mut trail = Trail::new(alloc);
-    let mut knowledge = Knowledge {
+    let mut state = SearchState {
         index: Propagation::new(alloc),
-        hints: Hints::new(alloc),
+        hints: Hints::new(alloc, order),
     };
-    let Ok(()) = knowledge.index.resume(alloc, &grown, &trail) else {
+    let Ok(()) = state.hints.begin(&grown, &trail) else {
+        return Answer::Memory;
+    };
+    let Ok(()) = state.index.resume(alloc, &grown, &trail) else {
         return Answer::Memory;
     };
     let log = Items::new(alloc);
     search_on(
-        alloc,
-        problem,
-        theory,
-        &mut grown,
-        &mut trail,
-        log,
-        &mut knowledge,
-        budget,
+        alloc, problem, theory, &mut grown, &mut trail, log, &mut state, budget,
     )
+}
+
+// So many lines, or as many as the budget has.
+fn few_of(budget: u32) -> u32
+    ensures { result ≤ budget }
+{
+    if budget < FEW { budget } else { FEW }
+}
+
+// Whether the budget of lines was spent.
+fn is_spent(answer: &Answer) -> bool
+    ensures { result ≡ is_spent answer.now }
+{
+    match answer {
+        Answer::Lines(_) => true,
+        _ => false,
+    }
+}
+
+// Decides the most active atoms first. Where that takes all lines of the budget, the search begins anew and decides by number, unless
+// that was tried with as many lines.
+fn search_in_both<T: Theory>(
+    alloc: Global,
+    problem: &Problem,
+    theory: &mut T,
+    budget: u32,
+) -> Answer
+    requires filled { list_any is_empty problem.now.clauses ≡ false }
+    requires taken { T.MAY_SPLIT ≡ false → (lits : List PlainLit) (rows : List PlainRow) → AreRowsOf problem.now.atoms lits rows → T.takes rows problem.now.ints }
+    ensures { IsAnswer T.MAY_SPLIT T.MAY_STOP problem.now budget result }
+{
+    let answer = search_in(alloc, problem, theory, Order::Activity, budget);
+    if !is_spent(&answer) || budget <= FEW {
+        return answer;
+    }
+    drop(answer);
+    search_in(alloc, problem, theory, Order::Number, budget)
+}
+
+// The search, without the fact that its Unsat means that there is no interpretation. A few lines are tried by number first.
+fn search<T: Theory>(alloc: Global, problem: &Problem, theory: &mut T, budget: u32) -> Answer
+    requires taken { T.MAY_SPLIT ≡ false → (lits : List PlainLit) (rows : List PlainRow) → AreRowsOf problem.now.atoms lits rows → T.takes rows problem.now.ints }
+    ensures { IsAnswer T.MAY_SPLIT T.MAY_STOP problem.now budget result }
+{
+    if holds_empty(problem) {
+        return Answer::Unsat(Items::new(alloc));
+    }
+    let answer = search_in(alloc, problem, theory, Order::Number, few_of(budget));
+    if !is_spent(&answer) {
+        return answer;
+    }
+    drop(answer);
+    search_in_both(alloc, problem, theory, budget)
 }
 
 /// Searches for an interpretation that makes all clauses of a problem true, or for a log of at most `budget` lines that shows

@@ -5,7 +5,7 @@ ghost use Rattle.search_logs.specs.Trails.{is_false, before_last, has_decision, 
 ghost use Rattle.watched_search.specs.Watches.{is_among, list_at, code, pair_at, rests, is_quiet, Keeps, IsKept, IsMoved, IsLooked, IsLook};
 
 use crate::lists::{code, enter};
-use crate::looking::{Look, Watched, look_at, pair_of, rests};
+use crate::looking::{ClauseStatus, Watched, look_at, pair_of, rests};
 use items::Items;
 use proof_lines::Lit;
 use search_logs::Trail;
@@ -115,7 +115,7 @@ impl Watches {
         clause: u32,
         from: usize,
         watched: Watched,
-    ) -> Result<Look, AllocError>
+    ) -> Result<ClauseStatus, AllocError>
         requires there { clause < length self.old.pairs.items }
         requires kept { IsKept lits.now trail.now from (clause ∷ []) self.old.lists.items clause watched }
         requires restless { rests trail.now watched ≡ false }
@@ -131,7 +131,7 @@ impl Watches {
     }
 
     /// Looks at a clause that stood in the list of a literal that has become false. Answers whether it isn't false itself.
-    pub(crate) fn visit(
+    pub(crate) fn visit_watch(
         &mut self,
         alloc: Global,
         trail: &Trail,
@@ -152,12 +152,12 @@ impl Watches {
             return Ok(true);
         }
         match self.renew(alloc, trail, lits, clause, code(gone), watched)? {
-            Look::False => Ok(false),
-            Look::Unit(_) => {
+            ClauseStatus::False => Ok(false),
+            ClauseStatus::Unit(_) => {
                 self.units.push(clause)?;
                 Ok(true)
             }
-            Look::Open => Ok(true),
+            ClauseStatus::Open => Ok(true),
         }
     }
 
@@ -195,7 +195,7 @@ impl Watches {
         trail: &Trail,
         lits: &[Lit],
         clause: u32,
-    ) -> Result<Look, AllocError>
+    ) -> Result<ClauseStatus, AllocError>
         requires there { clause < length self.old.pairs.items }
         requires kept { IsKept lits.now trail.now 0 [] self.old.lists.items clause (pair_at self.old.pairs.items clause) }
         ensures moved { OnOk result (IsMoved clause self.old self.new) }
@@ -206,7 +206,7 @@ impl Watches {
     {
         let watched = self.pair(clause);
         if rests(trail, watched) {
-            return Ok(Look::Open);
+            return Ok(ClauseStatus::Open);
         }
         self.renew(alloc, trail, lits, clause, NO_LIST, watched)
     }

@@ -44,6 +44,18 @@ pub fn said_by_watching(alloc: Global, problem: &Problem, budget: u32) -> Said {
     short
 }
 
+/// What the search on watched literals says of the problem of a text.
+pub fn said_of(alloc: Global, text: &str, budget: u32) -> Said {
+    match problem(alloc, text) {
+        Ok(Some(problem)) => {
+            let said = said_by_watching(alloc, &problem, budget);
+            drop(problem);
+            said
+        }
+        _ => Said::Nothing,
+    }
+}
+
 /// Whether both searches say this of the problem of a text.
 pub fn both_say(alloc: Global, text: &str, what: Said) -> bool {
     match problem(alloc, text) {

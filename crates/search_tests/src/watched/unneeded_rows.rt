@@ -1,7 +1,5 @@
 // Problems whose rows contradict each other, or lie beyond the range of a state, though no clause needs them all.
-use crate::watched::asked::{Said, said_by_watching};
-use crate::watched::problems::problem;
-use std::alloc::Global;
+use crate::watched::asked::{Said, said_of};
 
 // The first plain atom makes the first clause true. The second names a row and its opposite, and need not be true.
 const NAMED: &str = "4 1:1 <= 0;-1 <= -1;3 4;-4 1;-4 2";
@@ -17,18 +15,6 @@ const FAR: &str = "4 2:-1 <= -1000000000;1000000000 -1 <= 0;3 4;-4 1;-4 2";
 
 // The last plain atom is true in any case, and names a row and its opposite. The third row isn't needed.
 const NEEDED: &str = "7 1:1 <= 0;-1 <= -1;1 <= 5;4 5;-5 3;7 6;7 -6;-7 1;-7 2";
-
-// What the search says of a problem with a budget of lines.
-fn said_of(alloc: Global, text: &str, budget: u32) -> Said {
-    match problem(alloc, text) {
-        Ok(Some(problem)) => {
-            let said = said_by_watching(alloc, &problem, budget);
-            drop(problem);
-            said
-        }
-        _ => Said::Nothing,
-    }
-}
 
 #[test]
 fn rows_that_no_clause_needs_may_contradict_others(rt: HostRuntime) {

@@ -12,8 +12,8 @@ ask_reduced-requires g c = record {
 pub returns-in-Found-clause-outcome : goal.returns-in-Found-clause-outcome
 returns-in-Found-clause-outcome g c = subst (λ (z : Reduced). IsReduced z c.args.problem.now c.args.grown.now c.args.trail.now) c.in-Found.is c.in-Ok.ensures
 
-pub meet_rows-requires : goal.meet_rows-requires
-meet_rows-requires g c =
+pub analyze_theory_conflict-requires : goal.analyze_theory_conflict-requires
+analyze_theory_conflict-requires g c =
     let k = subst (λ (z : Reduced). IsReduced z c.args.problem.now c.args.grown.now c.args.trail.now) c.in-Clash.is c.in-Ok.ensures in
     record {
       refutation = refutation-of g.T.Theory.MAY_SPLIT c.args.problem.now c.args.budget c.args.grown.now c.args.trail.now c.args.log.now c.in-Clash.clash.used c.in-Clash.clash.steps c.requires.search c.requires.settled k;
@@ -21,4 +21,4 @@ meet_rows-requires g c =
     }
 
 pub returns-in-Clash-clause-outcome : goal.returns-in-Clash-clause-outcome
-returns-in-Clash-clause-outcome g c = c.meet_rows.ensures.outcome g.T.Theory.MAY_SPLIT g.T.Theory.MAY_STOP c.args.problem.now c.requires.search
+returns-in-Clash-clause-outcome g c = c.analyze_theory_conflict.ensures.outcome g.T.Theory.MAY_SPLIT g.T.Theory.MAY_STOP c.args.problem.now c.requires.search

@@ -4,7 +4,7 @@ use Rattle.watched_search.specs.Ready.{IsReady}
 use Rattle.watched_search.proofs.solving.search_on.Given as goal
 
 abbrev pub invariant-search : goal.invariant-search
-invariant-search g l = InSearch (aim_of l.problem g.T.Theory.MAY_SPLIT) l.budget l.grown l.trail l.log × IsReady l.grown.clauses l.trail l.knowledge.index
+invariant-search g l = InSearch (aim_of l.problem g.T.Theory.MAY_SPLIT) l.budget l.grown l.trail l.log × IsReady l.grown.clauses l.trail l.state.index
 
 abbrev pub decreases-search : goal.decreases-search
 decreases-search g l = work (aim_of l.problem g.T.Theory.MAY_SPLIT) l.budget l.grown l.trail l.log

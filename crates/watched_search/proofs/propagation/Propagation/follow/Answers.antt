@@ -5,8 +5,8 @@ use Rattle.watched_search.specs.Ready.{IsReadyWith}
 use Rattle.watched_search.proofs.Following.{visited_watched, visited_kept, to_visit, looked-quiet, looked-false}
 use Rattle.watched_search.proofs.propagation.Propagation.follow.Goals as goal
 
-pub visit-requires-clause-kept : goal.visit-requires-clause-kept
-visit-requires-clause-kept c =
+pub visit_watch-requires-clause-kept : goal.visit_watch-requires-clause-kept
+visit_watch-requires-clause-kept c =
     let cs = c.args.problem.now.clauses in
     let t = c.args.trail.now in
     let w = c.loop-clause.self.watches in
@@ -20,23 +20,23 @@ loop-clause-preserved-else-not-branch c =
     let cs = c.args.problem.now.clauses in
     let t = c.args.trail.now in
     let w = c.loop-clause.self.watches in
-    let u = c.visit.new.self in
+    let u = c.visit_watch.new.self in
     let i = c.in-Some.clause in
-    let k = subst (λ (z : List Lit). IsKept z t 0 [] u.lists.items i (pair_at u.pairs.items i)) c.lits_of-lits.ensures.lits c.in_ok-visit.ensures.kept in
-    let q = looked-quiet _ _ t u.units i (pair_at u.pairs.items i) c.in_ok-visit.ensures.looked c.if-not-branch.false in
+    let k = subst (λ (z : List Lit). IsKept z t 0 [] u.lists.items i (pair_at u.pairs.items i)) c.lits_of-lits.ensures.lits c.in_ok-visit_watch.ensures.kept in
+    let q = looked-quiet _ _ t u.units i (pair_at u.pairs.items i) c.in_ok-visit_watch.ensures.looked c.if-not-branch.false in
     let a = subst (λ (z : List ℕ). AreWatched (length cs) cs t (code c.args.gone) z w) c.in-Some.ensures.last c.loop-clause.invariant.1 in
-    (c.loop-clause.invariant.0, visited_watched (length cs) cs t (code c.args.gone) c.pop.new.self i w u a c.in_ok-visit.ensures.moved c.in_ok-visit.ensures.many (λ l. k) (λ l. q))
+    (c.loop-clause.invariant.0, visited_watched (length cs) cs t (code c.args.gone) c.pop.new.self i w u a c.in_ok-visit_watch.ensures.moved c.in_ok-visit_watch.ensures.many (λ l. k) (λ l. q))
 
 pub returns-then-not-branch : goal.returns-then-not-branch
 returns-then-not-branch c =
     let cs = c.args.problem.now.clauses in
     let t = c.args.trail.now in
     let w = c.loop-clause.self.watches in
-    let u = c.visit.new.self in
+    let u = c.visit_watch.new.self in
     let i = c.in-Some.clause in
     let l : i < length cs = subst (λ (n : ℕ). i < n) c.clause_count.ensures c.if-clause-clause_count.true in
-    let k = subst (λ (z : List Lit). IsKept z t 0 [] u.lists.items i (pair_at u.pairs.items i)) c.lits_of-lits.ensures.lits c.in_ok-visit.ensures.kept in
+    let k = subst (λ (z : List Lit). IsKept z t 0 [] u.lists.items i (pair_at u.pairs.items i)) c.lits_of-lits.ensures.lits c.in_ok-visit_watch.ensures.kept in
     let a = subst (λ (z : List ℕ). AreWatched (length cs) cs t (code c.args.gone) z w) c.in-Some.ensures.last c.loop-clause.invariant.1 in
-    let f = looked-false _ _ (get_or cs i []) t u.units i (pair_at u.pairs.items i) c.in_ok-visit.ensures.looked c.if-not-branch.true c.lits_of-lits.ensures.lits in
-    let all = c.in_ok-put_back.ensures.kept (length cs) cs t (visited_kept (length cs) cs t (code c.args.gone) c.pop.new.self i w u a.kept c.in_ok-visit.ensures.moved c.in_ok-visit.ensures.many (λ h. k)) in
+    let f = looked-false _ _ (get_or cs i []) t u.units i (pair_at u.pairs.items i) c.in_ok-visit_watch.ensures.looked c.if-not-branch.true c.lits_of-lits.ensures.lits in
+    let all = c.in_ok-put_back.ensures.kept (length cs) cs t (visited_kept (length cs) cs t (code c.args.gone) c.pop.new.self i w u a.kept c.in_ok-visit_watch.ensures.moved c.in_ok-visit_watch.ensures.many (λ h. k)) in
     subst (λ (z : Option ℕ). IsReadyWith z cs t c.put_back.new.self.watches) (sym c.in_ok-put_back.ensures.conflict) (l, f, all)

@@ -1,10 +1,10 @@
 use Rattle.sat_core.proofs.Asked.{none_false}
 use Rattle.watched_search.proofs.Going.{asked-go, outcome_stays}
-use Rattle.watched_search.proofs.solving.turn.Goals as goal
+use Rattle.watched_search.proofs.solving.check_trail.Goals as goal
 
 pub resume-requires : goal.resume-requires
 resume-requires g c = record {
-  may_go = asked-go c.in-Ok.outcome g.T.Theory.MAY_SPLIT g.T.Theory.MAY_STOP c.args.problem.now c.args.budget c.args.grown.now c.args.trail.now c.args.log.now c.ask.new.grown c.ask.new.trail c.ask.new.log c.args.knowledge.now.index.watches
+  may_go = asked-go c.in-Ok.outcome g.T.Theory.MAY_SPLIT g.T.Theory.MAY_STOP c.args.problem.now c.args.budget c.args.grown.now c.args.trail.now c.args.log.now c.ask.new.grown c.ask.new.trail c.ask.new.log c.args.state.now.index.watches
       c.in-Ok.ensures.outcome c.requires.kept c.requires.rest (none_false c.args.grown.now.clauses c.args.trail.now c.requires.settled) c.in-Ok.ensures.stays;
 }
 

@@ -15,16 +15,16 @@ const SHARE: usize = 4;
 /// The literals of a trail whose atoms stand for rows, in the trail's order. The numbers, one for each integer name, satisfy so many
 /// of the first of these rows; before the solver found any, all numbers are 0. The solver was asked about so many of the first.
 #[derive(Drop)]
-pub struct Held {
+pub struct RowHints {
     pub lits: Vec<Lit>,
     pub numbers: Items<i128>,
     pub satisfied: usize,
     pub asked: usize,
 }
 
-impl Held {
-    pub(crate) fn new(alloc: Global) -> Held {
-        Held {
+impl RowHints {
+    pub(crate) fn new(alloc: Global) -> RowHints {
+        RowHints {
             lits: Vec::new(alloc),
             numbers: Items::new(alloc),
             satisfied: 0,

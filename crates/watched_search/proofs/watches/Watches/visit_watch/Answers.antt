@@ -4,7 +4,7 @@ use Rattle.watched_search.specs.Watches.{is_among, code, pair_at, rests, IsKept}
 use Rattle.watched_search.proofs.Among.{pushed_among}
 use Rattle.watched_search.proofs.Visiting.{goes_on, rest_quietly, open_quietly}
 use Rattle.watched_search.proofs.Following.{look-false, look-unit, look-rest}
-use Rattle.watched_search.proofs.watches.Watches.visit.Goals as goal
+use Rattle.watched_search.proofs.watches.Watches.visit_watch.Goals as goal
 
 pub renew-requires-clause-kept : goal.renew-requires-clause-kept
 renew-requires-clause-kept c =

@@ -5,12 +5,12 @@ use Rattle.sat_core.proofs.Outcomes.{learned-outcome}
 use Rattle.watched_search.specs.Ready.{MayGo}
 use Rattle.watched_search.proofs.Going.{outcome_stays}
 use Rattle.watched_search.proofs.Rows.{learned-go}
-use Rattle.watched_search.proofs.solving.meet_rows.Goals as goal
+use Rattle.watched_search.proofs.solving.analyze_theory_conflict.Goals as goal
 
 pub resume-requires : goal.resume-requires
 resume-requires c = record {
-  may_go = subst (λ (z : Outcome). IfGoes z (MayGo c.refute.new.grown.clauses c.refute.new.trail c.args.knowledge.now.index.watches)) (sym c.outcome-outcome.ensures)
-      (learned-go c.refute.result c.args.budget c.args.grown.now c.args.trail.now c.args.log.now c.refute.new.grown c.refute.new.trail c.refute.new.log c.requires.refutation.aim c.args.knowledge.now.index.watches c.requires.refutation.search c.requires.kept c.refute.ensures);
+  may_go = subst (λ (z : Outcome). IfGoes z (MayGo c.refute.new.grown.clauses c.refute.new.trail c.args.state.now.index.watches)) (sym c.outcome-outcome.ensures)
+      (learned-go c.refute.result c.args.budget c.args.grown.now c.args.trail.now c.args.log.now c.refute.new.grown c.refute.new.trail c.refute.new.log c.requires.refutation.aim c.args.state.now.index.watches c.requires.refutation.search c.requires.kept c.refute.ensures);
 }
 
 pub returns-clause-outcome : goal.returns-clause-outcome
