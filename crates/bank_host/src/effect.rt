@@ -44,7 +44,9 @@ fn with_balance(state: &State, key: &[u32], value: i128) -> Result<State, AllocE
     requires counter { 0 < length state.now.counters }
     requires value { in_state_range value ≡ true }
     ensures reads { IfOk result (λ s. reads s ≡ with_count (reads state.now) balance key.now value) }
-    ensures fits { IfOk result (λ s. (d : Specification) (w : WorldValue) → is_state d w state.now ≡ true → fits_places w (counter_keys d balance) key.now ≡ true → is_state d w s ≡ true) }
+    ensures fits { IfOk result
+        (λ s. (d : Specification) (w : WorldValue) → is_state d w state.now ≡ true
+        → fits_places w (counter_keys d balance) key.now ≡ true → is_state d w s ≡ true) }
 {
     let mut next = state.copy()?;
     next.set_count(BALANCE, key, value as i64)?;
@@ -61,7 +63,8 @@ fn value_after(state: &State, key: &[u32], change: i64) -> i128
 
 /// The refusal of a value beyond the range of a state.
 fn beyond(alloc: Global, key: &[u32], value: i128) -> ApplyRefused
-    ensures { (b : Beyond) → result ≡ ApplyRefused.Range b.counter b.key b.value → b ≡ record { counter = balance; key = key.now; value = value } }
+    ensures { (b : Beyond) → result ≡ ApplyRefused.Range b.counter b.key b.value
+        → b ≡ record { counter = balance; key = key.now; value = value } }
 {
     match Items::from_slice(alloc, key) {
         Ok(key) => ApplyRefused::Range {
@@ -81,10 +84,18 @@ fn change_balance(
     change: i64,
 ) -> Result<State, ApplyRefused>
     requires { 0 < length state.now.counters }
-    ensures reads { IfOk result (λ s. reads s ≡ with_count (reads state.now) balance key.now ((reads state.now).count balance key.now +ℤ change)) }
+    ensures reads { IfOk result
+        (λ s. reads s
+        ≡ with_count (reads state.now) balance key.now
+        ((reads state.now).count balance key.now +ℤ change)) }
     ensures in_range { OnOk result (in_state_range ((reads state.now).count balance key.now +ℤ change) ≡ true) }
-    ensures fits { IfOk result (λ s. (d : Specification) (w : WorldValue) → is_state d w state.now ≡ true → fits_places w (counter_keys d balance) key.now ≡ true → is_state d w s ≡ true) }
-    ensures range { (b : Beyond) → result ≡ Err (ApplyRefused.Range b.counter b.key b.value) → (b ≡ record { counter = balance; key = key.now; value = (reads state.now).count balance key.now +ℤ change }) × (in_state_range ((reads state.now).count balance key.now +ℤ change) ≡ false) }
+    ensures fits { IfOk result
+        (λ s. (d : Specification) (w : WorldValue) → is_state d w state.now ≡ true
+        → fits_places w (counter_keys d balance) key.now ≡ true → is_state d w s ≡ true) }
+    ensures range { (b : Beyond) → result ≡ Err (ApplyRefused.Range b.counter b.key b.value)
+        → (b
+        ≡ record { counter = balance; key = key.now; value = (reads state.now).count balance key.now +ℤ change })
+        × (in_state_range ((reads state.now).count balance key.now +ℤ change) ≡ false) }
 {
     let value = value_after(state, key, change);
     if in_range(value) {

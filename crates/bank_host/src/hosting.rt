@@ -36,8 +36,12 @@ fn native_of<'a>(alloc: Global, spec: &'a Spec, world: &'a World) -> Native<'a, 
 fn replayed(alloc: Global, spec: &Spec, schedule: &Schedule) -> Result<Answer, AllocError>
     requires spec { spec.now ≡ bank }
     requires schedule { IsScheduleOf spec.now schedule.now }
-    ensures text { IfOk result (λ report. report.text.items ≡ replay_text spec.now schedule.now.world schedule.now.replicas schedule.now.steps) }
-    ensures status { IfOk result (λ report. report.status ≡ replay_status spec.now schedule.now.world schedule.now.replicas schedule.now.steps) }
+    ensures text { IfOk result
+        (λ report. report.text.items
+        ≡ replay_text spec.now schedule.now.world schedule.now.replicas schedule.now.steps) }
+    ensures status { IfOk result
+        (λ report. report.status
+        ≡ replay_status spec.now schedule.now.world schedule.now.replicas schedule.now.steps) }
 {
     let native = native_of(alloc, spec, &schedule.world);
     let mut host = Host::new(alloc, native, schedule.replicas)?;
@@ -49,8 +53,12 @@ fn replayed(alloc: Global, spec: &Spec, schedule: &Schedule) -> Result<Answer, A
 fn simulated(alloc: Global, spec: &Spec, schedule: &Schedule) -> Result<Answer, AllocError>
     requires spec { spec.now ≡ bank }
     requires schedule { IsScheduleOf spec.now schedule.now }
-    ensures text { IfOk result (λ report. report.text.items ≡ simulate_text spec.now schedule.now.world schedule.now.replicas schedule.now.steps) }
-    ensures status { IfOk result (λ report. report.status ≡ simulate_status spec.now schedule.now.world schedule.now.replicas schedule.now.steps) }
+    ensures text { IfOk result
+        (λ report. report.text.items
+        ≡ simulate_text spec.now schedule.now.world schedule.now.replicas schedule.now.steps) }
+    ensures status { IfOk result
+        (λ report. report.status
+        ≡ simulate_status spec.now schedule.now.world schedule.now.replicas schedule.now.steps) }
 {
     let native = native_of(alloc, spec, &schedule.world);
     let steps = schedule.steps.as_slice();

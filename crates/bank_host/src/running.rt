@@ -22,7 +22,9 @@ fn run_command<S: Source, K: Sink>(
     schedule: &mut S,
     out: &mut K,
 ) -> u8
-    ensures ends { (bytes : List ℕ) × Tells (S.left schedule.old) bytes × EndsIn (IsAnswer (Some command) bytes) result (K.held out.old) (K.held out.new) (K.faults out.old) (K.faults out.new) }
+    ensures ends { (bytes : List ℕ) × Tells (S.left schedule.old) bytes
+        × EndsIn (IsAnswer (Some command) bytes) result (K.held out.old) (K.held out.new)
+        (K.faults out.old) (K.faults out.new) }
     ensures read_fault { result ≡ 6 → IsFault (S.faults schedule.old) (S.faults schedule.new) }
     ensures unwritten { result ≡ 6 → out.new ≡ out.old }
     ensures end { result < 6 → IsReadWithin most_schedule_bytes (S.left schedule.old) (S.left schedule.new) }
@@ -49,10 +51,15 @@ pub fn run_bank<S: Source, K: Sink>(
     schedule: &mut S,
     out: &mut K,
 ) -> u8
-    ensures ends { (bytes : List ℕ) × Tells (S.left schedule.old) bytes × EndsIn (IsAnswer (asked_of (map string_bytes words.now)) bytes) result (K.held out.old) (K.held out.new) (K.faults out.old) (K.faults out.new) }
-    ensures read_fault { result ≡ 6 → (is_some (asked_of (map string_bytes words.now)) ≡ true) × IsFault (S.faults schedule.old) (S.faults schedule.new) }
+    ensures ends { (bytes : List ℕ) × Tells (S.left schedule.old) bytes
+        × EndsIn (IsAnswer (asked_of (map string_bytes words.now)) bytes) result (K.held out.old)
+        (K.held out.new) (K.faults out.old) (K.faults out.new) }
+    ensures read_fault { result ≡ 6
+        → (is_some (asked_of (map string_bytes words.now)) ≡ true)
+        × IsFault (S.faults schedule.old) (S.faults schedule.new) }
     ensures unwritten { result ≡ 6 → out.new ≡ out.old }
-    ensures end { result < 6 → is_some (asked_of (map string_bytes words.now)) ≡ true → IsReadWithin most_schedule_bytes (S.left schedule.old) (S.left schedule.new) }
+    ensures end { result < 6 → is_some (asked_of (map string_bytes words.now)) ≡ true
+        → IsReadWithin most_schedule_bytes (S.left schedule.old) (S.left schedule.new) }
 {
     match command_of(words) {
         Some(command) => run_command(alloc, command, schedule, out),

@@ -15,7 +15,8 @@ pub struct Answer {
 /// Writes the text of an answer, and ends with its status where that was done.
 pub fn write_answer<K: Sink>(out: &mut K, status: u8, text: &[u8]) -> u8
     requires { status < 6 }
-    ensures ends { Ends (IsOne status text.now) (IsFrontOf text.now) result (K.held out.old) (K.held out.new) (K.faults out.old) (K.faults out.new) }
+    ensures ends { Ends (IsOne status text.now) (IsFrontOf text.now) result (K.held out.old)
+        (K.held out.new) (K.faults out.old) (K.faults out.new) }
     ensures no_source { result ≢ 6 }
 {
     match write_all(out, text) {

@@ -113,7 +113,9 @@ impl MemSink {
         fail_at: Vec<u32>,
     ) -> Result<MemSink, AllocError>
         requires { 0 < piece }
-        ensures { IfOk result (λ k. k ≡ record { held = []; room = room; piece = piece; fail_at = fail_at.items; calls = 0; faults = 0 }) }
+        ensures { IfOk result
+            (λ k. k
+            ≡ record { held = []; room = room; piece = piece; fail_at = fail_at.items; calls = 0; faults = 0 }) }
     {
         Ok(MemSink {
             bytes: Vec::with_capacity(alloc, room)?,

@@ -39,7 +39,9 @@ pub enum WriteRefused {
 /// Writes all of the bytes. Where a write fails, some of them were appended, from the front, and never all.
 pub fn write_all<K: Sink>(sink: &mut K, bytes: &[u8]) -> Result<(), WriteRefused>
     ensures ok { OnOk result (Appends (K.held sink.old) (K.held sink.new) bytes.now) }
-    ensures prefix { OnErr result ((n : ℕ) × (n < length bytes.now) × Appends (K.held sink.old) (K.held sink.new) (take n bytes.now)) }
+    ensures prefix { OnErr result
+        ((n : ℕ) × (n < length bytes.now)
+        × Appends (K.held sink.old) (K.held sink.new) (take n bytes.now)) }
     ensures fault { OnErr result (IsFault (K.faults sink.old) (K.faults sink.new)) }
     ensures never_falls { K.faults sink.old ≤ K.faults sink.new }
     ensures writes { K.writes sink.new ≤ K.writes sink.old + length bytes.now }

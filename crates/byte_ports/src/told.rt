@@ -42,7 +42,9 @@ pub fn answer_source<S: Source, F: Fn(&[u8]) -> Result<Answer, AllocError>>(
     job: F,
 ) -> Result<Answer, Stopped>
     requires { (bytes : _) → length bytes.now ≤ most → F.pre job bytes }
-    ensures ok { IfOk result (λ answer. IsAnswerFrom (S.left source.old) most long.now (FnReturnsAt F.Fn job) answer.status answer.text.items) }
+    ensures ok { IfOk result
+        (λ answer. IsAnswerFrom (S.left source.old) most long.now (FnReturnsAt F.Fn job)
+        answer.status answer.text.items) }
     ensures fault { IsErrOf result Stopped.Fault → IsFault (S.faults source.old) (S.faults source.new) }
     ensures end { OnOk result (IsReadWithin most (S.left source.old) (S.left source.new)) }
 {
@@ -71,8 +73,11 @@ pub fn write_answer_from<S: Source, K: Sink, F: Fn(&[u8]) -> Result<Answer, Allo
     job: F,
 ) -> u8
     requires callable { (bytes : _) → length bytes.now ≤ most → F.pre job bytes }
-    requires low { (bytes : List ℕ) (answer : Answer) → length bytes ≤ most → FnReturnsAt F.Fn job bytes (Ok answer) → answer.status < 6 }
-    ensures ends { (bytes : List ℕ) × Tells (S.left source.old) bytes × EndsIn (IsAnswerWithin most long.now (FnReturnsAt F.Fn job) bytes) result (K.held out.old) (K.held out.new) (K.faults out.old) (K.faults out.new) }
+    requires low { (bytes : List ℕ) (answer : Answer) → length bytes ≤ most
+        → FnReturnsAt F.Fn job bytes (Ok answer) → answer.status < 6 }
+    ensures ends { (bytes : List ℕ) × Tells (S.left source.old) bytes
+        × EndsIn (IsAnswerWithin most long.now (FnReturnsAt F.Fn job) bytes) result (K.held out.old)
+        (K.held out.new) (K.faults out.old) (K.faults out.new) }
     ensures read_fault { result ≡ 6 → IsFault (S.faults source.old) (S.faults source.new) }
     ensures unwritten { result ≡ 6 → out.new ≡ out.old }
     ensures end { result < 6 → IsReadWithin most (S.left source.old) (S.left source.new) }

@@ -77,10 +77,12 @@ fn verdict_of(
     requires few { HasFew spec.now ob.now }
     requires ground { IsGrounded spec.now ob.now ground.now }
     requires answer { IsAnswer true true (problem_of spec.now ob.now) budget answer }
-    requires fitting { problem_fits (problem_of spec.now ob.now) ≡ true → IsAnswer false false (problem_of spec.now ob.now) budget answer }
+    requires fitting { problem_fits (problem_of spec.now ob.now) ≡ true
+        → IsAnswer false false (problem_of spec.now ob.now) budget answer }
     ensures good { IfOk result (λ v. IsGood spec.now budget ob.now (shown_verdict spec.now v)) }
     ensures shown { IfOk result (λ v. HasShown spec.now ob.now v) }
-    ensures decided { problem_fits (problem_of spec.now ob.now) ≡ true → IfOk result (λ v. IsDecided (length (problem_of spec.now ob.now).atoms) budget v) }
+    ensures decided { problem_fits (problem_of spec.now ob.now) ≡ true
+        → IfOk result (λ v. IsDecided (length (problem_of spec.now ob.now).atoms) budget v) }
 {
     match answer {
         Answer::Unsat(log) => Ok(Verdict::Proved(log)),
@@ -105,7 +107,8 @@ fn decide_grounded(
     requires ground { IsGrounded spec.now ob.now ground.now }
     ensures good { IfOk result (λ v. IsGood spec.now budget ob.now (shown_verdict spec.now v)) }
     ensures fit { IfOk result (λ v. IsFit spec.now written_version ob.now v) }
-    ensures decided { problem_fits (problem_of spec.now ob.now) ≡ true → IfOk result (λ v. IsDecided (length (problem_of spec.now ob.now).atoms) budget v) }
+    ensures decided { problem_fits (problem_of spec.now ob.now) ≡ true
+        → IfOk result (λ v. IsDecided (length (problem_of spec.now ob.now).atoms) budget v) }
 {
     let problem = pose(alloc, spec, ob, ground)?;
     let answer = search(alloc, &problem, budget);
@@ -128,7 +131,8 @@ pub fn decide(
     ensures good { IfOk result (λ v. IsGood spec.now budget ob.now (shown_verdict spec.now v)) }
     ensures fit { IfOk result (λ v. IsFit spec.now written_version ob.now v) }
     ensures many { HasMany spec.now ob.now → IfOk result (λ v. v ≡ Undecided Instances) }
-    ensures decided { HasFew spec.now ob.now → problem_fits (problem_of spec.now ob.now) ≡ true → IfOk result (λ v. IsDecided (length (problem_of spec.now ob.now).atoms) budget v) }
+    ensures decided { HasFew spec.now ob.now → problem_fits (problem_of spec.now ob.now) ≡ true
+        → IfOk result (λ v. IsDecided (length (problem_of spec.now ob.now).atoms) budget v) }
 {
     match ground(alloc, spec, ob) {
         Ok(ground) => {

@@ -134,7 +134,8 @@ fn holds_rows_evidence(evidence: &RowsEvidence) -> bool
 }
 
 fn holds_range_evidence(evidence: &RangeEvidence) -> bool
-    ensures { result ≡ range_format.fits (record { used = evidence.now.used; steps = evidence.now.steps; what = evidence.now.what }) }
+    ensures { result
+        ≡ range_format.fits (record { used = evidence.now.used; steps = evidence.now.steps; what = evidence.now.what }) }
 {
     let rows = holds_rows(evidence.used.as_slice(), evidence.steps.as_slice());
     match &evidence.what {

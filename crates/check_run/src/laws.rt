@@ -26,8 +26,11 @@ use report_text::law_written_is_read;
 
 /// An obligation with a good verdict that it is proved holds, and what a good refutation shows breaks it.
 pub fn law_good_verdicts()
-    ensures proved { (d : Specification) (budget : ℕ) (ob : Obligation) (log : List Line) → is_specification d ≡ true → IsGood d budget ob (proved log) → Holds d ob }
-    ensures refuted { (d : Specification) (budget : ℕ) (ob : Obligation) (p : PartialWitness) (es : List ℕ) → IsGood d budget ob (refuted p es) → Breaks d ob p.world (listing_of d p) p.calls es }
+    ensures proved { (d : Specification) (budget : ℕ) (ob : Obligation) (log : List Line)
+        → is_specification d ≡ true → IsGood d budget ob (proved log) → Holds d ob }
+    ensures refuted { (d : Specification) (budget : ℕ) (ob : Obligation) (p : PartialWitness)
+        (es : List ℕ)
+        → IsGood d budget ob (refuted p es) → Breaks d ob p.world (listing_of d p) p.calls es }
 {
     law_obligation_fits();
     law_refuted_problem_holds();
@@ -35,8 +38,12 @@ pub fn law_good_verdicts()
 
 /// A specification with good verdicts on its obligations, which are all proved, is safe, and it converges.
 pub fn law_safe()
-    ensures safe { (d : Specification) (budget : ℕ) (vs : List VerdictForm) → is_specification d ≡ true → AreGood d budget (obligations_of d) vs → outcome_of (tally_of vs) ≡ Accepted → Safe d }
-    ensures converges { (d : Specification) (budget : ℕ) (vs : List VerdictForm) → is_specification d ≡ true → AreGood d budget (obligations_of d) vs → outcome_of (tally_of vs) ≡ Accepted → Converges d }
+    ensures safe { (d : Specification) (budget : ℕ) (vs : List VerdictForm)
+        → is_specification d ≡ true → AreGood d budget (obligations_of d) vs
+        → outcome_of (tally_of vs) ≡ Accepted → Safe d }
+    ensures converges { (d : Specification) (budget : ℕ) (vs : List VerdictForm)
+        → is_specification d ≡ true → AreGood d budget (obligations_of d) vs
+        → outcome_of (tally_of vs) ≡ Accepted → Converges d }
 {
     law_obligations();
     law_good_verdicts();

@@ -123,5 +123,6 @@ pub fn fits(problem: &Problem) -> bool
 
 /// Rows that stand for literals of a problem that fits, an atom's row or the negation of one, are taken.
 pub fn law_fits()
-    ensures { (p : PlainProblem) (lits : List LitForm) (rows : List RowForm) → problem_fits p ≡ true → map (lit_row p.atoms) lits ≡ map (λ r. Some r) rows → are_taken p.ints rows ≡ true }
+    ensures { (p : PlainProblem) (lits : List LitForm) (rows : List RowForm) → problem_fits p ≡ true
+        → map (lit_row p.atoms) lits ≡ map (λ r. Some r) rows → are_taken p.ints rows ≡ true }
 {}

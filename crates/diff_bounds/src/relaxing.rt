@@ -36,7 +36,9 @@ fn next_visit(walks: &Walks, edges: &[Edge], number: u32) -> Option<Visit>
     requires near { AreNear walks.now.ints edges.now }
     requires short { AreShortNow walks.now }
     requires number { number < length edges.now }
-    ensures { MatchOption result (IsSettledNow walks.now (edge_at edges.now number)) (λ v. IsNext walks.now.ints edges.now walks.now.visits.items walks.now.latest.items number v) }
+    ensures { MatchOption result (IsSettledNow walks.now (edge_at edges.now number))
+        (λ v. IsNext walks.now.ints edges.now walks.now.visits.items walks.now.latest.items number
+        v) }
 {
     let edge = edges[number as usize];
     let from = walks.now_at(edge.from);

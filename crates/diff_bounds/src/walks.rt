@@ -68,7 +68,9 @@ impl Walks {
         requires place { visit.place < length self.old.latest.items }
         ensures ints { self.new.ints ≡ self.old.ints }
         ensures visits { OnOk result (self.new.visits.items ≡ self.old.visits.items ++ visit ∷ []) }
-        ensures latest { OnOk result (self.new.latest.items ≡ slice_set self.old.latest.items visit.place (length self.old.visits.items)) }
+        ensures latest { OnOk result
+            (self.new.latest.items
+            ≡ slice_set self.old.latest.items visit.place (length self.old.visits.items)) }
     {
         let number = self.visits.len();
         self.visits.push(visit)?;

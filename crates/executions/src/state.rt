@@ -31,7 +31,8 @@ pub fn state_after(
     ensures state { IfOk result (λ state. reads state ≡ state_after_of (system_of spec.now world.now) events.now order.now) }
     ensures fits { IfOk result (λ state. is_state spec.now world.now state ≡ true) }
     ensures in_range { OnOk result (StayInRange spec.now world.now events.now order.now (length order.now)) }
-    ensures range { (b : Beyond) → result ≡ Err (ApplyRefused.Range b.counter b.key b.value) → IsFirstBeyondIn spec.now world.now events.now order.now b }
+    ensures range { (b : Beyond) → result ≡ Err (ApplyRefused.Range b.counter b.key b.value)
+        → IsFirstBeyondIn spec.now world.now events.now order.now b }
 {
     let mut state = State::initial(alloc, spec, world)?;
     for number in order {

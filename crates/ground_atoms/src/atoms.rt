@@ -114,7 +114,9 @@ fn note_atom(
     atom: &Atom,
     named: &mut Items<NamedReading>,
 ) -> Result<(), AllocError>
-    ensures { OnOk result (map reading_of named.new ≡ unless_known is_known (map reading_of named.old) (reading_of_atom (atom_of atom.now))) }
+    ensures { OnOk result
+        (map reading_of named.new
+        ≡ unless_known is_known (map reading_of named.old) (reading_of_atom (atom_of atom.now))) }
 {
     match atom {
         Atom::Has {
@@ -137,7 +139,10 @@ fn note_integer(
     name: &IntName,
     named: &mut Items<NamedReading>,
 ) -> Result<(), AllocError>
-    ensures { OnOk result (map reading_of named.new ≡ unless_known is_known (map reading_of named.old) (reading_of_integer (integer_of name.now))) }
+    ensures { OnOk result
+        (map reading_of named.new
+        ≡ unless_known is_known (map reading_of named.old)
+        (reading_of_integer (integer_of name.now))) }
 {
     match name {
         IntName::Count {

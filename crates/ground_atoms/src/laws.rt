@@ -15,7 +15,13 @@ ghost use Rattle.ground_atoms.specs.Making.{make_all};
 /// Formulas that are numbered as they are made have the numbers of the final table, and the readings that were named are those that
 /// the formulas name, each where it is first named.
 pub fn law_making_is_numbering()
-    ensures table { (done : List Numbered) (k : Known) (fs : List Symbolic) → (make_all done k fs).known.table ≡ naming_all k.table fs }
-    ensures forms { (done : List Numbered) (k : Known) (fs : List Symbolic) → (make_all done k fs).forms ≡ done ++ map (numbered (naming_all k.table fs)) fs }
-    ensures readings { (d : Specification) (ob : Obligation) (done : List Numbered) (n : ℕ) (list : List Symbolic) → readings_after n list ≡ filter (λ q. length q.stage == n) (make_all done (record { table = record { atoms = []; ints = arguments_of d ob }; named = [] }) list).known.named }
+    ensures table { (done : List Numbered) (k : Known) (fs : List Symbolic)
+        → (make_all done k fs).known.table ≡ naming_all k.table fs }
+    ensures forms { (done : List Numbered) (k : Known) (fs : List Symbolic)
+        → (make_all done k fs).forms ≡ done ++ map (numbered (naming_all k.table fs)) fs }
+    ensures readings { (d : Specification) (ob : Obligation) (done : List Numbered) (n : ℕ)
+        (list : List Symbolic)
+        → readings_after n list
+        ≡ filter (λ q. length q.stage == n)
+        (make_all done (record { table = record { atoms = []; ints = arguments_of d ob }; named = [] }) list).known.named }
 {}

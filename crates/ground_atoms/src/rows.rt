@@ -25,7 +25,9 @@ pub fn at_most(
     right: &[SumPart],
     more: i64,
 ) -> Result<GroundFormula, AllocError>
-    ensures { IfOk result (λ f. make atoms.old (at_most (parts_of left.now) (parts_of right.now) more) ≡ record { known = atoms.new; form = form_of f }) }
+    ensures { IfOk result
+        (λ f. make atoms.old (at_most (parts_of left.now) (parts_of right.now) more)
+        ≡ record { known = atoms.new; form = form_of f }) }
 {
     let bound = bound_of(left, right, more)?;
     let mut terms = Vec::new(alloc);
@@ -55,7 +57,9 @@ fn add_terms(
     parts: &[SumPart],
     terms: &mut Vec<RowTerm>,
 ) -> Result<(), AllocError>
-    ensures made { OnOk result (make_terms positive atoms.old terms.old.items (parts_of parts.now) ≡ record { known = atoms.new; terms = terms.new.items }) }
+    ensures made { OnOk result
+        (make_terms positive atoms.old terms.old.items (parts_of parts.now)
+        ≡ record { known = atoms.new; terms = terms.new.items }) }
     ensures range { OnOk result (all_in_range terms.old.items ≡ true → all_in_range terms.new.items ≡ true) }
 {
     for part in parts {

@@ -54,7 +54,11 @@ fn holds_too(
     left: &[u32],
     right: &[u32],
 ) -> Result<GroundFormula, AllocError>
-    ensures { IfOk result (λ f. IsMade atoms.old (symbols.either (symbols.negated (symbols.has [] relation left.now)) (symbols.has [] relation right.now)) atoms.new f) }
+    ensures { IfOk result
+        (λ f. IsMade atoms.old
+        (symbols.either (symbols.negated (symbols.has [] relation left.now))
+        (symbols.has [] relation right.now))
+        atoms.new f) }
 {
     let first = reading(atoms, alloc, spec, 0, relation, left)?;
     let premise = negated(alloc, first)?;
@@ -71,7 +75,11 @@ fn holds_where(
     left: &[u32],
     right: &[u32],
 ) -> Result<GroundFormula, AllocError>
-    ensures { IfOk result (λ f. IsMade atoms.old (symbols.either (symbols.has [] relation left.now) (symbols.negated (symbols.has [] relation right.now))) atoms.new f) }
+    ensures { IfOk result
+        (λ f. IsMade atoms.old
+        (symbols.either (symbols.has [] relation left.now)
+        (symbols.negated (symbols.has [] relation right.now)))
+        atoms.new f) }
 {
     let first = reading(atoms, alloc, spec, 0, relation, left)?;
     let second = reading(atoms, alloc, spec, 0, relation, right)?;
@@ -87,7 +95,9 @@ fn relation_same(
     left: &[u32],
     right: &[u32],
 ) -> Result<GroundFormula, AllocError>
-    ensures { IfOk result (λ f. IsMade atoms.old (equality.readings_same (thing.Relation relation) left.now right.now) atoms.new f) }
+    ensures { IfOk result
+        (λ f. IsMade atoms.old (equality.readings_same (thing.Relation relation) left.now right.now)
+        atoms.new f) }
 {
     let to = holds_too(atoms, alloc, spec, relation, left, right)?;
     let fro = holds_where(atoms, alloc, spec, relation, left, right)?;
@@ -102,7 +112,9 @@ fn counter_same(
     left: &[u32],
     right: &[u32],
 ) -> Result<GroundFormula, AllocError>
-    ensures { IfOk result (λ f. IsMade atoms.old (equality.readings_same (thing.Counter counter) left.now right.now) atoms.new f) }
+    ensures { IfOk result
+        (λ f. IsMade atoms.old (equality.readings_same (thing.Counter counter) left.now right.now)
+        atoms.new f) }
 {
     let first = sum(alloc, spec, 0, counter, left)?;
     let second = sum(alloc, spec, 0, counter, right)?;
@@ -182,7 +194,8 @@ fn add_from(
     out: &mut Items<GroundFormula>,
 ) -> Result<(), GroundRefused>
     requires { place < length tuples.now }
-    ensures { Appends result out.old atoms.old (map (equality.congruent thing tuple.now) (drop (place + 1) tuples.now)) out.new atoms.new }
+    ensures { Appends result out.old atoms.old
+        (map (equality.congruent thing tuple.now) (drop (place + 1) tuples.now)) out.new atoms.new }
 {
     let next = place + 1;
     add_with_each(atoms, alloc, spec, thing, tuple, &tuples[next..], out)
@@ -276,7 +289,10 @@ fn with_reading(
     thing: Thing,
     tuples: Items<Items<u32>>,
 ) -> Result<Items<Items<u32>>, AllocError>
-    ensures { IfOk result (λ us. us ≡ cond (effect.is_thing reading.now.thing thing) (equality.insert_rising reading.now.tuple tuples) tuples) }
+    ensures { IfOk result
+        (λ us. us
+        ≡ cond (effect.is_thing reading.now.thing thing)
+        (equality.insert_rising reading.now.tuple tuples) tuples) }
 {
     if is_thing(reading.thing, thing) {
         return inserted(alloc, reading.tuple.consts(), tuples.as_slice());
@@ -290,7 +306,9 @@ fn rising(
     readings: &[NamedReading],
     thing: Thing,
 ) -> Result<Items<Items<u32>>, AllocError>
-    ensures { IfOk result (λ us. us ≡ equality.rising (filter (λ q. effect.is_thing q.thing thing) (map reading_of readings.now))) }
+    ensures { IfOk result
+        (λ us. us
+        ≡ equality.rising (filter (λ q. effect.is_thing q.thing thing) (map reading_of readings.now))) }
 {
     let mut tuples = Items::new(alloc);
     let mut place = readings.len();
@@ -310,7 +328,10 @@ fn add_thing(
     thing: &Thing,
     out: &mut Items<GroundFormula>,
 ) -> Result<(), GroundRefused>
-    ensures { Appends result out.old atoms.old (equality.congruent_pairs thing.now (equality.rising (filter (λ q. effect.is_thing q.thing thing.now) (map reading_of readings.now)))) out.new atoms.new }
+    ensures { Appends result out.old atoms.old
+        (equality.congruent_pairs thing.now
+        (equality.rising (filter (λ q. effect.is_thing q.thing thing.now) (map reading_of readings.now))))
+        out.new atoms.new }
 {
     let tuples = rising(alloc, readings, *thing)?;
     add_pairs(atoms, alloc, spec, *thing, tuples.as_slice(), out)

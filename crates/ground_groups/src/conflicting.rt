@@ -56,7 +56,10 @@ fn consts_of_both(
     b: &Setting<'_>,
     right: &Take,
 ) -> Result<Items<u32>, AllocError>
-    ensures { IfOk result (λ cs. cs ≡ consts_of (caller_in a.now) [] left.now.args ++ consts_of (caller_in b.now) [] right.now.args) }
+    ensures { IfOk result
+        (λ cs. cs
+        ≡ consts_of (caller_in a.now) [] left.now.args
+        ++ consts_of (caller_in b.now) [] right.now.args) }
 {
     let mut consts = Items::new(alloc);
     add_consts(a, left.args.as_slice(), &mut consts)?;
@@ -84,7 +87,9 @@ fn same_later(
     consts: &[u32],
     mut done: Option<GroundFormula>,
 ) -> Result<Option<GroundFormula>, AllocError>
-    ensures { IfOk result (λ all. make_parts (option_map form_of done) atoms.old (entry.same_later var constant vars.now consts.now) ≡ record { known = atoms.new; parts = option_map form_of all }) }
+    ensures { IfOk result
+        (λ all. make_parts (option_map form_of done) atoms.old (entry.same_later var constant vars.now consts.now)
+        ≡ record { known = atoms.new; parts = option_map form_of all }) }
 {
     let count = vars.len().min(consts.len());
     for place in 0..count {
@@ -120,7 +125,9 @@ fn same_from(
 ) -> Result<Option<GroundFormula>, AllocError>
     requires vars { place < length vars.now }
     requires consts { place < length consts.now }
-    ensures { IfOk result (λ all. make_parts (option_map form_of done) atoms.old (cond (list_any (λ u. slice_index vars.now place == u) (take place vars.now)) [] (entry.same_later (slice_index vars.now place) (slice_index consts.now place) (drop (place + 1) vars.now) (drop (place + 1) consts.now))) ≡ record { known = atoms.new; parts = option_map form_of all }) }
+    ensures { IfOk result
+        (λ all. make_parts (option_map form_of done) atoms.old (cond (list_any (λ u. slice_index vars.now place == u) (take place vars.now)) [] (entry.same_later (slice_index vars.now place) (slice_index consts.now place) (drop (place + 1) vars.now) (drop (place + 1) consts.now)))
+        ≡ record { known = atoms.new; parts = option_map form_of all }) }
 {
     if is_met(vars, place) {
         return Ok(done);
@@ -144,7 +151,9 @@ fn one_element_each(
     vars: &[u8],
     consts: &[u32],
 ) -> Result<GroundFormula, AllocError>
-    ensures { IfOk result (λ f. IsMade atoms.old (symbols.all_parts (entry.one_element_each [] vars.now consts.now)) atoms.new f) }
+    ensures { IfOk result
+        (λ f. IsMade atoms.old (symbols.all_parts (entry.one_element_each [] vars.now consts.now))
+        atoms.new f) }
 {
     let mut done = None;
     let count = vars.len().min(consts.len());
@@ -165,7 +174,10 @@ fn not_one_element_each(
     b: &Setting<'_>,
     right: &Take,
 ) -> Result<GroundFormula, AllocError>
-    ensures { IfOk result (λ f. IsMade atoms.old (symbols.negated (symbols.all_parts (entry.one_element_each [] (rule.now.left.vars ++ rule.now.right.vars) (consts_of (caller_in a.now) [] left.now.args ++ consts_of (caller_in b.now) [] right.now.args)))) atoms.new f) }
+    ensures { IfOk result
+        (λ f. IsMade atoms.old
+        (symbols.negated (symbols.all_parts (entry.one_element_each [] (rule.now.left.vars ++ rule.now.right.vars) (consts_of (caller_in a.now) [] left.now.args ++ consts_of (caller_in b.now) [] right.now.args))))
+        atoms.new f) }
 {
     let vars = vars_of(alloc, rule)?;
     let consts = or_drop!(consts_of_both(alloc, a, left, b, right); vars);
@@ -186,7 +198,9 @@ fn add_unmatched(
     right: &Take,
     out: &mut Items<GroundFormula>,
 ) -> Result<(), GroundRefused>
-    ensures { Appends result out.old atoms.old (entry.unmatched rule.now (caller_in a.now) left.now (caller_in b.now) right.now) out.new atoms.new }
+    ensures { Appends result out.old atoms.old
+        (entry.unmatched rule.now (caller_in a.now) left.now (caller_in b.now) right.now) out.new
+        atoms.new }
 {
     if !are_ruled(rule, left, right) {
         return Ok(());
@@ -209,7 +223,9 @@ fn add_unmatched_as(
     right: &Take,
     out: &mut Items<GroundFormula>,
 ) -> Result<(), GroundRefused>
-    ensures { Appends result out.old atoms.old (unmatched_as swapped rule.now (caller_in a.now) left.now (caller_in b.now) right.now) out.new atoms.new }
+    ensures { Appends result out.old atoms.old
+        (unmatched_as swapped rule.now (caller_in a.now) left.now (caller_in b.now) right.now)
+        out.new atoms.new }
 {
     if swapped {
         add_unmatched(atoms, alloc, rule, b, right, a, left, out)
@@ -230,7 +246,11 @@ fn add_with_each(
     rights: &[Take],
     out: &mut Items<GroundFormula>,
 ) -> Result<(), GroundRefused>
-    ensures { Appends result out.old atoms.old (flat_map (λ u. unmatched_as swapped rule.now (caller_in a.now) left.now (caller_in b.now) u) rights.now) out.new atoms.new }
+    ensures { Appends result out.old atoms.old
+        (flat_map
+        (λ u. unmatched_as swapped rule.now (caller_in a.now) left.now (caller_in b.now) u)
+        rights.now)
+        out.new atoms.new }
 {
     for right in rights {
         match add_unmatched_as(atoms, alloc, rule, swapped, a, left, b, right, out) {
@@ -253,7 +273,12 @@ fn add_each_with_each(
     rights: &[Take],
     out: &mut Items<GroundFormula>,
 ) -> Result<(), GroundRefused>
-    ensures { Appends result out.old atoms.old (flat_map (λ t. flat_map (λ u. unmatched_as swapped rule.now (caller_in a.now) t (caller_in b.now) u) rights.now) lefts.now) out.new atoms.new }
+    ensures { Appends result out.old atoms.old
+        (flat_map
+        (λ t. flat_map (λ u. unmatched_as swapped rule.now (caller_in a.now) t (caller_in b.now) u)
+        rights.now)
+        lefts.now)
+        out.new atoms.new }
 {
     for left in lefts {
         match add_with_each(atoms, alloc, rule, swapped, a, left, b, rights, out) {
@@ -275,7 +300,9 @@ fn add_rule(
     rights: &[Take],
     out: &mut Items<GroundFormula>,
 ) -> Result<(), GroundRefused>
-    ensures { Appends result out.old atoms.old (entry.rule_unmatched (caller_in a.now) lefts.now (caller_in b.now) rights.now rule.now) out.new atoms.new }
+    ensures { Appends result out.old atoms.old
+        (entry.rule_unmatched (caller_in a.now) lefts.now (caller_in b.now) rights.now rule.now)
+        out.new atoms.new }
 {
     match add_each_with_each(atoms, alloc, rule, false, a, lefts, b, rights, out) {
         Ok(()) => {}
@@ -295,7 +322,10 @@ fn add_rules(
     rights: &[Take],
     out: &mut Items<GroundFormula>,
 ) -> Result<(), GroundRefused>
-    ensures { Appends result out.old atoms.old (flat_map (entry.rule_unmatched (caller_in a.now) lefts.now (caller_in b.now) rights.now) rules.now) out.new atoms.new }
+    ensures { Appends result out.old atoms.old
+        (flat_map (entry.rule_unmatched (caller_in a.now) lefts.now (caller_in b.now) rights.now)
+        rules.now)
+        out.new atoms.new }
 {
     for rule in rules {
         match add_rule(atoms, alloc, rule, a, lefts, b, rights, out) {

@@ -138,7 +138,9 @@ fn add_calls(
     sorts: &mut Items<u8>,
 ) -> Result<Items<GroundCall>, AllocError>
     ensures calls { IfOk result (λ calls. calls ≡ calls_from spec.now (length sorts.old) 0 ops.now) }
-    ensures sorts { OnOk result (sorts.new ≡ sorts.old ++ flat_map sorts_of_params (map (λ o. (op_of spec.now o).params) ops.now)) }
+    ensures sorts { OnOk result
+        (sorts.new
+        ≡ sorts.old ++ flat_map sorts_of_params (map (λ o. (op_of spec.now o).params) ops.now)) }
 {
     let mut calls = Items::new(alloc);
     let mut ints = 0;
@@ -156,8 +158,15 @@ fn add_all_chosen(
     ops: &[u8],
     sorts: &mut Items<u8>,
 ) -> Result<Items<Items<Items<u32>>>, AllocError>
-    ensures numbers { IfOk result (λ lists. lists ≡ all_chosen_from (length sorts.old) (map (λ o. map chosen_vars (op_of spec.now o).requires_) ops.now)) }
-    ensures sorts { OnOk result (sorts.new ≡ sorts.old ++ flat_map concatenated (map (λ o. map chosen_vars (op_of spec.now o).requires_) ops.now)) }
+    ensures numbers { IfOk result
+        (λ lists. lists
+        ≡ all_chosen_from (length sorts.old)
+        (map (λ o. map chosen_vars (op_of spec.now o).requires_) ops.now)) }
+    ensures sorts { OnOk result
+        (sorts.new
+        ≡ sorts.old
+        ++ flat_map concatenated
+        (map (λ o. map chosen_vars (op_of spec.now o).requires_) ops.now)) }
 {
     let mut lists = Items::new(alloc);
     for op in ops {

@@ -115,7 +115,9 @@ fn add_definition(
     reading: &NamedReading,
     out: &mut Items<GroundFormula>,
 ) -> Result<(), GroundRefused>
-    ensures { Appends result out.old atoms.old (defined_by spec.now calls.now reading.now.stage reading.now.thing reading.now.tuple) out.new atoms.new }
+    ensures { Appends result out.old atoms.old
+        (defined_by spec.now calls.now reading.now.stage reading.now.thing reading.now.tuple)
+        out.new atoms.new }
 {
     let stage = reading.stage;
     if stage == 0 {
@@ -143,7 +145,9 @@ fn add_each_definition(
     readings: &[NamedReading],
     out: &mut Items<GroundFormula>,
 ) -> Result<(), GroundRefused>
-    ensures { Appends result out.old atoms.old (flat_map (λ q. defined_by spec.now calls.now q.stage q.thing q.tuple) readings.now) out.new atoms.new }
+    ensures { Appends result out.old atoms.old
+        (flat_map (λ q. defined_by spec.now calls.now q.stage q.thing q.tuple) readings.now) out.new
+        atoms.new }
 {
     for reading in readings {
         match add_definition(spec, atoms, alloc, calls, reading, out) {
@@ -163,7 +167,11 @@ pub fn add_definitions(
     count: usize,
     out: &mut Items<GroundFormula>,
 ) -> Result<(), GroundRefused>
-    ensures { (ob : Obligation) → calls.now ≡ calls_of spec.now ob → Appends result out.old atoms.old (flat_map (definition spec.now ob (constants_of spec.now ob)) (filter (λ q. length q.stage == count) atoms.old.named)) out.new atoms.new }
+    ensures { (ob : Obligation) → calls.now ≡ calls_of spec.now ob
+        → Appends result out.old atoms.old
+        (flat_map (definition spec.now ob (constants_of spec.now ob))
+        (filter (λ q. length q.stage == count) atoms.old.named))
+        out.new atoms.new }
 {
     let readings = readings_after(alloc, atoms, count)?;
     add_each_definition(spec, atoms, alloc, calls, readings.as_slice(), out)

@@ -68,7 +68,11 @@ fn only_at(
     at: u8,
     not_at: u8,
 ) -> Result<GroundFormula, AllocError>
-    ensures { IfOk result (λ f. IsMade atoms.old (symbols.both (symbols.has (stage_of at) relation tuple.now) (symbols.negated (symbols.has (stage_of not_at) relation tuple.now))) atoms.new f) }
+    ensures { IfOk result
+        (λ f. IsMade atoms.old
+        (symbols.both (symbols.has (stage_of at) relation tuple.now)
+        (symbols.negated (symbols.has (stage_of not_at) relation tuple.now)))
+        atoms.new f) }
 {
     let left = reading(atoms, alloc, spec, at, relation, tuple)?;
     let other = reading(atoms, alloc, spec, not_at, relation, tuple)?;
@@ -86,7 +90,11 @@ fn not_at_but(
     not_at: u8,
     at: u8,
 ) -> Result<GroundFormula, AllocError>
-    ensures { IfOk result (λ f. IsMade atoms.old (symbols.both (symbols.negated (symbols.has (stage_of not_at) relation tuple.now)) (symbols.has (stage_of at) relation tuple.now)) atoms.new f) }
+    ensures { IfOk result
+        (λ f. IsMade atoms.old
+        (symbols.both (symbols.negated (symbols.has (stage_of not_at) relation tuple.now))
+        (symbols.has (stage_of at) relation tuple.now))
+        atoms.new f) }
 {
     let other = reading(atoms, alloc, spec, not_at, relation, tuple)?;
     let left = negated(alloc, other)?;
@@ -101,7 +109,10 @@ fn relation_differs(
     relation: u8,
     tuple: &[u32],
 ) -> Result<GroundFormula, AllocError>
-    ensures { IfOk result (λ f. IsMade atoms.old (conclusion.differ (thing.Relation relation) (stage_of 2) (stage_of 4) tuple.now) atoms.new f) }
+    ensures { IfOk result
+        (λ f. IsMade atoms.old
+        (conclusion.differ (thing.Relation relation) (stage_of 2) (stage_of 4) tuple.now) atoms.new
+        f) }
 {
     let left = only_at(atoms, alloc, spec, relation, tuple, 2, 4)?;
     let right = not_at_but(atoms, alloc, spec, relation, tuple, 2, 4)?;
@@ -115,7 +126,9 @@ fn counter_differs(
     counter: u8,
     key: &[u32],
 ) -> Result<GroundFormula, AllocError>
-    ensures { IfOk result (λ f. IsMade atoms.old (conclusion.differ (thing.Counter counter) (stage_of 2) (stage_of 4) key.now) atoms.new f) }
+    ensures { IfOk result
+        (λ f. IsMade atoms.old
+        (conclusion.differ (thing.Counter counter) (stage_of 2) (stage_of 4) key.now) atoms.new f) }
 {
     let first = sum(alloc, spec, 2, counter, key)?;
     let second = sum(alloc, spec, 4, counter, key)?;
@@ -131,7 +144,8 @@ pub fn add_differs(
     elements: &[u32],
     out: &mut Items<GroundFormula>,
 ) -> Result<(), GroundRefused>
-    ensures { Appends result out.old atoms.old (conclusion.differ thing (stage_of 2) (stage_of 4) elements.now ∷ []) out.new atoms.new }
+    ensures { Appends result out.old atoms.old
+        (conclusion.differ thing (stage_of 2) (stage_of 4) elements.now ∷ []) out.new atoms.new }
 {
     has_room(out)?;
     let made = match thing {

@@ -54,7 +54,12 @@ fn add_each(
     invariants: &[Invariant],
     out: &mut Items<GroundFormula>,
 ) -> Result<(), GroundRefused>
-    ensures { Appends result out.old atoms.old (flat_map (λ i. instances (constants_in named.now) (readings_in setting.now) (caller_in setting.now) i.line.vars i.line.body) invariants.now) out.new atoms.new }
+    ensures { Appends result out.old atoms.old
+        (flat_map
+        (λ i. instances (constants_in named.now) (readings_in setting.now) (caller_in setting.now)
+        i.line.vars i.line.body)
+        invariants.now)
+        out.new atoms.new }
 {
     for invariant in invariants {
         match add_line(atoms, alloc, setting, named, &invariant.line, out) {
@@ -74,7 +79,10 @@ fn add_line(
     line: &Prefixed,
     out: &mut Items<GroundFormula>,
 ) -> Result<(), GroundRefused>
-    ensures { Appends result out.old atoms.old (instances (constants_in named.now) (readings_in setting.now) (caller_in setting.now) line.now.vars line.now.body) out.new atoms.new }
+    ensures { Appends result out.old atoms.old
+        (instances (constants_in named.now) (readings_in setting.now) (caller_in setting.now)
+        line.now.vars line.now.body)
+        out.new atoms.new }
 {
     add_instances(
         atoms,
@@ -97,7 +105,10 @@ pub fn add_requires(
     own: &Items<u32>,
     out: &mut Items<GroundFormula>,
 ) -> Result<(), GroundRefused>
-    ensures { Appends result out.old atoms.old (line_at (constants_in named.now) (readings_in setting.now) (caller_in setting.now) line.now own.now) out.new atoms.new }
+    ensures { Appends result out.old atoms.old
+        (line_at (constants_in named.now) (readings_in setting.now) (caller_in setting.now) line.now
+        own.now)
+        out.new atoms.new }
 {
     match line.prefix {
         Prefix::Exists => {
@@ -119,7 +130,10 @@ fn add_lines(
     owns: &[Items<u32>],
     out: &mut Items<GroundFormula>,
 ) -> Result<(), GroundRefused>
-    ensures { Appends result out.old atoms.old (lines_at (constants_in named.now) (readings_in setting.now) (caller_in setting.now) 0 lines.now owns.now) out.new atoms.new }
+    ensures { Appends result out.old atoms.old
+        (lines_at (constants_in named.now) (readings_in setting.now) (caller_in setting.now) 0
+        lines.now owns.now)
+        out.new atoms.new }
 {
     let count = lines.len().min(owns.len());
     for place in 0..count {
@@ -160,7 +174,10 @@ pub fn add_call_ready(
     owns: &Items<Items<u32>>,
     out: &mut Items<GroundFormula>,
 ) -> Result<(), GroundRefused>
-    ensures { Appends result out.old atoms.old (entry.lines_hold (constants_in named.now) (caller (constants_in named.now) call) (op_of spec.now op).requires_ owns.now) out.new atoms.new }
+    ensures { Appends result out.old atoms.old
+        (entry.lines_hold (constants_in named.now) (caller (constants_in named.now) call)
+        (op_of spec.now op).requires_ owns.now)
+        out.new atoms.new }
 {
     let setting = Setting {
         spec,

@@ -33,7 +33,11 @@ fn implied(
     e: u32,
     f: u32,
 ) -> Result<GroundFormula, AllocError>
-    ensures { IfOk result (λ made. IsMade atoms.old (symbols.either (symbols.negated (symbols.both (symbols.same a b) (symbols.same c d))) (symbols.same e f)) atoms.new made) }
+    ensures { IfOk result
+        (λ made. IsMade atoms.old
+        (symbols.either (symbols.negated (symbols.both (symbols.same a b) (symbols.same c d)))
+        (symbols.same e f))
+        atoms.new made) }
 {
     let first = same(atoms, a, b)?;
     let second = same(atoms, c, d)?;
@@ -55,7 +59,10 @@ fn add_implied(
     f: u32,
     out: &mut Items<GroundFormula>,
 ) -> Result<(), GroundRefused>
-    ensures { Appends result out.old atoms.old (symbols.either (symbols.negated (symbols.both (symbols.same a b) (symbols.same c d))) (symbols.same e f) ∷ []) out.new atoms.new }
+    ensures { Appends result out.old atoms.old
+        (symbols.either (symbols.negated (symbols.both (symbols.same a b) (symbols.same c d)))
+        (symbols.same e f) ∷ [])
+        out.new atoms.new }
 {
     has_room(out)?;
     let made = implied(atoms, alloc, a, b, c, d, e, f)?;
@@ -72,7 +79,12 @@ fn add_over_ends(
     c: u32,
     out: &mut Items<GroundFormula>,
 ) -> Result<(), GroundRefused>
-    ensures { Appends result out.old atoms.old (symbols.either (symbols.negated (symbols.both (symbols.same a b) (symbols.same a c))) (symbols.same b c) ∷ symbols.either (symbols.negated (symbols.both (symbols.same a c) (symbols.same b c))) (symbols.same a b) ∷ []) out.new atoms.new }
+    ensures { Appends result out.old atoms.old
+        (symbols.either (symbols.negated (symbols.both (symbols.same a b) (symbols.same a c)))
+        (symbols.same b c) ∷ symbols.either
+        (symbols.negated (symbols.both (symbols.same a c) (symbols.same b c))) (symbols.same a b) ∷
+        [])
+        out.new atoms.new }
 {
     match add_implied(atoms, alloc, a, b, a, c, b, c, out) {
         Ok(()) => {}
@@ -129,7 +141,10 @@ fn add_from(
     out: &mut Items<GroundFormula>,
 ) -> Result<(), GroundRefused>
     requires { place < length later.now }
-    ensures { Appends result out.old atoms.old (flat_map (equality.three_agree a (slice_index later.now place)) (drop (place + 1) later.now)) out.new atoms.new }
+    ensures { Appends result out.old atoms.old
+        (flat_map (equality.three_agree a (slice_index later.now place))
+        (drop (place + 1) later.now))
+        out.new atoms.new }
 {
     let next = place + 1;
     add_triples(atoms, alloc, a, later[place], &later[next..], out)
@@ -182,7 +197,10 @@ fn add_of_sort(
     out: &mut Items<GroundFormula>,
 ) -> Result<(), GroundRefused>
     requires { place < length sorts.now }
-    ensures { Appends result out.old atoms.old (equality.agree_with_pairs place (of_sort (place + 1) (drop (place + 1) sorts.now) (slice_index sorts.now place))) out.new atoms.new }
+    ensures { Appends result out.old atoms.old
+        (equality.agree_with_pairs place
+        (of_sort (place + 1) (drop (place + 1) sorts.now) (slice_index sorts.now place)))
+        out.new atoms.new }
 {
     let constant = as_number(place)?;
     let later = of_sort_from(alloc, sorts, place + 1, sorts[place])?;

@@ -27,7 +27,11 @@ pub fn add_false(
     form: &Formula,
     out: &mut Items<GroundFormula>,
 ) -> Result<(), GroundRefused>
-    ensures { Appends result out.old atoms.old (symbols.negated (formula (readings_in setting.now) (caller_in setting.now) vars.now (form_of form.now)) ∷ []) out.new atoms.new }
+    ensures { Appends result out.old atoms.old
+        (symbols.negated
+        (formula (readings_in setting.now) (caller_in setting.now) vars.now (form_of form.now)) ∷
+        [])
+        out.new atoms.new }
 {
     has_room(out)?;
     let made = formula(atoms, alloc, setting, vars, form)?;
@@ -45,7 +49,11 @@ pub fn add_false_instances(
     form: &Formula,
     out: &mut Items<GroundFormula>,
 ) -> Result<(), GroundRefused>
-    ensures { Appends result out.old atoms.old (map symbols.negated (instances (constants_in named.now) (readings_in setting.now) (caller_in setting.now) vars.now (form_of form.now))) out.new atoms.new }
+    ensures { Appends result out.old atoms.old
+        (map symbols.negated
+        (instances (constants_in named.now) (readings_in setting.now) (caller_in setting.now)
+        vars.now (form_of form.now)))
+        out.new atoms.new }
 {
     let sorts = named.sorts.as_slice();
     match has_room_for(alloc, sorts, vars, out) {
@@ -65,7 +73,11 @@ fn add_false_at(
     form: &Formula,
     out: &mut Items<GroundFormula>,
 ) -> Result<(), GroundRefused>
-    ensures { Appends result out.old atoms.old (map symbols.negated (map (λ vs. formula (readings_in setting.now) (caller_in setting.now) vs (form_of form.now)) assignments.now)) out.new atoms.new }
+    ensures { Appends result out.old atoms.old
+        (map symbols.negated
+        (map (λ vs. formula (readings_in setting.now) (caller_in setting.now) vs (form_of form.now))
+        assignments.now))
+        out.new atoms.new }
 {
     for assignment in assignments {
         has_room(out)?;

@@ -44,7 +44,10 @@ pub fn add_instances(
     form: &Formula,
     out: &mut Items<GroundFormula>,
 ) -> Result<(), GroundRefused>
-    ensures { Appends result out.old atoms.old (formulas.instances (constants_in named.now) (readings_in setting.now) (caller_in setting.now) vars.now (forms.form_of form.now)) out.new atoms.new }
+    ensures { Appends result out.old atoms.old
+        (formulas.instances (constants_in named.now) (readings_in setting.now)
+        (caller_in setting.now) vars.now (forms.form_of form.now))
+        out.new atoms.new }
 {
     if let Err(refused) = has_room_for(alloc, named.sorts.as_slice(), vars, out) {
         return Err(refused);
@@ -62,7 +65,12 @@ fn add_at(
     form: &Formula,
     out: &mut Items<GroundFormula>,
 ) -> Result<(), GroundRefused>
-    ensures { Appends result out.old atoms.old (map (λ vs. formulas.formula (readings_in setting.now) (caller_in setting.now) vs (forms.form_of form.now)) assignments.now) out.new atoms.new }
+    ensures { Appends result out.old atoms.old
+        (map
+        (λ vs. formulas.formula (readings_in setting.now) (caller_in setting.now) vs
+        (forms.form_of form.now))
+        assignments.now)
+        out.new atoms.new }
 {
     for assignment in assignments {
         has_room(out)?;

@@ -37,7 +37,11 @@ fn number_params(atoms: &mut Atoms, call: u8, params: &[Param]) -> Result<(), Al
 // Numbers those of the call at a place.
 fn number_call(atoms: &mut Atoms, spec: &Spec, ops: &[u8], place: usize) -> Result<(), AllocError>
     requires { place < length ops.now }
-    ensures { OnOk result (atoms.new ≡ fold know_integer atoms.old (map (argument place) (numbers_from 0 (op_of spec.now (slice_index ops.now place)).params))) }
+    ensures { OnOk result
+        (atoms.new
+        ≡ fold know_integer atoms.old
+        (map (argument place)
+        (numbers_from 0 (op_of spec.now (slice_index ops.now place)).params))) }
 {
     let call = as_small(place)?;
     number_params(atoms, call, params_of(spec, ops[place]))
@@ -46,7 +50,10 @@ fn number_call(atoms: &mut Atoms, spec: &Spec, ops: &[u8], place: usize) -> Resu
 #[tactic(auto, using(crate::proofs::Started::arguments_next))]
 /// Numbers those of the calls of these operations, call by call.
 pub fn number_arguments(atoms: &mut Atoms, spec: &Spec, ops: &[u8]) -> Result<(), AllocError>
-    ensures { OnOk result (atoms.new ≡ fold know_integer atoms.old (arguments_from 0 (map (λ o. (op_of spec.now o).params) ops.now))) }
+    ensures { OnOk result
+        (atoms.new
+        ≡ fold know_integer atoms.old
+        (arguments_from 0 (map (λ o. (op_of spec.now o).params) ops.now))) }
 {
     for place in 0..ops.len() {
         number_call(atoms, spec, ops, place)?;

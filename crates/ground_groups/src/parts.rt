@@ -43,7 +43,9 @@ pub fn join_same(
     right: u32,
     done: Option<GroundFormula>,
 ) -> Result<Option<GroundFormula>, AllocError>
-    ensures { IfOk result (λ more. parts.make_parts (option_map form_of done) atoms.old (cond counts (symbols.same_const left right ∷ []) []) ≡ record { known = atoms.new; parts = option_map form_of more }) }
+    ensures { IfOk result
+        (λ more. parts.make_parts (option_map form_of done) atoms.old (cond counts (symbols.same_const left right ∷ []) [])
+        ≡ record { known = atoms.new; parts = option_map form_of more }) }
 {
     if !counts {
         return Ok(done);
@@ -59,7 +61,10 @@ pub fn join_lengths(
     are_equal: bool,
     done: Option<GroundFormula>,
 ) -> Result<Option<GroundFormula>, AllocError>
-    ensures { IfOk result (λ more. option_map form_of more ≡ cond are_equal (option_map form_of done) (Some (parts.joined (option_map form_of done) (known false)))) }
+    ensures { IfOk result
+        (λ more. option_map form_of more
+        ≡ cond are_equal (option_map form_of done)
+        (Some (parts.joined (option_map form_of done) (known false)))) }
 {
     if are_equal {
         return Ok(done);

@@ -26,7 +26,10 @@ fn add_ready_at(
     own: &Items<Items<u32>>,
     out: &mut Items<GroundFormula>,
 ) -> Result<(), GroundRefused>
-    ensures { Appends result out.old atoms.old (entry.lines_hold (constants_in named.now) (caller (constants_in named.now) place) (op_of spec.now op).requires_ own.now) out.new atoms.new }
+    ensures { Appends result out.old atoms.old
+        (entry.lines_hold (constants_in named.now) (caller (constants_in named.now) place)
+        (op_of spec.now op).requires_ own.now)
+        out.new atoms.new }
 {
     let call = as_small(place)?;
     add_call_ready(atoms, alloc, spec, named, call, op, own, out)
@@ -42,7 +45,8 @@ pub fn add_ready(
     owns: &[Items<Items<u32>>],
     out: &mut Items<GroundFormula>,
 ) -> Result<(), GroundRefused>
-    ensures { Appends result out.old atoms.old (entry.calls_ready spec.now (constants_in named.now) 0 ops.now owns.now) out.new atoms.new }
+    ensures { Appends result out.old atoms.old
+        (entry.calls_ready spec.now (constants_in named.now) 0 ops.now owns.now) out.new atoms.new }
 {
     let count = ops.len().min(owns.len());
     for place in 0..count {
@@ -72,7 +76,10 @@ pub fn add_all_ready(
     ops: &[u8],
     out: &mut Items<GroundFormula>,
 ) -> Result<(), GroundRefused>
-    ensures { Appends result out.old atoms.old (entry.calls_ready spec.now (constants_in named.now) 0 ops.now (constants_in named.now).chosen) out.new atoms.new }
+    ensures { Appends result out.old atoms.old
+        (entry.calls_ready spec.now (constants_in named.now) 0 ops.now
+        (constants_in named.now).chosen)
+        out.new atoms.new }
 {
     add_ready(atoms, alloc, spec, named, ops, named.chosen.as_slice(), out)
 }

@@ -130,7 +130,8 @@ fn earlier(ranks: &[usize], lit: Lit, best: Option<Lit>) -> Lit
 
 // The candidate of a clause that stands first.
 fn first_in(atoms: &[AtomKind], trail: &Trail, ranks: &[usize], lits: &[Lit]) -> Option<Lit>
-    ensures { MatchOption result (list_any (is_candidate atoms.now trail.now) lits.now ≡ false) (λ l. (has lits.now l ≡ true) × (is_candidate atoms.now trail.now l ≡ true)) }
+    ensures { MatchOption result (list_any (is_candidate atoms.now trail.now) lits.now ≡ false)
+        (λ l. (has lits.now l ≡ true) × (is_candidate atoms.now trail.now l ≡ true)) }
 {
     let mut best = None;
     for lit in lits {
@@ -303,7 +304,10 @@ pub fn choose(
     values: &[bool],
 ) -> Result<Option<Items<Lit>>, AllocError>
     ensures on_the_trail { IfOk result (λ found. IfSome found (λ lits. list_all (in_trail trail.now) lits ≡ true)) }
-    ensures implicant { IfOk result (λ found. MatchOption found (IsUnmet problem.now.atoms problem.now.clauses values.now trail.now) (λ lits. IsImplicant problem.now.atoms problem.now.clauses values.now lits)) }
+    ensures implicant { IfOk result
+        (λ found. MatchOption found
+        (IsUnmet problem.now.atoms problem.now.clauses values.now trail.now)
+        (λ lits. IsImplicant problem.now.atoms problem.now.clauses values.now lits)) }
 {
     let ranks = ranks_of(alloc, order)?;
     let mut chosen = Chosen::new(alloc);

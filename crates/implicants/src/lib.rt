@@ -39,5 +39,7 @@ pub use values::relaxed;
 
 /// Truth values that agree with an implicant make all clauses true, whatever values they give the other atoms.
 pub fn law_implicant()
-    ensures { (p : PlainProblem) (values : List Bool) (lits : List PlainLit) (v : ℕ → Bool) → IsImplicant p.atoms p.clauses values lits → Agrees p.atoms values lits v → all_true v p.clauses ≡ true }
+    ensures { (p : PlainProblem) (values : List Bool) (lits : List PlainLit) (v : ℕ → Bool)
+        → IsImplicant p.atoms p.clauses values lits → Agrees p.atoms values lits v
+        → all_true v p.clauses ≡ true }
 {}

@@ -62,7 +62,9 @@ pub fn list_all(
     number: u32,
 ) -> Result<(), AllocError>
     ensures kept { KeepsLists by_place.old.items by_place.new.items }
-    ensures listed { OnOk result ((q : ℕ) → list_any (λ t. t.place == q) terms.now ≡ true → lists by_place.new.items q number ≡ true) }
+    ensures listed { OnOk result
+        ((q : ℕ) → list_any (λ t. t.place == q) terms.now ≡ true
+        → lists by_place.new.items q number ≡ true) }
 {
     for term in terms {
         list_one(alloc, by_place, term.place, number)?;

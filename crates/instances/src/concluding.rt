@@ -27,7 +27,10 @@ fn add_fails(
     line: &Prefixed,
     out: &mut Items<GroundFormula>,
 ) -> Result<(), GroundRefused>
-    ensures { Appends result out.old atoms.old (conclusion.line_fails (constants_in named.now) (readings_in setting.now) (caller_in setting.now) line.now) out.new atoms.new }
+    ensures { Appends result out.old atoms.old
+        (conclusion.line_fails (constants_in named.now) (readings_in setting.now)
+        (caller_in setting.now) line.now)
+        out.new atoms.new }
 {
     match line.prefix {
         Prefix::Exists => {
@@ -62,7 +65,8 @@ pub fn add_conclusion(
     out: &mut Items<GroundFormula>,
 ) -> Result<(), GroundRefused>
     requires { IsObligation spec.now ob.now }
-    ensures { Appends result out.old atoms.old (conclusion.conclusion spec.now ob.now (constants_in named.now)) out.new atoms.new }
+    ensures { Appends result out.old atoms.old
+        (conclusion.conclusion spec.now ob.now (constants_in named.now)) out.new atoms.new }
 {
     match ob {
         Obligation::Init { inv } => {

@@ -58,7 +58,10 @@ fn add_equal(
     things: &[Thing],
     out: &mut Items<GroundFormula>,
 ) -> Result<(), GroundRefused>
-    ensures { Appends result out.old atoms.old (equality.equality 0 sorts.now ++ equality.congruence (map reading_of readings.now) things.now) out.new atoms.new }
+    ensures { Appends result out.old atoms.old
+        (equality.equality 0 sorts.now
+        ++ equality.congruence (map reading_of readings.now) things.now)
+        out.new atoms.new }
 {
     match add_equality(atoms, alloc, sorts, out) {
         Ok(()) => {}

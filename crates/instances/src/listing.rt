@@ -50,7 +50,11 @@ fn add_calls(
     named: &Named,
     out: &mut Items<GroundFormula>,
 ) -> Result<(), GroundRefused>
-    ensures { Appends result out.old atoms.old (entry.calls_ready spec.now (constants_in named.now) 0 ops.now (constants_in named.now).chosen ++ entry.calls_free spec.now (constants_in named.now) ops.now) out.new atoms.new }
+    ensures { Appends result out.old atoms.old
+        (entry.calls_ready spec.now (constants_in named.now) 0 ops.now
+        (constants_in named.now).chosen
+        ++ entry.calls_free spec.now (constants_in named.now) ops.now)
+        out.new atoms.new }
 {
     match add_all_ready(atoms, alloc, spec, named, ops, out) {
         Ok(()) => {}
@@ -70,7 +74,8 @@ fn add_before(
     out: &mut Items<GroundFormula>,
 ) -> Result<(), GroundRefused>
     requires { ops.now ≡ breaking.operations_of ob.now }
-    ensures { Appends result out.old atoms.old (entry.before_conclusion spec.now ob.now (constants_in named.now)) out.new atoms.new }
+    ensures { Appends result out.old atoms.old
+        (entry.before_conclusion spec.now ob.now (constants_in named.now)) out.new atoms.new }
 {
     match add_entry(atoms, alloc, spec, ob, named, out) {
         Ok(()) => {}
@@ -116,7 +121,10 @@ fn add_second(
     requires constants { constants_in named.now ≡ constants_of spec.now ob.now }
     requires out { out.now ≡ [] }
     requires atoms { atoms.now ≡ numbered_arguments spec.now ob.now }
-    ensures { Appends result [] (numbered_arguments spec.now ob.now) (with_definitions spec.now ob.now (constants_of spec.now ob.now) 2 (stated spec.now ob.now (constants_of spec.now ob.now))) out.new atoms.new }
+    ensures { Appends result [] (numbered_arguments spec.now ob.now)
+        (with_definitions spec.now ob.now (constants_of spec.now ob.now) 2
+        (stated spec.now ob.now (constants_of spec.now ob.now)))
+        out.new atoms.new }
 {
     match add_stated(atoms, alloc, spec, ob, ops, named, out) {
         Ok(()) => {}
@@ -141,7 +149,8 @@ pub fn add_all_defined(
     requires constants { constants_in named.now ≡ constants_of spec.now ob.now }
     requires out { out.now ≡ [] }
     requires atoms { atoms.now ≡ numbered_arguments spec.now ob.now }
-    ensures { Appends result [] (numbered_arguments spec.now ob.now) (defined spec.now ob.now (constants_of spec.now ob.now)) out.new atoms.new }
+    ensures { Appends result [] (numbered_arguments spec.now ob.now)
+        (defined spec.now ob.now (constants_of spec.now ob.now)) out.new atoms.new }
 {
     match add_second(atoms, alloc, spec, ob, ops, named, out) {
         Ok(()) => {}

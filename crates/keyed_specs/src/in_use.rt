@@ -84,7 +84,10 @@ fn any_of(one: bool, other: bool, third: bool) -> bool
 }
 
 fn names_a_thing(spec: &Spec, name: &[u8]) -> bool
-    ensures { result ≡ (list_any (λ n. bytes_eq name.now n) spec.now.sorts || list_any (λ c. bytes_eq name.now c.name) spec.now.consts || list_any (λ r. bytes_eq name.now r.name) spec.now.relations) }
+    ensures { result
+        ≡ (list_any (λ n. bytes_eq name.now n) spec.now.sorts
+        || list_any (λ c. bytes_eq name.now c.name) spec.now.consts
+        || list_any (λ r. bytes_eq name.now r.name) spec.now.relations) }
 {
     any_of(
         names_a_sort(spec, name),
@@ -94,7 +97,10 @@ fn names_a_thing(spec: &Spec, name: &[u8]) -> bool
 }
 
 fn names_a_part(spec: &Spec, name: &[u8]) -> bool
-    ensures { result ≡ (list_any (λ c. bytes_eq name.now c.name) spec.now.counters || list_any (λ i. bytes_eq name.now i.name) spec.now.invariants || list_any (λ o. bytes_eq name.now o.name) spec.now.operations) }
+    ensures { result
+        ≡ (list_any (λ c. bytes_eq name.now c.name) spec.now.counters
+        || list_any (λ i. bytes_eq name.now i.name) spec.now.invariants
+        || list_any (λ o. bytes_eq name.now o.name) spec.now.operations) }
 {
     any_of(
         names_a_counter(spec, name),

@@ -10,5 +10,6 @@ ghost use Rattle.keyed_specs.specs.Keyed.{CanBeKeyed, keyed as keyed_of};
 /// alone.
 pub fn law_made_are_well_formed()
     ensures bare { (d : Specification) → is_specification d ≡ true → is_specification (bare_of d) ≡ true }
-    ensures keyed { (d : Specification) (a p b q : ℕ) → is_specification d ≡ true → CanBeKeyed d a p b q → is_specification (keyed_of d a p b q) ≡ true }
+    ensures keyed { (d : Specification) (a p b q : ℕ) → is_specification d ≡ true
+        → CanBeKeyed d a p b q → is_specification (keyed_of d a p b q) ≡ true }
 {}

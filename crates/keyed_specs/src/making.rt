@@ -98,7 +98,9 @@ fn two_tokens(
 
 // A token for each of the first two names.
 fn first_tokens(alloc: Global, names: &[Name], sort: u8) -> Result<Items<Token>, AllocError>
-    ensures { IfOk result (λ tokens. tokens ≡ token_of (get_or names.now 0 []) sort ∷ token_of (get_or names.now 1 []) sort ∷ []) }
+    ensures { IfOk result
+        (λ tokens. tokens
+        ≡ token_of (get_or names.now 0 []) sort ∷ token_of (get_or names.now 1 []) sort ∷ []) }
 {
     match names {
         [first, second, ..] => two_tokens(alloc, first, second, sort),

@@ -64,5 +64,6 @@ pub fn combine(alloc: Global, left: &Row, right: &Row, place: u32) -> Result<Com
 
 /// The multipliers of a combination are the least positive ones that cancel: no others are less.
 pub fn law_least_multipliers()
-    ensures { (a b u v : ℤ) → pos 0 <ℤ a → b <ℤ pos 0 → pos 0 <ℤ u → pos 0 <ℤ v → u *ℤ a +ℤ v *ℤ b ≡ pos 0 → (least_factor a b ≤ℤ u) × (least_factor b a ≤ℤ v) }
+    ensures { (a b u v : ℤ) → pos 0 <ℤ a → b <ℤ pos 0 → pos 0 <ℤ u → pos 0 <ℤ v
+        → u *ℤ a +ℤ v *ℤ b ≡ pos 0 → (least_factor a b ≤ℤ u) × (least_factor b a ≤ℤ v) }
 {}

@@ -73,7 +73,8 @@ fn rest_of(row: &Row, values: &[i128]) -> Option<i128>
 // The bound that a row gives for a place that it names, with the rest of the row.
 fn bound_with(row: &Row, place: u32, rest: &i128) -> Option<i128>
     requires { is_zero (coefficient_at row.now.terms place) ≡ false }
-    ensures { MatchOption result (is_beyond (rest.now -ℤ row.now.bound) (size row.now place) ≡ true) (λ v. IsBound v (rest.now -ℤ row.now.bound) (size row.now place)) }
+    ensures { MatchOption result (is_beyond (rest.now -ℤ row.now.bound) (size row.now place) ≡ true)
+        (λ v. IsBound v (rest.now -ℤ row.now.bound) (size row.now place)) }
 {
     bound(rest, &row.bound(), row.coefficient(place).unsigned_abs())
 }
@@ -114,7 +115,9 @@ fn greatest(
     named: &[u32],
     values: &[i128],
 ) -> Result<Bound, FaultAt>
-    ensures { MatchResult result (λ b. IsGreatestOf upper before.now place held.now values.now named.now b.row b.value) (λ f. IsFaultAt before.now place held.now values.now f) }
+    ensures { MatchResult result
+        (λ b. IsGreatestOf upper before.now place held.now values.now named.now b.row b.value)
+        (λ f. IsFaultAt before.now place held.now values.now f) }
 {
     let mut greatest = Bound {
         value: -1_000_000_000_000_000,
@@ -142,7 +145,11 @@ pub fn side_bound(
 ) -> Result<Bound, FaultAt>
     requires stage { stage < length tableau.now.order }
     requires before { before.now ≡ take stage tableau.now.order }
-    ensures { MatchResult result (λ b. IsGreatest upper (take stage tableau.now.order) (place_at tableau.now.order stage) tableau.now.held values.now (length tableau.now.held) b.row b.value) (λ f. IsFaultAt (take stage tableau.now.order) (place_at tableau.now.order stage) tableau.now.held values.now f) }
+    ensures { MatchResult result
+        (λ b. IsGreatest upper (take stage tableau.now.order) (place_at tableau.now.order stage)
+        tableau.now.held values.now (length tableau.now.held) b.row b.value)
+        (λ f. IsFaultAt (take stage tableau.now.order) (place_at tableau.now.order stage)
+        tableau.now.held values.now f) }
 {
     let order = tableau.order.as_slice();
     let held = tableau.held.as_slice();

@@ -62,7 +62,10 @@ fn values_of_two(
 ) -> Result<Items<i128>, AllocError>
     requires low { low < length tableau.now.held }
     requires high { high < length tableau.now.held }
-    ensures { IfOk result (λ list. list ≡ map (point_of values.now) (other_names place (row_at tableau.now.held low ∷ row_at tableau.now.held high ∷ []))) }
+    ensures { IfOk result
+        (λ list. list
+        ≡ map (point_of values.now)
+        (other_names place (row_at tableau.now.held low ∷ row_at tableau.now.held high ∷ []))) }
 {
     let held = tableau.held.as_slice();
     let names = names_of_two(alloc, place, &held[low as usize], &held[high as usize])?;
@@ -187,7 +190,10 @@ fn value_at(
     requires left { tableau.now.left ≡ [] }
     requires stage { stage < length tableau.now.order }
     requires descent { IsDescent tableau.now (stage + 1) values.now }
-    ensures { MatchResult result (λ value. IsDescent tableau.now stage (slice_set values.now (place_at tableau.now.order stage) value)) (λ stop. IsStop tableau.now.ints rows.now tableau.now stop) }
+    ensures { MatchResult result
+        (λ value. IsDescent tableau.now stage
+        (slice_set values.now (place_at tableau.now.order stage) value))
+        (λ stop. IsStop tableau.now.ints rows.now tableau.now stop) }
 {
     let Ok(before) = prefix(alloc, &tableau.order, stage) else {
         return Err(Stop::Memory);
@@ -233,7 +239,8 @@ fn choose_value(
     requires left { tableau.now.left ≡ [] }
     requires stage { stage < length tableau.now.order }
     requires descent { IsDescent tableau.now (stage + 1) values.old.items }
-    ensures { MatchResult result (λ _. IsDescent tableau.now stage values.new.items) (λ stop. IsStop tableau.now.ints rows.now tableau.now stop) }
+    ensures { MatchResult result (λ _. IsDescent tableau.now stage values.new.items)
+        (λ stop. IsStop tableau.now.ints rows.now tableau.now stop) }
 {
     let seen = values.as_slice();
     match value_at(tableau, alloc, rows, stage, seen) {
@@ -251,7 +258,8 @@ pub fn descend(tableau: &Tableau, alloc: Global, rows: &[Row]) -> Result<Items<i
     requires elimination { IsElimination rows.now tableau.now }
     requires left { tableau.now.left ≡ [] }
     requires rows { list_all is_row rows.now ≡ true }
-    ensures { MatchResult result (λ values. IsModel tableau.now.ints rows.now values) (λ stop. IsStop tableau.now.ints rows.now tableau.now stop) }
+    ensures { MatchResult result (λ values. IsModel tableau.now.ints rows.now values)
+        (λ stop. IsStop tableau.now.ints rows.now tableau.now stop) }
 {
     let Ok(mut values) = zeros(alloc, tableau.ints) else {
         return Err(Stop::Memory);

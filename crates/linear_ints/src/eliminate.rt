@@ -34,7 +34,10 @@ fn pass_on(
     uppers: &[u32],
     lowers: &[u32],
 ) -> Result<(), AllocError>
-    ensures { OnOk result (tableau.new ≡ record tableau.old { order = tableau.old.order ++ place ∷ []; left = filter (λ q. not (q == place)) tableau.old.left }) }
+    ensures { OnOk result
+        (tableau.new
+        ≡ record tableau.old
+        { order = tableau.old.order ++ place ∷ []; left = filter (λ q. not (q == place)) tableau.old.left }) }
 {
     let left = without(alloc, tableau.left.as_slice(), place)?;
     tableau.order.push(place)?;
@@ -53,7 +56,10 @@ fn eliminate_place(
 ) -> Result<(), Stop>
     requires elimination { IsElimination rows.now tableau.old }
     requires left { stands_in tableau.old.left place ≡ true }
-    ensures { MatchResult result (λ _. IsElimination rows.now tableau.new × (tableau.new.ints ≡ tableau.old.ints) × (length tableau.new.left < length tableau.old.left)) (λ stop. IsEarlyStop rows.now tableau.new stop) }
+    ensures { MatchResult result
+        (λ _. IsElimination rows.now tableau.new × (tableau.new.ints ≡ tableau.old.ints)
+        × (length tableau.new.left < length tableau.old.left))
+        (λ stop. IsEarlyStop rows.now tableau.new stop) }
 {
     let Ok(uppers) = side_of(tableau, alloc, true, place) else {
         return Err(Stop::Memory);
@@ -75,7 +81,10 @@ fn eliminate_place(
 /// Eliminates all places that are left, each time the one that asks for the fewest steps.
 pub fn eliminate_all(tableau: &mut Tableau, alloc: Global, rows: &[Row]) -> Result<(), Stop>
     requires { IsElimination rows.now tableau.old }
-    ensures { MatchResult result (λ _. IsElimination rows.now tableau.new × (tableau.new.ints ≡ tableau.old.ints) × (tableau.new.left ≡ [])) (λ stop. IsEarlyStop rows.now tableau.new stop) }
+    ensures { MatchResult result
+        (λ _. IsElimination rows.now tableau.new × (tableau.new.ints ≡ tableau.old.ints)
+        × (tableau.new.left ≡ []))
+        (λ stop. IsEarlyStop rows.now tableau.new stop) }
 {
     'places: while !tableau.left.is_empty() {
         let left = tableau.left.as_slice();

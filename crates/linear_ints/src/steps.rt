@@ -46,7 +46,11 @@ fn hold_sum(
     requires tableau { IsTableau rows.now tableau.old }
     requires meet { CanMeet tableau.old place upper lower }
     requires sum { combined (row_at tableau.old.held upper) (row_at tableau.old.held lower) place ≡ Some sum }
-    ensures { MatchResult result (λ _. IsGrown rows.now tableau.old tableau.new × IsCombinedAt place tableau.new.held (row_at tableau.new.held upper) (row_at tableau.new.held lower)) (λ stop. IsEarlyStop rows.now tableau.new stop) }
+    ensures { MatchResult result
+        (λ _. IsGrown rows.now tableau.old tableau.new
+        × IsCombinedAt place tableau.new.held (row_at tableau.new.held upper)
+        (row_at tableau.new.held lower))
+        (λ stop. IsEarlyStop rows.now tableau.new stop) }
 {
     let step = step_of(upper, lower, &sum);
     if !is_needed(&tableau.held, &sum.row) {
@@ -76,7 +80,11 @@ fn combine_two(
 ) -> Result<(), Stop>
     requires tableau { IsTableau rows.now tableau.old }
     requires meet { CanMeet tableau.old place upper lower }
-    ensures { MatchResult result (λ _. IsGrown rows.now tableau.old tableau.new × IsCombinedAt place tableau.new.held (row_at tableau.new.held upper) (row_at tableau.new.held lower)) (λ stop. IsEarlyStop rows.now tableau.new stop) }
+    ensures { MatchResult result
+        (λ _. IsGrown rows.now tableau.old tableau.new
+        × IsCombinedAt place tableau.new.held (row_at tableau.new.held upper)
+        (row_at tableau.new.held lower))
+        (λ stop. IsEarlyStop rows.now tableau.new stop) }
 {
     let held = tableau.held.as_slice();
     match combine(alloc, &held[upper as usize], &held[lower as usize], place) {
@@ -101,7 +109,10 @@ fn combine_one(
 ) -> Result<(), Stop>
     requires tableau { IsTableau rows.now tableau.old }
     requires meet { CanAllMeet tableau.old place (upper ∷ []) lowers.now }
-    ensures { MatchResult result (λ _. IsGrown rows.now tableau.old tableau.new × AreCombined tableau.new.held place (upper ∷ []) 1 lowers.now (length lowers.now)) (λ stop. IsEarlyStop rows.now tableau.new stop) }
+    ensures { MatchResult result
+        (λ _. IsGrown rows.now tableau.old tableau.new
+        × AreCombined tableau.new.held place (upper ∷ []) 1 lowers.now (length lowers.now))
+        (λ stop. IsEarlyStop rows.now tableau.new stop) }
 {
     for lower in lowers {
         match combine_two(tableau, alloc, rows, place, upper, *lower) {
@@ -123,7 +134,11 @@ pub fn combine_all(
 ) -> Result<(), Stop>
     requires tableau { IsTableau rows.now tableau.old }
     requires meet { CanAllMeet tableau.old place uppers.now lowers.now }
-    ensures { MatchResult result (λ _. IsGrown rows.now tableau.old tableau.new × AreCombined tableau.new.held place uppers.now (length uppers.now) lowers.now (length lowers.now)) (λ stop. IsEarlyStop rows.now tableau.new stop) }
+    ensures { MatchResult result
+        (λ _. IsGrown rows.now tableau.old tableau.new
+        × AreCombined tableau.new.held place uppers.now (length uppers.now) lowers.now
+        (length lowers.now))
+        (λ stop. IsEarlyStop rows.now tableau.new stop) }
 {
     for upper in uppers {
         match combine_one(tableau, alloc, rows, place, *upper, lowers) {

@@ -29,7 +29,10 @@ pub struct Tableau {
 impl Tableau {
     /// With a given row more.
     pub fn push_given(&mut self, alloc: Global, number: u32, row: Row) -> Result<(), AllocError>
-        ensures { OnOk result (self.new ≡ record self.old { used = self.old.used ++ number ∷ []; held = self.old.held ++ row ∷ [] }) }
+        ensures { OnOk result
+            (self.new
+            ≡ record self.old
+            { used = self.old.used ++ number ∷ []; held = self.old.held ++ row ∷ [] }) }
     {
         self.used.push(number)?;
         self.held.push(alloc, row)
@@ -37,7 +40,10 @@ impl Tableau {
 
     /// With a step and its row more.
     pub fn push_step(&mut self, alloc: Global, step: RowStep, row: Row) -> Result<(), AllocError>
-        ensures { OnOk result (self.new ≡ record self.old { steps = self.old.steps ++ step ∷ []; held = self.old.held ++ row ∷ [] }) }
+        ensures { OnOk result
+            (self.new
+            ≡ record self.old
+            { steps = self.old.steps ++ step ∷ []; held = self.old.held ++ row ∷ [] }) }
     {
         self.steps.push(step)?;
         self.held.push(alloc, row)

@@ -12,7 +12,9 @@ use std::alloc::Global;
 fn take_row(tableau: &mut Tableau, alloc: Global, rows: &[Row], number: u32) -> Result<(), Stop>
     requires taking { IsTaking rows.now number tableau.old }
     requires number { number < length rows.now }
-    ensures { MatchResult result (λ _. IsTaking rows.now (number + 1) tableau.new × (tableau.new.ints ≡ tableau.old.ints)) (λ stop. IsEarlyStop rows.now tableau.new stop) }
+    ensures { MatchResult result
+        (λ _. IsTaking rows.now (number + 1) tableau.new × (tableau.new.ints ≡ tableau.old.ints))
+        (λ stop. IsEarlyStop rows.now tableau.new stop) }
 {
     let given = &rows[number as usize];
     let Ok(row) = tighten(alloc, given) else {
@@ -37,7 +39,10 @@ fn take_row(tableau: &mut Tableau, alloc: Global, rows: &[Row], number: u32) -> 
 /// Holds all given rows, tightened.
 pub fn take_all(tableau: &mut Tableau, alloc: Global, rows: &[Row]) -> Result<(), Stop>
     requires { IsTaking rows.now 0 tableau.old }
-    ensures { MatchResult result (λ _. IsTaking rows.now (length rows.now) tableau.new × (tableau.new.ints ≡ tableau.old.ints)) (λ stop. IsEarlyStop rows.now tableau.new stop) }
+    ensures { MatchResult result
+        (λ _. IsTaking rows.now (length rows.now) tableau.new
+        × (tableau.new.ints ≡ tableau.old.ints))
+        (λ stop. IsEarlyStop rows.now tableau.new stop) }
 {
     for number in 0..rows.len() {
         if number > 4_294_967_295 {

@@ -23,7 +23,9 @@ pub fn law_upgraded_log_is_accepted()
 /// Where `check_log` accepts a log for a problem, it accepts the upgraded one, unless memory is wanting: its answers to the two
 /// logs are what stands before and behind.
 pub fn law_check_log_accepts_upgraded_log()
-    ensures { (p : PlainProblem) (log : List Line) (first second : Result Checked KernelRefused) → IsJudged log (run p log) first → IsOk first → IsJudged (upgraded log) (run p (upgraded log)) second → Accepts second }
+    ensures { (p : PlainProblem) (log : List Line) (first second : Result Checked KernelRefused)
+        → IsJudged log (run p log) first → IsOk first
+        → IsJudged (upgraded log) (run p (upgraded log)) second → Accepts second }
 {}
 
 /// An upgraded log is upgraded already.

@@ -24,8 +24,10 @@ fn note(seen: &mut HashSet<u32>, number: u32, list: &mut Items<u32>) -> Result<(
 
 /// The clauses that a line names and that weren't seen yet, in rising order. Then they are seen.
 fn last_named(alloc: Global, seen: &mut HashSet<u32>, line: &Line) -> Result<Items<u32>, AllocError>
-    ensures list { (later : List Given) → ((n : ℕ) → contains nat_eq seen.old n ≡ is_named later n) → IfOk result (λ list. list ≡ last_named_of line.now later) }
-    ensures seen { (later : List Given) → ((n : ℕ) → contains nat_eq seen.old n ≡ is_named later n) → OnOk result ((n : ℕ) → contains nat_eq seen.new n ≡ is_named (line.now ∷ later) n) }
+    ensures list { (later : List Given) → ((n : ℕ) → contains nat_eq seen.old n ≡ is_named later n)
+        → IfOk result (λ list. list ≡ last_named_of line.now later) }
+    ensures seen { (later : List Given) → ((n : ℕ) → contains nat_eq seen.old n ≡ is_named later n)
+        → OnOk result ((n : ℕ) → contains nat_eq seen.new n ≡ is_named (line.now ∷ later) n) }
 {
     let mut list = Items::new(alloc);
     if let Line::Resolve { left, right, .. } = line {
@@ -43,8 +45,13 @@ fn put(
     line: &Line,
     out: &mut Vec<Line>,
 ) -> Result<(), AllocError>
-    ensures out { (later : List Given) → ((n : ℕ) → contains nat_eq seen.old n ≡ is_named later n) → OnOk result (out.new.items ≡ out.old.items ++ reverse (unless_drop line.now ++ drop_line (last_named_of line.now later))) }
-    ensures seen { (later : List Given) → ((n : ℕ) → contains nat_eq seen.old n ≡ is_named later n) → OnOk result ((n : ℕ) → contains nat_eq seen.new n ≡ is_named (line.now ∷ later) n) }
+    ensures out { (later : List Given) → ((n : ℕ) → contains nat_eq seen.old n ≡ is_named later n)
+        → OnOk result
+        (out.new.items
+        ≡ out.old.items
+        ++ reverse (unless_drop line.now ++ drop_line (last_named_of line.now later))) }
+    ensures seen { (later : List Given) → ((n : ℕ) → contains nat_eq seen.old n ≡ is_named later n)
+        → OnOk result ((n : ℕ) → contains nat_eq seen.new n ≡ is_named (line.now ∷ later) n) }
 {
     if let Line::Drop { .. } = line {
         return Ok(());

@@ -29,7 +29,10 @@ fn arguments_at(
     args: &[GroundArg],
 ) -> Result<Items<i64>, AllocError>
     requires { list_all in_state_range values.now ≡ true }
-    ensures values { IfOk result (λ ns. ns ≡ map (argument_by (slice_index elements.now) (λ n. slice_index_or values.now n (pos 0))) args.now) }
+    ensures values { IfOk result
+        (λ ns. ns
+        ≡ map (argument_by (slice_index elements.now) (λ n. slice_index_or values.now n (pos 0)))
+        args.now) }
     ensures range { IfOk result (λ ns. list_all in_state_range ns ≡ true) }
 {
     let mut out = Items::new(alloc);
@@ -47,7 +50,10 @@ pub fn calls_at(
     calls: &[GroundCall],
 ) -> Result<Items<Call>, AllocError>
     requires { list_all in_state_range values.now ≡ true }
-    ensures calls { IfOk result (λ cs. cs ≡ map (call_by (slice_index elements.now) (λ n. slice_index_or values.now n (pos 0))) calls.now) }
+    ensures calls { IfOk result
+        (λ cs. cs
+        ≡ map (call_by (slice_index elements.now) (λ n. slice_index_or values.now n (pos 0)))
+        calls.now) }
     ensures range { IfOk result (λ cs. list_all (λ c. list_all in_state_range c.args) cs ≡ true) }
 {
     let mut out = Items::new(alloc);

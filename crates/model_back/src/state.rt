@@ -40,10 +40,15 @@ pub fn put_atom(
     state: &mut State,
 ) -> Result<(), AllocError>
     requires { length state.old.relations ≡ length spec.now.relations }
-    ensures reads { OnOk result (reads state.new ≡ fill_atom spec.now (slice_index elements.now) is_true (atom_of atom.now) (reads state.old)) }
+    ensures reads { OnOk result
+        (reads state.new
+        ≡ fill_atom spec.now (slice_index elements.now) is_true (atom_of atom.now)
+        (reads state.old)) }
     ensures relations { length state.new.relations ≡ length state.old.relations }
     ensures counters { length state.new.counters ≡ length state.old.counters }
-    ensures fits { (w : TheWorld) → is_state spec.now w state.old ≡ true → AtomFits spec.now w (slice_index elements.now) (atom_of atom.now) → is_state spec.now w state.new ≡ true }
+    ensures fits { (w : TheWorld) → is_state spec.now w state.old ≡ true
+        → AtomFits spec.now w (slice_index elements.now) (atom_of atom.now)
+        → is_state spec.now w state.new ≡ true }
 {
     match atom {
         Atom::Has {
@@ -72,10 +77,15 @@ pub fn put_integer(
 ) -> Result<(), AllocError>
     requires counters { length state.old.counters ≡ length spec.now.counters }
     requires value { in_state_range value.now ≡ true }
-    ensures reads { OnOk result (reads state.new ≡ fill_integer spec.now (slice_index elements.now) value.now (integer_of name.now) (reads state.old)) }
+    ensures reads { OnOk result
+        (reads state.new
+        ≡ fill_integer spec.now (slice_index elements.now) value.now (integer_of name.now)
+        (reads state.old)) }
     ensures relations { length state.new.relations ≡ length state.old.relations }
     ensures counters { length state.new.counters ≡ length state.old.counters }
-    ensures fits { (w : TheWorld) → is_state spec.now w state.old ≡ true → IntegerFits spec.now w (slice_index elements.now) (integer_of name.now) → is_state spec.now w state.new ≡ true }
+    ensures fits { (w : TheWorld) → is_state spec.now w state.old ≡ true
+        → IntegerFits spec.now w (slice_index elements.now) (integer_of name.now)
+        → is_state spec.now w state.new ≡ true }
 {
     match name {
         IntName::Count {
@@ -116,9 +126,15 @@ pub fn fill_atoms(
     state: &mut State,
 ) -> Result<(), AllocError>
     requires { length state.old.relations ≡ length spec.now.relations }
-    ensures reads { OnOk result (reads state.new ≡ filled spec.now (slice_index elements.now) (λ n. slice_index_or truths.now n false) 0 atoms.now.table.atoms (reads state.old)) }
+    ensures reads { OnOk result
+        (reads state.new
+        ≡ filled spec.now (slice_index elements.now) (λ n. slice_index_or truths.now n false) 0
+        atoms.now.table.atoms (reads state.old)) }
     ensures counters { length state.new.counters ≡ length state.old.counters }
-    ensures fits { OnOk result ((w : TheWorld) → is_state spec.now w state.old ≡ true → AtomsFit spec.now w (slice_index elements.now) atoms.now.table.atoms → is_state spec.now w state.new ≡ true) }
+    ensures fits { OnOk result
+        ((w : TheWorld) → is_state spec.now w state.old ≡ true
+        → AtomsFit spec.now w (slice_index elements.now) atoms.now.table.atoms
+        → is_state spec.now w state.new ≡ true) }
 {
     for n in 0..u32::MAX {
         let Some(atom) = atoms.atom(n) else {
@@ -140,8 +156,14 @@ pub fn fill_integers(
 ) -> Result<(), AllocError>
     requires counters { length state.old.counters ≡ length spec.now.counters }
     requires values { list_all in_state_range values.now ≡ true }
-    ensures reads { OnOk result (reads state.new ≡ filled_integers spec.now (slice_index elements.now) (λ n. slice_index_or values.now n (pos 0)) 0 atoms.now.table.ints (reads state.old)) }
-    ensures fits { OnOk result ((w : TheWorld) → is_state spec.now w state.old ≡ true → IntegersFit spec.now w (slice_index elements.now) atoms.now.table.ints → is_state spec.now w state.new ≡ true) }
+    ensures reads { OnOk result
+        (reads state.new
+        ≡ filled_integers spec.now (slice_index elements.now)
+        (λ n. slice_index_or values.now n (pos 0)) 0 atoms.now.table.ints (reads state.old)) }
+    ensures fits { OnOk result
+        ((w : TheWorld) → is_state spec.now w state.old ≡ true
+        → IntegersFit spec.now w (slice_index elements.now) atoms.now.table.ints
+        → is_state spec.now w state.new ≡ true) }
 {
     for n in 0..u32::MAX {
         let Some(name) = atoms.int(n) else {
@@ -164,8 +186,16 @@ pub fn entry_state(
 ) -> Result<State, AllocError>
     requires world { world_fits spec.now world.now ≡ true }
     requires values { list_all in_state_range found.now.ints ≡ true }
-    ensures reads { IfOk result (λ s. reads s ≡ filled_integers spec.now (slice_index elements.now) (λ n. slice_index_or found.now.ints n (pos 0)) 0 atoms.now.table.ints (filled spec.now (slice_index elements.now) (λ n. slice_index_or found.now.truths n false) 0 atoms.now.table.atoms nothing)) }
-    ensures fits { IfOk result (λ s. AtomsFit spec.now world.now (slice_index elements.now) atoms.now.table.atoms → IntegersFit spec.now world.now (slice_index elements.now) atoms.now.table.ints → is_state spec.now world.now s ≡ true) }
+    ensures reads { IfOk result
+        (λ s. reads s
+        ≡ filled_integers spec.now (slice_index elements.now)
+        (λ n. slice_index_or found.now.ints n (pos 0)) 0 atoms.now.table.ints
+        (filled spec.now (slice_index elements.now) (λ n. slice_index_or found.now.truths n false) 0
+        atoms.now.table.atoms nothing)) }
+    ensures fits { IfOk result
+        (λ s. AtomsFit spec.now world.now (slice_index elements.now) atoms.now.table.atoms
+        → IntegersFit spec.now world.now (slice_index elements.now) atoms.now.table.ints
+        → is_state spec.now world.now s ≡ true) }
 {
     let mut state = State::empty(alloc, spec, world)?;
     fill_atoms(

@@ -33,7 +33,9 @@ pub fn all_elements(
 ) -> Result<Vec<u32>, AllocError>
     requires exist { list_all (λ s. nat_lt s (length classes.now)) sorts.now ≡ true }
     requires classes { classes.now ≡ map (classes_by (alike_by equals.now) sorts.now) (range_with_len 0 (length classes.now)) }
-    ensures { IfOk result (λ es. es.items ≡ map (element_by (alike_by equals.now) sorts.now) (range_with_len 0 (length sorts.now))) }
+    ensures { IfOk result
+        (λ es. es.items
+        ≡ map (element_by (alike_by equals.now) sorts.now) (range_with_len 0 (length sorts.now))) }
 {
     let mut elements = Vec::new(alloc);
     let mut constant: u32 = 0;

@@ -41,7 +41,9 @@ fn state_for(
 ) -> Result<State, AllocError>
     requires world { world_fits spec.now world.now ≡ true }
     requires values { list_all in_state_range found.now.ints ≡ true }
-    ensures { IfOk result (λ s. IsStateFor spec.now ob.now world.now (slice_index elements.now) found.now.truths found.now.ints atoms.now.table s) }
+    ensures { IfOk result
+        (λ s. IsStateFor spec.now ob.now world.now (slice_index elements.now) found.now.truths
+        found.now.ints atoms.now.table s) }
 {
     match ob {
         Obligation::Init { .. } => State::initial(alloc, spec, world),
@@ -76,9 +78,16 @@ fn witness_with(
     requires sorts { sorts.now ≡ (constants_of spec.now ob.now).sorts }
     requires consts { consts.now ≡ (constants_of spec.now ob.now).elements }
     requires calls { calls.now ≡ calls_of spec.now ob.now }
-    requires satisfied { all_true (interpretation_of (table_of spec.now ob.now) (meaning_of found.now)) (formulas_of spec.now ob.now) ≡ true }
+    requires satisfied { all_true
+        (interpretation_of (table_of spec.now ob.now) (meaning_of found.now))
+        (formulas_of spec.now ob.now)
+        ≡ true }
     requires values { list_all in_state_range found.now.ints ≡ true }
-    ensures { IfOk result (λ w. IsRefutation spec.now ob.now w.world w.state w.calls w.elements × IsGivenBy spec.now ob.now (interpretation_of (table_of spec.now ob.now) (meaning_of found.now)) w.world w.state w.calls w.elements) }
+    ensures { IfOk result
+        (λ w. IsRefutation spec.now ob.now w.world w.state w.calls w.elements
+        × IsGivenBy spec.now ob.now
+        (interpretation_of (table_of spec.now ob.now) (meaning_of found.now)) w.world w.state
+        w.calls w.elements) }
 {
     spec.well_formed();
     law_arguments_are_first();
@@ -115,10 +124,16 @@ pub fn witness_of(
 ) -> Result<Witness, AllocError>
     requires member { IsObligation spec.now ob.now }
     requires grounded { IsGrounded spec.now ob.now grounded.now }
-    requires found { all_hold (atom_true (meaning_of found.now) (map kind_of (table_of spec.now ob.now).atoms)) (numbered_of spec.now ob.now) ≡ true }
+    requires found { all_hold
+        (atom_true (meaning_of found.now) (map kind_of (table_of spec.now ob.now).atoms))
+        (numbered_of spec.now ob.now)
+        ≡ true }
     requires in_range { list_all in_state found.now.ints ≡ true }
     ensures breaks { IfOk result (λ w. IsRefutation spec.now ob.now w.world w.state w.calls w.elements) }
-    ensures given { IfOk result (λ w. IsGivenBy spec.now ob.now (interpretation_of (table_of spec.now ob.now) (meaning_of found.now)) w.world w.state w.calls w.elements) }
+    ensures given { IfOk result
+        (λ w. IsGivenBy spec.now ob.now
+        (interpretation_of (table_of spec.now ob.now) (meaning_of found.now)) w.world w.state
+        w.calls w.elements) }
 {
     law_numbers_are_names();
     witness_with(

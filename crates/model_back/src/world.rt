@@ -37,7 +37,9 @@ pub fn world_with(
     elements: &[u32],
     count: u32,
 ) -> Result<World, AllocError>
-    ensures { IfOk result (λ w. w ≡ record { sizes = map length classes.now; consts = map (slice_index elements.now) (range_with_len 0 count) }) }
+    ensures { IfOk result
+        (λ w. w
+        ≡ record { sizes = map length classes.now; consts = map (slice_index elements.now) (range_with_len 0 count) }) }
 {
     let sizes = sizes_of(alloc, classes)?;
     let consts = consts_of(alloc, elements, count)?;

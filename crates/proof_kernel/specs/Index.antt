@@ -76,7 +76,7 @@ lits_marked m marks d = list_all (λ l. marked marks (spot m l)) d
 abbrev pub any_opposite_marked : ℕ → List Bool → List Lit → Bool
 any_opposite_marked m marks c = list_any (λ l. marked marks (spot m (flip l))) c
 
--- a clause holds some atom both ways, as far as it is asked: only where a literal's opposite is marked
+-- the spot of some literal's opposite is marked, and the clause holds some atom both ways
 abbrev pub marked_both_ways : ℕ → List Bool → List Lit → Bool
 marked_both_ways m marks c = any_opposite_marked m marks c && holds_both_ways c
 
@@ -89,7 +89,7 @@ marked_slot_within m marks c None = false
 abbrev pub marked_within : ℕ → List Bool → List (Option (List Lit)) → List Lit → Entry → Bool
 marked_within m marks slots c e = all_marked marks e && marked_slot_within m marks c (slice_index_or slots e.number None)
 
--- one such entry stands in a list of that clause's spots
+-- an entry with marked spots whose clause lies within this one stands in a list of this clause's spots
 abbrev pub finds_marked : ℕ → List Bool → List (Option (List Lit)) → List (List Entry) → List Lit → Bool
 finds_marked m marks slots lists c = list_any (λ k. list_any (marked_within m marks slots c) (slice_index_or lists k [])) (spots m c)
 

@@ -91,7 +91,10 @@ fn fitting_names(
     place: u32,
     values: &[i128],
 ) -> Result<Option<Vec<u32>>, AllocError>
-    ensures { IfOk result (λ found. MatchOption found (values_fit (row.now ∷ []) 0 place values.now ≡ false) (λ names. (values_fit (row.now ∷ []) 0 place values.now ≡ true) × (names.items ≡ other_names place (row.now ∷ [])))) }
+    ensures { IfOk result
+        (λ found. MatchOption found (values_fit (row.now ∷ []) 0 place values.now ≡ false)
+        (λ names. (values_fit (row.now ∷ []) 0 place values.now ≡ true)
+        × (names.items ≡ other_names place (row.now ∷ [])))) }
 {
     if row.coefficient(place) == 0 {
         return Ok(None);
@@ -120,7 +123,10 @@ fn leaves_state(row: &Row, place: u32, rest: &i128) -> bool
 
 // Whether the row, with values for its other names, allows the place no number in the range of a state.
 fn allows_none(alloc: Global, row: &Row, place: u32, values: &[i128]) -> Result<bool, AllocError>
-    ensures { IfOk result (λ b. b ≡ (values_fit (row.now ∷ []) 0 place values.now && leaves_state row.now place (rest_with row.now place values.now))) }
+    ensures { IfOk result
+        (λ b. b
+        ≡ (values_fit (row.now ∷ []) 0 place values.now
+        && leaves_state row.now place (rest_with row.now place values.now))) }
 {
     let Some(names) = fitting_names(alloc, row, place, values)? else {
         return Ok(false);
@@ -133,7 +139,10 @@ fn allows_none(alloc: Global, row: &Row, place: u32, values: &[i128]) -> Result<
 
 // Whether putting the values into the row leaves the range of a row.
 fn leaves_range(alloc: Global, row: &Row, place: u32, values: &[i128]) -> Result<bool, AllocError>
-    ensures { IfOk result (λ b. b ≡ (values_fit (row.now ∷ []) 0 place values.now && is_none (rest_with row.now place values.now))) }
+    ensures { IfOk result
+        (λ b. b
+        ≡ (values_fit (row.now ∷ []) 0 place values.now
+        && is_none (rest_with row.now place values.now))) }
 {
     let Some(names) = fitting_names(alloc, row, place, values)? else {
         return Ok(false);
@@ -176,7 +185,10 @@ fn take_cancelling(
     steps: &[RowStep],
 ) -> Result<bool, LineRefused>
     requires { StepsEnd steps.now (length steps.now) ends.now }
-    ensures { (all : List RowView) → KeptUntil all ends.now 0 rows.old.items → MatchResult result (λ b. AreCancelling b (with_steps all steps.now) steps.now ends.now rows.new.items) (λ e. IsTold e (with_steps all steps.now)) }
+    ensures { (all : List RowView) → KeptUntil all ends.now 0 rows.old.items
+        → MatchResult result
+        (λ b. AreCancelling b (with_steps all steps.now) steps.now ends.now rows.new.items)
+        (λ e. IsTold e (with_steps all steps.now)) }
 {
     for (i, step) in steps.iter().enumerate() {
         if !cancels_kept(rows.as_slice(), step) {
@@ -202,7 +214,12 @@ fn cancelling_rows(
     steps: &[RowStep],
     named: &[usize],
 ) -> Result<Option<Vec<Option<Row>>>, LineRefused>
-    ensures { MatchResult result (λ o. MatchOption o (all_cancel_in (line_rows atoms.now used.now steps.now) steps.now ≡ false) (λ kept. HasKept (line_rows atoms.now used.now steps.now) named.now kept.items × (all_cancel_in (line_rows atoms.now used.now steps.now) steps.now ≡ true))) (λ e. IsTold e (line_rows atoms.now used.now steps.now)) }
+    ensures { MatchResult result
+        (λ o. MatchOption o
+        (all_cancel_in (line_rows atoms.now used.now steps.now) steps.now ≡ false)
+        (λ kept. HasKept (line_rows atoms.now used.now steps.now) named.now kept.items
+        × (all_cancel_in (line_rows atoms.now used.now steps.now) steps.now ≡ true)))
+        (λ e. IsTold e (line_rows atoms.now used.now steps.now)) }
 {
     let Ok(ends) = ends_of(alloc, used.len() + steps.len(), steps, named) else {
         return Err(LineRefused::Memory);

@@ -82,7 +82,9 @@ pub fn ends_of(
     named: &[usize],
 ) -> Result<Vec<usize>, AllocError>
     ensures steps { IfOk result (λ ends. StepsEnd steps.now (length steps.now) ends.items) }
-    ensures named { IfOk result (λ ends. (j : ℕ) → j < length named.now → is_done ends.items (length steps.now) (slice_index_or named.now j 0) ≡ false) }
+    ensures named { IfOk result
+        (λ ends. (j : ℕ) → j < length named.now
+        → is_done ends.items (length steps.now) (slice_index_or named.now j 0) ≡ false) }
 {
     let mut ends = vec![in alloc; 0; count]?;
     raise_steps(ends.as_mut_slice(), steps);
@@ -97,7 +99,10 @@ fn push_row(
     taken: usize,
     row: Row,
 ) -> Result<(), AllocError>
-    ensures { OnOk result (rows.new.items ≡ rows.old.items ++ cond (is_done ends.now taken (length rows.old.items)) None (Some row) ∷ []) }
+    ensures { OnOk result
+        (rows.new.items
+        ≡ rows.old.items
+        ++ cond (is_done ends.now taken (length rows.old.items)) None (Some row) ∷ []) }
 {
     let kept = if is_done(ends, taken, rows.len()) {
         None
@@ -125,7 +130,9 @@ pub fn push_step(
     step: &RowStep,
     row: Row,
 ) -> Result<(), AllocError>
-    ensures { OnOk result ((all : List RowView) → KeptUntil all ends.now taken rows.old.items → KeptUntil (all ++ row ∷ []) ends.now taken rows.new.items) }
+    ensures { OnOk result
+        ((all : List RowView) → KeptUntil all ends.now taken rows.old.items
+        → KeptUntil (all ++ row ∷ []) ends.now taken rows.new.items) }
 {
     push_row(rows, ends, taken, row)?;
     let_go(rows, ends, taken, step.left as usize);
@@ -135,7 +142,11 @@ pub fn push_step(
 
 /// The row of a step, from the two rows that are kept for it.
 pub fn step_sum(alloc: Global, rows: &[Option<Row>], step: &RowStep) -> Result<Row, LineRefused>
-    ensures { MatchResult result (λ row. step_sum (kept_at rows.now step.now.left) (kept_at rows.now step.now.right) step.now ≡ Ok row) (λ e. IsTold e (step_sum (kept_at rows.now step.now.left) (kept_at rows.now step.now.right) step.now)) }
+    ensures { MatchResult result
+        (λ row. step_sum (kept_at rows.now step.now.left) (kept_at rows.now step.now.right) step.now
+        ≡ Ok row)
+        (λ e. IsTold e
+        (step_sum (kept_at rows.now step.now.left) (kept_at rows.now step.now.right) step.now)) }
 {
     let (Some(left), Some(right)) = (
         kept_at(rows, step.left as usize),
@@ -154,7 +165,10 @@ fn take_steps(
     steps: &[RowStep],
 ) -> Result<(), LineRefused>
     requires { StepsEnd steps.now (length steps.now) ends.now }
-    ensures { (all : List RowView) → KeptUntil all ends.now 0 rows.old.items → MatchResult result (λ _. HasKeptUntil (with_steps all steps.now) ends.now (length steps.now) rows.new.items) (λ e. IsTold e (with_steps all steps.now)) }
+    ensures { (all : List RowView) → KeptUntil all ends.now 0 rows.old.items
+        → MatchResult result
+        (λ _. HasKeptUntil (with_steps all steps.now) ends.now (length steps.now) rows.new.items)
+        (λ e. IsTold e (with_steps all steps.now)) }
 {
     for (i, step) in steps.iter().enumerate() {
         let row = match step_sum(alloc, rows.as_slice(), step) {
@@ -176,7 +190,10 @@ fn keep_rows(
     ends: &[usize],
 ) -> Result<Vec<Option<Row>>, LineRefused>
     requires { list_all (has_row atoms.now) used.now ≡ true }
-    ensures { MatchResult result (λ kept. HasKeptUntil (or_broken TheRange (lit_rows atoms.now used.now)) ends.now 0 kept.items) (λ e. IsTold e (or_broken TheRange (lit_rows atoms.now used.now))) }
+    ensures { MatchResult result
+        (λ kept. HasKeptUntil (or_broken TheRange (lit_rows atoms.now used.now)) ends.now 0
+        kept.items)
+        (λ e. IsTold e (or_broken TheRange (lit_rows atoms.now used.now))) }
 {
     let mut rows = Vec::new(alloc);
     for lit in used {
@@ -198,7 +215,9 @@ pub fn keep_used(
     used: &[Lit],
     ends: &[usize],
 ) -> Result<Vec<Option<Row>>, LineRefused>
-    ensures { MatchResult result (λ kept. HasKeptUntil (used_rows atoms.now used.now) ends.now 0 kept.items) (λ e. IsTold e (used_rows atoms.now used.now)) }
+    ensures { MatchResult result
+        (λ kept. HasKeptUntil (used_rows atoms.now used.now) ends.now 0 kept.items)
+        (λ e. IsTold e (used_rows atoms.now used.now)) }
 {
     if used.is_empty() || !all_have_rows(atoms, used) {
         return Err(LineRefused::Bad(Why::Place));
@@ -214,7 +233,9 @@ pub fn kept_rows(
     steps: &[RowStep],
     named: &[usize],
 ) -> Result<Vec<Option<Row>>, LineRefused>
-    ensures { MatchResult result (λ kept. HasKept (line_rows atoms.now used.now steps.now) named.now kept.items) (λ e. IsTold e (line_rows atoms.now used.now steps.now)) }
+    ensures { MatchResult result
+        (λ kept. HasKept (line_rows atoms.now used.now steps.now) named.now kept.items)
+        (λ e. IsTold e (line_rows atoms.now used.now steps.now)) }
 {
     let Ok(ends) = ends_of(alloc, used.len() + steps.len(), steps, named) else {
         return Err(LineRefused::Memory);
@@ -246,7 +267,8 @@ pub fn refutes_used(
     used: &[Lit],
     steps: &[RowStep],
 ) -> Result<bool, LineRefused>
-    ensures { MatchResult result (λ b. Ends b (line_rows atoms.now used.now steps.now)) (λ e. IsTold e (line_rows atoms.now used.now steps.now)) }
+    ensures { MatchResult result (λ b. Ends b (line_rows atoms.now used.now steps.now))
+        (λ e. IsTold e (line_rows atoms.now used.now steps.now)) }
 {
     let last = (used.len() + steps.len()).saturating_sub(1);
     match kept_rows(alloc, atoms, used, steps, &[last]) {

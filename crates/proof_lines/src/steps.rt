@@ -33,7 +33,9 @@ fn has_row(atoms: &[AtomKind], lit: Lit) -> bool
 // The row of a literal, tightened. Range comes exactly where a negation leaves the range of a row.
 pub fn lit_row(alloc: Global, atoms: &[AtomKind], lit: Lit) -> Result<Row, LineRefused>
     requires { has_row atoms.now lit ≡ true }
-    ensures { MatchResult result (λ row. or_broken TheRange (option_map tightened (lit_row atoms.now lit)) ≡ Ok row) (λ e. IsTold e (or_broken TheRange (option_map tightened (lit_row atoms.now lit)))) }
+    ensures { MatchResult result
+        (λ row. or_broken TheRange (option_map tightened (lit_row atoms.now lit)) ≡ Ok row)
+        (λ e. IsTold e (or_broken TheRange (option_map tightened (lit_row atoms.now lit)))) }
 {
     let Some(row) = atom_row(atoms, lit.atom) else {
         return Err(LineRefused::Bad(Why::Range));
@@ -56,7 +58,9 @@ pub fn lit_row(alloc: Global, atoms: &[AtomKind], lit: Lit) -> Result<Row, LineR
 
 fn all_rows(alloc: Global, atoms: &[AtomKind], used: &[Lit]) -> Result<Vec<Row>, LineRefused>
     requires { list_all (has_row atoms.now) used.now ≡ true }
-    ensures { MatchResult result (λ rows. or_broken TheRange (lit_rows atoms.now used.now) ≡ Ok rows.items) (λ e. IsTold e (or_broken TheRange (lit_rows atoms.now used.now))) }
+    ensures { MatchResult result
+        (λ rows. or_broken TheRange (lit_rows atoms.now used.now) ≡ Ok rows.items)
+        (λ e. IsTold e (or_broken TheRange (lit_rows atoms.now used.now))) }
 {
     let mut rows = Vec::new(alloc);
     for lit in used {
@@ -72,7 +76,8 @@ fn all_rows(alloc: Global, atoms: &[AtomKind], used: &[Lit]) -> Result<Vec<Row>,
 }
 
 fn used_rows(alloc: Global, atoms: &[AtomKind], used: &[Lit]) -> Result<Vec<Row>, LineRefused>
-    ensures { MatchResult result (λ rows. used_rows atoms.now used.now ≡ Ok rows.items) (λ e. IsTold e (used_rows atoms.now used.now)) }
+    ensures { MatchResult result (λ rows. used_rows atoms.now used.now ≡ Ok rows.items)
+        (λ e. IsTold e (used_rows atoms.now used.now)) }
 {
     if used.is_empty() || !all_have_rows(atoms, used) {
         return Err(LineRefused::Bad(Why::Place));
@@ -93,7 +98,9 @@ pub fn sum_of_step(
     right: &Row,
     step: &RowStep,
 ) -> Result<Row, LineRefused>
-    ensures { MatchResult result (λ row. step_sum (Some left.now) (Some right.now) step.now ≡ Ok row) (λ e. IsTold e (step_sum (Some left.now) (Some right.now) step.now)) }
+    ensures { MatchResult result
+        (λ row. step_sum (Some left.now) (Some right.now) step.now ≡ Ok row)
+        (λ e. IsTold e (step_sum (Some left.now) (Some right.now) step.now)) }
 {
     match sum_of_multiples(alloc, left, step.first, right, step.second) {
         Ok(row) => Ok(row),
@@ -116,7 +123,8 @@ fn step_row(alloc: Global, rows: &[Row], step: &RowStep) -> Result<Row, LineRefu
 }
 
 fn with_steps(alloc: Global, mut rows: Vec<Row>, steps: &[RowStep]) -> Result<Vec<Row>, LineRefused>
-    ensures { MatchResult result (λ all. with_steps rows.items steps.now ≡ Ok all.items) (λ e. IsTold e (with_steps rows.items steps.now)) }
+    ensures { MatchResult result (λ all. with_steps rows.items steps.now ≡ Ok all.items)
+        (λ e. IsTold e (with_steps rows.items steps.now)) }
 {
     for step in steps {
         let row = step_row(alloc, rows.as_slice(), step)?;
@@ -134,7 +142,8 @@ pub fn line_rows(
     used: &[Lit],
     steps: &[RowStep],
 ) -> Result<Vec<Row>, LineRefused>
-    ensures { MatchResult result (λ rows. line_rows atoms.now used.now steps.now ≡ Ok rows.items) (λ e. IsTold e (line_rows atoms.now used.now steps.now)) }
+    ensures { MatchResult result (λ rows. line_rows atoms.now used.now steps.now ≡ Ok rows.items)
+        (λ e. IsTold e (line_rows atoms.now used.now steps.now)) }
 {
     let rows = used_rows(alloc, atoms, used)?;
     with_steps(alloc, rows, steps)

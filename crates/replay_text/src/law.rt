@@ -15,6 +15,7 @@ use spec_core::Spec;
 /// events print the same lines of their states. So no bytes of a schedule come to status 1.
 pub fn law_safe_replays(spec: &Spec)
     requires { Safe spec.now }
-    ensures courses { (w : World) (replicas : ℕ) (steps : List Step) → is_world spec.now w ≡ true → GoesSafely spec.now w (course spec.now w replicas steps) }
+    ensures courses { (w : World) (replicas : ℕ) (steps : List Step) → is_world spec.now w ≡ true
+        → GoesSafely spec.now w (course spec.now w replicas steps) }
     ensures schedules { (bytes : List ℕ) → schedule_status spec.now bytes ≢ 1 }
 {}

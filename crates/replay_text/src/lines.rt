@@ -82,7 +82,10 @@ pub fn push_range(
     key: &[u32],
     value: i128,
 ) -> Result<(), AllocError>
-    ensures { OnOk result (text.new.items ≡ text.old.items ++ (codes "range " ++ name.now ++ spaced key.now ++ 32 ∷ [] ++ signed_decimal value)) }
+    ensures { OnOk result
+        (text.new.items
+        ≡ text.old.items
+        ++ (codes "range " ++ name.now ++ spaced key.now ++ 32 ∷ [] ++ signed_decimal value)) }
 {
     let digits = value.to_string(alloc)?;
     push(text, b"range ")?;

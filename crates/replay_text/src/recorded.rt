@@ -15,8 +15,12 @@ use std::alloc::{AllocError, Global};
 /// Replays a schedule.
 fn replay_read(alloc: Global, spec: &Spec, schedule: Schedule) -> Result<Answer, AllocError>
     requires { IsScheduleOf spec.now schedule }
-    ensures text { IfOk result (λ report. report.text.items ≡ replay_text spec.now schedule.world schedule.replicas schedule.steps) }
-    ensures status { IfOk result (λ report. report.status ≡ replay_status spec.now schedule.world schedule.replicas schedule.steps) }
+    ensures text { IfOk result
+        (λ report. report.text.items
+        ≡ replay_text spec.now schedule.world schedule.replicas schedule.steps) }
+    ensures status { IfOk result
+        (λ report. report.status
+        ≡ replay_status spec.now schedule.world schedule.replicas schedule.steps) }
 {
     replay(
         alloc,

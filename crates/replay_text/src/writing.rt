@@ -31,7 +31,9 @@ fn replica_of(step: &Step) -> u32
 fn broken_invariant<R: Steps>(spec: &Spec, replay: &R, replica: u32) -> Option<usize>
     requires spec { (R.replayed replay.now).spec ≡ spec.now }
     requires replica { replica < length (R.replayed replay.now).held.taken }
-    ensures { result ≡ broken_at spec.now (R.replayed replay.now).world (state_at spec.now (R.replayed replay.now).world (R.replayed replay.now).held replica) }
+    ensures { result
+        ≡ broken_at spec.now (R.replayed replay.now).world
+        (state_at spec.now (R.replayed replay.now).world (R.replayed replay.now).held replica) }
 {
     invariant_broken_at(spec, replay.world(), replay.state_of(replica))
 }
@@ -66,7 +68,9 @@ fn broken_after<R: Steps>(spec: &Spec, replay: &R, replica: u32) -> Option<usize
     requires spec { (R.replayed replay.now).spec ≡ spec.now }
     requires replica { replica < length (R.replayed replay.now).held.taken }
     requires others { OthersHeld spec.now (R.replayed replay.now).world (R.replayed replay.now).held replica }
-    ensures { result ≡ broken_at spec.now (R.replayed replay.now).world (state_at spec.now (R.replayed replay.now).world (R.replayed replay.now).held replica) }
+    ensures { result
+        ≡ broken_at spec.now (R.replayed replay.now).world
+        (state_at spec.now (R.replayed replay.now).world (R.replayed replay.now).held replica) }
 {
     if is_front_elsewhere(replay, replica) {
         return None;
@@ -86,7 +90,9 @@ enum Stepped {
 fn carry_out<R: Steps>(spec: &Spec, replay: &mut R, step: &Step) -> Result<Stepped, AllocError>
     requires spec { (R.replayed replay.old).spec ≡ spec.now }
     requires holds { AllHeld spec.now (R.replayed replay.old).world (R.replayed replay.old).held }
-    ensures stepped { IfOk result (λ s. IsStepped spec.now (R.replayed replay.old).world (R.replayed replay.old).held step.now s (R.replayed replay.new).held) }
+    ensures stepped { IfOk result
+        (λ s. IsStepped spec.now (R.replayed replay.old).world (R.replayed replay.old).held step.now
+        s (R.replayed replay.new).held) }
     ensures world { OnOk result ((R.replayed replay.new).world ≡ (R.replayed replay.old).world) }
     ensures spec { OnOk result ((R.replayed replay.new).spec ≡ (R.replayed replay.old).spec) }
 {
@@ -118,7 +124,10 @@ fn write_steps<R: Steps>(
 ) -> Result<Stopped, AllocError>
     requires spec { (R.replayed replay.old).spec ≡ spec.now }
     requires holds { AllHeld spec.now (R.replayed replay.old).world (R.replayed replay.old).held }
-    ensures reached { IfOk result (λ s. IsReached (course_from spec.now (R.replayed replay.old).world (R.replayed replay.old).held steps.now) steps.now text.old.items text.new.items s.accepted s.stop (R.replayed replay.new).held) }
+    ensures reached { IfOk result
+        (λ s. IsReached
+        (course_from spec.now (R.replayed replay.old).world (R.replayed replay.old).held steps.now)
+        steps.now text.old.items text.new.items s.accepted s.stop (R.replayed replay.new).held) }
     ensures world { OnOk result ((R.replayed replay.new).world ≡ (R.replayed replay.old).world) }
     ensures spec { OnOk result ((R.replayed replay.new).spec ≡ (R.replayed replay.old).spec) }
 {
@@ -161,7 +170,11 @@ fn push_state<R: Steps>(
 ) -> Result<(), AllocError>
     requires spec { (R.replayed replay.now).spec ≡ spec.now }
     requires replica { replica < length (R.replayed replay.now).held.taken }
-    ensures { OnOk result (text.new.items ≡ text.old.items ++ state_text spec.now (R.replayed replay.now).world (state_at spec.now (R.replayed replay.now).world (R.replayed replay.now).held replica)) }
+    ensures { OnOk result
+        (text.new.items
+        ≡ text.old.items
+        ++ state_text spec.now (R.replayed replay.now).world
+        (state_at spec.now (R.replayed replay.now).world (R.replayed replay.now).held replica)) }
 {
     write_state(alloc, spec, replay.state_of(replica), text)
 }
@@ -176,7 +189,11 @@ fn push_replica<R: Steps>(
 ) -> Result<(), AllocError>
     requires spec { (R.replayed replay.now).spec ≡ spec.now }
     requires replica { replica < length (R.replayed replay.now).held.taken }
-    ensures { OnOk result (text.new.items ≡ text.old.items ++ replica_text spec.now (R.replayed replay.now).world (R.replayed replay.now).held replica (get_or (R.replayed replay.now).held.taken replica [])) }
+    ensures { OnOk result
+        (text.new.items
+        ≡ text.old.items
+        ++ replica_text spec.now (R.replayed replay.now).world (R.replayed replay.now).held replica
+        (get_or (R.replayed replay.now).held.taken replica [])) }
 {
     push_number(alloc, text, b"replica ", replica as usize)?;
     push_number(alloc, text, b" taken ", replay.seen_by(replica).len())?;
@@ -194,7 +211,11 @@ fn push_replicas<R: Steps>(
 ) -> Result<(), AllocError>
     requires spec { (R.replayed replay.now).spec ≡ spec.now }
     requires count { length (R.replayed replay.now).held.taken ≡ count }
-    ensures { OnOk result (text.new.items ≡ text.old.items ++ replica_texts spec.now (R.replayed replay.now).world (R.replayed replay.now).held 0 (R.replayed replay.now).held.taken) }
+    ensures { OnOk result
+        (text.new.items
+        ≡ text.old.items
+        ++ replica_texts spec.now (R.replayed replay.now).world (R.replayed replay.now).held 0
+        (R.replayed replay.now).held.taken) }
 {
     for replica in 0..count {
         push_replica(alloc, text, spec, replay, replica)?;
@@ -214,7 +235,9 @@ fn write_course<R: Steps>(
     requires spec { (R.replayed replay.old).spec ≡ spec.now }
     requires held { (R.replayed replay.old).held ≡ none_held replicas }
     requires some { 1 ≤ replicas }
-    ensures reached { IfOk result (λ s. IsReached (course spec.now (R.replayed replay.old).world replicas steps.now) steps.now text.old.items text.new.items s.accepted s.stop (R.replayed replay.new).held) }
+    ensures reached { IfOk result
+        (λ s. IsReached (course spec.now (R.replayed replay.old).world replicas steps.now) steps.now
+        text.old.items text.new.items s.accepted s.stop (R.replayed replay.new).held) }
     ensures world { OnOk result ((R.replayed replay.new).world ≡ (R.replayed replay.old).world) }
     ensures spec { OnOk result ((R.replayed replay.new).spec ≡ (R.replayed replay.old).spec) }
 {
@@ -250,7 +273,9 @@ fn write_replay<R: Steps>(
     requires spec { (R.replayed replay.old).spec ≡ spec.now }
     requires held { (R.replayed replay.old).held ≡ none_held replicas }
     requires some { 1 ≤ replicas }
-    ensures text { OnOk result (text.new.items ≡ text.old.items ++ replay_text spec.now (R.replayed replay.old).world replicas steps.now) }
+    ensures text { OnOk result
+        (text.new.items
+        ≡ text.old.items ++ replay_text spec.now (R.replayed replay.old).world replicas steps.now) }
     ensures status { IfOk result (λ status. status ≡ replay_status spec.now (R.replayed replay.old).world replicas steps.now) }
 {
     push(text, b"cise replay 1\n")?;
@@ -272,8 +297,12 @@ pub fn replay_by<R: Steps>(
     requires spec { (R.replayed replay.old).spec ≡ spec.now }
     requires held { (R.replayed replay.old).held ≡ none_held replicas }
     requires some { 1 ≤ replicas }
-    ensures text { IfOk result (λ report. report.text.items ≡ replay_text spec.now (R.replayed replay.old).world replicas steps.now) }
-    ensures status { IfOk result (λ report. report.status ≡ replay_status spec.now (R.replayed replay.old).world replicas steps.now) }
+    ensures text { IfOk result
+        (λ report. report.text.items
+        ≡ replay_text spec.now (R.replayed replay.old).world replicas steps.now) }
+    ensures status { IfOk result
+        (λ report. report.status
+        ≡ replay_status spec.now (R.replayed replay.old).world replicas steps.now) }
 {
     let mut text = Vec::new(alloc);
     let status = write_replay(alloc, spec, replay, replicas, steps, &mut text)?;

@@ -36,7 +36,9 @@ pub fn rivals<R: Runner>(alloc: Global, runner: &R, op: u8) -> Result<Vec<Rivalr
 fn observes_refused(spec: &Spec, world: &World, state: &State, call: &Call) -> Option<StepRefused>
     requires world { world_fits spec.now world.now ≡ true }
     requires call { call_fits spec.now world.now call.now ≡ true }
-    ensures { (next : Option StepRefused) → observes_asked spec.now world.now (reads state.now) call.now next ≡ option_or result next }
+    ensures { (next : Option StepRefused)
+        → observes_asked spec.now world.now (reads state.now) call.now next
+        ≡ option_or result next }
 {
     spec.well_formed();
     match observes_broken_at(spec, world, state, call) {
@@ -55,7 +57,11 @@ fn lines_refused<R: Runner>(
 ) -> Result<Option<StepRefused>, AllocError>
     requires state { is_state (R.specification runner.now) (R.setting runner.now) state.now ≡ true }
     requires call { call_fits (R.specification runner.now) (R.setting runner.now) call.now ≡ true }
-    ensures { IfOk result (λ found. (next : Option StepRefused) → lines_asked (R.specification runner.now) (R.setting runner.now) (reads state.now) call.now next ≡ option_or found next) }
+    ensures { IfOk result
+        (λ found. (next : Option StepRefused)
+        → lines_asked (R.specification runner.now) (R.setting runner.now) (reads state.now) call.now
+        next
+        ≡ option_or found next) }
 {
     match runner.line_broken(state, call)? {
         Some(line) => Ok(Some(StepRefused::Precondition { line })),
@@ -75,8 +81,14 @@ fn asked<R: Runner>(
     requires state { is_state (R.specification runner.now) (R.setting runner.now) state.now ≡ true }
     requires few { length happened.now < 2 ^ 32 }
     requires rivals { rivals.now ≡ rivals_with (R.specification runner.now) call.now.op }
-    ensures refusal { IfOk result (λ found. (next : Option StepRefused) → call_asked (R.specification runner.now) (R.setting runner.now) (calls_of happened.now) taken.now (reads state.now) call.now next ≡ option_or found next) }
-    ensures fits { IfOk result (λ found. found ≡ None → call_fits (R.specification runner.now) (R.setting runner.now) call.now ≡ true) }
+    ensures refusal { IfOk result
+        (λ found. (next : Option StepRefused)
+        → call_asked (R.specification runner.now) (R.setting runner.now) (calls_of happened.now)
+        taken.now (reads state.now) call.now next
+        ≡ option_or found next) }
+    ensures fits { IfOk result
+        (λ found. found ≡ None
+        → call_fits (R.specification runner.now) (R.setting runner.now) call.now ≡ true) }
 {
     let spec = runner.spec();
     let world = runner.world();
@@ -97,10 +109,19 @@ fn state_after_effect<R: Runner>(
 ) -> Result<State, StepRefused>
     requires state { is_state (R.specification runner.now) (R.setting runner.now) state.now ≡ true }
     requires call { call_fits (R.specification runner.now) (R.setting runner.now) call.now ≡ true }
-    ensures reads { IfOk result (λ s. reads s ≡ after (R.specification runner.now) (R.setting runner.now) call.now (reads state.now)) }
+    ensures reads { IfOk result
+        (λ s. reads s
+        ≡ after (R.specification runner.now) (R.setting runner.now) call.now (reads state.now)) }
     ensures fits { IfOk result (λ s. is_state (R.specification runner.now) (R.setting runner.now) s ≡ true) }
-    ensures ok { OnOk result (effect_refused (R.specification runner.now) (R.setting runner.now) (reads state.now) call.now ≡ None) }
-    ensures err { IfErr result (λ why. (why ≡ StepRefused.Memory) ⊎ (effect_refused (R.specification runner.now) (R.setting runner.now) (reads state.now) call.now ≡ Some why)) }
+    ensures ok { OnOk result
+        (effect_refused (R.specification runner.now) (R.setting runner.now) (reads state.now)
+        call.now
+        ≡ None) }
+    ensures err { IfErr result
+        (λ why. (why ≡ StepRefused.Memory)
+        ⊎ (effect_refused (R.specification runner.now) (R.setting runner.now) (reads state.now)
+        call.now
+        ≡ Some why)) }
 {
     match runner.effect(state, call) {
         Ok(next) => Ok(next),
@@ -131,10 +152,19 @@ pub fn state_after_call<R: Runner>(
     requires state { is_state (R.specification runner.now) (R.setting runner.now) state.now ≡ true }
     requires few { length happened.now < 2 ^ 32 }
     requires rivals { rivals.now ≡ rivals_with (R.specification runner.now) call.now.op }
-    ensures reads { IfOk result (λ s. reads s ≡ after (R.specification runner.now) (R.setting runner.now) call.now (reads state.now)) }
+    ensures reads { IfOk result
+        (λ s. reads s
+        ≡ after (R.specification runner.now) (R.setting runner.now) call.now (reads state.now)) }
     ensures fits { IfOk result (λ s. is_state (R.specification runner.now) (R.setting runner.now) s ≡ true) }
-    ensures ok { OnOk result (call_refused (R.specification runner.now) (R.setting runner.now) (calls_of happened.now) taken.now (reads state.now) call.now ≡ None) }
-    ensures err { IfErr result (λ why. (why ≡ StepRefused.Memory) ⊎ (call_refused (R.specification runner.now) (R.setting runner.now) (calls_of happened.now) taken.now (reads state.now) call.now ≡ Some why)) }
+    ensures ok { OnOk result
+        (call_refused (R.specification runner.now) (R.setting runner.now) (calls_of happened.now)
+        taken.now (reads state.now) call.now
+        ≡ None) }
+    ensures err { IfErr result
+        (λ why. (why ≡ StepRefused.Memory)
+        ⊎ (call_refused (R.specification runner.now) (R.setting runner.now) (calls_of happened.now)
+        taken.now (reads state.now) call.now
+        ≡ Some why)) }
 {
     match asked(runner, happened, taken, state, call, rivals) {
         Ok(None) => state_after_effect(runner, state, call),
@@ -154,10 +184,19 @@ pub fn state_after_taking<R: Runner>(
 ) -> Result<State, StepRefused>
     requires state { is_state (R.specification runner.now) (R.setting runner.now) state.now ≡ true }
     requires call { call_fits (R.specification runner.now) (R.setting runner.now) call.now ≡ true }
-    ensures reads { IfOk result (λ s. reads s ≡ after (R.specification runner.now) (R.setting runner.now) call.now (reads state.now)) }
+    ensures reads { IfOk result
+        (λ s. reads s
+        ≡ after (R.specification runner.now) (R.setting runner.now) call.now (reads state.now)) }
     ensures fits { IfOk result (λ s. is_state (R.specification runner.now) (R.setting runner.now) s ≡ true) }
-    ensures ok { OnOk result (taking_refused (R.specification runner.now) (R.setting runner.now) taken.now (reads state.now) event seen.now call.now ≡ None) }
-    ensures err { IfErr result (λ why. (why ≡ StepRefused.Memory) ⊎ (taking_refused (R.specification runner.now) (R.setting runner.now) taken.now (reads state.now) event seen.now call.now ≡ Some why)) }
+    ensures ok { OnOk result
+        (taking_refused (R.specification runner.now) (R.setting runner.now) taken.now
+        (reads state.now) event seen.now call.now
+        ≡ None) }
+    ensures err { IfErr result
+        (λ why. (why ≡ StepRefused.Memory)
+        ⊎ (taking_refused (R.specification runner.now) (R.setting runner.now) taken.now
+        (reads state.now) event seen.now call.now
+        ≡ Some why)) }
 {
     match taking_asked(taken, event, seen) {
         Some(why) => Err(why),

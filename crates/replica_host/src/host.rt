@@ -81,7 +81,9 @@ impl<'a, E: Effect, G: Guard> Host<'a, E, G> {
     /// The state of a replica: that after the events that it has taken.
     pub fn state_of(&self, replica: u32) -> &State
         requires { replica < length self.now.held.taken }
-        ensures reads { reads result.now ≡ state_of self.now.spec self.now.world self.now.held (get_or self.now.held.taken replica []) }
+        ensures reads { reads result.now
+            ≡ state_of self.now.spec self.now.world self.now.held
+            (get_or self.now.held.taken replica []) }
         ensures fits { is_state self.now.spec self.now.world result.now ≡ true }
     {
         &self.replicas[replica as usize].state
@@ -103,8 +105,13 @@ impl<'a, E: Effect, G: Guard> Host<'a, E, G> {
     }
 
     fn call(&mut self, replica: u32, name: &[u8], args: &[i64]) -> Result<Taken, StepRefused>
-        ensures answer { (result ≡ Err StepRefused.Memory) ⊎ (result ≡ answer (called self.old.spec self.old.world self.old.held replica name.now args.now (slice_get self.old.held.taken replica))) }
-        ensures ok { OnOk result (self.new ≡ record self.old { held = held_after self.old.held (called self.old.spec self.old.world self.old.held replica name.now args.now (slice_get self.old.held.taken replica)) }) }
+        ensures answer { (result ≡ Err StepRefused.Memory)
+            ⊎ (result
+            ≡ answer (called self.old.spec self.old.world self.old.held replica name.now args.now (slice_get self.old.held.taken replica))) }
+        ensures ok { OnOk result
+            (self.new
+            ≡ record self.old
+            { held = held_after self.old.held (called self.old.spec self.old.world self.old.held replica name.now args.now (slice_get self.old.held.taken replica)) }) }
         ensures err { OnErr result (self.new ≡ self.old) }
     {
         let Some(at) = self.replicas.get(replica as usize) else {
@@ -130,8 +137,13 @@ impl<'a, E: Effect, G: Guard> Host<'a, E, G> {
     }
 
     fn take(&mut self, replica: u32, event: u32) -> Result<Taken, StepRefused>
-        ensures answer { (result ≡ Err StepRefused.Memory) ⊎ (result ≡ answer (took self.old.spec self.old.world self.old.held replica event (slice_get self.old.held.taken replica))) }
-        ensures ok { OnOk result (self.new ≡ record self.old { held = held_after self.old.held (took self.old.spec self.old.world self.old.held replica event (slice_get self.old.held.taken replica)) }) }
+        ensures answer { (result ≡ Err StepRefused.Memory)
+            ⊎ (result
+            ≡ answer (took self.old.spec self.old.world self.old.held replica event (slice_get self.old.held.taken replica))) }
+        ensures ok { OnOk result
+            (self.new
+            ≡ record self.old
+            { held = held_after self.old.held (took self.old.spec self.old.world self.old.held replica event (slice_get self.old.held.taken replica)) }) }
         ensures err { OnErr result (self.new ≡ self.old) }
     {
         let Some(at) = self.replicas.get(replica as usize) else {
@@ -151,8 +163,12 @@ impl<'a, E: Effect, G: Guard> Host<'a, E, G> {
     /// same order. A refusal changes nothing. The guard is asked for the requires lines, and the state after an event is what the effect
     /// gave; of this no clause speaks, since both answer as the specification does.
     pub fn step(&mut self, step: &Step) -> Result<Taken, StepRefused>
-        ensures answer { (result ≡ Err StepRefused.Memory) ⊎ (result ≡ answer (outcome self.old.spec self.old.world self.old.held step.now)) }
-        ensures ok { OnOk result (self.new ≡ record self.old { held = held_after self.old.held (outcome self.old.spec self.old.world self.old.held step.now) }) }
+        ensures answer { (result ≡ Err StepRefused.Memory)
+            ⊎ (result ≡ answer (outcome self.old.spec self.old.world self.old.held step.now)) }
+        ensures ok { OnOk result
+            (self.new
+            ≡ record self.old
+            { held = held_after self.old.held (outcome self.old.spec self.old.world self.old.held step.now) }) }
         ensures err { OnErr result (self.new ≡ self.old) }
     {
         match step {

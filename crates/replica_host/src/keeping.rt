@@ -25,8 +25,16 @@ pub fn keep_call(
     requires few { length happened.old.items < 2 ^ 32 }
     ensures taken { IfOk result (λ t. t.event ≡ length happened.old.items) }
     ensures few { OnOk result (length happened.old.items + 1 < 2 ^ 32) }
-    ensures happened { OnOk result (happened.new.items ≡ happened.old.items ++ record { call = call; replica = replica; before = length (get_or (orders_of replicas.old.items) replica []) } ∷ []) }
-    ensures replicas { OnOk result (replicas.new.items ≡ set replicas.old.items replica (record { order = get_or (orders_of replicas.old.items) replica [] ++ length happened.old.items ∷ []; state = state })) }
+    ensures happened { OnOk result
+        (happened.new.items
+        ≡ happened.old.items
+        ++ record
+        { call = call; replica = replica; before = length (get_or (orders_of replicas.old.items) replica []) }
+        ∷ []) }
+    ensures replicas { OnOk result
+        (replicas.new.items
+        ≡ set replicas.old.items replica
+        (record { order = get_or (orders_of replicas.old.items) replica [] ++ length happened.old.items ∷ []; state = state })) }
     ensures err { OnErr result ((happened.new.items ≡ happened.old.items) × (replicas.new.items ≡ replicas.old.items)) }
     ensures memory { IfErr result (λ why. why ≡ StepRefused.Memory) }
 {
@@ -46,7 +54,10 @@ pub fn keep_taking(
 ) -> Result<Taken, StepRefused>
     requires { replica < length replicas.old.items }
     ensures taken { IfOk result (λ t. t.event ≡ event) }
-    ensures ok { OnOk result (replicas.new.items ≡ set replicas.old.items replica (record { order = get_or (orders_of replicas.old.items) replica [] ++ event ∷ []; state = state })) }
+    ensures ok { OnOk result
+        (replicas.new.items
+        ≡ set replicas.old.items replica
+        (record { order = get_or (orders_of replicas.old.items) replica [] ++ event ∷ []; state = state })) }
     ensures err { OnErr result (replicas.new.items ≡ replicas.old.items) }
     ensures memory { IfErr result (λ why. why ≡ StepRefused.Memory) }
 {
@@ -64,7 +75,12 @@ pub fn replicas_of<R: Runner>(
 ) -> Result<Vec<Replica>, AllocError>
     ensures world { world_fits (R.specification runner.now) (R.setting runner.now) ≡ true }
     ensures orders { IfOk result (λ replicas. orders_of replicas.items ≡ replicate count []) }
-    ensures states { IfOk result (λ replicas. All (λ replica. (is_state (R.specification runner.now) (R.setting runner.now) replica.state ≡ true) × (reads replica.state ≡ reads (initial_of (R.specification runner.now) (R.setting runner.now)))) replicas.items) }
+    ensures states { IfOk result
+        (λ replicas. All
+        (λ replica. (is_state (R.specification runner.now) (R.setting runner.now) replica.state ≡ true)
+        × (reads replica.state
+        ≡ reads (initial_of (R.specification runner.now) (R.setting runner.now))))
+        replicas.items) }
 {
     first_replicas(alloc, runner.spec(), runner.world(), count)
 }

@@ -43,12 +43,14 @@ pub fn law_written_is_report()
 
 /// What is shown of a witness that fits its obligation can stand in a report.
 pub fn law_witness_is_shown()
-    ensures { (d : Specification) (ob : Obligation) (w : Witness) → CanBeShown d ob w → is_witness d ob (shown_by d w) w.elements ≡ true }
+    ensures { (d : Specification) (ob : Obligation) (w : Witness) → CanBeShown d ob w
+        → is_witness d ob (shown_by d w) w.elements ≡ true }
 {}
 
 /// The bytes of a report have no fault.
 pub fn law_report_has_no_fault()
-    ensures { (d : Specification) (r : ReportForm) → is_specification d ≡ true → is_report d r ≡ true → first_fault d (report_bytes d r) ≡ None }
+    ensures { (d : Specification) (r : ReportForm) → is_specification d ≡ true
+        → is_report d r ≡ true → first_fault d (report_bytes d r) ≡ None }
 {}
 
 /// What is written of verdicts that fit, one for each obligation, is the bytes of a report that can stand, and has no fault.

@@ -78,7 +78,10 @@ fn read_call(
     called: Option<&Value>,
     args: Option<&Value>,
 ) -> Result<Option<Step>, AllocError>
-    ensures { IfOk result (λ step. step ≡ call_from (option_map (λ v. view v.now) replica.entry) (option_map (λ v. view v.now) called.entry) (option_map (λ v. view v.now) args.entry)) }
+    ensures { IfOk result
+        (λ step. step
+        ≡ call_from (option_map (λ v. view v.now) replica.entry)
+        (option_map (λ v. view v.now) called.entry) (option_map (λ v. view v.now) args.entry)) }
 {
     let Some(replica) = replica.and_then(number) else {
         return Ok(None);
@@ -147,7 +150,8 @@ fn read_each_step(alloc: Global, list: &[Value]) -> Result<Items<Step>, Schedule
 
 /// The elements of a list.
 fn elements(value: Option<&Value>) -> Option<&[Value]>
-    ensures { option_map (λ list. items_view list.now) result ≡ option_and_then as_array (option_map (λ v. view v.now) value.entry) }
+    ensures { option_map (λ list. items_view list.now) result
+        ≡ option_and_then as_array (option_map (λ v. view v.now) value.entry) }
 {
     match value.and_then(Value::as_array) {
         Some(list) => Some(list.as_slice()),
@@ -158,7 +162,9 @@ fn elements(value: Option<&Value>) -> Option<&[Value]>
 /// The steps of a schedule.
 pub fn read_steps(alloc: Global, value: Option<&Value>) -> Result<Items<Step>, ScheduleRefused>
     ensures ok { IfOk result (λ steps. steps_of (option_map (λ v. view v.now) value.entry) ≡ Ok steps) }
-    ensures err { IfErr result (λ why. (why ≡ ScheduleRefused.Memory) ⊎ (steps_of (option_map (λ v. view v.now) value.entry) ≡ Err why)) }
+    ensures err { IfErr result
+        (λ why. (why ≡ ScheduleRefused.Memory)
+        ⊎ (steps_of (option_map (λ v. view v.now) value.entry) ≡ Err why)) }
 {
     let Some(list) = elements(value) else {
         return Err(ScheduleRefused::Shape { path: Path::Steps });

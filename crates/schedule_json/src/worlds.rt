@@ -62,7 +62,9 @@ fn read_each_element(
 ) -> Result<Items<u32>, ScheduleRefused>
     requires { list_all is_utf8 (const_names consts.now) ≡ true }
     ensures ok { IfOk result (λ elements. elements_at sizes.now consts.now (view value.now) ≡ Ok elements) }
-    ensures err { IfErr result (λ why. (why ≡ ScheduleRefused.Memory) ⊎ (elements_at sizes.now consts.now (view value.now) ≡ Err why)) }
+    ensures err { IfErr result
+        (λ why. (why ≡ ScheduleRefused.Memory)
+        ⊎ (elements_at sizes.now consts.now (view value.now) ≡ Err why)) }
 {
     let mut elements = Items::new(alloc);
     for one in consts {
@@ -84,7 +86,9 @@ fn read_sizes(
     value: Option<&Value>,
 ) -> Result<Items<u32>, ScheduleRefused>
     ensures ok { IfOk result (λ sizes. sizes_of spec.now (option_map (λ v. view v.now) value.entry) ≡ Ok sizes) }
-    ensures err { IfErr result (λ why. (why ≡ ScheduleRefused.Memory) ⊎ (sizes_of spec.now (option_map (λ v. view v.now) value.entry) ≡ Err why)) }
+    ensures err { IfErr result
+        (λ why. (why ≡ ScheduleRefused.Memory)
+        ⊎ (sizes_of spec.now (option_map (λ v. view v.now) value.entry) ≡ Err why)) }
 {
     spec.well_formed();
     match value {
@@ -102,8 +106,12 @@ fn read_elements(
     sizes: &[u32],
     value: Option<&Value>,
 ) -> Result<Items<u32>, ScheduleRefused>
-    ensures ok { IfOk result (λ elements. elements_of spec.now sizes.now (option_map (λ v. view v.now) value.entry) ≡ Ok elements) }
-    ensures err { IfErr result (λ why. (why ≡ ScheduleRefused.Memory) ⊎ (elements_of spec.now sizes.now (option_map (λ v. view v.now) value.entry) ≡ Err why)) }
+    ensures ok { IfOk result
+        (λ elements. elements_of spec.now sizes.now (option_map (λ v. view v.now) value.entry)
+        ≡ Ok elements) }
+    ensures err { IfErr result
+        (λ why. (why ≡ ScheduleRefused.Memory)
+        ⊎ (elements_of spec.now sizes.now (option_map (λ v. view v.now) value.entry) ≡ Err why)) }
 {
     spec.well_formed();
     match value {

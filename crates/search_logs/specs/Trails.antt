@@ -58,7 +58,7 @@ is_decision e = is_none e.reason
 abbrev pub has_decision : List Entry → Bool
 has_decision t = list_any is_decision t
 
--- a trail as it goes on behind an entry: the entries before it where it is a decision, else the others
+-- the first of two lists of entries where there is no reason, else the second
 abbrev pub after : Option ℕ → List Entry → List Entry → List Entry
 after None t s = t
 after (Some r) t s = s

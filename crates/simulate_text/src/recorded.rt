@@ -15,8 +15,12 @@ use std::alloc::{AllocError, Global};
 /// Simulates a schedule.
 fn simulate_read(alloc: Global, spec: &Spec, schedule: &Schedule) -> Result<Answer, AllocError>
     requires { IsScheduleOf spec.now schedule.now }
-    ensures text { IfOk result (λ report. report.text.items ≡ simulate_text spec.now schedule.now.world schedule.now.replicas schedule.now.steps) }
-    ensures status { IfOk result (λ report. report.status ≡ simulate_status spec.now schedule.now.world schedule.now.replicas schedule.now.steps) }
+    ensures text { IfOk result
+        (λ report. report.text.items
+        ≡ simulate_text spec.now schedule.now.world schedule.now.replicas schedule.now.steps) }
+    ensures status { IfOk result
+        (λ report. report.status
+        ≡ simulate_status spec.now schedule.now.world schedule.now.replicas schedule.now.steps) }
 {
     simulate(
         alloc,

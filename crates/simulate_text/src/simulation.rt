@@ -76,7 +76,10 @@ fn go<R: Runner + Drop>(
     net: &mut Net<R>,
     step: &NetStep,
 ) -> Result<Result<NetDid, SimulateRefused>, AllocError>
-    ensures { IfOk result (λ it. (d : Specification) (w : Setting) → IsOf d w net.old → IsGone d w (outcome d w (network_held net.old) step.now) (network_held net.old) it net.new) }
+    ensures { IfOk result
+        (λ it. (d : Specification) (w : Setting) → IsOf d w net.old
+        → IsGone d w (outcome d w (network_held net.old) step.now) (network_held net.old) it
+        net.new) }
 {
     match net.step(step) {
         Ok(did) => Ok(Ok(did)),
@@ -86,7 +89,10 @@ fn go<R: Runner + Drop>(
 
 // All replicas in turn hear a message.
 fn tell_all<R: Runner + Drop>(net: &mut Net<R>, message: u32) -> Result<(), AllocError>
-    ensures { OnOk result ((d : Specification) (w : Setting) → IsOf d w net.old → IsOf d w net.new × (heard_by_all d w message (network_held net.old) ≡ network_held net.new)) }
+    ensures { OnOk result
+        ((d : Specification) (w : Setting) → IsOf d w net.old
+        → IsOf d w net.new
+        × (heard_by_all d w message (network_held net.old) ≡ network_held net.new)) }
 {
     let count = as_number(net.replica_count())?;
     for replica in 0..count {
@@ -97,7 +103,8 @@ fn tell_all<R: Runner + Drop>(net: &mut Net<R>, message: u32) -> Result<(), Allo
 
 /// The first invariant that the state of a replica breaks.
 pub fn broken_of<R: Runner + Drop>(net: &Net<R>, replica: u32) -> Option<usize>
-    ensures { (d : Specification) (w : Setting) → IsOf d w net.now → result ≡ broken_of d w (slice_get (network_held net.now).replicas replica) }
+    ensures { (d : Specification) (w : Setting) → IsOf d w net.now
+        → result ≡ broken_of d w (slice_get (network_held net.now).replicas replica) }
 {
     if replica as usize >= net.replica_count() {
         return None;
@@ -116,7 +123,10 @@ fn is_waiting<R: Runner + Drop>(net: &Net<R>, replica: u32) -> bool
 impl<R: Runner + Drop> Simulation<R> {
     /// A simulation of so many replicas, before its first step.
     pub fn new(alloc: Global, runner: R, replicas: u32) -> Result<Simulation<R>, AllocError>
-        ensures { IfOk result (λ sim. IsOf (R.specification runner) (R.setting runner) sim.net × (simulated_in sim ≡ first_simulated (R.specification runner) (R.setting runner) replicas)) }
+        ensures { IfOk result
+            (λ sim. IsOf (R.specification runner) (R.setting runner) sim.net
+            × (simulated_in sim
+            ≡ first_simulated (R.specification runner) (R.setting runner) replicas)) }
     {
         let net = Net::new(alloc, runner, replicas)?;
         let mut grants = Vec::new(alloc);
@@ -138,7 +148,9 @@ impl<R: Runner + Drop> Simulation<R> {
         done: u32,
         said: &mut Vec<Said>,
     ) -> Result<Option<Stop>, AllocError>
-        ensures { IfOk result (λ stop. Does (λ d w. ran d w replica event done) self.old said.old.items said.new.items stop self.new) }
+        ensures { IfOk result
+            (λ stop. Does (λ d w. ran d w replica event done) self.old said.old.items said.new.items
+            stop self.new) }
     {
         self.dones.push(done)?;
         said.push(Said::Call(event))?;
@@ -171,7 +183,9 @@ impl<R: Runner + Drop> Simulation<R> {
         answer: Result<NetDid, SimulateRefused>,
         said: &mut Vec<Said>,
     ) -> Result<Option<Stop>, AllocError>
-        ensures { IfOk result (λ stop. Does (λ d w. granted d w replica sent tells answer) self.old said.old.items said.new.items stop self.new) }
+        ensures { IfOk result
+            (λ stop. Does (λ d w. granted d w replica sent tells answer) self.old said.old.items
+            said.new.items stop self.new) }
     {
         match answer {
             Err(why) => Ok(Some(Stop::Refused(why))),
@@ -195,7 +209,9 @@ impl<R: Runner + Drop> Simulation<R> {
         tells: bool,
         said: &mut Vec<Said>,
     ) -> Result<Option<Stop>, AllocError>
-        ensures { IfOk result (λ stop. Does (λ d w. hears_grant d w replica message tells) self.old said.old.items said.new.items stop self.new) }
+        ensures { IfOk result
+            (λ stop. Does (λ d w. hears_grant d w replica message tells) self.old said.old.items
+            said.new.items stop self.new) }
     {
         let sent = as_number(self.net.messages().len())?;
         let answer = go(&mut self.net, &NetStep::Hear { replica, message })?;
@@ -209,7 +225,9 @@ impl<R: Runner + Drop> Simulation<R> {
         request: u32,
         said: &mut Vec<Said>,
     ) -> Result<Option<Stop>, AllocError>
-        ensures { IfOk result (λ stop. Does (λ d w. asks d w replica request) self.old said.old.items said.new.items stop self.new) }
+        ensures { IfOk result
+            (λ stop. Does (λ d w. asks d w replica request) self.old said.old.items said.new.items
+            stop self.new) }
     {
         let grant = as_number(self.net.messages().len())?;
         let _ = go(&mut self.net, &NetStep::Ask { request })?;
@@ -226,7 +244,9 @@ impl<R: Runner + Drop> Simulation<R> {
         answer: Result<NetDid, SimulateRefused>,
         said: &mut Vec<Said>,
     ) -> Result<Option<Stop>, AllocError>
-        ensures { IfOk result (λ stop. Does (λ d w. begun d w replica sent answer) self.old said.old.items said.new.items stop self.new) }
+        ensures { IfOk result
+            (λ stop. Does (λ d w. begun d w replica sent answer) self.old said.old.items
+            said.new.items stop self.new) }
     {
         match answer {
             Err(why) => Ok(Some(Stop::Refused(why))),
@@ -244,7 +264,9 @@ impl<R: Runner + Drop> Simulation<R> {
         call: Call,
         said: &mut Vec<Said>,
     ) -> Result<Option<Stop>, AllocError>
-        ensures { IfOk result (λ stop. Does (λ d w. begins d w replica call) self.old said.old.items said.new.items stop self.new) }
+        ensures { IfOk result
+            (λ stop. Does (λ d w. begins d w replica call) self.old said.old.items said.new.items
+            stop self.new) }
     {
         let sent = as_number(self.net.messages().len())?;
         let answer = go(&mut self.net, &NetStep::Begin { replica, call })?;
@@ -253,7 +275,9 @@ impl<R: Runner + Drop> Simulation<R> {
 
     // Where a call of a replica waits, it hears its grant again.
     fn try_again(&mut self, replica: u32, said: &mut Vec<Said>) -> Result<Option<Stop>, AllocError>
-        ensures { IfOk result (λ stop. Does (λ d w. tries_again d w replica) self.old said.old.items said.new.items stop self.new) }
+        ensures { IfOk result
+            (λ stop. Does (λ d w. tries_again d w replica) self.old said.old.items said.new.items
+            stop self.new) }
     {
         if !is_waiting(&self.net, replica) {
             return Ok(None);
@@ -269,7 +293,11 @@ impl<R: Runner + Drop> Simulation<R> {
         event: u32,
         said: &mut Vec<Said>,
     ) -> Result<Option<Stop>, AllocError>
-        ensures { IfOk result (λ stop. Does (λ d w sim. saying (Said.Take event) (asked_at d w replica sim (tries_again d w replica sim))) self.old said.old.items said.new.items stop self.new) }
+        ensures { IfOk result
+            (λ stop. Does
+            (λ d w sim. saying (Said.Take event)
+            (asked_at d w replica sim (tries_again d w replica sim)))
+            self.old said.old.items said.new.items stop self.new) }
     {
         said.push(Said::Take(event))?;
         match broken_of(&self.net, replica) {
@@ -286,7 +314,9 @@ impl<R: Runner + Drop> Simulation<R> {
         did: &NetDid,
         said: &mut Vec<Said>,
     ) -> Result<Option<Stop>, AllocError>
-        ensures { IfOk result (λ stop. Does (λ d w. taken d w replica event (Ok did.now)) self.old said.old.items said.new.items stop self.new) }
+        ensures { IfOk result
+            (λ stop. Does (λ d w. taken d w replica event (Ok did.now)) self.old said.old.items
+            said.new.items stop self.new) }
     {
         match did {
             NetDid::Took { .. } => self.took(replica, event, said),
@@ -310,7 +340,9 @@ impl<R: Runner + Drop> Simulation<R> {
         answer: Result<NetDid, SimulateRefused>,
         said: &mut Vec<Said>,
     ) -> Result<Option<Stop>, AllocError>
-        ensures { IfOk result (λ stop. Does (λ d w. taken d w replica event answer) self.old said.old.items said.new.items stop self.new) }
+        ensures { IfOk result
+            (λ stop. Does (λ d w. taken d w replica event answer) self.old said.old.items
+            said.new.items stop self.new) }
     {
         match answer {
             Ok(did) => self.heard_done(replica, event, &did, said),
@@ -326,7 +358,9 @@ impl<R: Runner + Drop> Simulation<R> {
         done: u32,
         said: &mut Vec<Said>,
     ) -> Result<Option<Stop>, AllocError>
-        ensures { IfOk result (λ stop. Does (λ d w. takes d w replica event (Some done)) self.old said.old.items said.new.items stop self.new) }
+        ensures { IfOk result
+            (λ stop. Does (λ d w. takes d w replica event (Some done)) self.old said.old.items
+            said.new.items stop self.new) }
     {
         let heard = NetStep::Hear {
             replica,

@@ -39,7 +39,9 @@ fn call_named<R: Runner + Drop>(
     args: &[i64],
     said: &mut Vec<Said>,
 ) -> Result<Option<Stop>, AllocError>
-    ensures { IfOk result (λ stop. Does (λ d w. calls d w replica args.now (named_operation d name.now)) sim.old said.old.items said.new.items stop sim.new) }
+    ensures { IfOk result
+        (λ stop. Does (λ d w. calls d w replica args.now (named_operation d name.now)) sim.old
+        said.old.items said.new.items stop sim.new) }
 {
     let Some(op) = operation_named(sim.net.runner().spec(), name) else {
         return Ok(Some(Stop::Refused(SimulateRefused::Operation)));
@@ -55,7 +57,9 @@ fn take_numbered<R: Runner + Drop>(
     event: u32,
     said: &mut Vec<Said>,
 ) -> Result<Option<Stop>, AllocError>
-    ensures { IfOk result (λ stop. Does (λ d w s. takes d w replica event (slice_get s.dones event) s) sim.old said.old.items said.new.items stop sim.new) }
+    ensures { IfOk result
+        (λ stop. Does (λ d w s. takes d w replica event (slice_get s.dones event) s) sim.old
+        said.old.items said.new.items stop sim.new) }
 {
     match number_at(&sim.dones, event) {
         Some(done) => sim.take(replica, event, done, said),
@@ -92,7 +96,10 @@ fn write_step<R: Runner + Drop>(
     step: &Step,
     text: &mut Vec<u8>,
 ) -> Result<Option<Stop>, AllocError>
-    ensures { IfOk result (λ stop. (w : Setting) → IsOf spec.now w sim.old.net → IsStep spec.now w (part_of spec.now w step.now (simulated_in sim.old)) number step.now text.old.items text.new.items stop sim.new) }
+    ensures { IfOk result
+        (λ stop. (w : Setting) → IsOf spec.now w sim.old.net
+        → IsStep spec.now w (part_of spec.now w step.now (simulated_in sim.old)) number step.now
+        text.old.items text.new.items stop sim.new) }
 {
     let mut said = Vec::new(alloc);
     let stop = carry_out(alloc, sim, step, &mut said)?;
@@ -115,7 +122,10 @@ fn write_steps<R: Runner + Drop>(
     steps: &[Step],
     text: &mut Vec<u8>,
 ) -> Result<Stopped, AllocError>
-    ensures { IfOk result (λ s. (w : Setting) → IsOf spec.now w sim.old.net → IsReached spec.now w (course_from spec.now w 0 steps.now (simulated_in sim.old)) text.old.items text.new.items s.at s.stop sim.new) }
+    ensures { IfOk result
+        (λ s. (w : Setting) → IsOf spec.now w sim.old.net
+        → IsReached spec.now w (course_from spec.now w 0 steps.now (simulated_in sim.old))
+        text.old.items text.new.items s.at s.stop sim.new) }
 {
     for (number, step) in steps.iter().enumerate() {
         match write_step(alloc, spec, sim, number, step, text)? {
@@ -137,7 +147,11 @@ fn write_course<R: Runner + Drop>(
     steps: &[Step],
     text: &mut Vec<u8>,
 ) -> Result<Stopped, AllocError>
-    ensures { IfOk result (λ s. (w : Setting) (replicas : ℕ) → 1 ≤ replicas → simulated_in sim.old ≡ first_simulated spec.now w replicas → IsOf spec.now w sim.old.net → IsReached spec.now w (course spec.now w replicas steps.now) text.old.items text.new.items s.at s.stop sim.new) }
+    ensures { IfOk result
+        (λ s. (w : Setting) (replicas : ℕ) → 1 ≤ replicas
+        → simulated_in sim.old ≡ first_simulated spec.now w replicas → IsOf spec.now w sim.old.net
+        → IsReached spec.now w (course spec.now w replicas steps.now) text.old.items text.new.items
+        s.at s.stop sim.new) }
 {
     match broken_of(&sim.net, 0) {
         Some(place) => Ok(Stopped {
@@ -156,7 +170,10 @@ fn push_replica<R: Runner + Drop>(
     replica: u32,
 ) -> Result<(), AllocError>
     requires { replica < length net.now.replicas }
-    ensures { OnOk result ((at : HeldReplica) → slice_get net.now.replicas replica ≡ Some at → text.new.items ≡ text.old.items ++ replica_text net.now.spec net.now.world replica (replica_held at)) }
+    ensures { OnOk result
+        ((at : HeldReplica) → slice_get net.now.replicas replica ≡ Some at
+        → text.new.items
+        ≡ text.old.items ++ replica_text net.now.spec net.now.world replica (replica_held at)) }
 {
     push_number(alloc, text, b"replica ", replica as usize)?;
     push_number(alloc, text, b" taken ", net.taken(replica).len())?;
@@ -170,7 +187,10 @@ fn push_replicas<R: Runner + Drop>(
     text: &mut Vec<u8>,
     net: &Net<R>,
 ) -> Result<(), AllocError>
-    ensures { OnOk result (text.new.items ≡ text.old.items ++ replica_texts net.now.spec net.now.world 0 (network_held net.now).replicas) }
+    ensures { OnOk result
+        (text.new.items
+        ≡ text.old.items
+        ++ replica_texts net.now.spec net.now.world 0 (network_held net.now).replicas) }
 {
     let count = as_number(net.replica_count())?;
     for replica in 0..count {
@@ -199,8 +219,14 @@ fn write_simulation<R: Runner + Drop>(
     steps: &[Step],
     text: &mut Vec<u8>,
 ) -> Result<u8, AllocError>
-    ensures text { OnOk result ((w : Setting) (replicas : ℕ) → 1 ≤ replicas → simulated_in sim.old ≡ first_simulated spec.now w replicas → IsOf spec.now w sim.old.net → text.new.items ≡ text.old.items ++ simulate_text spec.now w replicas steps.now) }
-    ensures status { IfOk result (λ status. (w : Setting) (replicas : ℕ) → 1 ≤ replicas → simulated_in sim.old ≡ first_simulated spec.now w replicas → IsOf spec.now w sim.old.net → status ≡ simulate_status spec.now w replicas steps.now) }
+    ensures text { OnOk result
+        ((w : Setting) (replicas : ℕ) → 1 ≤ replicas
+        → simulated_in sim.old ≡ first_simulated spec.now w replicas → IsOf spec.now w sim.old.net
+        → text.new.items ≡ text.old.items ++ simulate_text spec.now w replicas steps.now) }
+    ensures status { IfOk result
+        (λ status. (w : Setting) (replicas : ℕ) → 1 ≤ replicas
+        → simulated_in sim.old ≡ first_simulated spec.now w replicas → IsOf spec.now w sim.old.net
+        → status ≡ simulate_status spec.now w replicas steps.now) }
 {
     push(text, b"cise simulate 1\n")?;
     let stopped = write_course(alloc, spec, sim, steps, text)?;

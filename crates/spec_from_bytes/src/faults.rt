@@ -36,7 +36,9 @@ fn which_word(which: Which) -> &'static [u8]
 
 /// The line of a fault at a name: what is wrong, the name, and the place of its word.
 pub fn named_text(alloc: Global, what: &[u8], name: &[u8], word: u32) -> Result<Vec<u8>, AllocError>
-    ensures { IfOk result (λ text. text.items ≡ line (codes "refused" ∷ codes "specification" ∷ named_words what.now name.now word)) }
+    ensures { IfOk result
+        (λ text. text.items
+        ≡ line (codes "refused" ∷ codes "specification" ∷ named_words what.now name.now word)) }
 {
     let mut text = Vec::new(alloc);
     push(&mut text, b"refused specification ")?;

@@ -14,7 +14,8 @@ use typing_faults::{law_least_fault, law_read_is_written};
 
 /// Some bytes are read as one tree at most, with the places of all its words.
 pub fn law_one_tree()
-    ensures { (bytes : List ℕ) (words others : List Word) (t u : TreeForm) → IsCut bytes words → IsCut bytes others → IsRead bytes words t → IsRead bytes others u → t ≡ u }
+    ensures { (bytes : List ℕ) (words others : List Word) (t u : TreeForm) → IsCut bytes words
+        → IsCut bytes others → IsRead bytes words t → IsRead bytes others u → t ≡ u }
 {}
 
 /// Some bytes are one specification at most.
@@ -35,8 +36,10 @@ pub fn law_refused_or_specified()
 /// Bytes are refused for a fault exactly where it is the least fault of their tree, and they are read as a specification exactly where
 /// their tree has no fault and declares it.
 pub fn law_least_refusal()
-    ensures refused { (bytes : List ℕ) (f : Fault) → IsRefusal bytes (faulty f) ↔ ((t : TreeForm) × IsTreeOf bytes t × IsLeastFault t f) }
-    ensures specified { (bytes : List ℕ) (t : TreeForm) (d : Specification) → IsReadAs bytes t d ↔ (IsTreeOf bytes t × HasNoFault t × (d ≡ specification_of t)) }
+    ensures refused { (bytes : List ℕ) (f : Fault)
+        → IsRefusal bytes (faulty f) ↔ ((t : TreeForm) × IsTreeOf bytes t × IsLeastFault t f) }
+    ensures specified { (bytes : List ℕ) (t : TreeForm) (d : Specification)
+        → IsReadAs bytes t d ↔ (IsTreeOf bytes t × HasNoFault t × (d ≡ specification_of t)) }
 {
     law_least_fault();
     law_read_is_written();

@@ -52,7 +52,9 @@ fn placed_text(
     second: &[u8],
     place: usize,
 ) -> Result<Vec<u8>, AllocError>
-    ensures { IfOk result (λ text. text.items ≡ line (codes "refused" ∷ codes "specification" ∷ first.now ∷ second.now ∷ decimal place ∷ [])) }
+    ensures { IfOk result
+        (λ text. text.items
+        ≡ line (codes "refused" ∷ codes "specification" ∷ first.now ∷ second.now ∷ decimal place ∷ [])) }
 {
     let mut text = Vec::new(alloc);
     push(&mut text, REFUSED)?;

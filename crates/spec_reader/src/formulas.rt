@@ -75,7 +75,8 @@ fn after(
     reading: Reading,
     tokens: &[Token],
 ) -> Result<(Bracket, &[Token]), ReadError>
-    ensures { Gives (λ x. (bracket_of x.0, x.1.now)) result (behind_at version (form_at version depth) (word, reading) tokens.now) }
+    ensures { Gives (λ x. (bracket_of x.0, x.1.now)) result
+        (behind_at version (form_at version depth) (word, reading) tokens.now) }
 {
     if is_connective(next_kind(tokens)) {
         let left = Box::new(alloc, Formula::Has(word, reading))?;

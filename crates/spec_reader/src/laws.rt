@@ -13,8 +13,11 @@ ghost use Rattle.spec_reader.specs.Place.{texts_of, IsRead};
 
 /// What is spelled is cut into the words of the tree, and read as the same tree.
 pub fn law_spelled_is_read()
-    ensures cut { (t : TreeForm) → IsTree t → (words : List Word) × IsCut (text_of_tree t) words × (texts_of (text_of_tree t) words ≡ spelling t) }
-    ensures same { (t u : TreeForm) (words : List Word) → IsTree t → IsCut (text_of_tree t) words → IsRead (text_of_tree t) words u → SameTree u t }
+    ensures cut { (t : TreeForm) → IsTree t
+        → (words : List Word) × IsCut (text_of_tree t) words
+        × (texts_of (text_of_tree t) words ≡ spelling t) }
+    ensures same { (t u : TreeForm) (words : List Word) → IsTree t → IsCut (text_of_tree t) words
+        → IsRead (text_of_tree t) words u → SameTree u t }
 {}
 
 /// The formulas of the grammar are those that nest at most 200 deep.

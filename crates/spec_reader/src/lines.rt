@@ -130,7 +130,8 @@ fn change_line(
     depth: u32,
     tokens: &[Token],
 ) -> Result<(Change, &[Token]), ReadError>
-    ensures { Gives (λ x. ((x.0.word, (x.0.name, (x.0.spots, guard_of x.0.guard))), x.1.now)) result (change_at kind version depth tokens.now) }
+    ensures { Gives (λ x. ((x.0.word, (x.0.name, (x.0.spots, guard_of x.0.guard))), x.1.now)) result
+        (change_at kind version depth tokens.now) }
 {
     let (word, rest) = key(tokens, kind)?;
     let (name, rest) = name(alloc, version, rest)?;
@@ -189,7 +190,9 @@ fn amount_line(
     depth: u32,
     tokens: &[Token],
 ) -> Result<(Amount, &[Token]), ReadError>
-    ensures { Gives (λ x. ((x.0.word, (x.0.name, (x.0.spots, (x.0.amount, guard_of x.0.guard)))), x.1.now)) result (amount_at kind version depth tokens.now) }
+    ensures { Gives
+        (λ x. ((x.0.word, (x.0.name, (x.0.spots, (x.0.amount, guard_of x.0.guard)))), x.1.now))
+        result (amount_at kind version depth tokens.now) }
 {
     let (word, rest) = key(tokens, kind)?;
     let (name, rest) = name(alloc, version, rest)?;

@@ -420,7 +420,10 @@ fn put_change(
     spots: &[Spot],
     guard: &Option<Formula>,
 ) -> Result<(), AllocError>
-    ensures { OnOk result (out.new ≡ out.old ++ plain (mark_words name.now ∷ (group spot_words spots.now ++ guard_words (guard_of guard.now)))) }
+    ensures { OnOk result
+        (out.new
+        ≡ out.old
+        ++ plain (mark_words name.now ∷ (group spot_words spots.now ++ guard_words (guard_of guard.now)))) }
 {
     put_mark(alloc, out, name)?;
     put_spots(alloc, out, spots)?;
@@ -435,7 +438,10 @@ fn put_amount(
     amount: &Term,
     guard: &Option<Formula>,
 ) -> Result<(), AllocError>
-    ensures { OnOk result (out.new ≡ out.old ++ plain (mark_words name.now ∷ (group spot_words spots.now ++ (term_words amount.now ++ guard_words (guard_of guard.now))))) }
+    ensures { OnOk result
+        (out.new
+        ≡ out.old
+        ++ plain (mark_words name.now ∷ (group spot_words spots.now ++ (term_words amount.now ++ guard_words (guard_of guard.now))))) }
 {
     put_mark(alloc, out, name)?;
     put_spots(alloc, out, spots)?;
@@ -509,7 +515,10 @@ fn put_operation(
     params: &[Param],
     lines: &[Line],
 ) -> Result<(), AllocError>
-    ensures { OnOk result (out.new ≡ out.old ++ plain (mark_words name.now ∷ (group param_words params.now ++ (each (λ l. line_words (line_of l)) lines.now ++ sign_words keys.End ∷ [])))) }
+    ensures { OnOk result
+        (out.new
+        ≡ out.old
+        ++ plain (mark_words name.now ∷ (group param_words params.now ++ (each (λ l. line_words (line_of l)) lines.now ++ sign_words keys.End ∷ [])))) }
 {
     put_mark(alloc, out, name)?;
     put_params(alloc, out, params)?;

@@ -193,7 +193,10 @@ fn terms_of(
     comparison: Comparison,
     right: &tree::Term,
 ) -> Result<spec_core::Formula, AllocError>
-    ensures { IfOk result (λ made. core_form_of made ≡ core_compare_form (term_of_tree (scope_of scope.now) left.now) (cmp_of_comparison comparison) (term_of_tree (scope_of scope.now) right.now)) }
+    ensures { IfOk result
+        (λ made. core_form_of made
+        ≡ core_compare_form (term_of_tree (scope_of scope.now) left.now)
+        (cmp_of_comparison comparison) (term_of_tree (scope_of scope.now) right.now)) }
 {
     let left = term_of(alloc, scope, left)?;
     let right = or_drop!(term_of(alloc, scope, right); left);
@@ -207,7 +210,9 @@ fn compare_of(
     comparison: Comparison,
     right: &tree::Term,
 ) -> Result<spec_core::Formula, AllocError>
-    ensures { IfOk result (λ made. core_form_of made ≡ formula_of_form (scope_of scope.now) (compare_form 0 left.now comparison right.now)) }
+    ensures { IfOk result
+        (λ made. core_form_of made
+        ≡ formula_of_form (scope_of scope.now) (compare_form 0 left.now comparison right.now)) }
 {
     match side_element(scope, comparison, left) {
         Some(one) => match side_element(scope, comparison, right) {

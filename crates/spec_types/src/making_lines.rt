@@ -107,7 +107,10 @@ fn add_update(
     change: Change,
     guard: &Option<Formula>,
 ) -> Result<(), AllocError>
-    ensures { OnOk result (operation.new ≡ with_update operation.old (update_of_tree (scope_of scope.now) thing spots.now change (guard_form guard.now))) }
+    ensures { OnOk result
+        (operation.new
+        ≡ with_update operation.old
+        (update_of_tree (scope_of scope.now) thing spots.now change (guard_form guard.now))) }
 {
     let update = update_of(alloc, scope, thing, spots, change, guard)?;
     operation.updates.push(update)
@@ -119,7 +122,10 @@ fn add_requirement(
     operation: &mut Operation,
     sentence: &tree::Prefixed,
 ) -> Result<(), AllocError>
-    ensures { OnOk result (operation.new ≡ with_line (scope_of scope.now) operation.old (requires_form 0 (sentence_form sentence.now))) }
+    ensures { OnOk result
+        (operation.new
+        ≡ with_line (scope_of scope.now) operation.old
+        (requires_form 0 (sentence_form sentence.now))) }
 {
     let made = sentence_of(alloc, scope, sentence)?;
     operation.requires_.push(made)
@@ -144,7 +150,10 @@ fn add_observation(
     operation: &mut Operation,
     sentence: &tree::Prefixed,
 ) -> Result<(), AllocError>
-    ensures { OnOk result (operation.new ≡ with_line (scope_of scope.now) operation.old (observes_form 0 (sentence_form sentence.now))) }
+    ensures { OnOk result
+        (operation.new
+        ≡ with_line (scope_of scope.now) operation.old
+        (observes_form 0 (sentence_form sentence.now))) }
 {
     let made = sentence_of(alloc, scope, sentence)?;
     operation.observes.push(made)

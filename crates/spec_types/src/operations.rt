@@ -85,7 +85,9 @@ pub fn type_invariant<'t>(
     mark: &'t Mark,
     sentence: &'t Prefixed,
 ) -> Result<(), Stop<'t>>
-    ensures { Makes (typed_item (known_of known.old) (invariant_form word mark.now (sentence_of sentence.now))) (known_of known.new) result }
+    ensures { Makes
+        (typed_item (known_of known.old) (invariant_form word mark.now (sentence_of sentence.now)))
+        (known_of known.new) result }
 {
     let count = known.draft.invariants.len();
     if let Some(fault) = heading_fault(known, Which::Invariants, MOST_INVARIANTS, count, mark) {
@@ -221,7 +223,10 @@ fn operation_of<'t>(
     params: &'t [Param],
     lines: &'t [Line],
 ) -> Result<Operation, Stop<'t>>
-    ensures { Gives (typed_lines (with_params_of (scope_in_known (known_of known.now)) params.now) (without_lines_of (known_of known.now) mark.now params.now) (map line_of lines.now)) result }
+    ensures { Gives
+        (typed_lines (with_params_of (scope_in_known (known_of known.now)) params.now)
+        (without_lines_of (known_of known.now) mark.now params.now) (map line_of lines.now))
+        result }
 {
     let mut operation = without_lines(alloc, known, mark, params)?;
     let scope = with_params(&scope_in(known), params);
@@ -236,7 +241,9 @@ fn type_body<'t>(
     params: &'t [Param],
     lines: &'t [Line],
 ) -> Result<(), Stop<'t>>
-    ensures { Makes (typed_operation (known_of known.old) mark.now params.now (map line_of lines.now)) (known_of known.new) result }
+    ensures { Makes
+        (typed_operation (known_of known.old) mark.now params.now (map line_of lines.now))
+        (known_of known.new) result }
 {
     if let Some(fault) = params_fault(&scope_in(known), params) {
         return Err(Stop::Fault(fault));
@@ -254,7 +261,10 @@ pub fn type_operation<'t>(
     params: &'t [Param],
     lines: &'t [Line],
 ) -> Result<(), Stop<'t>>
-    ensures { Makes (typed_item (known_of known.old) (operation_form word mark.now params.now (map line_of lines.now))) (known_of known.new) result }
+    ensures { Makes
+        (typed_item (known_of known.old)
+        (operation_form word mark.now params.now (map line_of lines.now)))
+        (known_of known.new) result }
 {
     let count = known.draft.operations.len();
     if let Some(fault) = heading_fault(known, Which::Operations, MOST_OPERATIONS, count, mark) {

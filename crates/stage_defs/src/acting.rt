@@ -23,7 +23,10 @@ pub fn acts_on(
     tuple: &[u32],
     update: &Update,
 ) -> Result<GroundFormula, AllocError>
-    ensures { IfOk result (λ f. IsMade atoms.old (definitions.acts_on (readings_in setting.now) (caller_in setting.now) tuple.now update.now) atoms.new f) }
+    ensures { IfOk result
+        (λ f. IsMade atoms.old
+        (definitions.acts_on (readings_in setting.now) (caller_in setting.now) tuple.now update.now)
+        atoms.new f) }
 {
     let spots = spots_hold(atoms, alloc, setting, update.at.as_slice(), tuple)?;
     let guard = formula(atoms, alloc, setting, &[], &update.guard)?;
@@ -39,7 +42,9 @@ fn spots_hold(
     spots: &[Spot],
     tuple: &[u32],
 ) -> Result<Option<GroundFormula>, AllocError>
-    ensures { IfOk result (λ done. make_parts None atoms.old (definitions.spots_hold (caller_in setting.now) spots.now tuple.now) ≡ record { known = atoms.new; parts = option_map form_of done }) }
+    ensures { IfOk result
+        (λ done. make_parts None atoms.old (definitions.spots_hold (caller_in setting.now) spots.now tuple.now)
+        ≡ record { known = atoms.new; parts = option_map form_of done }) }
 {
     let mut done = None;
     let count = spots.len().min(tuple.len());
@@ -60,7 +65,9 @@ fn join_spot(
     place: usize,
     done: Option<GroundFormula>,
 ) -> Result<Option<GroundFormula>, AllocError>
-    ensures { IfOk result (λ more. make_parts (option_map form_of done) atoms.old (spot_at (caller_in setting.now) (slice_get spots.now place) (slice_get tuple.now place)) ≡ record { known = atoms.new; parts = option_map form_of more }) }
+    ensures { IfOk result
+        (λ more. make_parts (option_map form_of done) atoms.old (spot_at (caller_in setting.now) (slice_get spots.now place) (slice_get tuple.now place))
+        ≡ record { known = atoms.new; parts = option_map form_of more }) }
 {
     match (spots.get(place), tuple.get(place)) {
         (Some(Spot::One(element)), Some(constant)) => {
@@ -78,7 +85,10 @@ fn join_lengths(
     are_equal: bool,
     done: Option<GroundFormula>,
 ) -> Result<Option<GroundFormula>, AllocError>
-    ensures { IfOk result (λ more. option_map form_of more ≡ cond are_equal (option_map form_of done) (Some (joined (option_map form_of done) (known false)))) }
+    ensures { IfOk result
+        (λ more. option_map form_of more
+        ≡ cond are_equal (option_map form_of done)
+        (Some (joined (option_map form_of done) (known false)))) }
 {
     if are_equal {
         return Ok(done);

@@ -34,7 +34,9 @@ pub fn define_count(
     counter: u8,
     key: &[u32],
 ) -> Result<Items<GroundFormula>, AllocError>
-    ensures { IfOk result (λ fs. make_all [] atoms.old (count_definition spec.now call.now stage counter key.now) ≡ record { known = atoms.new; forms = map form_of fs }) }
+    ensures { IfOk result
+        (λ fs. make_all [] atoms.old (count_definition spec.now call.now stage counter key.now)
+        ≡ record { known = atoms.new; forms = map form_of fs }) }
 {
     let mut out = Items::new(alloc);
     add_count(spec, atoms, alloc, call, stage, counter, key, &mut out)?;
@@ -52,7 +54,9 @@ pub fn add_count(
     key: &[u32],
     out: &mut Items<GroundFormula>,
 ) -> Result<(), AllocError>
-    ensures { OnOk result (make_all (map form_of out.old) atoms.old (count_definition spec.now call.now stage counter key.now) ≡ record { known = atoms.new; forms = map form_of out.new }) }
+    ensures { OnOk result
+        (make_all (map form_of out.old) atoms.old (count_definition spec.now call.now stage counter key.now)
+        ≡ record { known = atoms.new; forms = map form_of out.new }) }
 {
     let before = Setting {
         spec,
@@ -75,7 +79,9 @@ fn add_in(
     updates: &[Update],
     out: &mut Items<GroundFormula>,
 ) -> Result<(), AllocError>
-    ensures { OnOk result (make_all (map form_of out.old) atoms.old (definitions.define_count (readings_in before.now) (caller_in before.now) updates.now (stage_of stage) counter key.now) ≡ record { known = atoms.new; forms = map form_of out.new }) }
+    ensures { OnOk result
+        (make_all (map form_of out.old) atoms.old (definitions.define_count (readings_in before.now) (caller_in before.now) updates.now (stage_of stage) counter key.now)
+        ≡ record { known = atoms.new; forms = map form_of out.new }) }
 {
     let reading = reading_part(before, 1, counter, Tuple::of(alloc, key)?);
     let value = sum_of_one(alloc, reading)?;
@@ -97,7 +103,9 @@ fn add_defined(
     value: Items<SumPart>,
     out: &mut Items<GroundFormula>,
 ) -> Result<(), AllocError>
-    ensures { OnOk result (make_all (map form_of out.old) atoms.old (count_defined (readings_in before.now) (caller_in before.now) (stage_of stage) counter key.now (parts_of value) updates.now) ≡ record { known = atoms.new; forms = map form_of out.new }) }
+    ensures { OnOk result
+        (make_all (map form_of out.old) atoms.old (count_defined (readings_in before.now) (caller_in before.now) (stage_of stage) counter key.now (parts_of value) updates.now)
+        ≡ record { known = atoms.new; forms = map form_of out.new }) }
 {
     if updates_any(updates, counter) {
         return add_values(
@@ -135,7 +143,9 @@ fn add_stays(
     value: &[SumPart],
     out: &mut Items<GroundFormula>,
 ) -> Result<(), AllocError>
-    ensures { OnOk result (make_all (map form_of out.old) atoms.old (symbols.equal (symbols.multiple (pos 1) (symbols.reading (stage_of stage) counter key.now) ∷ []) (parts_of value.now) ∷ []) ≡ record { known = atoms.new; forms = map form_of out.new }) }
+    ensures { OnOk result
+        (make_all (map form_of out.old) atoms.old (symbols.equal (symbols.multiple (pos 1) (symbols.reading (stage_of stage) counter key.now) ∷ []) (parts_of value.now) ∷ [])
+        ≡ record { known = atoms.new; forms = map form_of out.new }) }
 {
     let reading = sum_of_one(alloc, value_part(stage, 0, counter, Tuple::of(alloc, key)?))?;
     let stays = equal(atoms, alloc, reading.as_slice(), value)?;
@@ -169,7 +179,9 @@ fn add_values(
     first: Items<SumPart>,
     out: &mut Items<GroundFormula>,
 ) -> Result<(), AllocError>
-    ensures { OnOk result (make_all (map form_of out.old) atoms.old (values_upto (readings_in before.now) (caller_in before.now) (stage_of stage) counter key.now 1 (parts_of first) updates.now) ≡ record { known = atoms.new; forms = map form_of out.new }) }
+    ensures { OnOk result
+        (make_all (map form_of out.old) atoms.old (values_upto (readings_in before.now) (caller_in before.now) (stage_of stage) counter key.now 1 (parts_of first) updates.now)
+        ≡ record { known = atoms.new; forms = map form_of out.new }) }
 {
     let mut value = first;
     let mut number = 1;
@@ -204,7 +216,12 @@ fn next_value(
     later: &[Update],
 ) -> Result<Items<SumPart>, AllocError>
     requires { 1 ≤ number }
-    ensures { IfOk result (λ ps. parts_of ps ≡ symbols.multiple (pos 1) (definitions.value_after (definitions.updates_of (thing.Counter counter) later.now) number (stage_of stage) counter key.now) ∷ []) }
+    ensures { IfOk result
+        (λ ps. parts_of ps
+        ≡ symbols.multiple (pos 1)
+        (definitions.value_after (definitions.updates_of (thing.Counter counter) later.now) number
+        (stage_of stage) counter key.now)
+        ∷ []) }
 {
     let key = Tuple::of(alloc, key)?;
     sum_of_one(alloc, next_part(stage, counter, key, number, later))
@@ -213,7 +230,10 @@ fn next_value(
 #[tactic(auto, using(crate::proofs::Updates::named_after))]
 fn next_part(stage: u8, counter: u8, key: Tuple, number: u8, later: &[Update]) -> SumPart
     requires { 1 ≤ number }
-    ensures { part_of result ≡ symbols.multiple (pos 1) (definitions.value_after (definitions.updates_of (thing.Counter counter) later.now) number (stage_of stage) counter key) }
+    ensures { part_of result
+        ≡ symbols.multiple (pos 1)
+        (definitions.value_after (definitions.updates_of (thing.Counter counter) later.now) number
+        (stage_of stage) counter key) }
 {
     let part = part_number(updates_any(later, counter), number);
     value_part(stage, part, counter, key)
@@ -242,7 +262,9 @@ fn add_value(
     update: &Update,
     out: &mut Items<GroundFormula>,
 ) -> Result<(), AllocError>
-    ensures { OnOk result (make_all (map form_of out.old) atoms.old (value_defined (readings_in before.now) (caller_in before.now) key.now (parts_of next.now) (parts_of value.now) update.now) ≡ record { known = atoms.new; forms = map form_of out.new }) }
+    ensures { OnOk result
+        (make_all (map form_of out.old) atoms.old (value_defined (readings_in before.now) (caller_in before.now) key.now (parts_of next.now) (parts_of value.now) update.now)
+        ≡ record { known = atoms.new; forms = map form_of out.new }) }
 {
     out.push(gives_next(atoms, alloc, before, key, next, value, update)?)?;
     out.push(leaves_value(atoms, alloc, before, key, next, value, update)?)
@@ -258,7 +280,14 @@ fn gives_next(
     value: &[SumPart],
     update: &Update,
 ) -> Result<GroundFormula, AllocError>
-    ensures { IfOk result (λ f. IsMade atoms.old (symbols.either (symbols.negated (definitions.acts_on (readings_in before.now) (caller_in before.now) key.now update.now)) (symbols.equal (parts_of next.now) (definitions.count_then (readings_in before.now) (caller_in before.now) update.now.change (parts_of value.now)))) atoms.new f) }
+    ensures { IfOk result
+        (λ f. IsMade atoms.old
+        (symbols.either
+        (symbols.negated (definitions.acts_on (readings_in before.now) (caller_in before.now) key.now update.now))
+        (symbols.equal (parts_of next.now)
+        (definitions.count_then (readings_in before.now) (caller_in before.now) update.now.change
+        (parts_of value.now))))
+        atoms.new f) }
 {
     let acting = acts_on(atoms, alloc, before, key, update)?;
     let left = negated(alloc, acting)?;
@@ -277,7 +306,12 @@ fn leaves_value(
     value: &[SumPart],
     update: &Update,
 ) -> Result<GroundFormula, AllocError>
-    ensures { IfOk result (λ f. IsMade atoms.old (symbols.either (definitions.acts_on (readings_in before.now) (caller_in before.now) key.now update.now) (symbols.equal (parts_of next.now) (parts_of value.now))) atoms.new f) }
+    ensures { IfOk result
+        (λ f. IsMade atoms.old
+        (symbols.either
+        (definitions.acts_on (readings_in before.now) (caller_in before.now) key.now update.now)
+        (symbols.equal (parts_of next.now) (parts_of value.now)))
+        atoms.new f) }
 {
     let acting = acts_on(atoms, alloc, before, key, update)?;
     let right = equal(atoms, alloc, next, value)?;
@@ -291,7 +325,10 @@ fn amount_of(
     change: &Change,
     value: &[SumPart],
 ) -> Result<Items<SumPart>, AllocError>
-    ensures { IfOk result (λ ps. parts_of ps ≡ definitions.count_then (readings_in before.now) (caller_in before.now) change.now (parts_of value.now)) }
+    ensures { IfOk result
+        (λ ps. parts_of ps
+        ≡ definitions.count_then (readings_in before.now) (caller_in before.now) change.now
+        (parts_of value.now)) }
 {
     match change {
         Change::Insert | Change::Remove => copied(alloc, value),

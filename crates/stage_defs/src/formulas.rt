@@ -21,7 +21,11 @@ pub fn formula(
     vars: &[u32],
     form: &Formula,
 ) -> Result<GroundFormula, AllocError>
-    ensures { IfOk result (λ f. IsMade atoms.old (formulas.formula (readings_in setting.now) (caller_in setting.now) vars.now (forms.form_of form.now)) atoms.new f) }
+    ensures { IfOk result
+        (λ f. IsMade atoms.old
+        (formulas.formula (readings_in setting.now) (caller_in setting.now) vars.now
+        (forms.form_of form.now))
+        atoms.new f) }
 {
     match form {
         Formula::True => Ok(GroundFormula::Truth(true)),
@@ -68,7 +72,11 @@ fn equality(
     a: Elem,
     b: Elem,
 ) -> Result<GroundFormula, AllocError>
-    ensures { IfOk result (λ f. IsMade atoms.old (symbols.same_const (formulas.const_of (caller_in setting.now) vars.now a) (formulas.const_of (caller_in setting.now) vars.now b)) atoms.new f) }
+    ensures { IfOk result
+        (λ f. IsMade atoms.old
+        (symbols.same_const (formulas.const_of (caller_in setting.now) vars.now a)
+        (formulas.const_of (caller_in setting.now) vars.now b))
+        atoms.new f) }
 {
     same_const(
         atoms,
@@ -86,7 +94,12 @@ fn compared(
     order: Cmp,
     right: &Term,
 ) -> Result<GroundFormula, AllocError>
-    ensures { IfOk result (λ f. IsMade atoms.old (formulas.comparison order (formulas.parts_of (readings_in setting.now) (caller_in setting.now) vars.now left.now) (formulas.parts_of (readings_in setting.now) (caller_in setting.now) vars.now right.now)) atoms.new f) }
+    ensures { IfOk result
+        (λ f. IsMade atoms.old
+        (formulas.comparison order
+        (formulas.parts_of (readings_in setting.now) (caller_in setting.now) vars.now left.now)
+        (formulas.parts_of (readings_in setting.now) (caller_in setting.now) vars.now right.now))
+        atoms.new f) }
 {
     let left = parts_of(alloc, setting, vars, left)?;
     let right = parts_of(alloc, setting, vars, right)?;

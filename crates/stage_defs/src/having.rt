@@ -32,7 +32,9 @@ pub fn define_has(
     relation: u8,
     tuple: &[u32],
 ) -> Result<Items<GroundFormula>, AllocError>
-    ensures { IfOk result (λ fs. make_all [] atoms.old (has_definition spec.now call.now stage relation tuple.now) ≡ record { known = atoms.new; forms = map form_of fs }) }
+    ensures { IfOk result
+        (λ fs. make_all [] atoms.old (has_definition spec.now call.now stage relation tuple.now)
+        ≡ record { known = atoms.new; forms = map form_of fs }) }
 {
     let mut out = Items::new(alloc);
     add_has(spec, atoms, alloc, call, stage, relation, tuple, &mut out)?;
@@ -50,7 +52,9 @@ pub fn add_has(
     tuple: &[u32],
     out: &mut Items<GroundFormula>,
 ) -> Result<(), AllocError>
-    ensures { OnOk result (make_all (map form_of out.old) atoms.old (has_definition spec.now call.now stage relation tuple.now) ≡ record { known = atoms.new; forms = map form_of out.new }) }
+    ensures { OnOk result
+        (make_all (map form_of out.old) atoms.old (has_definition spec.now call.now stage relation tuple.now)
+        ≡ record { known = atoms.new; forms = map form_of out.new }) }
 {
     let before = Setting {
         spec,
@@ -73,7 +77,11 @@ fn only_if(
     tuple: &[u32],
     updates: &[Update],
 ) -> Result<GroundFormula, AllocError>
-    ensures { IfOk result (λ f. IsMade atoms.old (symbols.either (symbols.negated (symbols.has (stage_of stage) relation tuple.now)) (updated (readings_in before.now) (caller_in before.now) updates.now relation tuple.now)) atoms.new f) }
+    ensures { IfOk result
+        (λ f. IsMade atoms.old
+        (symbols.either (symbols.negated (symbols.has (stage_of stage) relation tuple.now))
+        (updated (readings_in before.now) (caller_in before.now) updates.now relation tuple.now))
+        atoms.new f) }
 {
     let reading = reading(atoms, alloc, before, stage, relation, tuple)?;
     let left = negated(alloc, reading)?;
@@ -91,7 +99,11 @@ fn if_updated(
     tuple: &[u32],
     updates: &[Update],
 ) -> Result<GroundFormula, AllocError>
-    ensures { IfOk result (λ f. IsMade atoms.old (symbols.either (symbols.has (stage_of stage) relation tuple.now) (symbols.negated (updated (readings_in before.now) (caller_in before.now) updates.now relation tuple.now))) atoms.new f) }
+    ensures { IfOk result
+        (λ f. IsMade atoms.old
+        (symbols.either (symbols.has (stage_of stage) relation tuple.now)
+        (symbols.negated (updated (readings_in before.now) (caller_in before.now) updates.now relation tuple.now)))
+        atoms.new f) }
 {
     let left = reading(atoms, alloc, before, stage, relation, tuple)?;
     let value = updated(atoms, alloc, before, relation, tuple, updates)?;
@@ -129,7 +141,10 @@ fn updated(
     tuple: &[u32],
     updates: &[Update],
 ) -> Result<GroundFormula, AllocError>
-    ensures { IfOk result (λ f. IsMade atoms.old (updated (readings_in before.now) (caller_in before.now) updates.now relation tuple.now) atoms.new f) }
+    ensures { IfOk result
+        (λ f. IsMade atoms.old
+        (updated (readings_in before.now) (caller_in before.now) updates.now relation tuple.now)
+        atoms.new f) }
 {
     updated_upto(
         atoms,
@@ -153,7 +168,11 @@ fn updated_upto(
     updates: &[Update],
     count: usize,
 ) -> Result<GroundFormula, AllocError>
-    ensures { IfOk result (λ f. IsMade atoms.old (has_upto (readings_in before.now) (caller_in before.now) (thing.Relation relation) tuple.now updates.now count ((readings_in before.now).has relation tuple.now)) atoms.new f) }
+    ensures { IfOk result
+        (λ f. IsMade atoms.old
+        (has_upto (readings_in before.now) (caller_in before.now) (thing.Relation relation)
+        tuple.now updates.now count ((readings_in before.now).has relation tuple.now))
+        atoms.new f) }
 {
     if count == 0 {
         return has(atoms, before, relation, Tuple::of(alloc, tuple)?);

@@ -51,7 +51,9 @@ fn part_of(
     vars: &[u32],
     summand: &Summand,
 ) -> Result<SumPart, AllocError>
-    ensures { IfOk result (λ p. part_of p ≡ formulas.part_of (readings_in setting.now) (caller_in setting.now) vars.now summand.now) }
+    ensures { IfOk result
+        (λ p. part_of p
+        ≡ formulas.part_of (readings_in setting.now) (caller_in setting.now) vars.now summand.now) }
 {
     match &summand.body {
         Body::One => Ok(SumPart::Number(summand.coef as i128)),
@@ -76,7 +78,9 @@ pub fn parts_of(
     vars: &[u32],
     term: &Term,
 ) -> Result<Items<SumPart>, AllocError>
-    ensures { IfOk result (λ ps. parts_of ps ≡ formulas.parts_of (readings_in setting.now) (caller_in setting.now) vars.now term.now) }
+    ensures { IfOk result
+        (λ ps. parts_of ps
+        ≡ formulas.parts_of (readings_in setting.now) (caller_in setting.now) vars.now term.now) }
 {
     let mut parts = Items::new(alloc);
     for summand in term.summands.as_slice() {

@@ -28,7 +28,9 @@ fn key_answer(
     requires budget { 1 ≤ budget }
     requires keyed { CanBeKeyed spec.now pair.first key.p pair.second key.q }
     ensures key { IfOk result (λ y. y.key ≡ key) }
-    ensures found { IfOk result (λ y. IsFoundIn (keyed_of spec.now pair.first key.p pair.second key.q) budget pair.first pair.second y.found) }
+    ensures found { IfOk result
+        (λ y. IsFoundIn (keyed_of spec.now pair.first key.p pair.second key.q) budget pair.first
+        pair.second y.found) }
 {
     let keyed = keyed(alloc, spec, pair.first, key.p, pair.second, key.q)?;
     let found = or_drop!(find_in(alloc, &keyed, budget, pair); keyed);
@@ -64,7 +66,9 @@ fn keys_for(
 ) -> Result<Items<KeyAnswer>, AllocError>
     requires budget { 1 ≤ budget }
     requires pair { IsPair spec.now pair.first pair.second }
-    ensures { IfOk result (λ ys. AreKeyAnswers spec.now budget pair.first pair.second (keys_after found.now (keys_of spec.now pair.first pair.second)) ys) }
+    ensures { IfOk result
+        (λ ys. AreKeyAnswers spec.now budget pair.first pair.second
+        (keys_after found.now (keys_of spec.now pair.first pair.second)) ys) }
 {
     if !is_refuted(found) {
         return Ok(Items::new(alloc));

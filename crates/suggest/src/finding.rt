@@ -20,7 +20,9 @@ use std::alloc::{AllocError, Global};
 
 // What obligations come to of which the first is undecided.
 fn with_undecided(ob: Obligation, cause: Cause, rest: Found) -> Found
-    ensures found { (d : Specification) (budget : ℕ) (obs : List Obligation) → IsGood d budget ob (shown_cause cause) → IsFound d budget obs rest → IsFound d budget (ob ∷ obs) result }
+    ensures found { (d : Specification) (budget : ℕ) (obs : List Obligation)
+        → IsGood d budget ob (shown_cause cause) → IsFound d budget obs rest
+        → IsFound d budget (ob ∷ obs) result }
     ensures fit { (d : Specification) → IsObligation d ob → CanBeWritten d rest → CanBeWritten d result }
 {
     match rest {

@@ -159,7 +159,10 @@ fn same_sort(one: Option<u8>, other: Option<u8>) -> bool
 }
 
 fn add_key(keys: &mut Items<Key>, spec: &Spec, pair: Pair, p: u8, q: u8) -> Result<(), AllocError>
-    ensures { OnOk result (keys.new ≡ keys.old ++ (if same_sort_of (sort_of_parameter_of spec.now pair.first p) (sort_of_parameter_of spec.now pair.second q) then key_at p q ∷ [] else [])) }
+    ensures { OnOk result
+        (keys.new
+        ≡ keys.old
+        ++ (if same_sort_of (sort_of_parameter_of spec.now pair.first p) (sort_of_parameter_of spec.now pair.second q) then key_at p q ∷ [] else [])) }
 {
     if same_sort(
         sort_of_parameter(spec, pair.first, p),

@@ -152,7 +152,10 @@ fn write_keys_after(
 ) -> Result<(), AllocError>
     requires budget { 1 ≤ budget }
     requires pair { IsPair spec.now pair.first pair.second }
-    ensures { OnOk result ((f : Found) → needed ≡ is_refuted_of f → AreKeysAppended spec.now budget pair (keys_after f (keys_of spec.now pair.first pair.second)) text.old.items text.new.items) }
+    ensures { OnOk result
+        ((f : Found) → needed ≡ is_refuted_of f
+        → AreKeysAppended spec.now budget pair
+        (keys_after f (keys_of spec.now pair.first pair.second)) text.old.items text.new.items) }
 {
     if !needed {
         return Ok(());
@@ -271,7 +274,10 @@ fn write_counts(
     unknown: &[u8],
     text: &mut Vec<u8>,
 ) -> Result<(), AllocError>
-    ensures { OnOk result (text.new.items ≡ text.old.items ++ line_text (codes "summary" ∷ codes "needed" ∷ needed.now ∷ codes "free" ∷ free.now ∷ codes "unknown" ∷ unknown.now ∷ [])) }
+    ensures { OnOk result
+        (text.new.items
+        ≡ text.old.items
+        ++ line_text (codes "summary" ∷ codes "needed" ∷ needed.now ∷ codes "free" ∷ free.now ∷ codes "unknown" ∷ unknown.now ∷ [])) }
 {
     write_words(
         text,

@@ -13,7 +13,10 @@ use spec_core::{Call, Spec, State, World, observes_broken_at, requires_broken_at
 pub fn requires_line(spec: &Spec, world: &World, state: &State, call: &Call) -> Option<u32>
     requires world { world_fits spec.now world.now ≡ true }
     requires call { call_fits spec.now world.now call.now ≡ true }
-    ensures { result ≡ option_map (λ place. place + 1) (first_false world.now (reads state.now) call.now.args (op_of spec.now call.now.op).requires_) }
+    ensures { result
+        ≡ option_map (λ place. place + 1)
+        (first_false world.now (reads state.now) call.now.args
+        (op_of spec.now call.now.op).requires_) }
 {
     spec.well_formed();
     match requires_broken_at(spec, world, state, call) {
@@ -26,7 +29,10 @@ pub fn requires_line(spec: &Spec, world: &World, state: &State, call: &Call) -> 
 pub fn observes_line(spec: &Spec, world: &World, state: &State, call: &Call) -> Option<u32>
     requires world { world_fits spec.now world.now ≡ true }
     requires call { call_fits spec.now world.now call.now ≡ true }
-    ensures { result ≡ option_map (λ place. place + 1) (first_false world.now (reads state.now) call.now.args (op_of spec.now call.now.op).observes) }
+    ensures { result
+        ≡ option_map (λ place. place + 1)
+        (first_false world.now (reads state.now) call.now.args
+        (op_of spec.now call.now.op).observes) }
 {
     spec.well_formed();
     match observes_broken_at(spec, world, state, call) {

@@ -91,7 +91,9 @@ impl Log {
 
     // Whether a list is so long that its next number would be none of 32 bits.
     fn is_full(&self) -> bool
-        ensures { result ≡ false → (length self.now.requests.items < 2 ^ 32) × (length self.now.messages.items < 2 ^ 32) × (length self.now.happened.items < 2 ^ 32) }
+        ensures { result ≡ false
+            → (length self.now.requests.items < 2 ^ 32) × (length self.now.messages.items < 2 ^ 32)
+            × (length self.now.happened.items < 2 ^ 32) }
     {
         let most = u32::MAX as usize;
         self.requests.len() >= most || self.messages.len() >= most || self.happened.len() >= most

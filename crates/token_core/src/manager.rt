@@ -88,7 +88,10 @@ fn add_conflicting(
     granted: &Granted,
 ) -> Result<(), AllocError>
     requires { rivals.now ≡ rivals_of spec.now call.now.op }
-    ensures { OnOk result (ids.new ≡ ids.old ++ cond (conflicts spec.now world.now granted.now.call call.now) (granted.now.id ∷ []) []) }
+    ensures { OnOk result
+        (ids.new
+        ≡ ids.old
+        ++ cond (conflicts spec.now world.now granted.now.call call.now) (granted.now.id ∷ []) []) }
 {
     if do_conflict(spec, world, rivals, &granted.call, call) {
         ids.push(granted.id)?;

@@ -200,8 +200,13 @@ impl<R: Runner + Drop> Net<R> {
 
     // Carries a step out, and counts it.
     fn go_on(&mut self, step: &NetStep) -> Result<NetDid, NetRefused>
-        ensures answer { (result ≡ Err NetRefused.Memory) ⊎ (result ≡ answer (outcome self.old.spec self.old.world (network_held self.old) step.now)) }
-        ensures ok { OnOk result (network_held self.new ≡ network_after (network_held self.old) (outcome self.old.spec self.old.world (network_held self.old) step.now)) }
+        ensures answer { (result ≡ Err NetRefused.Memory)
+            ⊎ (result
+            ≡ answer (outcome self.old.spec self.old.world (network_held self.old) step.now)) }
+        ensures ok { OnOk result
+            (network_held self.new
+            ≡ network_after (network_held self.old)
+            (outcome self.old.spec self.old.world (network_held self.old) step.now)) }
         ensures spec { self.new.spec ≡ self.old.spec }
         ensures world { self.new.world ≡ self.old.world }
         ensures steps { OnOk result ((self.old.steps < 4000000000) × (self.new.steps ≡ self.old.steps + 1)) }
@@ -224,8 +229,13 @@ impl<R: Runner + Drop> Net<R> {
     /// have more than 32 bits, a replica would have used up 4,000,000,000 turns, or the network has carried out 4,000,000,000 steps, the
     /// answer is want of memory.
     pub fn step(&mut self, step: &NetStep) -> Result<NetDid, NetRefused>
-        ensures answer { (result ≡ Err NetRefused.Memory) ⊎ (result ≡ answer (outcome self.old.spec self.old.world (network_held self.old) step.now)) }
-        ensures ok { OnOk result (network_held self.new ≡ network_after (network_held self.old) (outcome self.old.spec self.old.world (network_held self.old) step.now)) }
+        ensures answer { (result ≡ Err NetRefused.Memory)
+            ⊎ (result
+            ≡ answer (outcome self.old.spec self.old.world (network_held self.old) step.now)) }
+        ensures ok { OnOk result
+            (network_held self.new
+            ≡ network_after (network_held self.old)
+            (outcome self.old.spec self.old.world (network_held self.old) step.now)) }
         ensures spec { self.new.spec ≡ self.old.spec }
         ensures world { self.new.world ≡ self.old.world }
         ensures steps { OnOk result ((self.old.steps < 4000000000) × (self.new.steps ≡ self.old.steps + 1)) }

@@ -88,7 +88,9 @@ fn refused_effect(why: ApplyRefused) -> NodeRefused
 impl Node {
     /// The node of a replica in the initial state, which has taken nothing and used up no turn.
     pub fn new<R: Runner>(alloc: Global, runner: &R, replica: u32) -> Result<Node, AllocError>
-        ensures node { IfOk result (λ node. node_of node ≡ first_node (R.specification runner.now) (R.setting runner.now) replica) }
+        ensures node { IfOk result
+            (λ node. node_of node
+            ≡ first_node (R.specification runner.now) (R.setting runner.now) replica) }
         ensures fits { IfOk result (λ node. is_state (R.specification runner.now) (R.setting runner.now) node.state ≡ true) }
     {
         let state = State::initial(alloc, runner.spec(), runner.world())?;
@@ -134,8 +136,12 @@ impl Node {
     ) -> Result<Ended, AllocError>
         requires state { is_state (R.specification runner.now) (R.setting runner.now) self.old.state ≡ true }
         requires tried { IsTried (R.specification runner.now) (R.setting runner.now) (reads self.old.state) call tried }
-        ensures ended { IfOk result (λ ended. ended ≡ ended_of (run (R.specification runner.now) (R.setting runner.now) (node_of self.old) id call)) }
-        ensures node { OnOk result (node_of self.new ≡ node_after_run (run (R.specification runner.now) (R.setting runner.now) (node_of self.old) id call)) }
+        ensures ended { IfOk result
+            (λ ended. ended
+            ≡ ended_of (run (R.specification runner.now) (R.setting runner.now) (node_of self.old) id call)) }
+        ensures node { OnOk result
+            (node_of self.new
+            ≡ node_after_run (run (R.specification runner.now) (R.setting runner.now) (node_of self.old) id call)) }
         ensures fits { OnOk result (is_state (R.specification runner.now) (R.setting runner.now) self.new.state ≡ true) }
         ensures err { OnErr result (self.new ≡ self.old) }
     {
@@ -157,8 +163,12 @@ impl Node {
     fn run<R: Runner>(&mut self, runner: &R, id: EventId, call: Call) -> Result<Ended, AllocError>
         requires state { is_state (R.specification runner.now) (R.setting runner.now) self.old.state ≡ true }
         requires call { call_fits (R.specification runner.now) (R.setting runner.now) call ≡ true }
-        ensures ended { IfOk result (λ ended. ended ≡ ended_of (run (R.specification runner.now) (R.setting runner.now) (node_of self.old) id call)) }
-        ensures node { OnOk result (node_of self.new ≡ node_after_run (run (R.specification runner.now) (R.setting runner.now) (node_of self.old) id call)) }
+        ensures ended { IfOk result
+            (λ ended. ended
+            ≡ ended_of (run (R.specification runner.now) (R.setting runner.now) (node_of self.old) id call)) }
+        ensures node { OnOk result
+            (node_of self.new
+            ≡ node_after_run (run (R.specification runner.now) (R.setting runner.now) (node_of self.old) id call)) }
         ensures fits { OnOk result (is_state (R.specification runner.now) (R.setting runner.now) self.new.state ≡ true) }
         ensures err { OnErr result (self.new ≡ self.old) }
     {
@@ -177,8 +187,14 @@ impl Node {
         requires state { is_state (R.specification runner.now) (R.setting runner.now) self.old.state ≡ true }
         requires call { call_fits (R.specification runner.now) (R.setting runner.now) call.now ≡ true }
         requires free { takes_none (R.specification runner.now) call.now ≡ true }
-        ensures answer { (result ≡ Err NodeRefused.Memory) ⊎ (result ≡ begin_answer (turn_of (R.specification runner.now) (R.setting runner.now) (node_of self.old) id call.now)) }
-        ensures ok { OnOk result (node_of self.new ≡ node_after_begin (node_of self.old) (turn_of (R.specification runner.now) (R.setting runner.now) (node_of self.old) id call.now)) }
+        ensures answer { (result ≡ Err NodeRefused.Memory)
+            ⊎ (result
+            ≡ begin_answer (turn_of (R.specification runner.now) (R.setting runner.now) (node_of self.old) id call.now)) }
+        ensures ok { OnOk result
+            (node_of self.new
+            ≡ node_after_begin (node_of self.old)
+            (turn_of (R.specification runner.now) (R.setting runner.now) (node_of self.old) id
+            call.now)) }
         ensures fits { OnOk result (is_state (R.specification runner.now) (R.setting runner.now) self.new.state ≡ true) }
         ensures err { OnErr result (self.new ≡ self.old) }
     {
@@ -191,8 +207,12 @@ impl Node {
     // A call that waits for a grant, with its turn used up.
     fn wait(&mut self, id: EventId, call: &Call) -> Result<Begun, NodeRefused>
         requires turn { self.old.turn < 4000000000 }
-        ensures answer { (result ≡ Err NodeRefused.Memory) ⊎ (result ≡ begin_answer (waits (record { id = id; call = call.now }) (node_of self.new))) }
-        ensures ok { OnOk result (node_of self.new ≡ with_waiting (with_turn (node_of self.old)) (record { id = id; call = call.now })) }
+        ensures answer { (result ≡ Err NodeRefused.Memory)
+            ⊎ (result
+            ≡ begin_answer (waits (record { id = id; call = call.now }) (node_of self.new))) }
+        ensures ok { OnOk result
+            (node_of self.new
+            ≡ with_waiting (with_turn (node_of self.old)) (record { id = id; call = call.now })) }
         ensures state { self.new.state ≡ self.old.state }
         ensures err { OnErr result (self.new ≡ self.old) }
     {
@@ -208,8 +228,14 @@ impl Node {
     pub fn begin<R: Runner>(&mut self, runner: &R, call: &Call) -> Result<Begun, NodeRefused>
         requires turn { self.old.turn < 4000000000 }
         requires state { is_state (R.specification runner.now) (R.setting runner.now) self.old.state ≡ true }
-        ensures answer { (result ≡ Err NodeRefused.Memory) ⊎ (result ≡ begin_answer (begin (R.specification runner.now) (R.setting runner.now) (node_of self.old) call.now)) }
-        ensures ok { OnOk result (node_of self.new ≡ node_after_begin (node_of self.old) (begin (R.specification runner.now) (R.setting runner.now) (node_of self.old) call.now)) }
+        ensures answer { (result ≡ Err NodeRefused.Memory)
+            ⊎ (result
+            ≡ begin_answer (begin (R.specification runner.now) (R.setting runner.now) (node_of self.old) call.now)) }
+        ensures ok { OnOk result
+            (node_of self.new
+            ≡ node_after_begin (node_of self.old)
+            (begin (R.specification runner.now) (R.setting runner.now) (node_of self.old)
+            call.now)) }
         ensures fits { OnOk result (is_state (R.specification runner.now) (R.setting runner.now) self.new.state ≡ true) }
         ensures err { OnErr result (self.new ≡ self.old) }
     {
@@ -258,8 +284,14 @@ impl Node {
     ) -> Result<Heard, NodeRefused>
         requires state { is_state (R.specification runner.now) (R.setting runner.now) self.old.state ≡ true }
         requires call { call_fits (R.specification runner.now) (R.setting runner.now) call ≡ true }
-        ensures answer { (result ≡ Err NodeRefused.Memory) ⊎ (result ≡ hear_answer (grant_open (R.specification runner.now) (R.setting runner.now) (node_of self.old) (record { id = id; call = call }) None)) }
-        ensures ok { OnOk result (node_of self.new ≡ node_after_hear (node_of self.old) (grant_open (R.specification runner.now) (R.setting runner.now) (node_of self.old) (record { id = id; call = call }) None)) }
+        ensures answer { (result ≡ Err NodeRefused.Memory)
+            ⊎ (result
+            ≡ hear_answer (grant_open (R.specification runner.now) (R.setting runner.now) (node_of self.old) (record { id = id; call = call }) None)) }
+        ensures ok { OnOk result
+            (node_of self.new
+            ≡ node_after_hear (node_of self.old)
+            (grant_open (R.specification runner.now) (R.setting runner.now) (node_of self.old)
+            (record { id = id; call = call }) None)) }
         ensures fits { OnOk result (is_state (R.specification runner.now) (R.setting runner.now) self.new.state ≡ true) }
         ensures err { OnErr result (self.new ≡ self.old) }
     {
@@ -277,8 +309,14 @@ impl Node {
     ) -> Result<Heard, NodeRefused>
         requires state { is_state (R.specification runner.now) (R.setting runner.now) self.old.state ≡ true }
         requires waiting { waiting_fits (R.specification runner.now) (R.setting runner.now) self.old.waiting ≡ true }
-        ensures answer { (result ≡ Err NodeRefused.Memory) ⊎ (result ≡ hear_answer (hear_grant (R.specification runner.now) (R.setting runner.now) (node_of self.old) id after.now self.old.waiting)) }
-        ensures ok { OnOk result (node_of self.new ≡ node_after_hear (node_of self.old) (hear_grant (R.specification runner.now) (R.setting runner.now) (node_of self.old) id after.now self.old.waiting)) }
+        ensures answer { (result ≡ Err NodeRefused.Memory)
+            ⊎ (result
+            ≡ hear_answer (hear_grant (R.specification runner.now) (R.setting runner.now) (node_of self.old) id after.now self.old.waiting)) }
+        ensures ok { OnOk result
+            (node_of self.new
+            ≡ node_after_hear (node_of self.old)
+            (hear_grant (R.specification runner.now) (R.setting runner.now) (node_of self.old) id
+            after.now self.old.waiting)) }
         ensures fits { OnOk result (is_state (R.specification runner.now) (R.setting runner.now) self.new.state ≡ true) }
         ensures err { OnErr result (self.new ≡ self.old) }
     {
@@ -305,8 +343,16 @@ impl Node {
     ) -> Result<Heard, NodeRefused>
         requires state { is_state (R.specification runner.now) (R.setting runner.now) self.old.state ≡ true }
         requires call { call_fits (R.specification runner.now) (R.setting runner.now) call.now ≡ true }
-        ensures answer { (result ≡ Err NodeRefused.Memory) ⊎ (result ≡ hear_answer (take_within (R.specification runner.now) (R.setting runner.now) (node_of self.old) id call.now (first_beyond 0 (after_call (R.specification runner.now) (R.setting runner.now) call.now (reads self.old.state)).counters))) }
-        ensures ok { OnOk result (node_of self.new ≡ node_after_hear (node_of self.old) (take_within (R.specification runner.now) (R.setting runner.now) (node_of self.old) id call.now (first_beyond 0 (after_call (R.specification runner.now) (R.setting runner.now) call.now (reads self.old.state)).counters))) }
+        ensures answer { (result ≡ Err NodeRefused.Memory)
+            ⊎ (result
+            ≡ hear_answer (take_within (R.specification runner.now) (R.setting runner.now) (node_of self.old) id call.now (first_beyond 0 (after_call (R.specification runner.now) (R.setting runner.now) call.now (reads self.old.state)).counters))) }
+        ensures ok { OnOk result
+            (node_of self.new
+            ≡ node_after_hear (node_of self.old)
+            (take_within (R.specification runner.now) (R.setting runner.now) (node_of self.old) id
+            call.now
+            (first_beyond 0
+            (after_call (R.specification runner.now) (R.setting runner.now) call.now (reads self.old.state)).counters))) }
         ensures fits { OnOk result (is_state (R.specification runner.now) (R.setting runner.now) self.new.state ≡ true) }
         ensures err { OnErr result (self.new ≡ self.old) }
     {
@@ -330,8 +376,14 @@ impl Node {
     ) -> Result<Heard, NodeRefused>
         requires state { is_state (R.specification runner.now) (R.setting runner.now) self.old.state ≡ true }
         requires call { call_fits (R.specification runner.now) (R.setting runner.now) call.now ≡ true }
-        ensures answer { (result ≡ Err NodeRefused.Memory) ⊎ (result ≡ hear_answer (hear_done (R.specification runner.now) (R.setting runner.now) (node_of self.old) id call.now seen.now)) }
-        ensures ok { OnOk result (node_of self.new ≡ node_after_hear (node_of self.old) (hear_done (R.specification runner.now) (R.setting runner.now) (node_of self.old) id call.now seen.now)) }
+        ensures answer { (result ≡ Err NodeRefused.Memory)
+            ⊎ (result
+            ≡ hear_answer (hear_done (R.specification runner.now) (R.setting runner.now) (node_of self.old) id call.now seen.now)) }
+        ensures ok { OnOk result
+            (node_of self.new
+            ≡ node_after_hear (node_of self.old)
+            (hear_done (R.specification runner.now) (R.setting runner.now) (node_of self.old) id
+            call.now seen.now)) }
         ensures fits { OnOk result (is_state (R.specification runner.now) (R.setting runner.now) self.new.state ≡ true) }
         ensures err { OnErr result (self.new ≡ self.old) }
     {
@@ -365,8 +417,14 @@ impl Node {
         requires state { is_state (R.specification runner.now) (R.setting runner.now) self.old.state ≡ true }
         requires waiting { waiting_fits (R.specification runner.now) (R.setting runner.now) self.old.waiting ≡ true }
         requires message { message_fits (R.specification runner.now) (R.setting runner.now) message.now ≡ true }
-        ensures answer { (result ≡ Err NodeRefused.Memory) ⊎ (result ≡ hear_answer (hear (R.specification runner.now) (R.setting runner.now) (node_of self.old) message.now)) }
-        ensures ok { OnOk result (node_of self.new ≡ node_after_hear (node_of self.old) (hear (R.specification runner.now) (R.setting runner.now) (node_of self.old) message.now)) }
+        ensures answer { (result ≡ Err NodeRefused.Memory)
+            ⊎ (result
+            ≡ hear_answer (hear (R.specification runner.now) (R.setting runner.now) (node_of self.old) message.now)) }
+        ensures ok { OnOk result
+            (node_of self.new
+            ≡ node_after_hear (node_of self.old)
+            (hear (R.specification runner.now) (R.setting runner.now) (node_of self.old)
+            message.now)) }
         ensures fits { OnOk result (is_state (R.specification runner.now) (R.setting runner.now) self.new.state ≡ true) }
         ensures err { OnErr result (self.new ≡ self.old) }
     {

@@ -124,7 +124,8 @@ fn event_for(
 fn keep_ran(log: &mut Log, taken: &mut Vec<u32>, event: CallEvent, done: Message) -> NetDid
     requires room { HasRoom log.old }
     requires place { vec_len taken.old < vec_capacity taken.old }
-    ensures { (let left : Left = record { did = result; lists = lists_of log.new; taken = taken.new.items } in left) ≡ after_ran (lists_of log.old) taken.old.items event done }
+    ensures { (let left : Left = record { did = result; lists = lists_of log.new; taken = taken.new.items } in left)
+        ≡ after_ran (lists_of log.old) taken.old.items event done }
 {
     let id = id_of(&done);
     let number = log.happened.len() as u32;
@@ -137,7 +138,9 @@ fn keep_ran(log: &mut Log, taken: &mut Vec<u32>, event: CallEvent, done: Message
 // A call is void, which is sent.
 fn keep_void(log: &mut Log, why: WhyVoid, told: Message) -> NetDid
     requires room { HasRoom log.old }
-    ensures { (taken : List ℕ) → (let left : Left = record { did = result; lists = lists_of log.new; taken = taken } in left) ≡ after_void (lists_of log.old) taken why told }
+    ensures { (taken : List ℕ)
+        → (let left : Left = record { did = result; lists = lists_of log.new; taken = taken } in left)
+        ≡ after_void (lists_of log.old) taken why told }
 {
     let number = log.messages.len() as u32;
     put(&mut log.messages, told);
@@ -151,7 +154,8 @@ fn keep_void(log: &mut Log, why: WhyVoid, told: Message) -> NetDid
 fn keep_begun(log: &mut Log, taken: &mut Vec<u32>, event: CallEvent, begun: Begun) -> NetDid
     requires room { HasRoom log.old }
     requires place { vec_len taken.old < vec_capacity taken.old }
-    ensures { (let left : Left = record { did = result; lists = lists_of log.new; taken = taken.new.items } in left) ≡ after_begun (lists_of log.old) taken.old.items event begun }
+    ensures { (let left : Left = record { did = result; lists = lists_of log.new; taken = taken.new.items } in left)
+        ≡ after_begun (lists_of log.old) taken.old.items event begun }
 {
     match begun {
         Begun::Asked(request) => {
@@ -187,7 +191,8 @@ fn keep_heard(
     requires room { HasRoom log.old }
     requires place { vec_len taken.old < vec_capacity taken.old }
     requires prepared { IsPrepared event heard }
-    ensures { IsAfterHeard (lists_of log.old) taken.old.items id event heard (record { did = result; lists = lists_of log.new; taken = taken.new.items }) }
+    ensures { IsAfterHeard (lists_of log.old) taken.old.items id event heard
+        (record { did = result; lists = lists_of log.new; taken = taken.new.items }) }
 {
     match heard {
         Heard::Ran(done) => {
@@ -231,8 +236,17 @@ pub fn begin_at<R: Runner>(
     call: &Call,
 ) -> Result<NetDid, NetRefused>
     requires state { is_state (R.specification runner.now) (R.setting runner.now) at.old.node.state ≡ true }
-    ensures answer { (replicas : List ReplicaOf) (granted : List Granted) (r : ℕ) → (result ≡ Err NetRefused.Memory) ⊎ (result ≡ answer (begin_at (network_with replicas granted (lists_of log.old)) r (replica_at at.old) (begin (R.specification runner.now) (R.setting runner.now) (node_of at.old.node) call.now))) }
-    ensures ok { (replicas : List ReplicaOf) (granted : List Granted) (r : ℕ) → slice_get replicas r ≡ Some (replica_at at.old) → OnOk result (network_with (set replicas r (replica_at at.new)) granted (lists_of log.new) ≡ network_after (network_with replicas granted (lists_of log.old)) (begin_at (network_with replicas granted (lists_of log.old)) r (replica_at at.old) (begin (R.specification runner.now) (R.setting runner.now) (node_of at.old.node) call.now))) }
+    ensures answer { (replicas : List ReplicaOf) (granted : List Granted) (r : ℕ)
+        → (result ≡ Err NetRefused.Memory)
+        ⊎ (result
+        ≡ answer (begin_at (network_with replicas granted (lists_of log.old)) r (replica_at at.old) (begin (R.specification runner.now) (R.setting runner.now) (node_of at.old.node) call.now))) }
+    ensures ok { (replicas : List ReplicaOf) (granted : List Granted) (r : ℕ)
+        → slice_get replicas r ≡ Some (replica_at at.old)
+        → OnOk result
+        (network_with (set replicas r (replica_at at.new)) granted (lists_of log.new)
+        ≡ network_after (network_with replicas granted (lists_of log.old))
+        (begin_at (network_with replicas granted (lists_of log.old)) r (replica_at at.old)
+        (begin (R.specification runner.now) (R.setting runner.now) (node_of at.old.node) call.now))) }
     ensures fits { is_state (R.specification runner.now) (R.setting runner.now) at.new.node.state ≡ true }
     ensures err { OnErr result ((held_replica at.new ≡ held_replica at.old) × (lists_of log.new ≡ lists_of log.old)) }
 {
@@ -258,9 +272,21 @@ pub fn hear_at<R: Runner>(
 ) -> Result<NetDid, NetRefused>
     requires state { is_state (R.specification runner.now) (R.setting runner.now) at.old.node.state ≡ true }
     requires waiting { waiting_fits (R.specification runner.now) (R.setting runner.now) at.old.node.waiting ≡ true }
-    requires message { (m : Sent) → slice_get log.old.messages.items message ≡ Some m → message_fits (R.specification runner.now) (R.setting runner.now) m ≡ true }
-    ensures answer { (replicas : List ReplicaOf) (granted : List Granted) (r : ℕ) → slice_get replicas r ≡ Some (replica_at at.old) → (result ≡ Err NetRefused.Memory) ⊎ (result ≡ answer (hears_message (R.specification runner.now) (R.setting runner.now) (network_with replicas granted (lists_of log.old)) r (replica_at at.old) (slice_get log.old.messages.items message))) }
-    ensures ok { (replicas : List ReplicaOf) (granted : List Granted) (r : ℕ) → slice_get replicas r ≡ Some (replica_at at.old) → OnOk result (network_with (set replicas r (replica_at at.new)) granted (lists_of log.new) ≡ network_after (network_with replicas granted (lists_of log.old)) (hears_message (R.specification runner.now) (R.setting runner.now) (network_with replicas granted (lists_of log.old)) r (replica_at at.old) (slice_get log.old.messages.items message))) }
+    requires message { (m : Sent) → slice_get log.old.messages.items message ≡ Some m
+        → message_fits (R.specification runner.now) (R.setting runner.now) m ≡ true }
+    ensures answer { (replicas : List ReplicaOf) (granted : List Granted) (r : ℕ)
+        → slice_get replicas r ≡ Some (replica_at at.old)
+        → (result ≡ Err NetRefused.Memory)
+        ⊎ (result
+        ≡ answer (hears_message (R.specification runner.now) (R.setting runner.now) (network_with replicas granted (lists_of log.old)) r (replica_at at.old) (slice_get log.old.messages.items message))) }
+    ensures ok { (replicas : List ReplicaOf) (granted : List Granted) (r : ℕ)
+        → slice_get replicas r ≡ Some (replica_at at.old)
+        → OnOk result
+        (network_with (set replicas r (replica_at at.new)) granted (lists_of log.new)
+        ≡ network_after (network_with replicas granted (lists_of log.old))
+        (hears_message (R.specification runner.now) (R.setting runner.now)
+        (network_with replicas granted (lists_of log.old)) r (replica_at at.old)
+        (slice_get log.old.messages.items message))) }
     ensures fits { is_state (R.specification runner.now) (R.setting runner.now) at.new.node.state ≡ true }
     ensures err { OnErr result ((held_replica at.new ≡ held_replica at.old) × (lists_of log.new ≡ lists_of log.old)) }
 {
@@ -286,8 +312,17 @@ pub fn ask_at<R: Runner>(
     request: u32,
 ) -> Result<NetDid, NetRefused>
     requires { AreGrants (R.specification runner.now) (R.setting runner.now) manager.old }
-    ensures answer { (replicas : List ReplicaOf) → (result ≡ Err NetRefused.Memory) ⊎ (result ≡ answer (asks (R.specification runner.now) (R.setting runner.now) (network_with replicas manager.old (lists_of log.old)) (slice_get log.old.requests.items request))) }
-    ensures ok { (replicas : List ReplicaOf) → OnOk result (network_with replicas manager.new (lists_of log.new) ≡ network_after (network_with replicas manager.old (lists_of log.old)) (asks (R.specification runner.now) (R.setting runner.now) (network_with replicas manager.old (lists_of log.old)) (slice_get log.old.requests.items request))) }
+    ensures answer { (replicas : List ReplicaOf)
+        → (result ≡ Err NetRefused.Memory)
+        ⊎ (result
+        ≡ answer (asks (R.specification runner.now) (R.setting runner.now) (network_with replicas manager.old (lists_of log.old)) (slice_get log.old.requests.items request))) }
+    ensures ok { (replicas : List ReplicaOf)
+        → OnOk result
+        (network_with replicas manager.new (lists_of log.new)
+        ≡ network_after (network_with replicas manager.old (lists_of log.old))
+        (asks (R.specification runner.now) (R.setting runner.now)
+        (network_with replicas manager.old (lists_of log.old))
+        (slice_get log.old.requests.items request))) }
     ensures err { OnErr result ((manager.new ≡ manager.old) × (lists_of log.new ≡ lists_of log.old)) }
 {
     if request as usize >= log.requests.len() {

@@ -34,16 +34,25 @@ pub trait Runner {
     fn line_broken(&self, state: &State, call: &Call) -> Result<Option<u32>, AllocError>
         requires state { is_state (specification self.now) (setting self.now) state.now ≡ true }
         requires call { call_fits (specification self.now) (setting self.now) call.now ≡ true }
-        ensures { IfOk result (λ line. line ≡ option_map (λ place. place + 1) (first_false (setting self.now) (reads state.now) call.now.args (op_of (specification self.now) call.now.op).requires_)) };
+        ensures { IfOk result
+            (λ line. line
+            ≡ option_map (λ place. place + 1)
+            (first_false (setting self.now) (reads state.now) call.now.args
+            (op_of (specification self.now) call.now.op).requires_)) };
 
     /// The state after the call's effect, refused where a value would be beyond the range of a state.
     fn effect(&self, state: &State, call: &Call) -> Result<State, ApplyRefused>
         requires state { is_state (specification self.now) (setting self.now) state.now ≡ true }
         requires call { call_fits (specification self.now) (setting self.now) call.now ≡ true }
-        ensures reads { IfOk result (λ s. reads s ≡ after (specification self.now) (setting self.now) call.now (reads state.now)) }
+        ensures reads { IfOk result
+            (λ s. reads s
+            ≡ after (specification self.now) (setting self.now) call.now (reads state.now)) }
         ensures fits { IfOk result (λ s. is_state (specification self.now) (setting self.now) s ≡ true) }
-        ensures in_range { OnOk result (AllInRange (after_call (specification self.now) (setting self.now) call.now (reads state.now))) }
-        ensures range { (b : Beyond) → result ≡ Err (ApplyRefused.Range b.counter b.key b.value) → IsFirstBeyond (after_call (specification self.now) (setting self.now) call.now (reads state.now)) b };
+        ensures in_range { OnOk result
+            (AllInRange (after_call (specification self.now) (setting self.now) call.now (reads state.now))) }
+        ensures range { (b : Beyond) → result ≡ Err (ApplyRefused.Range b.counter b.key b.value)
+            → IsFirstBeyond
+            (after_call (specification self.now) (setting self.now) call.now (reads state.now)) b };
 }
 
 /// The runner that evaluates a specification as it is written.

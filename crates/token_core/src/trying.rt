@@ -26,8 +26,14 @@ pub enum Tried {
 fn try_effect<R: Runner>(runner: &R, state: &State, call: &Call) -> Result<Tried, AllocError>
     requires state { is_state (R.specification runner.now) (R.setting runner.now) state.now ≡ true }
     requires call { call_fits (R.specification runner.now) (R.setting runner.now) call.now ≡ true }
-    requires ready { None ≡ option_map (λ place. place + 1) (first_false (R.setting runner.now) (reads state.now) call.now.args (op_of (R.specification runner.now) call.now.op).requires_) }
-    requires observed { None ≡ option_map (λ place. place + 1) (first_false (R.setting runner.now) (reads state.now) call.now.args (op_of (R.specification runner.now) call.now.op).observes) }
+    requires ready { None
+        ≡ option_map (λ place. place + 1)
+        (first_false (R.setting runner.now) (reads state.now) call.now.args
+        (op_of (R.specification runner.now) call.now.op).requires_) }
+    requires observed { None
+        ≡ option_map (λ place. place + 1)
+        (first_false (R.setting runner.now) (reads state.now) call.now.args
+        (op_of (R.specification runner.now) call.now.op).observes) }
     ensures { IfOk result (IsTried (R.specification runner.now) (R.setting runner.now) (reads state.now) call.now) }
 {
     match runner.effect(state, call) {

@@ -16,13 +16,16 @@ use spec_core::Spec;
 /// After every list of steps, whatever is lost, repeated and reordered, the events form an execution, each replica has taken a
 /// delivery order of it, and its state is the state after that.
 pub fn law_networks_are_executions()
-    ensures executed { (d : Specification) (w : World) (replicas : ℕ) (steps : List NetStep) → IsExecuted d w (network_of d w replicas steps) }
-    ensures granted { (d : Specification) (w : World) (replicas : ℕ) (steps : List NetStep) → IsGranted d w (network_of d w replicas steps) }
+    ensures executed { (d : Specification) (w : World) (replicas : ℕ) (steps : List NetStep)
+        → IsExecuted d w (network_of d w replicas steps) }
+    ensures granted { (d : Specification) (w : World) (replicas : ℕ) (steps : List NetStep)
+        → IsGranted d w (network_of d w replicas steps) }
 {}
 
 /// A call without a takes line conflicts with none, so it needs no grant.
 pub fn law_conflicts_take_tokens()
-    ensures { (d : Specification) (w : World) (a b : Call) → conflicts d w a b ≡ true → (takes_none d a ≡ false) × (takes_none d b ≡ false) }
+    ensures { (d : Specification) (w : World) (a b : Call) → conflicts d w a b ≡ true
+        → (takes_none d a ≡ false) × (takes_none d b ≡ false) }
 {}
 
 /// With a safe specification, replicas of a network that have taken the same events are in one state, in whichever order they took

@@ -64,7 +64,9 @@ pub fn one_assignment(
     right: &[u8],
     second: &[Elem],
 ) -> bool
-    ensures { result ≡ one_assignment left.now (elems_of world.now one.now [] first.now) right.now (elems_of world.now other.now [] second.now) }
+    ensures { result
+        ≡ one_assignment left.now (elems_of world.now one.now [] first.now) right.now
+        (elems_of world.now other.now [] second.now) }
 {
     match left {
         [] => first.is_empty() && assigned(world, other, right, second),

@@ -66,7 +66,12 @@ fn some_rule_matches(
     first: &[Take],
     second: &[Take],
 ) -> bool
-    ensures { result ≡ list_any (λ rule. list_any (λ t. list_any (λ u. lines_match world.now one.now other.now rule t u) second.now) first.now) rules.now }
+    ensures { result
+        ≡ list_any
+        (λ rule. list_any
+        (λ t. list_any (λ u. lines_match world.now one.now other.now rule t u) second.now)
+        first.now)
+        rules.now }
 {
     rules.iter().any(|rule| rule_matches(world, one, other, rule, first, second))
 }

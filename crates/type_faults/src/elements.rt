@@ -65,7 +65,10 @@ fn sort_of_param(scope: &Scope<'_, '_>, kind: &ParamKind) -> Option<u8>
 /// The sort of an element.
 #[tactic(auto, using(crate::proofs::Lists::get_map))]
 fn sort_of(scope: &Scope<'_, '_>, elem: Elem) -> Option<u8>
-    ensures { result ≡ sort_of_elem scope.now.draft.now (params_of (meaning_in scope.now.names.now) scope.now.params.now) (var_sorts (meaning_in scope.now.names.now) scope.now.vars.now) elem }
+    ensures { result
+        ≡ sort_of_elem scope.now.draft.now
+        (params_of (meaning_in scope.now.names.now) scope.now.params.now)
+        (var_sorts (meaning_in scope.now.names.now) scope.now.vars.now) elem }
 {
     let draft = scope.draft;
     match elem {

@@ -130,7 +130,9 @@ fn insert_fault<'t>(
     spots: &'t [Spot],
     guard: &'t Option<Formula>,
 ) -> Option<Fault<'t>>
-    ensures { faulted result ≡ (relation_target_fault_of (scope_of scope.now) mark.now spots.now otherwise guard_fault_of (scope_of scope.now) (guard_of guard.now)) }
+    ensures { faulted result
+        ≡ (relation_target_fault_of (scope_of scope.now) mark.now spots.now otherwise guard_fault_of
+        (scope_of scope.now) (guard_of guard.now)) }
 {
     if let Some(fault) = relation_target_fault(scope, mark, spots) {
         return Some(fault);
@@ -145,7 +147,10 @@ fn amount_fault<'t>(
     amount: &'t Term,
     guard: &'t Option<Formula>,
 ) -> Option<Fault<'t>>
-    ensures { faulted result ≡ (counter_target_fault_of (scope_of scope.now) mark.now spots.now otherwise term_fault_of (scope_of scope.now) amount.now otherwise guard_fault_of (scope_of scope.now) (guard_of guard.now)) }
+    ensures { faulted result
+        ≡ (counter_target_fault_of (scope_of scope.now) mark.now spots.now otherwise term_fault_of
+        (scope_of scope.now) amount.now otherwise guard_fault_of (scope_of scope.now)
+        (guard_of guard.now)) }
 {
     if let Some(fault) = counter_target_fault(scope, mark, spots) {
         return Some(fault);

@@ -18,5 +18,6 @@ pub fn law_least_fault()
 
 /// A tree that is read stands in a text.
 pub fn law_read_is_written()
-    ensures { (bytes : List ℕ) (words : List Word) (t : TreeForm) → length bytes < 4294967296 → IsCut bytes words → IsRead bytes words t → IsWritten t }
+    ensures { (bytes : List ℕ) (words : List Word) (t : TreeForm) → length bytes < 4294967296
+        → IsCut bytes words → IsRead bytes words t → IsWritten t }
 {}
