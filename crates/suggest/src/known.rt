@@ -1,8 +1,8 @@
 // Values that broke an obligation of a pair are tried before an obligation is decided anew.
 //
-// The specifications of a pair differ in what conflicts. So values that break an obligation where some calls conflict break it in another
-// one too, unless their own calls conflict there. Most two parameters have such values among those of the parameters before, and to
-// try them takes a thousandth of the time in which an obligation is decided.
+// The specifications of a pair differ in what conflicts. So values that break an obligation in one of them break it in another one too,
+// unless their calls conflict there. Many parameters have such values among those of the parameters before them. To try values is to
+// evaluate a few formulas, where to decide an obligation is to make its problem and to search.
 
 ghost use Rattle.std.specs.Prelude.{◌≡◌, ◌≤◌, ℕ, IfOk, IfSome};
 ghost use Rattle.obligation_list.specs.Obligations.{IsObligation};
