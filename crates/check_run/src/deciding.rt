@@ -1,5 +1,5 @@
 // The verdict on an obligation.
-ghost use Rattle.std.specs.Prelude.{◌≡◌, ◌≤◌, ℕ, true, false, length, IfOk};
+ghost use Rattle.std.specs.Prelude.{◌≡◌, ◌≤◌, ℕ, true, false, length, IfOk, IfSome};
 ghost use Rattle.obligation_list.specs.Obligations.{IsObligation};
 ghost use Rattle.obligation_list.specs.Refuting.{IsRefutation};
 ghost use Rattle.ground_numbers.specs.Problem.{problem_of};
@@ -19,7 +19,7 @@ use clausify::problem_of;
 use ground_numbers::{law_clauses_make_formulas_true, law_obligation_fits};
 use instances::{GroundRefused, Grounded, ground};
 use model_back::witness_of;
-use obligation_list::Obligation;
+use obligation_list::{Obligation, Witness, breaks};
 use proof_lines::{Interpretation, Problem};
 use proof_report::{Cause, Verdict};
 use sat_core::Answer;
@@ -62,6 +62,20 @@ fn refute(
     shrink(alloc, spec, ob, &mut witness)?;
     witness.state.stays_in_range();
     Ok(Verdict::Refuted(witness))
+}
+
+/// The verdict that values give of themselves, where they refute the obligation, wherever they are from.
+pub fn refuted_by(spec: &Spec, ob: &Obligation, witness: Witness) -> Option<Verdict>
+    requires { IsObligation spec.now ob.now }
+    ensures good { (budget : ℕ) → IfSome result (λ v. IsGood spec.now budget ob.now (shown_verdict spec.now v)) }
+    ensures fit { IfSome result (λ v. IsFit spec.now written_version ob.now v) }
+{
+    if !breaks(spec, ob, &witness) {
+        drop(witness);
+        return None;
+    }
+    witness.state.stays_in_range();
+    Some(Verdict::Refuted(witness))
 }
 
 // The verdict that an answer of the search gives.

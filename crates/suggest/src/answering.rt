@@ -11,6 +11,7 @@ ghost use Rattle.suggest.specs.declared.answer.Key.{Key};
 
 use crate::answer::{Found, Key, KeyAnswer, Pair, PairAnswer};
 use crate::finding::find_in;
+use crate::known::Known;
 use crate::listing::{list_keys, list_pairs};
 use crate::writing::is_refuted;
 use items::Items;
@@ -24,6 +25,7 @@ fn key_answer(
     budget: u32,
     pair: Pair,
     key: Key,
+    known: &mut Known,
 ) -> Result<KeyAnswer, AllocError>
     requires budget { 1 ≤ budget }
     requires keyed { CanBeKeyed spec.now pair.first key.p pair.second key.q }
@@ -33,7 +35,7 @@ fn key_answer(
         pair.second y.found) }
 {
     let keyed = keyed(alloc, spec, pair.first, key.p, pair.second, key.q)?;
-    let found = or_drop!(find_in(alloc, &keyed, budget, pair); keyed);
+    let found = or_drop!(find_in(alloc, &keyed, budget, pair, known); keyed);
     drop(keyed);
     Ok(KeyAnswer { key, found })
 }
@@ -44,6 +46,7 @@ fn key_answers(
     budget: u32,
     pair: Pair,
     keys: &[Key],
+    known: &mut Known,
 ) -> Result<Items<KeyAnswer>, AllocError>
     requires budget { 1 ≤ budget }
     requires keyed { (k : Key) → Contains keys.now k → CanBeKeyed spec.now pair.first k.p pair.second k.q }
@@ -51,7 +54,7 @@ fn key_answers(
 {
     let mut answers = Items::new(alloc);
     for key in keys {
-        let answer = or_drop!(key_answer(alloc, spec, budget, pair, *key); answers);
+        let answer = or_drop!(key_answer(alloc, spec, budget, pair, *key, known); answers);
         or_drop!(answers.push(answer); answers);
     }
     Ok(answers)
@@ -63,6 +66,7 @@ fn keys_for(
     budget: u32,
     pair: Pair,
     found: &Found,
+    known: &mut Known,
 ) -> Result<Items<KeyAnswer>, AllocError>
     requires budget { 1 ≤ budget }
     requires pair { IsPair spec.now pair.first pair.second }
@@ -74,7 +78,7 @@ fn keys_for(
         return Ok(Items::new(alloc));
     }
     let keys = list_keys(alloc, spec, pair)?;
-    let answers = or_drop!(key_answers(alloc, spec, budget, pair, keys.as_slice()); keys);
+    let answers = or_drop!(key_answers(alloc, spec, budget, pair, keys.as_slice(), known); keys);
     drop(keys);
     Ok(answers)
 }
@@ -91,8 +95,10 @@ fn pair_answer(
     requires bare { bare.now ≡ bare_of spec.now }
     ensures { IfOk result (λ x. IsAnswer spec.now budget pair x) }
 {
-    let found = find_in(alloc, bare, budget, pair)?;
-    let keys = or_drop!(keys_for(alloc, spec, budget, pair, &found); found);
+    let mut known = Known::new(alloc);
+    let found = or_drop!(find_in(alloc, bare, budget, pair, &mut known); known);
+    let keys = or_drop!(keys_for(alloc, spec, budget, pair, &found, &mut known); found, known);
+    drop(known);
     Ok(PairAnswer { pair, found, keys })
 }
 

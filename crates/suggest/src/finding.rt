@@ -11,8 +11,8 @@ ghost use Rattle.suggest.specs.Answers.{IsFound, IsFoundIn};
 ghost use Rattle.suggest.specs.Writing.{CanBeWritten};
 
 use crate::answer::{Found, Pair};
+use crate::known::Known;
 use crate::listing::list_pair;
-use check_run::decide;
 use obligation_list::Obligation;
 use proof_report::{Cause, Verdict};
 use spec_core::Spec;
@@ -44,6 +44,7 @@ fn find(
     spec: &Spec,
     budget: u32,
     obligations: &[Obligation],
+    known: &mut Known,
 ) -> Result<Found, AllocError>
     requires members { (ob : Obligation) → Contains obligations.now ob → IsObligation spec.now ob }
     requires budget { 1 ≤ budget }
@@ -52,29 +53,36 @@ fn find(
 {
     match obligations {
         [] => Ok(Found::Proved),
-        [ob, rest @ ..] => match decide(alloc, spec, ob, budget)? {
+        [ob, rest @ ..] => match known.decide(alloc, spec, ob, budget)? {
             Verdict::Proved(log) => {
                 drop(log);
-                find(alloc, spec, budget, rest)
+                find(alloc, spec, budget, rest, known)
             }
             Verdict::Refuted(witness) => Ok(Found::Refuted(*ob, witness)),
             Verdict::Undecided(cause) => {
-                let found = or_drop!(find(alloc, spec, budget, rest); cause);
+                let found = or_drop!(find(alloc, spec, budget, rest, known); cause);
                 Ok(with_undecided(*ob, cause, found))
             }
         },
     }
 }
 
-/// What the obligations of a pair come to in a specification, with logs of at most `budget` lines.
-pub fn find_in(alloc: Global, spec: &Spec, budget: u32, pair: Pair) -> Result<Found, AllocError>
+/// What the obligations of a pair come to in a specification, with logs of at most `budget` lines. Values that are known to break some of
+/// them elsewhere are tried first, and new ones are added to them.
+pub fn find_in(
+    alloc: Global,
+    spec: &Spec,
+    budget: u32,
+    pair: Pair,
+    known: &mut Known,
+) -> Result<Found, AllocError>
     requires { 1 ≤ budget }
     ensures found { IfOk result (λ found. IsFoundIn spec.now budget pair.first pair.second found) }
     ensures fit { IfOk result (λ found. CanBeWritten spec.now found) }
 {
     spec.well_formed();
     let obligations = list_pair(alloc, spec, pair)?;
-    let found = or_drop!(find(alloc, spec, budget, obligations.as_slice()); obligations);
+    let found = or_drop!(find(alloc, spec, budget, obligations.as_slice(), known); obligations);
     drop(obligations);
     Ok(found)
 }

@@ -25,6 +25,7 @@ macro_rules! or_drop {
 mod answer;
 mod answering;
 mod finding;
+mod known;
 mod law;
 mod listing;
 mod suggesting;

@@ -16,6 +16,7 @@ ghost use Rattle.suggest.specs.declared.answer.Found.{Found};
 
 use crate::answer::{Found, Key, Pair, SuggestTally};
 use crate::finding::find_in;
+use crate::known::Known;
 use crate::listing::list_keys;
 use itoa::Buffer;
 use keyed_specs::keyed;
@@ -107,6 +108,7 @@ fn write_key(
     budget: u32,
     pair: Pair,
     key: Key,
+    known: &mut Known,
     text: &mut Vec<u8>,
 ) -> Result<(), AllocError>
     requires budget { 1 ≤ budget }
@@ -114,7 +116,7 @@ fn write_key(
     ensures { OnOk result (IsKeyAppended spec.now budget pair key text.old.items text.new.items) }
 {
     let keyed = keyed(alloc, spec, pair.first, key.p, pair.second, key.q)?;
-    let found = or_drop!(find_in(alloc, &keyed, budget, pair); keyed);
+    let found = or_drop!(find_in(alloc, &keyed, budget, pair, known); keyed);
     let first = param_name(spec, pair.first, key.p);
     let second = param_name(spec, pair.second, key.q);
     or_drop!(write_words(text, key_word(&found), &[first, second]); keyed, found);
@@ -129,6 +131,7 @@ fn write_keys(
     budget: u32,
     pair: Pair,
     keys: &[Key],
+    known: &mut Known,
     text: &mut Vec<u8>,
 ) -> Result<(), AllocError>
     requires budget { 1 ≤ budget }
@@ -136,7 +139,7 @@ fn write_keys(
     ensures { OnOk result (AreKeysAppended spec.now budget pair keys.now text.old.items text.new.items) }
 {
     for key in keys {
-        write_key(alloc, spec, budget, pair, *key, text)?;
+        write_key(alloc, spec, budget, pair, *key, known, text)?;
     }
     Ok(())
 }
@@ -148,6 +151,7 @@ fn write_keys_after(
     budget: u32,
     pair: Pair,
     needed: bool,
+    known: &mut Known,
     text: &mut Vec<u8>,
 ) -> Result<(), AllocError>
     requires budget { 1 ≤ budget }
@@ -161,7 +165,7 @@ fn write_keys_after(
         return Ok(());
     }
     let keys = list_keys(alloc, spec, pair)?;
-    or_drop!(write_keys(alloc, spec, budget, pair, keys.as_slice(), text); keys);
+    or_drop!(write_keys(alloc, spec, budget, pair, keys.as_slice(), known, text); keys);
     drop(keys);
     Ok(())
 }
@@ -209,13 +213,14 @@ fn write_bare(
     budget: u32,
     pair: Pair,
     tally: SuggestTally,
+    known: &mut Known,
     text: &mut Vec<u8>,
 ) -> Result<(bool, SuggestTally), AllocError>
     requires budget { 1 ≤ budget }
     requires bare { bare.now ≡ bare_of spec.now }
     ensures { IfOk result (λ x. IsBareAppended spec.now budget pair tally x.0 x.1 text.old.items text.new.items) }
 {
-    let found = find_in(alloc, bare, budget, pair)?;
+    let found = find_in(alloc, bare, budget, pair, known)?;
     let needed = is_refuted(&found);
     let now = or_drop!(with_found(tally, &found); found);
     let first = operation_name(spec, pair.first);
@@ -240,8 +245,11 @@ pub fn write_pair(
     requires bare { bare.now ≡ bare_of spec.now }
     ensures { IfOk result (λ now. IsPairAppended spec.now budget pair tally now text.old.items text.new.items) }
 {
-    let written = write_bare(alloc, spec, bare, budget, pair, tally, text)?;
-    write_keys_after(alloc, spec, budget, pair, written.0, text)?;
+    let mut known = Known::new(alloc);
+    let written =
+        or_drop!(write_bare(alloc, spec, bare, budget, pair, tally, &mut known, text); known);
+    or_drop!(write_keys_after(alloc, spec, budget, pair, written.0, &mut known, text); known);
+    drop(known);
     Ok(written.1)
 }
 

@@ -6,6 +6,6 @@ use Rattle.suggest.proofs.answering.pair_answer.Goals as goal
 pub returns : goal.returns
 returns c = record {
   pair_is = refl;
-  bare_found = subst (λ (s : Specification). IsFoundIn s c.args.budget c.args.pair.first c.args.pair.second c.in_ok-found.found) c.requires.bare c.in_ok-found.ensures.found;
-  keys = c.in-Ok.ensures;
+  bare_found = subst (λ (s : Specification). IsFoundIn s c.args.budget c.args.pair.first c.args.pair.second c.in-Ok.value) c.requires.bare c.in-Ok.ensures.found;
+  keys = c.in-Ok-keys_for.ensures;
 }
