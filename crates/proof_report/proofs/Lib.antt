@@ -7,3 +7,4 @@ pub mod FewElements
 pub mod States
 pub mod Kept
 pub mod Answering
+pub mod ResolveLines

@@ -4,3 +4,4 @@ pub mod Texts
 pub mod Feeding
 pub mod Gathering
 pub mod Reader
+pub mod Resolving

@@ -1,15 +1,17 @@
 // A reader of a report, line by line.
 
-ghost use Rattle.std.specs.Prelude.{◌≡◌, ◌<◌, IfOk, None};
+ghost use Rattle.std.specs.Prelude.{◌≡◌, ◌<◌, IfOk, IfSome, IfNone, None, Ok};
 ghost use Rattle.proof_report.specs.declared.place.Place.TheVariants.{Log};
 ghost use Rattle.proof_report.specs.Feeding.{start};
 ghost use Rattle.proof_report.specs.Reader.{IsAnswered, IsFinished, first_reader, stated};
+ghost use Rattle.proof_report.specs.Resolving.{resolve_told};
 
 use crate::feeding::{Refusal, step};
 use crate::kind::{Fault, ReportKind, ReportRefused};
 use crate::moving::{log_end, one_less};
 use crate::place::{LogOf, Place, State};
 use crate::reading::{drops, log_line};
+use crate::resolving::{ResolveLine, count_down, resolve_line};
 use crate::verdict::Fed;
 use items::Items;
 use obligation_list::{Obligation, list};
@@ -137,6 +139,28 @@ impl<'a> ReportReader<'a> {
                 Err(ReportRefused::Line { number, kind })
             }
         }
+    }
+
+    /// Takes the next line where it resolves two clauses and isn't the last one of its log. What it says is told without all that
+    /// other lines may tell, so each such line costs little. None says nothing of the line, which isn't taken then.
+    pub fn feed_resolve(&mut self, text: &[u8]) -> Option<ResolveLine>
+        ensures some { IfSome result (λ line. IsAnswered self.old text.now self.new (Ok (resolve_told line))) }
+        ensures none { IfNone result (self.new ≡ self.old) }
+    {
+        if let Some(_) = self.fault {
+            return None;
+        }
+        if self.number == u32::MAX {
+            return None;
+        }
+        let Ok(line) = resolve_line(text) else {
+            return None;
+        };
+        if !count_down(&mut self.state.place) {
+            return None;
+        }
+        self.number += 1;
+        Some(line)
     }
 
     /// Takes the next line, without its line feed, and tells what it says. The first fault of the lines so far is answered, and

@@ -2,10 +2,9 @@
 ghost use Rattle.std.specs.Prelude.{◌≡◌, suc, Some, IfOk, OnOk, slice_get};
 ghost use Rattle.std.specs.List.{Contains};
 ghost use Rattle.obligation_list.specs.Obligations.{IsObligation, obligations_of};
-ghost use Rattle.proof_kernel.specs.Rules.{next};
 ghost use Rattle.proof_report.specs.Events.{told};
 ghost use Rattle.report_verifier.specs.Rules.{or_else};
-ghost use Rattle.report_verifier.specs.Verifier.{no_judgement, has_log, begun, begun_in, logged, after_line};
+ghost use Rattle.report_verifier.specs.Verifier.{no_judgement, has_log, begun, begun_in, logged};
 ghost use Rattle.report_verifier.specs.Taking.{end_fault_of, ended_as, with_ended_as, taken_as};
 
 use crate::ending::end_fault;
@@ -19,7 +18,6 @@ use report_lines::head::Tally;
 use report_lines::verdict::VerdictWord;
 use spec_core::Spec;
 use std::alloc::{AllocError, Global};
-use std::mem;
 
 /// How many verdicts of each kind there are; of the last one its line, whether its obligation has too many formulas, the kernel after
 /// the lines of its log so far, and how many these are; and the first fault of a verdict. There is no kernel outside a log, where there
@@ -146,21 +144,19 @@ fn begin(
     begin_on(alloc, spec, ob, number, has_log(word), judgement)
 }
 
-// A line is taken by the kernel.
-fn take_line(
-    number: u32,
-    line: &Line,
-    kernel: Kernel,
-    judgement: &mut Judgement,
-) -> Result<(), AllocError>
-    ensures { OnOk result (judgement.new ≡ after_line number judgement.old (next kernel line.now)) }
+// A line of a log. The kernel takes it where it stands, since to move a kernel is dearer than most lines.
+pub fn log_line(number: u32, line: &Line, judgement: &mut Judgement) -> Result<(), AllocError>
+    ensures { OnOk result (judgement.new ≡ logged number (Some line.now) judgement.old) }
 {
     let Some(log) = judgement.log.checked_add(1) else {
         return Err(AllocError);
     };
-    let mut kernel = kernel;
+    judgement.log = log;
+    let Some(kernel) = &mut judgement.kernel else {
+        return Ok(());
+    };
     match kernel.add(line) {
-        Ok(()) => judgement.kernel = Some(kernel),
+        Ok(()) => Ok(()),
         Err(LineRefused::Bad(why)) => {
             judgement.kernel = None;
             let fault = Fault {
@@ -168,26 +164,9 @@ fn take_line(
                 kind: kind_of(why),
             };
             judgement.fault = or_else(judgement.fault, Some(fault));
-        }
-        Err(LineRefused::Memory) => return Err(AllocError),
-    }
-    judgement.log = log;
-    Ok(())
-}
-
-// A line of a log.
-fn log_line(number: u32, line: &Line, judgement: &mut Judgement) -> Result<(), AllocError>
-    ensures { OnOk result (judgement.new ≡ logged number (Some line.now) judgement.old) }
-{
-    match mem::replace(&mut judgement.kernel, None) {
-        Some(kernel) => take_line(number, line, kernel, judgement),
-        None => {
-            let Some(log) = judgement.log.checked_add(1) else {
-                return Err(AllocError);
-            };
-            judgement.log = log;
             Ok(())
         }
+        Err(LineRefused::Memory) => Err(AllocError),
     }
 }
 

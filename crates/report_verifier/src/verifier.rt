@@ -1,14 +1,16 @@
 // A verifier of a report, line by line.
 ghost use Rattle.std.specs.Prelude.{◌≡◌, ◌≤◌, IfOk, IsErr, true, false};
+ghost use Rattle.proof_report.specs.Resolving.{resolve_told};
 ghost use Rattle.report_text.specs.Collecting.{budget_in};
 ghost use Rattle.report_verifier.specs.Taking.{IsTold};
 ghost use Rattle.report_verifier.specs.Verifier.{first_verifier, IsTaken, IsFinished, IsCutOff, IsJudgement, IsMissing, clauses_in, most_kept};
 
-use crate::judgement::{Judgement, no_judgement, take};
+use crate::judgement::{Judgement, log_line, no_judgement, take};
 use crate::refused::VerifyRefused;
 use items::Items;
 use obligation_list::{Obligation, list};
-use proof_report::{Fed, ReportKind, ReportReader, ReportRefused};
+use proof_lines::Line;
+use proof_report::{Fed, ReportKind, ReportReader, ReportRefused, ResolveLine};
 use report_lines::head::Tally;
 use spec_core::Spec;
 use std::alloc::{AllocError, Global};
@@ -107,9 +109,42 @@ impl<'a> Verifier<'a> {
         }
     }
 
+    // Takes a line that resolves two clauses, of which the reader has told.
+    fn take_resolve(&mut self, line: ResolveLine) -> Result<(), AllocError>
+        requires { self.old.failed ≡ false }
+        ensures { IsTold self.old (resolve_told line) self.new result }
+    {
+        let line = Line::Resolve {
+            left: line.left,
+            right: line.right,
+            pivot: line.pivot,
+        };
+        match log_line(self.reader.taken(), &line, &mut self.judgement) {
+            Ok(()) => Ok(()),
+            Err(error) => {
+                self.judgement = no_judgement();
+                self.failed = true;
+                Err(error)
+            }
+        }
+    }
+
     /// Takes the next line, without its line feed. What is wrong with it is answered at the end. After a refusal, which is for want of
     /// memory, each later line is refused too.
     pub fn feed(&mut self, text: &[u8]) -> Result<(), AllocError>
+        ensures { IsTaken self.old text.now self.new result }
+    {
+        if self.failed {
+            return Err(AllocError);
+        }
+        match self.reader.feed_resolve(text) {
+            Some(line) => self.take_resolve(line),
+            None => self.feed_any(text),
+        }
+    }
+
+    // The same, of a line of any kind.
+    fn feed_any(&mut self, text: &[u8]) -> Result<(), AllocError>
         ensures { IsTaken self.old text.now self.new result }
     {
         if self.failed {

@@ -1,0 +1,18 @@
+use Rattle.std.proofs.Common.{sym, refl}
+use Rattle.proof_report.specs.Resolving.{resolve_told}
+use Rattle.report_text.specs.Collecting.{budget_in}
+use Rattle.report_verifier.proofs.Within.{told_so, within_so}
+use Rattle.report_verifier.proofs.verifier.Verifier.take_resolve.Goals as goal
+
+pub invariant_of-self : goal.invariant_of-self
+invariant_of-self c = (
+  c.self.invariant.0,
+  c.self.invariant.1,
+  c.self.invariant.2,
+  within_so c.self.inside.spec.now c.self.inside.judgement c.log_line.new.judgement (resolve_told c.args.line) (budget_in c.self.inside.reader.budget) c.taken.result c.self.invariant.3 c.in-Ok.ensures,
+)
+
+pub returns-in-Ok : goal.returns-in-Ok
+returns-in-Ok c =
+    told_so c.args.self.now c.self.inside.spec.now c.self.inside.reader c.self.inside.judgement c.log_line.new.judgement c.self.inside.failed (resolve_told c.args.line) (budget_in c.self.inside.reader.budget) c.taken.result
+    (sym c.self.view_is) c.self.invariant.1 c.requires refl c.taken.ensures c.in-Ok.ensures
