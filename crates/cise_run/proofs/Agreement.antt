@@ -22,7 +22,7 @@ use Rattle.cise_run.specs.declared.words.Job.TheVariants.{OfSpec, Sample}
 use Rattle.cise_run.specs.Words.{is_job, job_of}
 use Rattle.cise_run.specs.commands.Verify.{status_said, text_said, IsVerdict}
 use Rattle.cise_run.specs.commands.Upgrade.{IsUpgraded}
-use Rattle.cise_run.specs.Answer.{IsOutcome, IsAnswerOf, IsAnswerFor, IsAnswerTo, IsAnswer, AgreeOf, Agree}
+use Rattle.cise_run.specs.Answer.{IsOutcome, IsAnswerOf, IsAnswer, AgreeOf, Agree}
 use Rattle.cise_run.proofs.Laws.{TypesWell}
 use Rattle.report_upgrader.proofs.Accepted.{one_upgraded}
 use Rattle.cise_run.proofs.Reports.{is_specification-read}
@@ -140,21 +140,17 @@ tasks_agree task bytes more s t x y well only (inr (tree, d, read, done)) (inr (
     outcomes_agree task tree d more s t x y only (is_specification-read bytes tree d well read) done (subst (λ (f : Specification). IsOutcome task tree f more t y) same at_tree)
 
 -- two answers to a job
-answers_agree : (job : Job) (bytes more : List ℕ) (s t : ℕ) (x y : List ℕ) → TypesWell → SaysOne → OfSamples → is_job job ≡ true
-    → IsAnswerFor job bytes more s x → IsAnswerFor job bytes more t y → Agree (Some job) s x t y
-answers_agree (OfSpec task) bytes more s t x y well only samples j a b = tasks_agree task bytes more s t x y well only a b
-answers_agree (Sample n) bytes more s t x y well only samples j a b = (a, b, samples_agree n s t x y samples j a b)
-
 told_agree : (job : Option Job) (spec extra : List ℕ) (s t : ℕ) (x y : List ℕ) → TypesWell → SaysOne → OfSamples → IfSome job (λ j. is_job j ≡ true)
-    → IsAnswerTo job (Some spec) (Some extra) s x → IsAnswerTo job (Some spec) (Some extra) t y → Agree job s x t y
+    → IsAnswer job (Some spec) (Some extra) s x → IsAnswer job (Some spec) (Some extra) t y → Agree job s x t y
 told_agree None spec extra s t x y well only samples j a b = one_of_two s t x y _ _ a.0 a.1 b.0 b.1
-told_agree (Some job) spec extra s t x y well only samples j (bytes, more, told, also, a) (others, rest, as_well, too, b) =
-    let A = subst (λ bs. IsAnswerFor job bs more s x) (sym told) a in
-    let B = subst (λ bs. IsAnswerFor job bs rest t y) (sym as_well) b in
-    answers_agree job spec extra s t x y well only samples j (subst (λ bs. IsAnswerFor job spec bs s x) (sym also) A) (subst (λ bs. IsAnswerFor job spec bs t y) (sym too) B)
+told_agree (Some (Sample n)) spec extra s t x y well only samples j a b = (a, b, samples_agree n s t x y samples j a b)
+told_agree (Some (OfSpec task)) spec extra s t x y well only samples j (bytes, more, told, also, a) (others, rest, as_well, too, b) =
+    let A = subst (λ bs. IsAnswerOf task bs more s x) (sym told) a in
+    let B = subst (λ bs. IsAnswerOf task bs rest t y) (sym as_well) b in
+    tasks_agree task spec extra s t x y well only (subst (λ bs. IsAnswerOf task spec bs s x) (sym also) A) (subst (λ bs. IsAnswerOf task spec bs t y) (sym too) B)
 
 pub answers_to_one_agree : (words : List (List ℕ)) (spec extra : List ℕ) (status other_status : ℕ) (text other_text : List ℕ) → TypesWell → SaysOne → OfSamples
-    → IsAnswer words (Some spec) (Some extra) status text → IsAnswer words (Some spec) (Some extra) other_status other_text
+    → IsAnswer (job_of words) (Some spec) (Some extra) status text → IsAnswer (job_of words) (Some spec) (Some extra) other_status other_text
     → Agree (job_of words) status text other_status other_text
 answers_to_one_agree words spec extra status other_status text other_text well only samples a b =
     told_agree (job_of words) spec extra status other_status text other_text well only samples (is_job-job_of words) a b

@@ -30,7 +30,7 @@ use Rattle.cise_run.specs.declared.words.Job.{Job}
 use Rattle.cise_run.specs.declared.words.Job.TheVariants.{OfSpec, Sample}
 use Rattle.cise_run.specs.commands.Verify.{status_said}
 use Rattle.cise_run.specs.commands.Suggest.{status_by}
-use Rattle.cise_run.specs.Answer.{IsOutcome, IsAnswerOf, IsAnswerTo}
+use Rattle.cise_run.specs.Answer.{IsOutcome, IsAnswerOf, IsAnswer}
 use Rattle.cise_run.specs.Headline.{is_outcome, is_memory, may_end_of, TellsSpecification, IsComplete}
 use Rattle.cise_run.proofs.Outcomes.{is_outcome-status_of}
 use Rattle.cise_run.proofs.Upgrades.{as_verdict}
@@ -111,7 +111,7 @@ answer_ends : (task : Task) (bytes more : List ℕ) (status : ℕ) (text : List 
 answer_ends task bytes more status text d is (inl (why, r, one)) = absurd (refused_or_specified bytes d why is r)
 answer_ends task bytes more status text d is (inr (tree, e, read, done)) = outcome_ends task tree e more status text done
 
-told_answer_ends : (task : Task) (told extra : Option (List ℕ)) (status : ℕ) (text : List ℕ) → TellsSpecification told → IsAnswerTo (Some (OfSpec task)) told extra status text → may_end_of task status ≡ true
+told_answer_ends : (task : Task) (told extra : Option (List ℕ)) (status : ℕ) (text : List ℕ) → TellsSpecification told → IsAnswer (Some (OfSpec task)) told extra status text → may_end_of task status ≡ true
 told_answer_ends task None extra status text (bytes, d, e, is) a = absurd cc
 told_answer_ends task (Some some) extra status text (bytes, d, e, is) (given, more, told, also, a) =
     let same : some ≡ bytes = cc e in
@@ -133,10 +133,10 @@ memory_ends Spell = refl
 below_or_memory : (status : ℕ) → status < 9 → (status ≡ 6 → ⊥) → (status ≡ 7 → ⊥) → (status < 6) ⊎ (status ≡ 8)
 below_or_memory status known not_six not_seven = grind arith
 
-job_ends : (job : Option Job) (told extra : Option (List ℕ)) (status : ℕ) (text : List ℕ) → IsAnswerTo job told extra status text → IsComplete job told status
+job_ends : (job : Option Job) (told extra : Option (List ℕ)) (status : ℕ) (text : List ℕ) → IsAnswer job told extra status text → IsComplete job told status
 job_ends None told extra status text a = tt
 job_ends (Some (OfSpec task)) told extra status text a = λ tells. told_answer_ends task told extra status text tells a
-job_ends (Some (Sample n)) told extra status text (bytes, more, given, also, a) = subst (λ s. is_outcome s || is_memory s ≡ true) (sym a.status_is) (outcome_or (outcome_of a.tally) _)
+job_ends (Some (Sample n)) told extra status text a = subst (λ s. is_outcome s || is_memory s ≡ true) (sym a.status_is) (outcome_or (outcome_of a.tally) _)
 
 job_out : (job : Option Job) (told : Option (List ℕ)) → IsComplete job told 8
 job_out None told = tt
@@ -144,7 +144,7 @@ job_out (Some (OfSpec task)) told = λ tells. memory_ends task
 job_out (Some (Sample n)) told = refl
 
 pub IsComplete-run : (job : Option Job) (told extra : Option (List ℕ)) (status : ℕ) → status < 9 → (status ≡ 6 → ⊥) → (status ≡ 7 → ⊥)
-    → (status < 6 → (text : List ℕ) × IsAnswerTo job told extra status text) → IsComplete job told status
+    → (status < 6 → (text : List ℕ) × IsAnswer job told extra status text) → IsComplete job told status
 IsComplete-run job told extra status known not_six not_seven answered = elim (below_or_memory status known not_six not_seven) [
   | inl below ↦ job_ends job told extra status (answered below).0 (answered below).1
   | inr memory ↦ subst (IsComplete job told) (sym memory) (job_out job told)

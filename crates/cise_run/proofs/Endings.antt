@@ -2,7 +2,6 @@
 use Rattle.std.proofs.Common.{◌≡◌, ℕ, List, Option, Some, sym, subst}
 use Rattle.byte_ports.specs.Ending.{Ends}
 use Rattle.byte_ports.proofs.Endings.{Ends-map}
-use Rattle.byte_ports.proofs.Sources.{some_told}
 use Rattle.spec_core.specs.Specification.{Specification}
 use Rattle.spec_reader.specs.Form.{TreeForm}
 use Rattle.cise_run.specs.declared.words.Task.{Task}
@@ -10,14 +9,14 @@ use Rattle.cise_run.specs.declared.words.Job.{Job}
 use Rattle.cise_run.specs.declared.words.Job.TheVariants.{Sample}
 use Rattle.cise_run.specs.commands.Sample.{IsSampled, IsSampleFront}
 use Rattle.cise_run.specs.Words.{IsInputFault}
-use Rattle.cise_run.specs.Answer.{IsOutcome, IsOutcomeFront, IsAnswerTo, IsFrontTo}
+use Rattle.cise_run.specs.Answer.{IsOutcome, IsOutcomeFront, IsAnswer, IsAnswerFront}
 
 -- the ending of a job is that of the words that ask for it
 pub Ends-asked : (job : Job) (asked : Option Job) (spec extra : Option (List ℕ)) (status : ℕ) (before after : Option (List ℕ)) (m n : ℕ) → Some job ≡ asked
-    → Ends (IsAnswerTo (Some job) spec extra) (IsFrontTo (Some job) spec extra) status before after m n
-    → Ends (IsAnswerTo asked spec extra) (IsFrontTo asked spec extra) status before after m n
+    → Ends (IsAnswer (Some job) spec extra) (IsAnswerFront (Some job) spec extra) status before after m n
+    → Ends (IsAnswer asked spec extra) (IsAnswerFront asked spec extra) status before after m n
 Ends-asked job asked spec extra status before after m n e x =
-    subst (λ (j : Option Job). Ends (IsAnswerTo j spec extra) (IsFrontTo j spec extra) status before after m n) e x
+    subst (λ (j : Option Job). Ends (IsAnswer j spec extra) (IsAnswerFront j spec extra) status before after m n) e x
 
 -- the ending of a task that is known
 pub Ends-task : (task other : Task) (tree : TreeForm) (d : Specification) (more : List ℕ) (status : ℕ) (before after : Option (List ℕ)) (m n : ℕ) → task ≡ other
@@ -29,12 +28,11 @@ Ends-task task other tree d more status before after m n e x =
 -- the ending of a sample is that of the words that ask for it
 pub Ends-sample : (k : ℕ) (asked : Option Job) (spec extra : Option (List ℕ)) (status : ℕ) (before after : Option (List ℕ)) (m n : ℕ) → Some (Sample k) ≡ asked
     → Ends (IsSampled k) (IsSampleFront k) status before after m n
-    → Ends (IsAnswerTo asked spec extra) (IsFrontTo asked spec extra) status before after m n
+    → Ends (IsAnswer asked spec extra) (IsAnswerFront asked spec extra) status before after m n
 Ends-sample k asked spec extra status before after m n e x =
-    let s = some_told spec in let t = some_told extra in
     Ends-asked (Sample k) asked spec extra status before after m n e
-    (Ends-map (IsSampled k) (IsAnswerTo (Some (Sample k)) spec extra) (IsSampleFront k) (IsFrontTo (Some (Sample k)) spec extra) status before after m n
-    (λ u v a. (s.0, t.0, s.1, t.1, a)) (λ front a. (s.0, t.0, s.1, t.1, a)) x)
+    (Ends-map (IsSampled k) (IsAnswer (Some (Sample k)) spec extra) (IsSampleFront k) (IsAnswerFront (Some (Sample k)) spec extra) status before after m n
+    (λ u v a. a) (λ front a. a) x)
 
 -- a fault of an input of a job is one of the words that ask for it
 pub IsInputFault-asked : (job : Job) (asked : Option Job) (a b c d : ℕ) → Some job ≡ asked → IsInputFault (Some job) a b c d → IsInputFault asked a b c d

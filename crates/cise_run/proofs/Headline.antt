@@ -17,8 +17,8 @@ use Rattle.cise_run.specs.declared.words.Task.TheVariants.{Check, Verify, Upgrad
 use Rattle.cise_run.specs.declared.words.Job.{Job}
 use Rattle.cise_run.specs.declared.words.Job.TheVariants.{OfSpec, Sample}
 use Rattle.report_lines.specs.Heads.{most_budget}
-use Rattle.cise_run.specs.Words.{is_within, is_task, is_job, job_of, judges, is_judging, is_replay, is_simulation}
-use Rattle.cise_run.specs.Answer.{IsOutcome, IsAnswerOf, IsAnswerTo, IsAnswer}
+use Rattle.cise_run.specs.Words.{is_within, is_task, is_job, job_of, judges, is_judging}
+use Rattle.cise_run.specs.Answer.{IsOutcome, IsAnswerOf, IsAnswer}
 use Rattle.cise_run.specs.Headline.{IsProved, is_outcome, IsRefutedRightly, RefutesOf, Refutes, IsReplayedSafely, IsSimulatedSafely}
 use Rattle.cise_run.proofs.Laws.{TypesWell, OfChecks, OfReports}
 use Rattle.cise_run.proofs.Jobs.{is_job-job_of}
@@ -52,14 +52,14 @@ proved_task task bytes more text well checks reports j (inl (why, is, one)) = ab
 proved_task task bytes more text well checks reports j (inr (tree, d, read, done)) =
     IsProved-safe bytes tree d read (safe_outcome task tree d more text checks reports j (is_specification-read bytes tree d well read) done)
 
-proved_told : (job : Option Job) (told extra : Option (List ℕ)) (text : List ℕ) → TypesWell → OfChecks → OfReports → judges job ≡ true → IsAnswerTo job told extra 0 text → IfSome told IsProved
+proved_told : (job : Option Job) (told extra : Option (List ℕ)) (text : List ℕ) → TypesWell → OfChecks → OfReports → judges job ≡ true → IsAnswer job told extra 0 text → IfSome told IsProved
 proved_told job None extra text well checks reports j a = tt
 proved_told None (Some bytes) extra text well checks reports j a = absurd cc
 proved_told (Some (Sample n)) (Some bytes) extra text well checks reports j a = absurd cc
 proved_told (Some (OfSpec task)) (Some bytes) extra text well checks reports j (given, more, told, also, a) =
     subst IsProved (sym told) (proved_task task given more text well checks reports j a)
 
-pub IsProved-zero : (words : List (List ℕ)) (told extra : Option (List ℕ)) (text : List ℕ) → TypesWell → OfChecks → OfReports → judges (job_of words) ≡ true → IsAnswer words told extra 0 text
+pub IsProved-zero : (words : List (List ℕ)) (told extra : Option (List ℕ)) (text : List ℕ) → TypesWell → OfChecks → OfReports → judges (job_of words) ≡ true → IsAnswer (job_of words) told extra 0 text
     → IfSome told IsProved
 IsProved-zero words told extra text well checks reports j a = proved_told (job_of words) told extra text well checks reports j a
 
@@ -88,7 +88,7 @@ refutes_written bytes more status text reports o (inr (tree, d, read, inl u)) = 
 refutes_written bytes more status text reports o (inr (tree, d, read, inr (four, v))) = absurd (not_four status o four)
 
 refutes_told : (task : Task) (told extra : Option (List ℕ)) (status : ℕ) (text : List ℕ) (before after : Option (List ℕ)) → TypesWell → OfChecks → OfReports → is_task task ≡ true → is_outcome status ≡ true
-    → IsAnswerTo (Some (OfSpec task)) told extra status text → Appends before after text → RefutesOf task told extra before after
+    → IsAnswer (Some (OfSpec task)) told extra status text → Appends before after text → RefutesOf task told extra before after
 refutes_told (Check budget) None extra status text before after well checks reports t o a w = tt
 refutes_told (Check budget) (Some bytes) extra status text before after well checks reports t o (given, more, told, also, a) w =
     (text, w, subst (λ bs. IsRefutedRightly bs text) (sym told) (refutes_checked given more budget status text well checks t o a))
@@ -109,13 +109,13 @@ refutes_told Suggest told extra status text before after well checks reports t o
 refutes_told Spell told extra status text before after well checks reports t o a w = tt
 
 refutes_job : (job : Option Job) (told extra : Option (List ℕ)) (status : ℕ) (text : List ℕ) (before after : Option (List ℕ)) → TypesWell → OfChecks → OfReports → IfSome job (λ j. is_job j ≡ true)
-    → is_outcome status ≡ true → IsAnswerTo job told extra status text → Appends before after text → Refutes job told extra before after
+    → is_outcome status ≡ true → IsAnswer job told extra status text → Appends before after text → Refutes job told extra before after
 refutes_job None told extra status text before after well checks reports j o a w = tt
 refutes_job (Some (OfSpec task)) told extra status text before after well checks reports j o a w = refutes_told task told extra status text before after well checks reports j o a w
 refutes_job (Some (Sample n)) told extra status text before after well checks reports j o a w = tt
 
 pub Refutes-answer : (words : List (List ℕ)) (told extra : Option (List ℕ)) (status : ℕ) (text : List ℕ) (before after : Option (List ℕ)) → TypesWell → OfChecks → OfReports → is_outcome status ≡ true
-    → IsAnswer words told extra status text → Appends before after text → Refutes (job_of words) told extra before after
+    → IsAnswer (job_of words) told extra status text → Appends before after text → Refutes (job_of words) told extra before after
 Refutes-answer words told extra status text before after well checks reports o a w = refutes_job (job_of words) told extra status text before after well checks reports (is_job-job_of words) o a w
 
 -- ---- a replay
@@ -127,31 +127,28 @@ broken_replay bytes more text d is safe (inr (tree, e, read, done)) =
     let status = done.status_is in
     safe_status d safe more (sym (subst (λ (f : Specification). 1 ≡ schedule_status f more) same status))
 
-told_replay : (bytes : List ℕ) (extra : Option (List ℕ)) (text : List ℕ) (d : Specification) → IsSpecificationOf bytes d → Safe d → IsAnswerTo (Some (OfSpec Replay)) (Some bytes) extra 1 text → ⊥
+told_replay : (bytes : List ℕ) (extra : Option (List ℕ)) (text : List ℕ) (d : Specification) → IsSpecificationOf bytes d → Safe d → IsAnswer (Some (OfSpec Replay)) (Some bytes) extra 1 text → ⊥
 told_replay bytes extra text d is safe (given, more, told, also, a) =
     broken_replay bytes more text d is safe (subst (λ bs. IsAnswerOf Replay bs more 1 text) (sym told) a)
 
 replayed_told : (bytes : List ℕ) (extra : Option (List ℕ)) (status : ℕ)
-    → (status < 6 → (text : List ℕ) × IsAnswerTo (Some (OfSpec Replay)) (Some bytes) extra status text) → IsReplayedSafely bytes extra status
+    → (status < 6 → (text : List ℕ) × IsAnswer (Some (OfSpec Replay)) (Some bytes) extra status text) → IsReplayedSafely bytes extra status
 replayed_told bytes extra status a = record {
   unbroken = λ d is safe e. let at = a (omega (arith, e)) in
-      told_replay bytes extra at.0 d is safe (subst (λ n. IsAnswerTo (Some (OfSpec Replay)) (Some bytes) extra n at.0) e at.1);
+      told_replay bytes extra at.0 d is safe (subst (λ n. IsAnswer (Some (OfSpec Replay)) (Some bytes) extra n at.0) e at.1);
   alike = λ d more s is safe told e. (schedule_safely d safe more s e).alike;
 }
 
+replays_told : (told extra : Option (List ℕ)) (status : ℕ)
+    → (status < 6 → (text : List ℕ) × IsAnswer (Some (OfSpec Replay)) told extra status text) → IfSome told (λ bytes. IsReplayedSafely bytes extra status)
+replays_told None extra status a = tt
+replays_told (Some bytes) extra status a = replayed_told bytes extra status a
+
 -- a replay of a safe specification
-pub replayed_safely : (job : Option Job) (told extra : Option (List ℕ)) (status : ℕ) → is_replay job ≡ true
-    → (status < 6 → (text : List ℕ) × IsAnswerTo job told extra status text) → IfSome told (λ bytes. IsReplayedSafely bytes extra status)
-replayed_safely job None extra status c a = tt
-replayed_safely None (Some bytes) extra status c a = absurd (cc c)
-replayed_safely (Some (Sample n)) (Some bytes) extra status c a = absurd (cc c)
-replayed_safely (Some (OfSpec Spell)) (Some bytes) extra status c a = absurd (cc c)
-replayed_safely (Some (OfSpec (Check budget))) (Some bytes) extra status c a = absurd (cc c)
-replayed_safely (Some (OfSpec Verify)) (Some bytes) extra status c a = absurd (cc c)
-replayed_safely (Some (OfSpec Upgrade)) (Some bytes) extra status c a = absurd (cc c)
-replayed_safely (Some (OfSpec Simulate)) (Some bytes) extra status c a = absurd (cc c)
-replayed_safely (Some (OfSpec Suggest)) (Some bytes) extra status c a = absurd (cc c)
-replayed_safely (Some (OfSpec Replay)) (Some bytes) extra status c a = replayed_told bytes extra status a
+pub replayed_safely : (job : Option Job) (told extra : Option (List ℕ)) (status : ℕ) → job ≡ Some (OfSpec Replay)
+    → (status < 6 → (text : List ℕ) × IsAnswer job told extra status text) → IfSome told (λ bytes. IsReplayedSafely bytes extra status)
+replayed_safely job told extra status e a =
+    replays_told told extra status (λ below. let x = a below in (x.0, subst (λ (j : Option Job). IsAnswer j told extra status x.0) e x.1))
 
 -- ---- a simulation
 
@@ -162,28 +159,25 @@ broken_simulation bytes more text d is safe (inr (tree, e, read, done)) =
     let status = done.status_is in
     safe_simulation d safe more (sym (subst (λ (f : Specification). 1 ≡ simulated_status f more) same status))
 
-told_simulation : (bytes : List ℕ) (extra : Option (List ℕ)) (text : List ℕ) (d : Specification) → IsSpecificationOf bytes d → Safe d → IsAnswerTo (Some (OfSpec Simulate)) (Some bytes) extra 1 text → ⊥
+told_simulation : (bytes : List ℕ) (extra : Option (List ℕ)) (text : List ℕ) (d : Specification) → IsSpecificationOf bytes d → Safe d → IsAnswer (Some (OfSpec Simulate)) (Some bytes) extra 1 text → ⊥
 told_simulation bytes extra text d is safe (given, more, told, also, a) =
     broken_simulation bytes more text d is safe (subst (λ bs. IsAnswerOf Simulate bs more 1 text) (sym told) a)
 
 simulated_told : (bytes : List ℕ) (extra : Option (List ℕ)) (status : ℕ)
-    → (status < 6 → (text : List ℕ) × IsAnswerTo (Some (OfSpec Simulate)) (Some bytes) extra status text) → IsSimulatedSafely bytes extra status
+    → (status < 6 → (text : List ℕ) × IsAnswer (Some (OfSpec Simulate)) (Some bytes) extra status text) → IsSimulatedSafely bytes extra status
 simulated_told bytes extra status a = record {
   unbroken = λ d is safe e. let at = a (omega (arith, e)) in
-      told_simulation bytes extra at.0 d is safe (subst (λ n. IsAnswerTo (Some (OfSpec Simulate)) (Some bytes) extra n at.0) e at.1);
+      told_simulation bytes extra at.0 d is safe (subst (λ n. IsAnswer (Some (OfSpec Simulate)) (Some bytes) extra n at.0) e at.1);
   alike = λ d more s is safe told e. (simulated_safely_alike d safe more s e).alike;
 }
 
+simulates_told : (told extra : Option (List ℕ)) (status : ℕ)
+    → (status < 6 → (text : List ℕ) × IsAnswer (Some (OfSpec Simulate)) told extra status text) → IfSome told (λ bytes. IsSimulatedSafely bytes extra status)
+simulates_told None extra status a = tt
+simulates_told (Some bytes) extra status a = simulated_told bytes extra status a
+
 -- a simulation of a safe specification
-pub simulated_safely : (job : Option Job) (told extra : Option (List ℕ)) (status : ℕ) → is_simulation job ≡ true
-    → (status < 6 → (text : List ℕ) × IsAnswerTo job told extra status text) → IfSome told (λ bytes. IsSimulatedSafely bytes extra status)
-simulated_safely job None extra status c a = tt
-simulated_safely None (Some bytes) extra status c a = absurd (cc c)
-simulated_safely (Some (Sample n)) (Some bytes) extra status c a = absurd (cc c)
-simulated_safely (Some (OfSpec Spell)) (Some bytes) extra status c a = absurd (cc c)
-simulated_safely (Some (OfSpec (Check budget))) (Some bytes) extra status c a = absurd (cc c)
-simulated_safely (Some (OfSpec Verify)) (Some bytes) extra status c a = absurd (cc c)
-simulated_safely (Some (OfSpec Upgrade)) (Some bytes) extra status c a = absurd (cc c)
-simulated_safely (Some (OfSpec Replay)) (Some bytes) extra status c a = absurd (cc c)
-simulated_safely (Some (OfSpec Suggest)) (Some bytes) extra status c a = absurd (cc c)
-simulated_safely (Some (OfSpec Simulate)) (Some bytes) extra status c a = simulated_told bytes extra status a
+pub simulated_safely : (job : Option Job) (told extra : Option (List ℕ)) (status : ℕ) → job ≡ Some (OfSpec Simulate)
+    → (status < 6 → (text : List ℕ) × IsAnswer job told extra status text) → IfSome told (λ bytes. IsSimulatedSafely bytes extra status)
+simulated_safely job told extra status e a =
+    simulates_told told extra status (λ below. let x = a below in (x.0, subst (λ (j : Option Job). IsAnswer j told extra status x.0) e x.1))

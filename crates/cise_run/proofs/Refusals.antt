@@ -10,7 +10,7 @@ use Rattle.cise_run.specs.declared.words.Task.TheVariants.{Check, Verify, Upgrad
 use Rattle.cise_run.specs.declared.words.Job.{Job}
 use Rattle.cise_run.specs.declared.words.Job.TheVariants.{OfSpec, Sample}
 use Rattle.cise_run.specs.Words.{reads_spec}
-use Rattle.cise_run.specs.Answer.{IsAnswerOf, IsAnswerTo}
+use Rattle.cise_run.specs.Answer.{IsAnswerOf, IsAnswer}
 use Rattle.cise_run.specs.Headline.{may_end_of, IsLeastOf, RefusesRightly}
 use Rattle.cise_run.proofs.Complete.{outcome_ends}
 
@@ -41,7 +41,7 @@ refuses task bytes more text before after least a written =
     (r.0, r.1, subst (Appends before after) r.2 written, least_of bytes r.0 least r.1)
 
 pub refused_rightly : (job : Option Job) (told extra : Option (List ℕ)) (text : List ℕ) (before after : Option (List ℕ)) → IsLeastAlways → reads_spec job ≡ true
-    → IsAnswerTo job told extra 3 text → Appends before after text → RefusesRightly told before after
+    → IsAnswer job told extra 3 text → Appends before after text → RefusesRightly told before after
 refused_rightly job None extra text before after least reads a w = tt
 refused_rightly None (Some bytes) extra text before after least reads a w = absurd (cc reads)
 refused_rightly (Some (Sample n)) (Some bytes) extra text before after least reads a w = absurd (cc reads)

@@ -22,7 +22,7 @@ use Rattle.cise_run.specs.declared.words.Job.TheVariants.{OfSpec, Sample}
 use Rattle.cise_run.specs.Words.{is_within, is_task, is_job, job_of, is_reporting, writes_report}
 use Rattle.cise_run.specs.commands.Verify.{status_said, text_said, kind_word, IsVerdict}
 use Rattle.cise_run.specs.commands.Upgrade.{IsUpgraded, IsUpgradeFront}
-use Rattle.cise_run.specs.Answer.{IsFrontOfAnswer, IsFrontTo, IsStopped}
+use Rattle.cise_run.specs.Answer.{IsFrontOfAnswer, IsAnswerFront, IsStopped}
 use Rattle.cise_run.specs.Headline.{IsRefusalLine, IsRightFront, StopsRightly}
 use Rattle.cise_run.proofs.Laws.{TypesWell, OfChecks, OfReports}
 use Rattle.cise_run.proofs.Outcomes.{good_so_far_at}
@@ -82,14 +82,14 @@ front_task Suggest bytes more front well checks reports t w (inr (tree, d, read,
 front_task Spell bytes more front well checks reports t w (inr (tree, d, read, f)) = absurd (cc w)
 
 front_told : (job : Option Job) (bytes : List ℕ) (extra : Option (List ℕ)) (front : List ℕ) → TypesWell → OfChecks → OfReports → IfSome job (λ j. is_job j ≡ true) → writes_report job ≡ true
-    → IsFrontTo job (Some bytes) extra front → IsRightFront bytes front
+    → IsAnswerFront job (Some bytes) extra front → IsRightFront bytes front
 front_told None bytes extra front well checks reports j w f = absurd (cc w)
 front_told (Some (Sample n)) bytes extra front well checks reports j w f = absurd (cc w)
 front_told (Some (OfSpec task)) bytes extra front well checks reports j w (given, more, told, also, f) =
     subst (λ bs. IsRightFront bs front) (sym told) (front_task task given more front well checks reports j w f)
 
 pub stops_rightly : (words : List (List ℕ)) (told extra before after : Option (List ℕ)) → TypesWell → OfChecks → OfReports → writes_report (job_of words) ≡ true
-    → IsStopped words told extra before after → StopsRightly told before after
+    → IsStopped (job_of words) told extra before after → StopsRightly told before after
 stops_rightly words None extra before after well checks reports w s = tt
 stops_rightly words (Some bytes) extra before after well checks reports w s =
-    broken_map (IsFrontTo (job_of words) (Some bytes) extra) (IsRightFront bytes) before after (λ front f. front_told (job_of words) bytes extra front well checks reports (is_job-job_of words) w f) s
+    broken_map (IsAnswerFront (job_of words) (Some bytes) extra) (IsRightFront bytes) before after (λ front f. front_told (job_of words) bytes extra front well checks reports (is_job-job_of words) w f) s

@@ -8,10 +8,10 @@ use Rattle.suggest.specs.Pairs.{pairs_of}
 use Rattle.suggest.specs.Answers.{AreAnswers, counted, is_unknown}
 use Rattle.suggest.specs.Theorem.{IsRight}
 use Rattle.cise_run.specs.declared.words.Job.{Job}
-use Rattle.cise_run.specs.declared.words.Job.TheVariants.{OfSpec, Sample}
-use Rattle.cise_run.specs.declared.words.Task.TheVariants.{Check, Verify, Upgrade, Replay, Simulate, Suggest, Spell}
-use Rattle.cise_run.specs.Words.{is_suggestion, job_of}
-use Rattle.cise_run.specs.Answer.{IsAnswerOf, IsAnswerTo, IsAnswer}
+use Rattle.cise_run.specs.declared.words.Job.TheVariants.{OfSpec}
+use Rattle.cise_run.specs.declared.words.Task.TheVariants.{Suggest}
+use Rattle.cise_run.specs.Words.{job_of}
+use Rattle.cise_run.specs.Answer.{IsAnswerOf, IsAnswer}
 use Rattle.cise_run.specs.commands.Suggest.{suggest_budget, status_by, IsSuggested}
 use Rattle.cise_run.specs.Headline.{is_outcome, IsSuggestedRightly, SuggestsRightly}
 
@@ -44,20 +44,13 @@ suggested_of : (bytes more : List ℕ) (status : ℕ) (text : List ℕ) → OfSu
 suggested_of bytes more status text laws o (inl (why, is, one)) = absurd (not_three status o one.0)
 suggested_of bytes more status text laws o (inr (tree, d, read, s)) = right_suggested bytes d status text laws (tree, read) s
 
-suggested_told : (job : Option Job) (told extra : Option (List ℕ)) (status : ℕ) (text : List ℕ) (before after : Option (List ℕ)) → OfSuggestions → is_suggestion job ≡ true → is_outcome status ≡ true
-    → IsAnswerTo job told extra status text → Appends before after text → SuggestsRightly told status before after
-suggested_told job None extra status text before after laws j o a w = tt
-suggested_told None (Some bytes) extra status text before after laws j o a w = absurd (cc j)
-suggested_told (Some (Sample n)) (Some bytes) extra status text before after laws j o a w = absurd (cc j)
-suggested_told (Some (OfSpec (Check budget))) (Some bytes) extra status text before after laws j o a w = absurd (cc j)
-suggested_told (Some (OfSpec Verify)) (Some bytes) extra status text before after laws j o a w = absurd (cc j)
-suggested_told (Some (OfSpec Upgrade)) (Some bytes) extra status text before after laws j o a w = absurd (cc j)
-suggested_told (Some (OfSpec Replay)) (Some bytes) extra status text before after laws j o a w = absurd (cc j)
-suggested_told (Some (OfSpec Simulate)) (Some bytes) extra status text before after laws j o a w = absurd (cc j)
-suggested_told (Some (OfSpec Spell)) (Some bytes) extra status text before after laws j o a w = absurd (cc j)
-suggested_told (Some (OfSpec Suggest)) (Some bytes) extra status text before after laws j o (given, more, told, also, a) w =
+suggested_told : (told extra : Option (List ℕ)) (status : ℕ) (text : List ℕ) (before after : Option (List ℕ)) → OfSuggestions → is_outcome status ≡ true
+    → IsAnswer (Some (OfSpec Suggest)) told extra status text → Appends before after text → SuggestsRightly told status before after
+suggested_told None extra status text before after laws o a w = tt
+suggested_told (Some bytes) extra status text before after laws o (given, more, told, also, a) w =
     (text, w, subst (λ bs. IsSuggestedRightly bs text status) (sym told) (suggested_of given more status text laws o a))
 
-pub suggested_rightly : (words : List (List ℕ)) (told extra : Option (List ℕ)) (status : ℕ) (text : List ℕ) (before after : Option (List ℕ)) → OfSuggestions → is_suggestion (job_of words) ≡ true → is_outcome status ≡ true
-    → IsAnswer words told extra status text → Appends before after text → SuggestsRightly told status before after
-suggested_rightly words told extra status text before after laws j o a w = suggested_told (job_of words) told extra status text before after laws j o a w
+pub suggested_rightly : (words : List (List ℕ)) (told extra : Option (List ℕ)) (status : ℕ) (text : List ℕ) (before after : Option (List ℕ)) → OfSuggestions → job_of words ≡ Some (OfSpec Suggest) → is_outcome status ≡ true
+    → IsAnswer (job_of words) told extra status text → Appends before after text → SuggestsRightly told status before after
+suggested_rightly words told extra status text before after laws e o a w =
+    suggested_told told extra status text before after laws o (subst (λ (j : Option Job). IsAnswer j told extra status text) e a) w

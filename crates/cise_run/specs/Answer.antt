@@ -12,7 +12,6 @@ use Rattle.cise_run.specs.declared.words.Task.{Task}
 use Rattle.cise_run.specs.declared.words.Task.TheVariants.{Check, Verify, Upgrade, Replay, Simulate, Suggest, Spell}
 use Rattle.cise_run.specs.declared.words.Job.{Job}
 use Rattle.cise_run.specs.declared.words.Job.TheVariants.{OfSpec, Sample}
-use Rattle.cise_run.specs.Words.{job_of}
 use Rattle.cise_run.specs.commands.Check.{IsReport, IsReportFront}
 use Rattle.cise_run.specs.commands.Verify.{IsVerdict, IsVerdictFront}
 use Rattle.cise_run.specs.commands.Upgrade.{IsUpgraded, IsUpgradeFront}
@@ -58,29 +57,23 @@ ByReading Refused Read bytes =
 -- outcome of the task.
 abbrev pub IsAnswerOf : Task → List ℕ → List ℕ → ℕ → List ℕ → Type 0
 IsAnswerOf task bytes more status text =
-    ByReading (λ why. IsOne 3 (refusal_text why) status text) (λ tree d. IsOutcome task tree d more status text) bytes
+    ByReading (λ why. IsOne 3 (refusal_text why) status text)
+    (λ tree d. IsOutcome task tree d more status text) bytes
 
 -- what is left of it where it is stopped
 abbrev pub IsFrontOfAnswer : Task → List ℕ → List ℕ → List ℕ → Type 0
 IsFrontOfAnswer task bytes more front =
-    ByReading (λ why. IsFrontOf (refusal_text why) front) (λ tree d. IsOutcomeFront task tree d more front) bytes
-
--- The answer to a job, with the bytes of the two inputs. A sample reads neither.
-abbrev pub IsAnswerFor : Job → List ℕ → List ℕ → ℕ → List ℕ → Type 0
-IsAnswerFor (OfSpec task) bytes more status text = IsAnswerOf task bytes more status text
-IsAnswerFor (Sample n) bytes more status text = IsSampled n status text
-
--- what is left of the answer to a job where it is stopped
-abbrev pub IsFrontFor : Job → List ℕ → List ℕ → List ℕ → Type 0
-IsFrontFor (OfSpec task) bytes more front = IsFrontOfAnswer task bytes more front
-IsFrontFor (Sample n) bytes more front = IsSampleFront n front
+    ByReading (λ why. IsFrontOf (refusal_text why) front)
+    (λ tree d. IsOutcomeFront task tree d more front) bytes
 
 -- ---- the second input
 
 -- It ends so, with the bytes that the second source tells, where it tells them.
-abbrev pub EndsWith : Option (List ℕ) → (List ℕ → ℕ → List ℕ → Type 0) → (List ℕ → List ℕ → Type 0) → ℕ → Option (List ℕ) → Option (List ℕ) → ℕ → ℕ → Type 0
+abbrev pub EndsWith : Option (List ℕ) → (List ℕ → ℕ → List ℕ → Type 0) → (List ℕ → List ℕ → Type 0)
+    → ℕ → Option (List ℕ) → Option (List ℕ) → ℕ → ℕ → Type 0
 EndsWith told Whole Front status held_before held_after faults_before faults_after =
-    (more : List ℕ) × Tells told more × Ends (Whole more) (Front more) status held_before held_after faults_before faults_after
+    (more : List ℕ) × Tells told more
+    × Ends (Whole more) (Front more) status held_before held_after faults_before faults_after
 
 -- ---- the words
 
@@ -88,32 +81,36 @@ EndsWith told Whole Front status held_before held_after faults_before faults_aft
 abbrev pub words_text : List ℕ
 words_text = line (codes "refused" ∷ codes "words" ∷ [])
 
--- the answer to a job, from the bytes that its sources give, where they give them; or the refusal of words that aren't accepted
-abbrev pub IsAnswerTo : Option Job → Option (List ℕ) → Option (List ℕ) → ℕ → List ℕ → Type 0
-IsAnswerTo None spec extra status text = IsOne 2 words_text status text
-IsAnswerTo (Some job) spec extra status text =
-    (bytes : List ℕ) × (more : List ℕ) × Tells spec bytes × Tells extra more × IsAnswerFor job bytes more status text
-
--- what is left of that answer where it is stopped
-abbrev pub IsFrontTo : Option Job → Option (List ℕ) → Option (List ℕ) → List ℕ → Type 0
-IsFrontTo None spec extra front = IsFrontOf words_text front
-IsFrontTo (Some job) spec extra front =
-    (bytes : List ℕ) × (more : List ℕ) × Tells spec bytes × Tells extra more × IsFrontFor job bytes more front
-
 -- ---- the program
 
--- The answer of the program: a status and a text, for its words and for what its two sources tell, that of the specification first.
-abbrev pub IsAnswer : List (List ℕ) → Option (List ℕ) → Option (List ℕ) → ℕ → List ℕ → Type 0
-IsAnswer words spec extra status text = IsAnswerTo (job_of words) spec extra status text
+-- The answer to what the words ask for, from the bytes that the two sources give, where they give them, that of the specification first.
+-- Words that aren't accepted are refused, with status 2. A sample reads neither source.
+abbrev pub IsAnswer : Option Job → Option (List ℕ) → Option (List ℕ) → ℕ → List ℕ → Type 0
+IsAnswer None spec extra status text = IsOne 2 words_text status text
+IsAnswer (Some (Sample n)) spec extra status text = IsSampled n status text
+IsAnswer (Some (OfSpec task)) spec extra status text =
+    (bytes : List ℕ) × (more : List ℕ) × Tells spec bytes × Tells extra more
+    × IsAnswerOf task bytes more status text
+
+-- what is left of the answer where it is stopped
+abbrev pub IsAnswerFront : Option Job → Option (List ℕ) → Option (List ℕ) → List ℕ → Type 0
+IsAnswerFront None spec extra front = IsFrontOf words_text front
+IsAnswerFront (Some (Sample n)) spec extra front = IsSampleFront n front
+IsAnswerFront (Some (OfSpec task)) spec extra front =
+    (bytes : List ℕ) × (more : List ℕ) × Tells spec bytes × Tells extra more
+    × IsFrontOfAnswer task bytes more front
 
 -- the whole text of the answer was written
-abbrev pub IsAnswered : List (List ℕ) → Option (List ℕ) → Option (List ℕ) → ℕ → Option (List ℕ) → Option (List ℕ) → Type 0
-IsAnswered words spec extra status held_before held_after =
-    (text : List ℕ) × IsAnswer words spec extra status text × Appends held_before held_after text
+abbrev pub IsAnswered : Option Job → Option (List ℕ) → Option (List ℕ) → ℕ → Option (List ℕ)
+    → Option (List ℕ) → Type 0
+IsAnswered job spec extra status held_before held_after =
+    (text : List ℕ) × IsAnswer job spec extra status text × Appends held_before held_after text
 
 -- nothing was written, or what is left of an answer that is stopped
-abbrev pub IsStopped : List (List ℕ) → Option (List ℕ) → Option (List ℕ) → Option (List ℕ) → Option (List ℕ) → Type 0
-IsStopped words spec extra held_before held_after = IsBroken (IsFrontTo (job_of words) spec extra) held_before held_after
+abbrev pub IsStopped : Option Job → Option (List ℕ) → Option (List ℕ) → Option (List ℕ)
+    → Option (List ℕ) → Type 0
+IsStopped job spec extra held_before held_after =
+    IsBroken (IsAnswerFront job spec extra) held_before held_after
 
 -- ---- two answers
 
@@ -123,14 +120,10 @@ abbrev pub AgreeOf : Task → ℕ → List ℕ → ℕ → List ℕ → Type 0
 AgreeOf (Check budget) status text other_status other_text =
     IsOne status text other_status other_text
     ⊎ ((d : Specification) × IsReport budget d status text × IsReport budget d other_status other_text)
-AgreeOf Verify status text other_status other_text = IsOne status text other_status other_text
-AgreeOf Upgrade status text other_status other_text = IsOne status text other_status other_text
-AgreeOf Replay status text other_status other_text = IsOne status text other_status other_text
-AgreeOf Simulate status text other_status other_text = IsOne status text other_status other_text
 AgreeOf Suggest status text other_status other_text =
     IsOne status text other_status other_text
     ⊎ ((d : Specification) × IsSuggested d status text × IsSuggested d other_status other_text)
-AgreeOf Spell status text other_status other_text = IsOne status text other_status other_text
+AgreeOf _ status text other_status other_text = IsOne status text other_status other_text
 
 -- a sample's text counts an undecided verdict
 abbrev pub CountsUndecided : ℕ → List ℕ → Type 0
@@ -139,7 +132,9 @@ CountsUndecided n text = (tally : Tally) × (0 < tally.undecided) × (text ≡ s
 -- So do two answers to the same words: they are the same, or both count verdicts on the same sample, some of them undecided.
 abbrev pub Agree : Option Job → ℕ → List ℕ → ℕ → List ℕ → Type 0
 Agree None status text other_status other_text = IsOne status text other_status other_text
-Agree (Some (OfSpec task)) status text other_status other_text = AgreeOf task status text other_status other_text
+Agree (Some (OfSpec task)) status text other_status other_text =
+    AgreeOf task status text other_status other_text
 Agree (Some (Sample n)) status text other_status other_text =
     IsSampled n status text × IsSampled n other_status other_text
-    × (IsOne status text other_status other_text ⊎ (CountsUndecided n text ⊎ CountsUndecided n other_text))
+    × (IsOne status text other_status other_text ⊎ (CountsUndecided n text
+    ⊎ CountsUndecided n other_text))

@@ -56,14 +56,17 @@ abbrev pub IsShown : Specification → PartialWitness → Listing → Type 0
 IsShown d p s = (s ≡ listing_of d p) ⊎ (reads s ≡ reads_of p)
 
 -- A refutation of an obligation is right: the calls that it shows break the obligation in its world and its state, at its elements.
-pub record IsRight (d : Specification) (ob : Obligation) (p : PartialWitness) (es : List ℕ) : Type 0 where
+pub record IsRight (d : Specification) (ob : Obligation) (p : PartialWitness)
+    (es : List ℕ) : Type 0 where
   pub state : Listing
   pub shown : IsShown d p state
   pub breaks : Breaks d ob p.world state p.calls es
 
 -- Each refutation among verdicts on the first obligations is right.
 abbrev pub AreRight : Specification → List VerdictForm → Type 0
-AreRight d verdicts = (i : ℕ) (p : PartialWitness) (es : List ℕ) → slice_get verdicts i ≡ Some (refuted p es) → IsRight d (obligation_at d i) p es
+AreRight d verdicts =
+    (i : ℕ) (p : PartialWitness) (es : List ℕ) → slice_get verdicts i ≡ Some (refuted p es)
+    → IsRight d (obligation_at d i) p es
 
 -- Some bytes are a specification, and others those of a report on it, in which each refutation is right.
 pub record IsRefutedRightly (bytes report : List ℕ) : Type 0 where
@@ -75,27 +78,31 @@ pub record IsRefutedRightly (bytes report : List ℕ) : Type 0 where
 
 -- What was written is a report in which each refutation is right, on the specification that the first source told.
 abbrev pub WritesRightly : Option (List ℕ) → Option (List ℕ) → Option (List ℕ) → Type 0
-WritesRightly spec held_before held_after = IfSome spec (λ bytes. (text : List ℕ) × Appends held_before held_after text × IsRefutedRightly bytes text)
+WritesRightly spec held_before held_after =
+    IfSome spec
+    (λ bytes. (text : List ℕ) × Appends held_before held_after text × IsRefutedRightly bytes text)
 
 -- What the second source told is such a report.
 abbrev pub VerifiesRightly : Option (List ℕ) → Option (List ℕ) → Type 0
-VerifiesRightly spec extra = IfSome spec (λ bytes. IfSome extra (λ report. IsRefutedRightly bytes report))
+VerifiesRightly spec extra =
+    IfSome spec (λ bytes. IfSome extra (λ report. IsRefutedRightly bytes report))
 
 -- where a task judges a specification, each refutation that it writes or verifies is right
-abbrev pub RefutesOf : Task → Option (List ℕ) → Option (List ℕ) → Option (List ℕ) → Option (List ℕ) → Type 0
-RefutesOf (Check budget) spec extra held_before held_after = WritesRightly spec held_before held_after
+abbrev pub RefutesOf : Task → Option (List ℕ) → Option (List ℕ) → Option (List ℕ) → Option (List ℕ)
+    → Type 0
+RefutesOf (Check budget) spec extra held_before held_after =
+    WritesRightly spec held_before held_after
 RefutesOf Verify spec extra held_before held_after = VerifiesRightly spec extra
-RefutesOf Upgrade spec extra held_before held_after = VerifiesRightly spec extra × WritesRightly spec held_before held_after
-RefutesOf Replay spec extra held_before held_after = Unit {0}
-RefutesOf Simulate spec extra held_before held_after = Unit {0}
-RefutesOf Suggest spec extra held_before held_after = Unit {0}
-RefutesOf Spell spec extra held_before held_after = Unit {0}
+RefutesOf Upgrade spec extra held_before held_after =
+    VerifiesRightly spec extra × WritesRightly spec held_before held_after
+RefutesOf _ spec extra held_before held_after = Unit {0}
 
 -- Where the words ask for a verdict on a specification, each refutation that is written or verified is right.
-abbrev pub Refutes : Option Job → Option (List ℕ) → Option (List ℕ) → Option (List ℕ) → Option (List ℕ) → Type 0
-Refutes None spec extra held_before held_after = Unit {0}
-Refutes (Some (OfSpec task)) spec extra held_before held_after = RefutesOf task spec extra held_before held_after
-Refutes (Some (Sample n)) spec extra held_before held_after = Unit {0}
+abbrev pub Refutes : Option Job → Option (List ℕ) → Option (List ℕ) → Option (List ℕ)
+    → Option (List ℕ) → Type 0
+Refutes (Some (OfSpec task)) spec extra held_before held_after =
+    RefutesOf task spec extra held_before held_after
+Refutes _ spec extra held_before held_after = Unit {0}
 
 -- ---- stopped reports
 
@@ -122,7 +129,8 @@ IsRightFront bytes front =
 
 -- Nothing was written, or such a front, for the specification that the first source told.
 abbrev pub StopsRightly : Option (List ℕ) → Option (List ℕ) → Option (List ℕ) → Type 0
-StopsRightly spec held_before held_after = IfSome spec (λ bytes. IsBroken (IsRightFront bytes) held_before held_after)
+StopsRightly spec held_before held_after =
+    IfSome spec (λ bytes. IsBroken (IsRightFront bytes) held_before held_after)
 
 -- ---- replays
 
@@ -130,18 +138,23 @@ StopsRightly spec held_before held_after = IfSome spec (λ bytes. IsBroken (IsRi
 -- tells, replicas that have taken the same events print the same lines of their states.
 pub record IsReplayedSafely (bytes : List ℕ) (told : Option (List ℕ)) (status : ℕ) : Type 0 where
   pub unbroken : (d : Specification) → IsSpecificationOf bytes d → Safe d → status ≡ 1 → ⊥
-  pub alike : (d : Specification) (more : List ℕ) (s : Schedule) → IsSpecificationOf bytes d → Safe d → told ≡ Some more → schedule_from d more ≡ Ok s
+  pub alike : (d : Specification) (more : List ℕ) (s : Schedule) → IsSpecificationOf bytes d
+      → Safe d → told ≡ Some more → schedule_from d more ≡ Ok s
       → PrintAlike d s.world (course d s.world s.replicas s.steps)
 
 -- ---- reports verified anew
 
 -- Each verification of a text as a report on the specification that some bytes are ends with this status, where it has at most 64 MiB.
 abbrev pub IsVerifiedAs : List ℕ → List ℕ → ℕ → Type 0
-IsVerifiedAs bytes text status = length text ≤ most_report_bytes → (other : ℕ) (said : List ℕ) → IsAnswerOf Verify bytes text other said → other ≡ status
+IsVerifiedAs bytes text status =
+    length text ≤ most_report_bytes → (other : ℕ) (said : List ℕ)
+    → IsAnswerOf Verify bytes text other said → other ≡ status
 
 -- So does each verification of what was written, on the specification that the first source told.
 abbrev pub VerifiesAlike : Option (List ℕ) → Option (List ℕ) → Option (List ℕ) → ℕ → Type 0
-VerifiesAlike spec held_before held_after status = IfSome spec (λ bytes. (text : List ℕ) × Appends held_before held_after text × IsVerifiedAs bytes text status)
+VerifiesAlike spec held_before held_after status =
+    IfSome spec
+    (λ bytes. (text : List ℕ) × Appends held_before held_after text × IsVerifiedAs bytes text status)
 
 -- ---- simulations
 
@@ -149,7 +162,8 @@ VerifiesAlike spec held_before held_after status = IfSome spec (λ bytes. (text 
 -- source tells, replicas that have taken the same events print the same lines of their states.
 pub record IsSimulatedSafely (bytes : List ℕ) (told : Option (List ℕ)) (status : ℕ) : Type 0 where
   pub unbroken : (d : Specification) → IsSpecificationOf bytes d → Safe d → status ≡ 1 → ⊥
-  pub alike : (d : Specification) (more : List ℕ) (s : Schedule) → IsSpecificationOf bytes d → Safe d → told ≡ Some more → schedule_from d more ≡ Ok s
+  pub alike : (d : Specification) (more : List ℕ) (s : Schedule) → IsSpecificationOf bytes d
+      → Safe d → told ≡ Some more → schedule_from d more ≡ Ok s
       → SimulatedAlike d s.world (simulated d s.world s.replicas s.steps)
 
 -- ---- suggestions
@@ -166,19 +180,23 @@ pub record IsSuggestedRightly (bytes text : List ℕ) (status : ℕ) : Type 0 wh
 
 -- What was written is such a suggestion, for the specification that the first source told.
 abbrev pub SuggestsRightly : Option (List ℕ) → ℕ → Option (List ℕ) → Option (List ℕ) → Type 0
-SuggestsRightly spec status held_before held_after = IfSome spec (λ bytes. (text : List ℕ) × Appends held_before held_after text × IsSuggestedRightly bytes text status)
+SuggestsRightly spec status held_before held_after =
+    IfSome spec
+    (λ bytes. (text : List ℕ) × Appends held_before held_after text × IsSuggestedRightly bytes text status)
 
 -- ---- refused specifications
 
 -- Where some bytes are refused for a fault of their tree, it is the least one: no rule finds another at an earlier word, or at the same word
 -- and earlier in the order unknown, twice, kind, count, limit.
 abbrev pub IsLeastOf : List ℕ → Refusal → Type 0
-IsLeastOf bytes why = (f : Fault) → why ≡ faulty f → (t : TreeForm) × IsTreeOf bytes t × IsLeastFault t f
+IsLeastOf bytes why =
+    (f : Fault) → why ≡ faulty f → (t : TreeForm) × IsTreeOf bytes t × IsLeastFault t f
 
 -- What the first source told is no specification, for one reason, which was written, and so with a fault.
 abbrev pub RefusesRightly : Option (List ℕ) → Option (List ℕ) → Option (List ℕ) → Type 0
 RefusesRightly spec held_before held_after =
-    IfSome spec (λ bytes. (why : Refusal) × IsRefusal bytes why × Appends held_before held_after (refusal_text why) × IsLeastOf bytes why)
+    IfSome spec
+    (λ bytes. (why : Refusal) × IsRefusal bytes why × Appends held_before held_after (refusal_text why) × IsLeastOf bytes why)
 
 -- ---- completeness
 
@@ -203,10 +221,12 @@ may_end_of Spell status = (status == 0) || is_memory status
 
 -- the first source tells a specification
 abbrev pub TellsSpecification : Option (List ℕ) → Type 0
-TellsSpecification told = (bytes : List ℕ) × (d : Specification) × (told ≡ Some bytes) × IsSpecificationOf bytes d
+TellsSpecification told =
+    (bytes : List ℕ) × (d : Specification) × (told ≡ Some bytes) × IsSpecificationOf bytes d
 
 -- A run ends as its job may, where the specification is told that it reads.
 abbrev pub IsComplete : Option Job → Option (List ℕ) → ℕ → Type 0
 IsComplete None told status = Unit {0}
-IsComplete (Some (OfSpec task)) told status = TellsSpecification told → may_end_of task status ≡ true
+IsComplete (Some (OfSpec task)) told status =
+    TellsSpecification told → may_end_of task status ≡ true
 IsComplete (Some (Sample n)) told status = (is_outcome status || is_memory status) ≡ true

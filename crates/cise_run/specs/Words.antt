@@ -66,7 +66,9 @@ job_of_three command =
 -- the job of a command with an input, an option and a number
 abbrev pub job_of_four : List ℕ → List ℕ → List ℕ → Option Job
 job_of_four command option word =
-    if bytes_eq command (codes "check") then (if bytes_eq option (codes "--budget") then check_within (number_in most_budget word) else None) else None
+    if bytes_eq command (codes "check") then
+    (if bytes_eq option (codes "--budget") then check_within (number_in most_budget word) else None)
+    else None
 
 -- The job that the words ask for; none where they aren't accepted. The accepted words are `check SPEC`, `check SPEC --budget N` with N
 -- from 1 to 1,000,000, `verify SPEC REPORT`, `upgrade SPEC REPORT`, `replay SPEC SCHEDULE`, `simulate SPEC SCHEDULE`, `suggest SPEC`,
@@ -82,12 +84,7 @@ job_of (command ∷ path ∷ option ∷ word ∷ more ∷ words) = None
 -- the number in a task is within its limits
 abbrev pub is_task : Task → Bool
 is_task (Check budget) = is_within most_budget budget
-is_task Verify = true
-is_task Upgrade = true
-is_task Replay = true
-is_task Simulate = true
-is_task Suggest = true
-is_task Spell = true
+is_task _ = true
 
 -- The number in a job is within its limits.
 abbrev pub is_job : Job → Bool
@@ -98,25 +95,21 @@ is_job (Sample n) = is_within most_sample n
 
 -- the second input is read for a task
 abbrev pub takes_extra : Task → Bool
-takes_extra (Check budget) = false
 takes_extra Verify = true
 takes_extra Upgrade = true
 takes_extra Replay = true
 takes_extra Simulate = true
-takes_extra Suggest = false
-takes_extra Spell = false
+takes_extra _ = false
 
 -- Whether the specification's input is read for a job; where the words aren't accepted, it isn't.
 abbrev pub reads_spec : Option Job → Bool
-reads_spec None = false
 reads_spec (Some (OfSpec task)) = true
-reads_spec (Some (Sample n)) = false
+reads_spec _ = false
 
 -- Whether the second input is read for a job; where the words aren't accepted, it isn't.
 abbrev pub reads_extra : Option Job → Bool
-reads_extra None = false
 reads_extra (Some (OfSpec task)) = takes_extra task
-reads_extra (Some (Sample n)) = false
+reads_extra _ = false
 
 -- the most bytes that are read of the first input: 64 KiB
 abbrev pub most_specification_bytes : ℕ
@@ -124,104 +117,48 @@ most_specification_bytes = 65536
 
 -- the most bytes that are read of the second input: 64 MiB of a report, 16 MiB of a schedule
 abbrev pub most_extra_bytes : Task → ℕ
-most_extra_bytes (Check budget) = 0
 most_extra_bytes Verify = most_report_bytes
 most_extra_bytes Upgrade = most_report_bytes
 most_extra_bytes Replay = most_schedule_bytes
 most_extra_bytes Simulate = most_schedule_bytes
-most_extra_bytes Suggest = 0
-most_extra_bytes Spell = 0
+most_extra_bytes _ = 0
 
 -- The inputs that are read for the job were read to their ends, by what they had left before and after, where there were at most so many
 -- bytes: the first one, and the second one too, unless the specification is refused.
-abbrev pub AreRead : Option Job → ℕ → Option (List ℕ) → Option (List ℕ) → Option (List ℕ) → Option (List ℕ) → Type 0
-AreRead None status spec_before spec_after extra_before extra_after = Unit {0}
+abbrev pub AreRead : Option Job → ℕ → Option (List ℕ) → Option (List ℕ) → Option (List ℕ)
+    → Option (List ℕ) → Type 0
 AreRead (Some (OfSpec task)) status spec_before spec_after extra_before extra_after =
     IsReadWithin most_specification_bytes spec_before spec_after
     × (takes_extra task ≡ true → (status ≡ 3 → ⊥) → IsReadWithin (most_extra_bytes task) extra_before extra_after)
-AreRead (Some (Sample n)) status spec_before spec_after extra_before extra_after = Unit {0}
+AreRead _ status spec_before spec_after extra_before extra_after = Unit {0}
 
 -- An input that is read for the job has failed, by the faults of the specification's source and then of the second one.
 abbrev pub IsInputFault : Option Job → ℕ → ℕ → ℕ → ℕ → Type 0
 IsInputFault job spec_before spec_after extra_before extra_after =
-    ((reads_spec job ≡ true) × IsFault spec_before spec_after) ⊎ ((reads_extra job ≡ true) × IsFault extra_before extra_after)
+    ((reads_spec job ≡ true) × IsFault spec_before spec_after)
+    ⊎ ((reads_extra job ≡ true) × IsFault extra_before extra_after)
+
+-- ---- what the words ask for
 
 -- a task judges a specification: a check of it, and the verification or the upgrade of a report on it
 abbrev pub is_judging : Task → Bool
 is_judging (Check budget) = true
 is_judging Verify = true
 is_judging Upgrade = true
-is_judging Replay = false
-is_judging Simulate = false
-is_judging Suggest = false
-is_judging Spell = false
+is_judging _ = false
 
 -- the words ask for a verdict on a specification
 abbrev pub judges : Option Job → Bool
-judges None = false
 judges (Some (OfSpec task)) = is_judging task
-judges (Some (Sample n)) = false
-
--- a task is a replay
-abbrev pub is_replaying : Task → Bool
-is_replaying (Check budget) = false
-is_replaying Verify = false
-is_replaying Upgrade = false
-is_replaying Replay = true
-is_replaying Simulate = false
-is_replaying Suggest = false
-is_replaying Spell = false
-
--- the words ask for a replay
-abbrev pub is_replay : Option Job → Bool
-is_replay None = false
-is_replay (Some (OfSpec task)) = is_replaying task
-is_replay (Some (Sample n)) = false
+judges _ = false
 
 -- a task writes a report: a check, and an upgrade
 abbrev pub is_reporting : Task → Bool
 is_reporting (Check budget) = true
-is_reporting Verify = false
 is_reporting Upgrade = true
-is_reporting Replay = false
-is_reporting Simulate = false
-is_reporting Suggest = false
-is_reporting Spell = false
+is_reporting _ = false
 
 -- the words ask for a report that is written
 abbrev pub writes_report : Option Job → Bool
-writes_report None = false
 writes_report (Some (OfSpec task)) = is_reporting task
-writes_report (Some (Sample n)) = false
-
--- a task is a simulation
-abbrev pub is_simulating : Task → Bool
-is_simulating (Check budget) = false
-is_simulating Verify = false
-is_simulating Upgrade = false
-is_simulating Replay = false
-is_simulating Simulate = true
-is_simulating Suggest = false
-is_simulating Spell = false
-
--- the words ask for a simulation
-abbrev pub is_simulation : Option Job → Bool
-is_simulation None = false
-is_simulation (Some (OfSpec task)) = is_simulating task
-is_simulation (Some (Sample n)) = false
-
--- a task is a suggestion
-abbrev pub is_suggesting : Task → Bool
-is_suggesting (Check budget) = false
-is_suggesting Verify = false
-is_suggesting Upgrade = false
-is_suggesting Replay = false
-is_suggesting Simulate = false
-is_suggesting Suggest = true
-is_suggesting Spell = false
-
--- the words ask for a suggestion
-abbrev pub is_suggestion : Option Job → Bool
-is_suggestion None = false
-is_suggestion (Some (OfSpec task)) = is_suggesting task
-is_suggestion (Some (Sample n)) = false
+writes_report _ = false

@@ -4,7 +4,9 @@ ghost use Rattle.std.specs.Io.KnownBytes.{Appends};
 ghost use Rattle.byte_ports.specs.Ending.{IsOne};
 ghost use Rattle.spec_from_bytes.specs.Refusal.{Refusal, IsRefusal, refusal_text};
 ghost use Rattle.cise_run.specs.declared.words.Task.{Task};
-ghost use Rattle.cise_run.specs.Words.{job_of, reads_spec, is_judging, judges, writes_report, is_suggestion};
+ghost use Rattle.cise_run.specs.declared.words.Task.TheVariants.{Suggest};
+ghost use Rattle.cise_run.specs.declared.words.Job.TheVariants.{OfSpec};
+ghost use Rattle.cise_run.specs.Words.{job_of, reads_spec, is_judging, judges, writes_report};
 ghost use Rattle.cise_run.specs.Answer.{IsAnswer, IsAnswerOf, IsStopped, Agree};
 ghost use Rattle.cise_run.specs.Headline.{IsProved, is_outcome, Refutes, StopsRightly, VerifiesAlike, SuggestsRightly, RefusesRightly};
 
@@ -23,14 +25,14 @@ use typing_rules::law_typed_is_well_formed;
 /// stopped run has written. And what is answered to a suggestion is right.
 pub fn law_headline()
     ensures proved { (words : List (List ℕ)) (spec extra : Option (List ℕ)) (text : List ℕ)
-        → judges (job_of words) ≡ true → IsAnswer words spec extra 0 text → IfSome spec IsProved }
+        → judges (job_of words) ≡ true → IsAnswer (job_of words) spec extra 0 text → IfSome spec IsProved }
     ensures refuted { (words : List (List ℕ)) (spec extra : Option (List ℕ)) (status : ℕ) (text : List ℕ) (held_before held_after : Option (List ℕ))
-        → is_outcome status ≡ true → IsAnswer words spec extra status text → Appends held_before held_after text
+        → is_outcome status ≡ true → IsAnswer (job_of words) spec extra status text → Appends held_before held_after text
         → Refutes (job_of words) spec extra held_before held_after }
     ensures stopped { (words : List (List ℕ)) (spec extra held_before held_after : Option (List ℕ))
-        → writes_report (job_of words) ≡ true → IsStopped words spec extra held_before held_after → StopsRightly spec held_before held_after }
+        → writes_report (job_of words) ≡ true → IsStopped (job_of words) spec extra held_before held_after → StopsRightly spec held_before held_after }
     ensures suggested { (words : List (List ℕ)) (spec extra : Option (List ℕ)) (status : ℕ) (text : List ℕ) (held_before held_after : Option (List ℕ))
-        → is_suggestion (job_of words) ≡ true → is_outcome status ≡ true → IsAnswer words spec extra status text → Appends held_before held_after text
+        → job_of words ≡ Some (OfSpec Suggest) → is_outcome status ≡ true → IsAnswer (job_of words) spec extra status text → Appends held_before held_after text
         → SuggestsRightly spec status held_before held_after }
 {
     law_typed_is_well_formed();
@@ -47,7 +49,7 @@ pub fn law_headline()
 /// counts of a sample of which some verdict is undecided.
 pub fn law_answers_agree()
     ensures { (words : List (List ℕ)) (spec extra : List ℕ) (status other_status : ℕ) (text other_text : List ℕ)
-        → IsAnswer words (Some spec) (Some extra) status text → IsAnswer words (Some spec) (Some extra) other_status other_text
+        → IsAnswer (job_of words) (Some spec) (Some extra) status text → IsAnswer (job_of words) (Some spec) (Some extra) other_status other_text
         → Agree (job_of words) status text other_status other_text }
 {
     law_typed_is_well_formed();
@@ -81,7 +83,7 @@ pub fn law_refused_for_all()
 /// Where a check or an upgrade wrote a report, it is verified with the same status, where it has at most 64 MiB.
 pub fn law_reports_are_verified()
     ensures { (words : List (List ℕ)) (spec extra : Option (List ℕ)) (status : ℕ) (text : List ℕ) (held_before held_after : Option (List ℕ))
-        → is_outcome status ≡ true → writes_report (job_of words) ≡ true → IsAnswer words spec extra status text → Appends held_before held_after text
+        → is_outcome status ≡ true → writes_report (job_of words) ≡ true → IsAnswer (job_of words) spec extra status text → Appends held_before held_after text
         → VerifiesAlike spec held_before held_after status }
 {
     law_typed_is_well_formed();
@@ -93,7 +95,7 @@ pub fn law_reports_are_verified()
 /// Where a specification is refused, what is written says why, and a fault of its tree is the least one.
 pub fn law_least_fault_is_answered()
     ensures { (words : List (List ℕ)) (spec extra : Option (List ℕ)) (text : List ℕ) (held_before held_after : Option (List ℕ))
-        → reads_spec (job_of words) ≡ true → IsAnswer words spec extra 3 text → Appends held_before held_after text → RefusesRightly spec held_before held_after }
+        → reads_spec (job_of words) ≡ true → IsAnswer (job_of words) spec extra 3 text → Appends held_before held_after text → RefusesRightly spec held_before held_after }
 {
     law_least_refusal();
 }

@@ -5,7 +5,8 @@ use Rattle.spec_core.specs.Specification.{Specification}
 use Rattle.simulate_text.specs.Recorded.{simulated_status, simulated_text}
 
 -- The text of the simulation, or of the refusal of the schedule, and its status.
-pub record IsSimulated (d : Specification) (bytes : List ℕ) (status : ℕ) (text : List ℕ) : Type 0 where
+pub record IsSimulated (d : Specification) (bytes : List ℕ) (status : ℕ)
+    (text : List ℕ) : Type 0 where
   pub status_is : status ≡ simulated_status d bytes
   pub text_is : text ≡ simulated_text d bytes
 

@@ -11,7 +11,8 @@ use Rattle.cise_run.specs.commands.Verify.{IsVerdict}
 
 -- The text of the upgraded report, where the report stands, and the status that its verdicts come to: 0 where all are proved, 1 where one is
 -- refuted, else 5.
-pub record IsUpgradedReport (d : Specification) (bytes : List ℕ) (status : ℕ) (text : List ℕ) : Type 0 where
+pub record IsUpgradedReport (d : Specification) (bytes : List ℕ) (status : ℕ)
+    (text : List ℕ) : Type 0 where
   pub tally : Tally
   pub short : length bytes ≤ most_report_bytes
   pub upgraded : IsUpgradedText d bytes tally text
@@ -19,7 +20,8 @@ pub record IsUpgradedReport (d : Specification) (bytes : List ℕ) (status : ℕ
 
 -- Or else what `verify` says of the bytes that are refused, with status 4.
 abbrev pub IsUpgraded : Specification → List ℕ → ℕ → List ℕ → Type 0
-IsUpgraded d bytes status text = IsUpgradedReport d bytes status text ⊎ ((status ≡ 4) × IsVerdict d bytes status text)
+IsUpgraded d bytes status text =
+    IsUpgradedReport d bytes status text ⊎ ((status ≡ 4) × IsVerdict d bytes status text)
 
 -- what is left of it where it is stopped
 abbrev pub IsUpgradeFront : Specification → List ℕ → List ℕ → Type 0

@@ -51,12 +51,14 @@ status_said (Err why) = 4
 abbrev pub text_said : Result Tally VerifyRefused → Option (List ℕ)
 text_said (Ok tally) = Some (verified_text tally)
 text_said (Err refused.Long) = Some (refused_report (codes "long" ∷ []))
-text_said (Err (refused.Line n k)) = Some (refused_report (codes "line" ∷ decimal n ∷ kind_word k ∷ []))
+text_said (Err (refused.Line n k)) =
+    Some (refused_report (codes "line" ∷ decimal n ∷ kind_word k ∷ []))
 text_said (Err refused.Fault) = None
 text_said (Err refused.Memory) = None
 
 -- What the verifier says of the bytes of a report, as a status and a text.
-pub record IsVerdict (d : Specification) (bytes : List ℕ) (status : ℕ) (text : List ℕ) : Type 0 where
+pub record IsVerdict (d : Specification) (bytes : List ℕ) (status : ℕ)
+    (text : List ℕ) : Type 0 where
   pub said : Result Tally VerifyRefused
   pub verified : IsVerified d bytes said
   pub status_is : status ≡ status_said said

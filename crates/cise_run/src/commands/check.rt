@@ -15,7 +15,8 @@ use std::alloc::Global;
 /// one is refuted, 5 where none is refuted and one is undecided.
 pub fn check<K: Sink>(alloc: Global, budget: u32, spec: &Spec, out: &mut K) -> u8
     requires { is_within most_budget budget ≡ true }
-    ensures ends { Ends (IsReport budget spec.now) (IsReportFront budget spec.now) result (K.held out.old) (K.held out.new) (K.faults out.old) (K.faults out.new) }
+    ensures ends { Ends (IsReport budget spec.now) (IsReportFront budget spec.now) result
+        (K.held out.old) (K.held out.new) (K.faults out.old) (K.faults out.new) }
     ensures no_source { result ≢ 6 }
 {
     match check_all(alloc, spec, budget, out) {

@@ -29,7 +29,8 @@ pub fn replay_schedule<E: Source, K: Sink>(
     extra: &mut E,
     out: &mut K,
 ) -> u8
-    ensures ends { EndsWith (E.left extra.old) (IsReplayed spec.now) (IsReplayFront spec.now) result (K.held out.old) (K.held out.new) (K.faults out.old) (K.faults out.new) }
+    ensures ends { EndsWith (E.left extra.old) (IsReplayed spec.now) (IsReplayFront spec.now) result
+        (K.held out.old) (K.held out.new) (K.faults out.old) (K.faults out.new) }
     ensures read_fault { result ≡ 6 → IsFault (E.faults extra.old) (E.faults extra.new) }
     ensures unwritten { result ≡ 6 → out.new ≡ out.old }
     ensures end { result < 6 → IsReadWithin most_schedule_bytes (E.left extra.old) (E.left extra.new) }

@@ -10,7 +10,8 @@ use std::alloc::Global;
 
 /// Spells the tree of a specification.
 pub fn spell_tree<K: Sink>(alloc: Global, tree: &Tree, out: &mut K) -> u8
-    ensures ends { Ends (IsSpelled (tree_of tree.now)) (IsSpellFront (tree_of tree.now)) result (K.held out.old) (K.held out.new) (K.faults out.old) (K.faults out.new) }
+    ensures ends { Ends (IsSpelled (tree_of tree.now)) (IsSpellFront (tree_of tree.now)) result
+        (K.held out.old) (K.held out.new) (K.faults out.old) (K.faults out.new) }
     ensures no_source { result ≢ 6 }
 {
     match spell(alloc, tree) {

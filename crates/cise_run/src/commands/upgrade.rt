@@ -18,7 +18,9 @@ use std::alloc::Global;
 
 /// Writes why a report is refused, as `verify` does.
 fn refuse<K: Sink>(alloc: Global, why: VerifyRefused, out: &mut K) -> u8
-    ensures ends { (text : List ℕ) → text_said (Err why) ≡ Some text → Ends (IsOne 4 text) (IsFrontOf text) result (K.held out.old) (K.held out.new) (K.faults out.old) (K.faults out.new) }
+    ensures ends { (text : List ℕ) → text_said (Err why) ≡ Some text
+        → Ends (IsOne 4 text) (IsFrontOf text) result (K.held out.old) (K.held out.new)
+        (K.faults out.old) (K.faults out.new) }
     ensures no_source { result ≢ 6 }
 {
     match text_said(alloc, Err(why)) {
@@ -30,7 +32,8 @@ fn refuse<K: Sink>(alloc: Global, why: VerifyRefused, out: &mut K) -> u8
 /// Upgrades the report that a source gives, and writes it: 0 where all verdicts are proved, 1 where one is refuted, 5 where none is refuted
 /// and one is undecided. Where the bytes are no report or one of its lines breaks a rule, it says why and ends with 4.
 pub fn upgrade<E: Source, K: Sink>(alloc: Global, spec: &Spec, extra: &mut E, out: &mut K) -> u8
-    ensures ends { EndsWith (E.left extra.old) (IsUpgraded spec.now) (IsUpgradeFront spec.now) result (K.held out.old) (K.held out.new) (K.faults out.old) (K.faults out.new) }
+    ensures ends { EndsWith (E.left extra.old) (IsUpgraded spec.now) (IsUpgradeFront spec.now)
+        result (K.held out.old) (K.held out.new) (K.faults out.old) (K.faults out.new) }
     ensures read_fault { result ≡ 6 → IsFault (E.faults extra.old) (E.faults extra.new) }
     ensures unwritten { result ≡ 6 → out.new ≡ out.old }
     ensures end { result < 6 → IsReadWithin most_report_bytes (E.left extra.old) (E.left extra.new) }

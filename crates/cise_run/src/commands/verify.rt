@@ -88,7 +88,8 @@ fn status_said(said: Result<Tally, VerifyRefused>) -> u8
 /// Verifies the report that a source gives, and writes how many verdicts of each kind it has: 0 where all are proved, 1 where one is
 /// refuted, 5 where none is refuted and one is undecided, 4 where the bytes are no report or one of its lines breaks a rule.
 pub fn verify<E: Source, K: Sink>(alloc: Global, spec: &Spec, extra: &mut E, out: &mut K) -> u8
-    ensures ends { EndsWith (E.left extra.old) (IsVerdict spec.now) (IsVerdictFront spec.now) result (K.held out.old) (K.held out.new) (K.faults out.old) (K.faults out.new) }
+    ensures ends { EndsWith (E.left extra.old) (IsVerdict spec.now) (IsVerdictFront spec.now) result
+        (K.held out.old) (K.held out.new) (K.faults out.old) (K.faults out.new) }
     ensures read_fault { result ≡ 6 → IsFault (E.faults extra.old) (E.faults extra.new) }
     ensures unwritten { result ≡ 6 → out.new ≡ out.old }
     ensures end { result < 6 → IsReadWithin most_report_bytes (E.left extra.old) (E.left extra.new) }

@@ -2,7 +2,7 @@ use Rattle.std.proofs.Common.{Option, Some, None, subst, map, string_bytes, sym,
 use Rattle.cise_run.specs.declared.words.Job.{Job}
 use Rattle.cise_run.specs.declared.words.Job.TheVariants.{OfSpec, Sample}
 use Rattle.cise_run.specs.Words.{job_of}
-use Rattle.cise_run.specs.Answer.{IsAnswerTo}
+use Rattle.cise_run.specs.Answer.{IsAnswer}
 use Rattle.cise_run.proofs.Endings.{Ends-asked, Ends-sample, IsInputFault-asked}
 use Rattle.cise_run.proofs.Ends.{AreRead-asked}
 use Rattle.cise_run.proofs.Complete.{IsComplete-run}
@@ -38,7 +38,7 @@ returns-in-Some-OfSpec-clause-proved g c = λ zero judged.
     let told = g.S.Source.left c.args.spec.now in
     let extra = g.E.Source.left c.args.extra.now in
     let answer = returns-in-Some-OfSpec-clause-answered g c (omega (arith, zero)) in
-    c.law_headline.ensures.proved words told extra answer.0 judged (subst (λ n. IsAnswerTo (job_of words) told extra n answer.0) zero answer.1)
+    c.law_headline.ensures.proved words told extra answer.0 judged (subst (λ n. IsAnswer (job_of words) told extra n answer.0) zero answer.1)
 
 pub returns-in-Some-OfSpec-clause-refuted : goal.returns-in-Some-OfSpec-clause-refuted
 returns-in-Some-OfSpec-clause-refuted g c = λ outcome.
@@ -80,7 +80,7 @@ returns-in-Some-OfSpec-clause-least g c = λ reads three.
     let extra = g.E.Source.left c.args.extra.now in
     let answer = returns-in-Some-OfSpec-clause-answered g c (omega (arith, three)) in
     c.law_least_fault_is_answered.ensures words told extra answer.0 (g.K.Sink.held c.args.out.now) (g.K.Sink.held c.answer_task.new.out) reads
-    (subst (λ n. IsAnswerTo (job_of words) told extra n answer.0) three answer.1) answer.2
+    (subst (λ n. IsAnswer (job_of words) told extra n answer.0) three answer.1) answer.2
 
 pub returns-in-Some-OfSpec-clause-complete : goal.returns-in-Some-OfSpec-clause-complete
 returns-in-Some-OfSpec-clause-complete g c = λ no_input no_output.
