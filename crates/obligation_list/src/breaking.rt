@@ -16,7 +16,8 @@ use crate::lines::{invariant_line, is_ready, line_at, requires_line};
 use crate::obligation::Obligation;
 use crate::witness::Witness;
 use effectors::{After, post2_count, post2_has};
-use spec_core::{Call, Prefix, Prefixed, Spec, State, Thing, World, invariant_broken_at};
+use partial_truth::invariant_broken_at;
+use spec_core::{Call, Prefix, Prefixed, Spec, State, Thing, World};
 use token_rules::conflicts;
 
 // The elements are those at which a line may fail.

@@ -1,5 +1,5 @@
 -- The invariants hold in each state that was reached, so they needn't be asked of such a state again.
-use Rattle.std.proofs.Common.{◌≡◌, ℕ, zero, suc, ◌+◌, ◌≤◌, ◌⊎◌, inl, inr, List, [], ◌∷◌, ◌++◌, length, take, get_or, set, replicate, ℤ, Option, None, Some, refl, sym, ap, ◌∙◌, subst, append-nil, arith}
+use Rattle.std.proofs.Common.{◌≡◌, ℕ, zero, suc, ◌+◌, ◌<◌, ◌≤◌, ◌⊎◌, inl, inr, List, [], ◌∷◌, ◌++◌, length, take, get_or, set, replicate, ℤ, Option, None, Some, refl, sym, ap, ◌∙◌, subst, append-nil, arith}
 use Rattle.std.specs.Prelude.{◌≢◌, slice_get}
 use Rattle.std.proofs.lemmas.Option.{slice_get_within}
 use Rattle.std.proofs.lemmas.List.{take-append-le, take_all, get_or-set_same, get_or-set_other, length-append}
@@ -11,49 +11,53 @@ use Rattle.spec_core.specs.Meaning.{broken_at}
 use Rattle.executions.specs.Orders.{Event, MayFollow, IsOrder}
 use Rattle.executions.specs.Executions.{state_after}
 use Rattle.executions.specs.Convergence.{system_of}
-use Rattle.executions.proofs.Growth.{no_events, state_still}
+use Rattle.executions.proofs.Growth.{get_last, no_events, state_still, state_more}
+use Rattle.effectors.specs.Effect.{after as effect_of}
+use Rattle.replica_replay.proofs.Taking.{get_map}
 use Rattle.replica_replay.specs.declared.step.Step.{Step}
 use Rattle.replica_replay.specs.declared.step.Step.TheVariants as step
 use Rattle.replica_replay.specs.declared.step.StepRefused.{StepRefused}
 use Rattle.replica_replay.specs.Held.{Held, none_held, IsHeld}
 use Rattle.replica_replay.specs.Steps.{accepted, state_of, operation_named, decided, named_outcome, found_outcome, called, took, outcome}
 use Rattle.replay_text.specs.Course.{replica_of, state_at}
-use Rattle.replay_text.specs.Asked.{HoldsAt, AllHeld, OthersHeld, IsFrontElsewhere, Grows}
+use Rattle.replay_text.specs.Asked.{HoldsAt, AllHeld, OthersHeld, IsFrontElsewhere, LedBy, Grows}
 
 absent : {X : Type 0} (x : X) → None ≡ Some x → ⊥
 absent x h = cc
 
 -- ---- what an accepted step leaves
 
-decided_is : (why : Option StepRefused) (n e : ℕ) (next after : Held) → decided why n next ≡ accepted e after → next ≡ after
-decided_is None n e next after h = cc h
+decided_is : (why : Option StepRefused) (n e : ℕ) (next after : Held) → decided why n next ≡ accepted e after → (n ≡ e) × (next ≡ after)
+decided_is None n e next after h = (cc h, cc h)
 decided_is (Some why) n e next after h = absurd (cc h)
 
 module _ (d : Specification) (w : World) (held : Held) (replica e : ℕ) (after : Held) where
-  called_grows : (name : List ℕ) (args : List ℤ) (o : Option (List ℕ)) → slice_get held.taken replica ≡ o → called d w held replica name args o ≡ accepted e after → Grows held replica after
+  called_grows : (name : List ℕ) (args : List ℤ) (o : Option (List ℕ)) → slice_get held.taken replica ≡ o → called d w held replica name args o ≡ accepted e after → Grows held replica e after
   called_grows name args None q h = absurd (cc h)
   called_grows name args (Some taken) q h = by (operation_named d name) h
     where
-      by : (op : Option ℕ) → named_outcome d w held replica taken args op ≡ accepted e after → Grows held replica after
+      by : (op : Option ℕ) → named_outcome d w held replica taken args op ≡ accepted e after → Grows held replica e after
       by None h = absurd (cc h)
       by (Some op) h =
           let event : Event Call = record { call = record { op = op; args = args }; seen = taken } in
           let next : Held = record { events = held.events ++ event ∷ []; taken = set held.taken replica (taken ++ length held.events ∷ []) } in
-          let grown : Grows held replica next = record { taken = taken; event = length held.events; more = event ∷ []; here = q; taken_is = refl; events_is = refl } in
-          subst (Grows held replica) (decided_is _ (length held.events) e next after h) grown
+          let grown : Grows held replica (length held.events) next = record { taken = taken; it = event; more = event ∷ []; here = q; taken_is = refl; events_is = refl; stands = get_last held.events event } in
+          let same = decided_is _ (length held.events) e next after h in
+          subst (λ (n : ℕ). Grows held replica n after) same.0 (subst (Grows held replica (length held.events)) same.1 grown)
 
-  took_grows : (event : ℕ) (o : Option (List ℕ)) → slice_get held.taken replica ≡ o → took d w held replica event o ≡ accepted e after → Grows held replica after
+  took_grows : (event : ℕ) (o : Option (List ℕ)) → slice_get held.taken replica ≡ o → took d w held replica event o ≡ accepted e after → Grows held replica e after
   took_grows event None q h = absurd (cc h)
-  took_grows event (Some taken) q h = by (slice_get held.events event) h
+  took_grows event (Some taken) q h = by (slice_get held.events event) refl h
     where
-      by : (o : Option (Event Call)) → found_outcome d w held replica taken event o ≡ accepted e after → Grows held replica after
-      by None h = absurd (cc h)
-      by (Some found) h =
+      by : (o : Option (Event Call)) → slice_get held.events event ≡ o → found_outcome d w held replica taken event o ≡ accepted e after → Grows held replica e after
+      by None s h = absurd (cc h)
+      by (Some found) s h =
           let next : Held = record { events = held.events; taken = set held.taken replica (taken ++ event ∷ []) } in
-          let grown : Grows held replica next = record { taken = taken; event = event; more = []; here = q; taken_is = refl; events_is = sym (append-nil held.events) } in
-          subst (Grows held replica) (decided_is _ event e next after h) grown
+          let grown : Grows held replica event next = record { taken = taken; it = found; more = []; here = q; taken_is = refl; events_is = sym (append-nil held.events); stands = s } in
+          let same = decided_is _ event e next after h in
+          subst (λ (n : ℕ). Grows held replica n after) same.0 (subst (Grows held replica event) same.1 grown)
 
-grows : (d : Specification) (w : World) (held : Held) (s : Step) (e : ℕ) (after : Held) → outcome d w held s ≡ accepted e after → Grows held (replica_of s) after
+grows : (d : Specification) (w : World) (held : Held) (s : Step) (e : ℕ) (after : Held) → outcome d w held s ≡ accepted e after → Grows held (replica_of s) e after
 grows d w held (step.Call replica name args) e after h = called_grows d w held replica e after name args (slice_get held.taken replica) refl h
 grows d w held (step.Take replica event) e after h = took_grows d w held replica e after event (slice_get held.taken replica) refl h
 
@@ -83,7 +87,7 @@ split_at zero b = inl (omega arith)
 split_at (suc a) zero = inr (omega arith)
 split_at (suc a) (suc b) = elim (split_at a b) [ inl h ↦ inl (omega (arith, h)) | inr h ↦ inr (omega (arith, h)) ]
 
-module _ (d : Specification) (w : World) (held after : Held) (replica : ℕ) (is : IsHeld d w held) (all : AllHeld d w held) (g : Grows held replica after) where
+module _ (d : Specification) (w : World) (held after : Held) (replica e : ℕ) (is : IsHeld d w held) (all : AllHeld d w held) (g : Grows held replica e after) where
   -- the state after a front of an old order stays
   still : (r k : ℕ) → state_of d w after (take k (get_or held.taken r [])) ≡ state_of d w held (take k (get_or held.taken r []))
   still r k =
@@ -98,23 +102,23 @@ module _ (d : Specification) (w : World) (held after : Held) (replica : ℕ) (is
       ap (λ (l : List ℕ). broken_at d w (state_of d w after (take k l))) (ap (λ (a : List (List ℕ)). get_or a r []) g.taken_is ∙ get_or-set_other held.taken replica r _ [] off)
       ∙ still_holds r k
 
-  own_order : get_or after.taken replica [] ≡ g.taken ++ g.event ∷ []
+  own_order : get_or after.taken replica [] ≡ g.taken ++ e ∷ []
   own_order = ap (λ (a : List (List ℕ)). get_or a replica []) g.taken_is ∙ get_or-set_same held.taken replica _ [] (slice_get_within held.taken replica g.taken g.here)
 
   own_held : broken_at d w (state_at d w after replica) ≡ None → (k : ℕ) → HoldsAt d w after replica k
   own_held now k = elim (split_at k (length g.taken)) [
-    | inl few ↦ ap (λ (l : List ℕ). broken_at d w (state_of d w after l)) (ap (take k) own_order ∙ take-append-le k g.taken (g.event ∷ []) few ∙ ap (take k) (sym (there held.taken replica g.taken g.here))) ∙ still_holds replica k
+    | inl few ↦ ap (λ (l : List ℕ). broken_at d w (state_of d w after l)) (ap (take k) own_order ∙ take-append-le k g.taken (e ∷ []) few ∙ ap (take k) (sym (there held.taken replica g.taken g.here))) ∙ still_holds replica k
     | inr many ↦ by_case k many
   ]
     where
       by_case : (k : ℕ) → length g.taken ≤ k → HoldsAt d w after replica k
       by_case k many = elim (eqb_tells k (length g.taken)) [
-        | inl same ↦ ap (λ (l : List ℕ). broken_at d w (state_of d w after l)) (ap (take k) own_order ∙ take-append-le k g.taken (g.event ∷ []) (let e = same.1 in omega (arith, e)) ∙ ap (take k) (sym (there held.taken replica g.taken g.here))) ∙ still_holds replica k
-        | inr more ↦ ap (λ (l : List ℕ). broken_at d w (state_of d w after l)) (ap (take k) own_order ∙ take_all k (g.taken ++ g.event ∷ []) (longer more.1) ∙ sym own_order) ∙ now
+        | inl same ↦ ap (λ (l : List ℕ). broken_at d w (state_of d w after l)) (ap (take k) own_order ∙ take-append-le k g.taken (e ∷ []) (let e = same.1 in omega (arith, e)) ∙ ap (take k) (sym (there held.taken replica g.taken g.here))) ∙ still_holds replica k
+        | inr more ↦ ap (λ (l : List ℕ). broken_at d w (state_of d w after l)) (ap (take k) own_order ∙ take_all k (g.taken ++ e ∷ []) (longer more.1) ∙ sym own_order) ∙ now
       ]
         where
-          longer : (k ≢ length g.taken) → length (g.taken ++ g.event ∷ []) ≤ k
-          longer off = rw (length-append g.taken (g.event ∷ [])) (between k (length g.taken) many off)
+          longer : (k ≢ length g.taken) → length (g.taken ++ e ∷ []) ≤ k
+          longer off = rw (length-append g.taken (e ∷ [])) (between k (length g.taken) many off)
             where
               between : (a b : ℕ) → b ≤ a → a ≢ b → b + 1 ≤ a
               between a b h off = omega (arith, h, off)
@@ -125,14 +129,34 @@ module _ (d : Specification) (w : World) (held after : Held) (replica : ℕ) (is
     | inr off ↦ others_held r k off.1
   ]
 
+  -- the event has led the replica here from a state in which the invariants held
+  pub led_by : LedBy d w after replica e
+  led_by = record {
+    before = state_of d w after g.taken;
+    call = g.it.call;
+    is_call = get_map (λ (v : Event Call). v.call) after.events e g.it g.stands;
+    leads = ap (state_of d w after) own_order ∙ state_more (system_of d w) after.events g.taken e
+        ∙ ap (λ (o : Option (Event Call)). elim o [ None ↦ state_of d w after g.taken | Some event ↦ effect_of d w event.call (state_of d w after g.taken) ]) g.stands;
+    held_before =
+        ap (λ (l : List ℕ). broken_at d w (state_of d w after l)) (sym (ap (take (length g.taken)) (there held.taken replica g.taken g.here) ∙ take_all (length g.taken) g.taken (let le : length g.taken ≤ length g.taken = omega arith in le)))
+        ∙ still_holds replica (length g.taken);
+  }
+
+-- where a step was accepted, its event is there, and has led its replica from a state in which the invariants held
+pub event_within : (d : Specification) (w : World) (held after : Held) (s : Step) (e : ℕ) → outcome d w held s ≡ accepted e after → e < length after.events
+event_within d w held after s e went = let g = grows d w held s e after went in slice_get_within after.events e g.it g.stands
+
+pub led_here : (d : Specification) (w : World) (held after : Held) (s : Step) (e : ℕ) → IsHeld d w held → AllHeld d w held → outcome d w held s ≡ accepted e after → LedBy d w after (replica_of s) e
+led_here d w held after s e is all went = led_by d w held after (replica_of s) e is all (grows d w held s e after went)
+
 -- where a step was accepted, the states that other replicas have had break no invariant
 pub others_hold : (d : Specification) (w : World) (held after : Held) (s : Step) (e : ℕ) → IsHeld d w held → AllHeld d w held → outcome d w held s ≡ accepted e after → OthersHeld d w after (replica_of s)
-others_hold d w held after s e is all went = others_held d w held after (replica_of s) is all (grows d w held s e after went)
+others_hold d w held after s e is all went = others_held d w held after (replica_of s) e is all (grows d w held s e after went)
 
 -- and where its replica's state breaks none, all that were reached break none
 pub all_hold : (d : Specification) (w : World) (held after : Held) (s : Step) (e : ℕ) → IsHeld d w held → AllHeld d w held → outcome d w held s ≡ accepted e after
     → broken_at d w (state_at d w after (replica_of s)) ≡ None → AllHeld d w after
-all_hold d w held after s e is all went now = all_held d w held after (replica_of s) is all (grows d w held s e after went) now
+all_hold d w held after s e is all went now = all_held d w held after (replica_of s) e is all (grows d w held s e after went) now
 
 -- a replica that has taken what another has taken first is in a state that the other one has had
 pub front_holds : (d : Specification) (w : World) (held : Held) (replica : ℕ) → OthersHeld d w held replica → IsFrontElsewhere held replica → None ≡ broken_at d w (state_at d w held replica)

@@ -8,13 +8,15 @@ ghost use Rattle.replay_text.specs.Course.{state_at, replica_of, course_from, co
 ghost use Rattle.replica_replay.specs.Held.{none_held};
 ghost use Rattle.replay_text.specs.Text.{step_lines, stop_line, replica_text, replica_texts, replay_text, replay_status, status_of};
 ghost use Rattle.replay_text.specs.Reached.{IsStepped, IsReached};
-ghost use Rattle.replay_text.specs.Asked.{AllHeld, OthersHeld, IsFrontElsewhere};
+ghost use Rattle.replay_text.specs.Asked.{AllHeld, OthersHeld, IsFrontElsewhere, LedBy};
 
 use crate::lines::{push, push_number, push_step, push_stop};
 use crate::stop::Stop;
 use byte_ports::{ACCEPTED, Answer, REFUSED, REJECTED};
+use invariants_after::invariant_broken_after;
+use partial_truth::invariant_broken_at;
 use replica_replay::{Replay, Step, StepRefused, Steps};
-use spec_core::{Spec, World, invariant_broken_at, write_state};
+use spec_core::{Spec, World, write_state};
 use std::alloc::{AllocError, Global};
 
 /// The replica of a step.
@@ -63,19 +65,37 @@ fn is_front_elsewhere<R: Steps>(replay: &R, replica: u32) -> bool
     false
 }
 
-/// The first invariant that the state of a replica breaks. The invariants aren't asked where another replica has had that state.
-fn broken_after<R: Steps>(spec: &Spec, replay: &R, replica: u32) -> Option<usize>
+/// The first invariant that the state of a replica breaks, which an event has led to it from a state in which all held. Those aren't
+/// asked that read nothing that the event's operation writes.
+fn broken_by<R: Steps>(spec: &Spec, replay: &R, replica: u32, event: u32) -> Option<usize>
     requires spec { (R.replayed replay.now).spec ≡ spec.now }
     requires replica { replica < length (R.replayed replay.now).held.taken }
+    requires event { event < length (R.replayed replay.now).held.events }
+    requires led { LedBy spec.now (R.replayed replay.now).world (R.replayed replay.now).held replica event }
+    ensures { result ≡ broken_at spec.now (R.replayed replay.now).world (state_at spec.now (R.replayed replay.now).world (R.replayed replay.now).held replica) }
+{
+    invariant_broken_after(
+        spec,
+        replay.world(),
+        replay.state_of(replica),
+        replay.call_of(event),
+    )
+}
+
+/// The first invariant that the state of a replica breaks after an event that it took. None is asked where another replica has had that
+/// state.
+fn broken_after<R: Steps>(spec: &Spec, replay: &R, replica: u32, event: u32) -> Option<usize>
+    requires spec { (R.replayed replay.now).spec ≡ spec.now }
+    requires replica { replica < length (R.replayed replay.now).held.taken }
+    requires event { event < length (R.replayed replay.now).held.events }
     requires others { OthersHeld spec.now (R.replayed replay.now).world (R.replayed replay.now).held replica }
-    ensures { result
-        ≡ broken_at spec.now (R.replayed replay.now).world
-        (state_at spec.now (R.replayed replay.now).world (R.replayed replay.now).held replica) }
+    requires led { LedBy spec.now (R.replayed replay.now).world (R.replayed replay.now).held replica event }
+    ensures { result ≡ broken_at spec.now (R.replayed replay.now).world (state_at spec.now (R.replayed replay.now).world (R.replayed replay.now).held replica) }
 {
     if is_front_elsewhere(replay, replica) {
         return None;
     }
-    broken_invariant(spec, replay, replica)
+    broken_by(spec, replay, replica, event)
 }
 
 /// What a step led to.
@@ -100,7 +120,7 @@ fn carry_out<R: Steps>(spec: &Spec, replay: &mut R, step: &Step) -> Result<Stepp
     match replay.step(step) {
         Ok(taken) => Ok(Stepped::Accepted(
             taken.event,
-            broken_after(spec, replay, replica_of(step)),
+            broken_after(spec, replay, replica_of(step), taken.event),
         )),
         Err(StepRefused::Memory) => Err(AllocError),
         Err(why) => Ok(Stepped::Refused(why)),

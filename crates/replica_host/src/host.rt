@@ -1,6 +1,6 @@
 // A host: steps, taken one after the other, with the application's own effect and guard.
 
-ghost use Rattle.std.specs.Prelude.{◌≡◌, ◌<◌, ◌⊎◌, true, [], length, get_or, slice_get, Err, IfOk, OnOk, OnErr};
+ghost use Rattle.std.specs.Prelude.{◌≡◌, ◌<◌, ◌⊎◌, true, [], length, map, get_or, slice_get, Some, Err, IfOk, OnOk, OnErr};
 ghost use Rattle.spec_core.specs.State.{reads};
 ghost use Rattle.spec_core.specs.Fits.{world_fits, is_state};
 ghost use Rattle.replica_replay.specs.Held.{IsHeld, none_held};
@@ -95,6 +95,14 @@ impl<'a, E: Effect, G: Guard> Host<'a, E, G> {
         ensures { result.now ≡ get_or self.now.held.taken replica [] }
     {
         self.replicas[replica as usize].order.as_slice()
+    }
+
+    /// The call of an event.
+    pub fn call_of(&self, event: u32) -> &Call
+        requires { event < length self.now.held.events }
+        ensures { slice_get (map (λ e. e.call) self.now.held.events) event ≡ Some result.now }
+    {
+        &self.happened[event as usize].call
     }
 
     /// A fact for proofs: the events form an execution, and what each replica has taken is a delivery order of it.
@@ -195,6 +203,10 @@ impl<'a, E: Effect, G: Guard> Steps for Host<'a, E, G> {
 
     fn seen_by(&self, replica: u32) -> &[u32] {
         Host::seen_by(self, replica)
+    }
+
+    fn call_of(&self, event: u32) -> &Call {
+        Host::call_of(self, event)
     }
 
     fn is_held(&self) {

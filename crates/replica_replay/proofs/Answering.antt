@@ -54,6 +54,13 @@ length_events : (orders : List (List ℕ)) (hs : List Happened) → length (map 
 length_events orders [] = refl
 length_events orders (x ∷ xs) = ap suc (length_events orders xs)
 
+pub is_event : (orders : List (List ℕ)) (hs : List Happened) (e : ℕ) → e < length (map (event_of orders) hs) → e < length hs
+is_event orders hs e lt = subst (λ n. e < n) (length_events orders hs) lt
+
+-- the call of an event
+pub call_at : (orders : List (List ℕ)) (hs : List Happened) (e : ℕ) (it : Happened) → slice_get hs e ≡ Some it → slice_get (map (λ (v : Event Call). v.call) (map (event_of orders) hs)) e ≡ Some it.call
+call_at orders hs e it there = get_map (λ (v : Event Call). v.call) (map (event_of orders) hs) e (event_of orders it) (get_map (event_of orders) hs e it there)
+
 each_fits : (p : Call → Bool) (es : List (Event Call)) (k : ℕ) (e : Event Call) → list_all (λ (v : Event Call). p v.call) es ≡ true → slice_get es k ≡ Some e → p e.call ≡ true
 each_fits p [] k e h q = absurd (absent e q)
 each_fits p (v ∷ es) zero e h q = subst (λ (z : Event Call). p z.call ≡ true) (one_found v e q) (both (p v.call) (list_all (λ (v : Event Call). p v.call) es) h).0

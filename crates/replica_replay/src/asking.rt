@@ -24,7 +24,8 @@ use crate::keeping::Happened;
 use crate::order::Order;
 use crate::step::StepRefused;
 use effectors::{ApplyRefused, apply_over};
-use spec_core::{Call, Operation, Spec, State, World, observes_broken_at, requires_broken_at};
+use partial_truth::{observes_broken_at, requires_broken_at};
+use spec_core::{Call, Operation, Spec, State, World};
 use std::alloc::Global;
 use token_rules::{Rivalry, conflicts, may_conflict};
 

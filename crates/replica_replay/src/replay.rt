@@ -1,6 +1,6 @@
 // A replay: steps, taken one after the other.
 
-ghost use Rattle.std.specs.Prelude.{◌≡◌, ℕ, ◌<◌, ◌≤◌, ◌⊎◌, true, [], length, replicate, get_or, slice_get, List, Result, Err, IfOk, OnOk, OnErr};
+ghost use Rattle.std.specs.Prelude.{◌≡◌, ℕ, ◌<◌, ◌≤◌, ◌⊎◌, true, [], length, map, replicate, get_or, slice_get, List, Some, Result, Err, IfOk, OnOk, OnErr};
 ghost use Rattle.spec_core.specs.State.{reads};
 ghost use Rattle.spec_core.specs.Fits.{world_fits, is_state};
 ghost use Rattle.replica_replay.specs.Held.{IsHeld, none_held};
@@ -103,6 +103,14 @@ impl<'a> Replay<'a> {
         ensures { result.now ≡ get_or self.now.held.taken replica [] }
     {
         self.replicas[replica as usize].order.as_slice()
+    }
+
+    /// The call of an event.
+    pub fn call_of(&self, event: u32) -> &Call
+        requires { event < length self.now.held.events }
+        ensures { slice_get (map (λ e. e.call) self.now.held.events) event ≡ Some result.now }
+    {
+        &self.happened[event as usize].call
     }
 
     /// A fact for proofs: the events form an execution, and what each replica has taken is a delivery order of it.

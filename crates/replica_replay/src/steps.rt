@@ -1,6 +1,6 @@
 // Whatever carries steps out as a replay does.
 
-ghost use Rattle.std.specs.Prelude.{◌≡◌, ◌<◌, ◌⊎◌, true, [], length, get_or, Err, OnOk, OnErr};
+ghost use Rattle.std.specs.Prelude.{◌≡◌, ◌<◌, ◌⊎◌, true, [], length, map, get_or, slice_get, Some, Err, OnOk, OnErr};
 ghost use Rattle.spec_core.specs.State.{reads};
 ghost use Rattle.spec_core.specs.Fits.{world_fits, is_state};
 ghost use Rattle.replica_replay.specs.Held.{IsHeld};
@@ -9,7 +9,7 @@ ghost use Rattle.replica_replay.specs.Steps.{state_of, outcome, held_after, answ
 
 use crate::replay::Replay;
 use crate::step::{Step, StepRefused, Taken};
-use spec_core::{State, World};
+use spec_core::{Call, State, World};
 
 /// What carries steps out, with the answers of a replay. It holds what a replay of its specification in its world would hold.
 pub trait Steps {
@@ -35,6 +35,11 @@ pub trait Steps {
     fn seen_by(&self, replica: u32) -> &[u32]
         requires { replica < length (replayed self.now).held.taken }
         ensures { result.now ≡ get_or (replayed self.now).held.taken replica [] };
+
+    /// The call of an event.
+    fn call_of(&self, event: u32) -> &Call
+        requires { event < length (replayed self.now).held.events }
+        ensures { slice_get (map (λ e. e.call) (replayed self.now).held.events) event ≡ Some result.now };
 
     /// A fact for proofs: the events form an execution, and what each replica has taken is a delivery order of it.
     fn is_held(&self)
@@ -64,6 +69,10 @@ impl<'a> Steps for Replay<'a> {
 
     fn seen_by(&self, replica: u32) -> &[u32] {
         Replay::seen_by(self, replica)
+    }
+
+    fn call_of(&self, event: u32) -> &Call {
+        Replay::call_of(self, event)
     }
 
     fn is_held(&self) {

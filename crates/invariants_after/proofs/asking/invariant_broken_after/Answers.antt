@@ -1,0 +1,57 @@
+use Rattle.std.proofs.Common.{◌≡◌, ◌<◌, true, not, List, [], None, length, get_or, refl, sym, ◌∙◌, ap, subst, arith}
+use Rattle.std.specs.List.{position_from}
+use Rattle.std.proofs.lemmas.Bool.{and_parts}
+use Rattle.spec_core.specs.declared.spec.Invariant.{Invariant}
+use Rattle.spec_core.specs.Specification.{Specification}
+use Rattle.spec_core.specs.State.{Reads}
+use Rattle.spec_core.specs.Typed.{is_specification, is_invariant, is_line}
+use Rattle.spec_core.specs.Truth.{is_exists, line_true}
+use Rattle.spec_core.specs.Meaning.{broken_at}
+use Rattle.spec_core.proofs.Lists.{list_all-within}
+use Rattle.spec_core.proofs.Parts.{parts_of}
+use Rattle.spec_core.proofs.Fitting.{line_fits_typed}
+use Rattle.spec_core.proofs.Positions.{position_here, position_later, position_past}
+use Rattle.invariants_after.proofs.Staying.{each_true}
+use Rattle.invariants_after.proofs.asking.invariant_broken_after.Goals as goal
+
+pub line_holds_after-requires-clause-fits : goal.line_holds_after-requires-clause-fits
+line_holds_after-requires-clause-fits g c =
+    let d = c.args.spec.now in
+    let w = c.args.world.now in
+    let item = c.invariant-item.result in
+    let well : is_specification d ≡ true = subst (λ (d : Specification). is_specification d ≡ true) c.spec.view_is c.spec.invariant in
+    let of_spec = λ (d : Specification). d.invariants in
+    let items : c.as_slice-invariant-items.result.now ≡ d.invariants = subst (λ (e : Specification). c.as_slice-invariant-items.result.now ≡ e.invariants) c.spec.view_is c.as_slice-invariant-items.ensures in
+    let lt : c.loop-i.i < length d.invariants = subst (λ (xs : List Invariant). c.loop-i.i < length xs) items c.loop-i-test.true in
+    let at : is_invariant d (get_or d.invariants c.loop-i.i item) ≡ true = list_all-within (is_invariant d) d.invariants (parts_of d well).invariants c.loop-i.i item lt in
+    let here : is_invariant d item ≡ true = subst (λ (x : Invariant). is_invariant d x ≡ true) (sym c.invariant-item.is) (subst (λ (xs : List Invariant). is_invariant d (get_or xs c.loop-i.i item) ≡ true) (sym items) at) in
+    line_fits_typed d w (and_parts _ _ c.requires).0 [] [] refl item.line (and_parts (not (is_exists item.line.prefix)) (is_line d [] item.line) here).1
+
+pub returns-then-not-line_holds_after : goal.returns-then-not-line_holds_after
+returns-then-not-line_holds_after g c before went none =
+    let d = c.args.spec.now in let w = c.args.world.now in let item = c.invariant-item.result in
+    let p = λ (i : Invariant). not (line_true w (g.R.Readings.reads c.args.at.now) [] i.line) in
+    let items : c.as_slice-invariant-items.result.now ≡ d.invariants = subst (λ (e : Specification). c.as_slice-invariant-items.result.now ≡ e.invariants) c.spec.view_is c.as_slice-invariant-items.ensures in
+    let lt : c.loop-i.i < length d.invariants = subst (λ (xs : List Invariant). c.loop-i.i < length xs) items c.loop-i-test.true in
+    let was : line_true w before [] item.line ≡ true
+    = subst (λ (x : Invariant). line_true w before [] x.line ≡ true) (sym c.invariant-item.is) (subst (λ (xs : List Invariant). line_true w before [] (get_or xs c.loop-i.i item).line ≡ true) (sym items) (each_true d w before none c.loop-i.i item lt)) in
+    sym (ap (position_from p 0) (sym items) ∙ c.loop-i.invariant before went none
+    ∙ position_here p c.as_slice-invariant-items.result.now c.loop-i.i item c.loop-i-test.true (ap p (sym c.invariant-item.is) ∙ ap not (sym (c.line_holds_after.ensures before went was) ∙ c.if-not-line_holds_after.true)))
+
+pub returns : goal.returns
+returns g c before went none =
+    let p = λ (i : Invariant). not (line_true c.args.world.now (g.R.Readings.reads c.args.at.now) [] i.line) in
+    let items : c.as_slice-invariant-items.result.now ≡ c.args.spec.now.invariants = subst (λ (e : Specification). c.as_slice-invariant-items.result.now ≡ e.invariants) c.spec.view_is c.as_slice-invariant-items.ensures in
+    sym (ap (position_from p 0) (sym items) ∙ c.loop-i.invariant before went none
+    ∙ position_past p c.as_slice-invariant-items.result.now c.loop-i.i c.loop-i.i (omega (arith, c.loop-i-test.false)))
+
+pub loop-i-preserved : goal.loop-i-preserved
+loop-i-preserved g c before went none =
+    let d = c.args.spec.now in let w = c.args.world.now in let item = c.invariant-item.result in
+    let p = λ (i : Invariant). not (line_true w (g.R.Readings.reads c.args.at.now) [] i.line) in
+    let items : c.as_slice-invariant-items.result.now ≡ d.invariants = subst (λ (e : Specification). c.as_slice-invariant-items.result.now ≡ e.invariants) c.spec.view_is c.as_slice-invariant-items.ensures in
+    let lt : c.loop-i.i < length d.invariants = subst (λ (xs : List Invariant). c.loop-i.i < length xs) items c.loop-i-test.true in
+    let was : line_true w before [] item.line ≡ true
+    = subst (λ (x : Invariant). line_true w before [] x.line ≡ true) (sym c.invariant-item.is) (subst (λ (xs : List Invariant). line_true w before [] (get_or xs c.loop-i.i item).line ≡ true) (sym items) (each_true d w before none c.loop-i.i item lt)) in
+    c.loop-i.invariant before went none
+    ∙ position_later p c.as_slice-invariant-items.result.now c.loop-i.i item c.loop-i-test.true (ap p (sym c.invariant-item.is) ∙ ap not (sym (c.line_holds_after.ensures before went was) ∙ c.if-not-line_holds_after.false))

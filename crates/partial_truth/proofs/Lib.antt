@@ -1,0 +1,2 @@
+pub mod Forcing
+mod Rest
