@@ -114,13 +114,31 @@ fn settle(
     }
 }
 
-// The reader takes a line of a report that stands, so that only memory can be wanting.
-fn feed(reader: &mut ReportReader<'_>, line: &[u8]) -> Result<Fed, AllocError>
+// The reader takes a line of any kind.
+fn feed_any(reader: &mut ReportReader<'_>, line: &[u8]) -> Result<Fed, AllocError>
     ensures { IfOk result (λ fed. IsTold reader.old line.now reader.new fed) }
 {
     match reader.feed(line) {
         Ok(fed) => Ok(fed),
         Err(_) => Err(AllocError),
+    }
+}
+
+// The reader takes a line of a report that stands, so that only memory can be wanting. Most lines resolve two clauses.
+fn feed(reader: &mut ReportReader<'_>, line: &[u8]) -> Result<Fed, AllocError>
+    ensures { IfOk result (λ fed. IsTold reader.old line.now reader.new fed) }
+{
+    match reader.feed_resolve(line) {
+        Some(told) => Ok(Fed {
+            begin: None,
+            log: Some(Line::Resolve {
+                left: told.left,
+                right: told.right,
+                pivot: told.pivot,
+            }),
+            ended: None,
+        }),
+        None => feed_any(reader, line),
     }
 }
 
