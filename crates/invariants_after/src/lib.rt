@@ -1,10 +1,9 @@
-// Invariants after a call: those that read nothing that the call's operation writes keep their truth, and aren't asked again.
+// Invariants after a call: which one is false first, where all were true before the call.
 //
-// It stands on `items`, `spec_core`, `effectors` and `partial_truth`, which asks the others. The definition of what a formula
-// reads that updates write is in specs/Written. Nothing here takes memory.
+// It stands on `items`, `spec_core`, `effectors` and `touched_lines`, which asks each at those elements alone at which it reads what the
+// call's updates reach. Nothing here takes memory.
 #![tactic(auto)]
 
 mod asking;
-mod written;
 
 pub use asking::invariant_broken_after;

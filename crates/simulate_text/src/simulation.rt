@@ -9,7 +9,8 @@ ghost use Rattle.simulate_text.specs.Course.{refusal_of, heard_by_all, broken_of
 ghost use Rattle.simulate_text.specs.Reached.{simulated_in, IsOf, IsGone, Does};
 
 use crate::said::{Said, SimulateRefused, Stop};
-use spec_core::{Call, invariant_broken_at};
+use partial_truth::invariant_broken_at;
+use spec_core::Call;
 use std::alloc::{AllocError, Global};
 use token_core::{Net, Runner, number_of};
 use token_protocol::{NetDid, NetRefused, NetStep, WhyVoid};

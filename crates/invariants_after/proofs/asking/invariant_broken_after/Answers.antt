@@ -1,12 +1,10 @@
-use Rattle.std.proofs.Common.{◌≡◌, ◌<◌, true, not, List, [], None, length, get_or, refl, sym, ◌∙◌, ap, subst, arith}
+use Rattle.std.proofs.Common.{◌≡◌, ◌<◌, true, not, List, [], length, get_or, refl, sym, ◌∙◌, ap, subst, arith}
 use Rattle.std.specs.List.{position_from}
 use Rattle.std.proofs.lemmas.Bool.{and_parts}
 use Rattle.spec_core.specs.declared.spec.Invariant.{Invariant}
 use Rattle.spec_core.specs.Specification.{Specification}
-use Rattle.spec_core.specs.State.{Reads}
 use Rattle.spec_core.specs.Typed.{is_specification, is_invariant, is_line}
 use Rattle.spec_core.specs.Truth.{is_exists, line_true}
-use Rattle.spec_core.specs.Meaning.{broken_at}
 use Rattle.spec_core.proofs.Lists.{list_all-within}
 use Rattle.spec_core.proofs.Parts.{parts_of}
 use Rattle.spec_core.proofs.Fitting.{line_fits_typed}

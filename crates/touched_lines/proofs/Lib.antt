@@ -1,0 +1,2 @@
+mod Spanning
+mod Touching
