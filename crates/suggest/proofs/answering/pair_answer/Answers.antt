@@ -1,7 +1,14 @@
-use Rattle.std.proofs.Common.{subst, refl}
+use Rattle.std.proofs.Common.{List, subst, sym, refl}
 use Rattle.spec_core.specs.Specification.{Specification}
-use Rattle.suggest.specs.Answers.{IsFoundIn}
+use Rattle.obligation_list.specs.declared.obligation.Obligation.{Obligation}
+use Rattle.keyed_specs.specs.Bare.{bare}
+use Rattle.suggest.specs.Answers.{HaveLogs, IsFoundIn}
 use Rattle.suggest.proofs.answering.pair_answer.Goals as goal
+
+pub keys_for-requires-clause-free : goal.keys_for-requires-clause-free
+keys_for-requires-clause-free c =
+    let logs = subst (λ (s : Specification). HaveLogs s c.args.budget c.find_bare.new.proved) c.requires.bare c.in-Ok.ensures.proved in
+    subst (λ (obs : List Obligation). HaveLogs (bare c.args.spec.now) c.args.budget obs) (sym c.as_slice.ensures) logs
 
 pub returns : goal.returns
 returns c = record {
