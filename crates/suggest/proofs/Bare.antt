@@ -1,5 +1,5 @@
 -- What the bare specification has in common with the given one and with the keyed ones, and that what holds in it holds in the given one.
-use Rattle.std.proofs.Common.{◌≡◌, ℕ, zero, suc, ℤ, true, false, ◌&&◌, List, [], ◌∷◌, map, length, get_or, nat_lt, refl, sym, ◌∙◌, ap, subst}
+use Rattle.std.proofs.Common.{◌≡◌, ℕ, zero, suc, ◌&&◌, List, [], ◌∷◌, map, length, get_or, nat_lt, refl, sym, ◌∙◌, ap, subst}
 use Rattle.std.specs.List.{filter}
 use Rattle.std.proofs.lemmas.List.{length-map}
 use Rattle.spec_core.specs.declared.world.World.{World}
@@ -22,7 +22,7 @@ use Rattle.obligation_list.specs.declared.obligation.Obligation.TheVariants.{Ini
 use Rattle.obligation_list.specs.Breaking.{requires_line, failing_vars, line_at, reads_same, elements_of, IsCallOf, MayRunTogether, BreaksIn, Breaks, Holds}
 use Rattle.keyed_specs.specs.Takes.{with_takes}
 use Rattle.keyed_specs.specs.Bare.{with_tokens, bare}
-use Rattle.keyed_specs.specs.Keyed.{keyed_from, keyed_takes, keyed}
+use Rattle.keyed_specs.specs.Keyed.{keyed_from, keyed}
 use Rattle.suggest.specs.Answers.{HaveLogs}
 
 -- ---- the bare specification of a keyed one

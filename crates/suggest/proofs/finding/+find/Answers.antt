@@ -23,12 +23,18 @@ find-requires-in-Undecided t c = (
 pub find-requires-in-Proved : goal.find-requires-in-Proved
 find-requires-in-Proved t c = (
   omega arith,
-  (others_members (IsObligation c.args.spec.now) c.args.obligations.now c.in-len1-up.len_at_least c.requires.members,
-  (c.requires.budget,
-  (c.requires.free,
-  subst (λ (obs : List Obligation). HaveLogs c.args.spec.now c.args.budget obs) (sym c.in_ok-push-in-Proved.ensures.ok)
-  (one_log_more c.args.spec.now c.args.budget c.args.proved.now (first c.args.obligations.now) c.requires.proved
-  (first_log c.args.spec.now c.args.budget (first c.args.obligations.now) c.in_ok-log-in-len1-up.field-0 c.in-Proved.log c.in-Proved.is c.in_ok-log-in-len1-up.ensures.good))))),
+  (
+    others_members (IsObligation c.args.spec.now) c.args.obligations.now c.in-len1-up.len_at_least c.requires.members,
+    (
+      c.requires.budget,
+      (
+        c.requires.free,
+        subst (λ (obs : List Obligation). HaveLogs c.args.spec.now c.args.budget obs) (sym c.in_ok-push-in-Proved.ensures.ok)
+            (one_log_more c.args.spec.now c.args.budget c.args.proved.now (first c.args.obligations.now) c.requires.proved
+            (first_log c.args.spec.now c.args.budget (first c.args.obligations.now) c.in_ok-log-in-len1-up.field-0 c.in-Proved.log c.in-Proved.is c.in_ok-log-in-len1-up.ensures.good)),
+      ),
+    ),
+  ),
 )
 
 pub returns-then-is_among-clause-found : goal.returns-then-is_among-clause-found
