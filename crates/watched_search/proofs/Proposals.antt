@@ -1,5 +1,5 @@
 -- What is known of a proposed log that stood its test.
-use Rattle.std.proofs.Common.{◌≡◌, ◌+◌, ◌^◌, ◌≤◌, ◌<◌, ℕ, true, false, not, Bool, cond, List, [], ◌∷◌, length, refl, sym, subst, Ok, Err, Result, arith}
+use Rattle.std.proofs.Common.{◌≡◌, ◌+◌, ◌^◌, ◌≤◌, ◌<◌, ℕ, true, not, Bool, List, [], ◌∷◌, length, refl, sym, subst, Ok, Err, Result, arith}
 use Rattle.std.specs.List.{list_all}
 use Rattle.std.proofs.Math.Nat.{pow-le-pow_left}
 use Rattle.std.proofs.Math.Pow.{pow_mono}
