@@ -9,7 +9,7 @@ use Rattle.proof_lines.specs.declared.line.Line.{Line}
 use Rattle.proof_report.specs.declared.verdict.Cause.{Cause}
 use Rattle.proof_report.specs.declared.verdict.Cause.TheVariants as causes
 use Rattle.proof_report.specs.Verdicts.{proved, refuted}
-use Rattle.report_text.specs.Showing.{shown_by, shown_cause}
+use Rattle.report_bytes.specs.Showing.{shown_by, shown_cause}
 use Rattle.check_run.specs.Good.{IsGood}
 use Rattle.suggest.specs.Answers.{HasProof, HasNoRefutation, is_unrefuted, IsFound}
 use Rattle.suggest.specs.declared.answer.Found.{Found}
