@@ -3,6 +3,7 @@ use Rattle.std.proofs.Common.{◌≡◌, ℕ, ◌≤◌, ◌<◌, List, [], ◌�
 use Rattle.std.specs.Prelude.{Ok, Err, codes}
 use Rattle.std.specs.Io.KnownBytes.{Appends}
 use Rattle.byte_ports.specs.Faults.{IsFault}
+use Rattle.byte_ports.specs.Ports.{Port}
 use Rattle.byte_ports.specs.Told.{Tells}
 use Rattle.byte_ports.specs.Ending.{IsOne, IsFrontOf, IsBroken, Ends}
 use Rattle.byte_ports.proofs.Endings.{Ends-one}
@@ -41,10 +42,10 @@ low_status Rejected = omega arith
 low_status Undecided = omega arith
 
 -- of a report that stands
-pub upgraded_report_ends : (d : Specification) (bytes : List ℕ) (tally : Tally) (status : ℕ) (before after : Option (List ℕ)) (m n : ℕ) → status ≡ status_of (outcome_of tally)
-    → (length bytes ≤ most_report_bytes) × (text : List ℕ) × IsUpgradedText d bytes tally text × Appends before after text
-    → Ends (IsUpgraded d bytes) (IsUpgradeFront d bytes) status before after m n
-upgraded_report_ends d bytes tally status before after m n is (short, text, up, written) = record {
+pub upgraded_report_ends : (d : Specification) (bytes : List ℕ) (tally : Tally) (status : ℕ) (before after : Port) → status ≡ status_of (outcome_of tally)
+    → (length bytes ≤ most_report_bytes) × (text : List ℕ) × IsUpgradedText d bytes tally text × Appends before.held after.held text
+    → Ends (IsUpgraded d bytes) (IsUpgradeFront d bytes) status before after
+upgraded_report_ends d bytes tally status before after is (short, text, up, written) = record {
   answered = λ below. (text, inl (record { tally = tally; short = short; upgraded = up; status_is = is }), written);
   write_fault = λ e. absurd (omega (arith, low, e));
   front = λ high. absurd (omega (arith, low, high));
@@ -55,10 +56,10 @@ upgraded_report_ends d bytes tally status before after m n is (short, text, up, 
     low = let l = low_status (outcome_of tally) in omega (arith, l, is)
 
 -- of one that is refused
-pub refused_report_ends : (d : Specification) (bytes text : List ℕ) (why : VerifyRefused) (status : ℕ) (before after : Option (List ℕ)) (m n : ℕ) → IsVerified d bytes (Err why)
-    → text_said (Err why) ≡ Some text → Ends (IsOne 4 text) (IsFrontOf text) status before after m n → Ends (IsUpgraded d bytes) (IsUpgradeFront d bytes) status before after m n
-refused_report_ends d bytes text why status before after m n said is e =
-    Ends-one (IsUpgraded d bytes) 4 text status before after m n (inr (refl, record { said = Err why; verified = said; status_is = refl; text_is = is })) e
+pub refused_report_ends : (d : Specification) (bytes text : List ℕ) (why : VerifyRefused) (status : ℕ) (before after : Port) → IsVerified d bytes (Err why)
+    → text_said (Err why) ≡ Some text → Ends (IsOne 4 text) (IsFrontOf text) status before after → Ends (IsUpgraded d bytes) (IsUpgradeFront d bytes) status before after
+refused_report_ends d bytes text why status before after said is e =
+    Ends-one (IsUpgraded d bytes) 4 text status before after (inr (refl, record { said = Err why; verified = said; status_is = refl; text_is = is })) e
 
 broken_upgrade : (d : Specification) (bytes : List ℕ) (before after : Option (List ℕ)) → IsFront d bytes before after → IsBroken (IsUpgradeFront d bytes) before after
 broken_upgrade d bytes before after (inl kept) = inl kept
@@ -66,35 +67,35 @@ broken_upgrade d bytes before after (inr (tally, text, n, short, up, written)) =
     inr (take n text, (status_of (outcome_of tally), text, inl (record { tally = tally; short = short; upgraded = up; status_is = refl }), (n, refl)), written)
 
 -- of one that is stopped
-pub stopped_upgrade_ends : (d : Specification) (bytes : List ℕ) (status : ℕ) (before after : Option (List ℕ)) (m n : ℕ) → 5 < status → status < 9 → (status ≡ 7 → IsFault m n)
-    → IsFront d bytes before after → Ends (IsUpgraded d bytes) (IsUpgradeFront d bytes) status before after m n
-stopped_upgrade_ends d bytes status before after m n high low fault front = record {
+pub stopped_upgrade_ends : (d : Specification) (bytes : List ℕ) (status : ℕ) (before after : Port) → 5 < status → status < 9 → (status ≡ 7 → IsFault before.faults after.faults)
+    → IsFront d bytes before.held after.held → Ends (IsUpgraded d bytes) (IsUpgradeFront d bytes) status before after
+stopped_upgrade_ends d bytes status before after high low fault front = record {
   answered = λ below. absurd (omega (arith, high, below));
   write_fault = fault;
-  front = λ above. broken_upgrade d bytes before after front;
+  front = λ above. broken_upgrade d bytes before.held after.held front;
   known = low;
 }
 
 -- ---- what stopped an upgrade
 
 -- the ending of what was answered to the bytes that a source tells
-pub ends_told : (d : Specification) (told : Option (List ℕ)) (bytes : List ℕ) (status : ℕ) (before after : Option (List ℕ)) (m n : ℕ) → Tells told bytes
-    → Ends (IsUpgraded d bytes) (IsUpgradeFront d bytes) status before after m n → EndsWith told (IsUpgraded d) (IsUpgradeFront d) status before after m n
-ends_told d told bytes status before after m n t e = (bytes, t, e)
+pub ends_told : (d : Specification) (told : Option (List ℕ)) (bytes : List ℕ) (status : ℕ) (before after : Port) → Tells told bytes
+    → Ends (IsUpgraded d bytes) (IsUpgradeFront d bytes) status before after → EndsWith told (IsUpgraded d) (IsUpgradeFront d) status before after
+ends_told d told bytes status before after t e = (bytes, t, e)
 
 -- a report that stands
-pub ok_ends : (d : Specification) (told : Option (List ℕ)) (tally : Tally) (status : ℕ) (before after : Option (List ℕ)) (m n : ℕ) → status ≡ status_of (outcome_of tally) → IsUpgradedFrom d told before after (Ok tally)
-    → EndsWith told (IsUpgraded d) (IsUpgradeFront d) status before after m n
-ok_ends d told tally status before after m n is (bytes, t, u) = ends_told d told bytes status before after m n t (upgraded_report_ends d bytes tally status before after m n is u)
+pub ok_ends : (d : Specification) (told : Option (List ℕ)) (tally : Tally) (status : ℕ) (before after : Port) → status ≡ status_of (outcome_of tally) → IsUpgradedFrom d told before.held after.held (Ok tally)
+    → EndsWith told (IsUpgraded d) (IsUpgradeFront d) status before after
+ok_ends d told tally status before after is (bytes, t, u) = ends_told d told bytes status before after t (upgraded_report_ends d bytes tally status before after is u)
 
 -- one that is refused, behind which its refusal was written: nothing was written before
-refused_ends : {K : Type 0} (held : K → Option (List ℕ)) (faults : K → ℕ) (old mid new : K) (d : Specification) (told : Option (List ℕ)) (bytes text : List ℕ) (why : VerifyRefused) (status : ℕ) → mid ≡ old → Tells told bytes
-    → IsVerified d bytes (Err why) → text_said (Err why) ≡ Some text → Ends (IsOne 4 text) (IsFrontOf text) status (held mid) (held new) (faults mid) (faults new)
-    → EndsWith told (IsUpgraded d) (IsUpgradeFront d) status (held old) (held new) (faults old) (faults new)
-refused_ends {K} held faults old mid new d told bytes text why status same t said is e =
-    ends_told d told bytes status (held old) (held new) (faults old) (faults new) t
-    (refused_report_ends d bytes text why status (held old) (held new) (faults old) (faults new) said is
-    (subst (λ (k : K). Ends (IsOne 4 text) (IsFrontOf text) status (held k) (held new) (faults k) (faults new)) same e))
+refused_ends : {K : Type 0} (port : K → Port) (old mid new : K) (d : Specification) (told : Option (List ℕ)) (bytes text : List ℕ) (why : VerifyRefused) (status : ℕ) → mid ≡ old → Tells told bytes
+    → IsVerified d bytes (Err why) → text_said (Err why) ≡ Some text → Ends (IsOne 4 text) (IsFrontOf text) status (port mid) (port new)
+    → EndsWith told (IsUpgraded d) (IsUpgradeFront d) status (port old) (port new)
+refused_ends {K} port old mid new d told bytes text why status same t said is e =
+    ends_told d told bytes status (port old) (port new) t
+    (refused_report_ends d bytes text why status (port old) (port new) said is
+    (subst (λ (k : K). Ends (IsOne 4 text) (IsFrontOf text) status (port k) (port new)) same e))
 
 abbrev long_text : List ℕ
 long_text = refused_report (codes "long" ∷ [])
@@ -102,43 +103,43 @@ long_text = refused_report (codes "long" ∷ [])
 abbrev line_text : ℕ → ReportKind → List ℕ
 line_text n k = refused_report (codes "line" ∷ decimal n ∷ kind_word k ∷ [])
 
-pub long_ends : {K : Type 0} (held : K → Option (List ℕ)) (faults : K → ℕ) (old mid new : K) (d : Specification) (told : Option (List ℕ)) (status : ℕ) (x : UpgradeRefused) → x ≡ upgrading.Long → (IsUnwritten (Err x) → mid ≡ old) → IsUpgradedFrom d told (held old) (held mid) (Err x)
-    → ((text : List ℕ) → text_said (Err verifying.Long) ≡ Some text → Ends (IsOne 4 text) (IsFrontOf text) status (held mid) (held new) (faults mid) (faults new))
-    → EndsWith told (IsUpgraded d) (IsUpgradeFront d) status (held old) (held new) (faults old) (faults new)
-long_ends held faults old mid new d told status upgrading.Long is same (bytes, t, u) e =
-    refused_ends held faults old mid new d told bytes long_text verifying.Long status (same tt) t u.0 refl (e long_text refl)
-long_ends held faults old mid new d told status (upgrading.Line n k) is same u e = absurd cc
-long_ends held faults old mid new d told status upgrading.Fault is same u e = absurd cc
-long_ends held faults old mid new d told status upgrading.WriteFault is same u e = absurd cc
-long_ends held faults old mid new d told status upgrading.Memory is same u e = absurd cc
+pub long_ends : {K : Type 0} (port : K → Port) (old mid new : K) (d : Specification) (told : Option (List ℕ)) (status : ℕ) (x : UpgradeRefused) → x ≡ upgrading.Long → (IsUnwritten (Err x) → mid ≡ old) → IsUpgradedFrom d told (port old).held (port mid).held (Err x)
+    → ((text : List ℕ) → text_said (Err verifying.Long) ≡ Some text → Ends (IsOne 4 text) (IsFrontOf text) status (port mid) (port new))
+    → EndsWith told (IsUpgraded d) (IsUpgradeFront d) status (port old) (port new)
+long_ends port old mid new d told status upgrading.Long is same (bytes, t, u) e =
+    refused_ends port old mid new d told bytes long_text verifying.Long status (same tt) t u.0 refl (e long_text refl)
+long_ends port old mid new d told status (upgrading.Line n k) is same u e = absurd cc
+long_ends port old mid new d told status upgrading.Fault is same u e = absurd cc
+long_ends port old mid new d told status upgrading.WriteFault is same u e = absurd cc
+long_ends port old mid new d told status upgrading.Memory is same u e = absurd cc
 
-pub line_ends : {K : Type 0} (held : K → Option (List ℕ)) (faults : K → ℕ) (old mid new : K) (d : Specification) (told : Option (List ℕ)) (status : ℕ) (n : ℕ) (k : ReportKind) → mid ≡ old → IsUpgradedFrom d told (held old) (held mid) (Err (upgrading.Line n k))
-    → ((text : List ℕ) → text_said (Err (verifying.Line n k)) ≡ Some text → Ends (IsOne 4 text) (IsFrontOf text) status (held mid) (held new) (faults mid) (faults new))
-    → EndsWith told (IsUpgraded d) (IsUpgradeFront d) status (held old) (held new) (faults old) (faults new)
-line_ends held faults old mid new d told status n k same (bytes, t, u) e =
-    refused_ends held faults old mid new d told bytes (line_text n k) (verifying.Line n k) status same t u.0 refl (e (line_text n k) refl)
+pub line_ends : {K : Type 0} (port : K → Port) (old mid new : K) (d : Specification) (told : Option (List ℕ)) (status : ℕ) (n : ℕ) (k : ReportKind) → mid ≡ old → IsUpgradedFrom d told (port old).held (port mid).held (Err (upgrading.Line n k))
+    → ((text : List ℕ) → text_said (Err (verifying.Line n k)) ≡ Some text → Ends (IsOne 4 text) (IsFrontOf text) status (port mid) (port new))
+    → EndsWith told (IsUpgraded d) (IsUpgradeFront d) status (port old) (port new)
+line_ends port old mid new d told status n k same (bytes, t, u) e =
+    refused_ends port old mid new d told bytes (line_text n k) (verifying.Line n k) status same t u.0 refl (e (line_text n k) refl)
 
 -- one before which a read failed
-pub fault_ends : (d : Specification) (told : Option (List ℕ)) (before after : Option (List ℕ)) (m n : ℕ) → IsUpgradedFrom d told before after (Err upgrading.Fault) → EndsWith told (IsUpgraded d) (IsUpgradeFront d) 6 before after m n
-fault_ends d told before after m n (bytes, t, kept) =
-    ends_told d told bytes 6 before after m n t (stopped_upgrade_ends d bytes 6 before after m n (omega arith) (omega arith) (λ e. absurd (omega (arith, e))) (inl kept))
+pub fault_ends : (d : Specification) (told : Option (List ℕ)) (before after : Port) → IsUpgradedFrom d told before.held after.held (Err upgrading.Fault) → EndsWith told (IsUpgraded d) (IsUpgradeFront d) 6 before after
+fault_ends d told before after (bytes, t, kept) =
+    ends_told d told bytes 6 before after t (stopped_upgrade_ends d bytes 6 before after (omega arith) (omega arith) (λ e. absurd (omega (arith, e))) (inl kept))
 
 -- one whose writing failed
-pub write_fault_ends : (d : Specification) (told : Option (List ℕ)) (before after : Option (List ℕ)) (m n : ℕ) → IsUpgradedFrom d told before after (Err upgrading.WriteFault) → IsFault m n → EndsWith told (IsUpgraded d) (IsUpgradeFront d) 7 before after m n
-write_fault_ends d told before after m n (bytes, t, front) fault =
-    ends_told d told bytes 7 before after m n t (stopped_upgrade_ends d bytes 7 before after m n (omega arith) (omega arith) (λ e. fault) front)
+pub write_fault_ends : (d : Specification) (told : Option (List ℕ)) (before after : Port) → IsUpgradedFrom d told before.held after.held (Err upgrading.WriteFault) → IsFault before.faults after.faults → EndsWith told (IsUpgraded d) (IsUpgradeFront d) 7 before after
+write_fault_ends d told before after (bytes, t, front) fault =
+    ends_told d told bytes 7 before after t (stopped_upgrade_ends d bytes 7 before after (omega arith) (omega arith) (λ e. fault) front)
 
 -- one that lacked memory
-pub memory_ends : (d : Specification) (told : Option (List ℕ)) (before after : Option (List ℕ)) (m n : ℕ) → IsUpgradedFrom d told before after (Err upgrading.Memory) → EndsWith told (IsUpgraded d) (IsUpgradeFront d) 8 before after m n
-memory_ends d told before after m n (bytes, t, front) =
-    ends_told d told bytes 8 before after m n t (stopped_upgrade_ends d bytes 8 before after m n (omega arith) (omega arith) (λ e. absurd (omega (arith, e))) front)
+pub memory_ends : (d : Specification) (told : Option (List ℕ)) (before after : Port) → IsUpgradedFrom d told before.held after.held (Err upgrading.Memory) → EndsWith told (IsUpgraded d) (IsUpgradeFront d) 8 before after
+memory_ends d told before after (bytes, t, front) =
+    ends_told d told bytes 8 before after t (stopped_upgrade_ends d bytes 8 before after (omega arith) (omega arith) (λ e. absurd (omega (arith, e))) front)
 
 -- a text that was written is the one that is said
-pub said_ends : (text items slice : List ℕ) (said : Option (List ℕ)) (status : ℕ) (before after : Option (List ℕ)) (m n : ℕ) → said ≡ Some items → said ≡ Some text → slice ≡ items → Ends (IsOne 4 slice) (IsFrontOf slice) status before after m n
-    → Ends (IsOne 4 text) (IsFrontOf text) status before after m n
-said_ends text items slice said status before after m n a b same e =
+pub said_ends : (text items slice : List ℕ) (said : Option (List ℕ)) (status : ℕ) (before after : Port) → said ≡ Some items → said ≡ Some text → slice ≡ items → Ends (IsOne 4 slice) (IsFrontOf slice) status before after
+    → Ends (IsOne 4 text) (IsFrontOf text) status before after
+said_ends text items slice said status before after a b same e =
     let is : slice ≡ text = same ∙ one_text items text (sym a ∙ b) in
-    subst (λ (x : List ℕ). Ends (IsOne 4 x) (IsFrontOf x) status before after m n) is e
+    subst (λ (x : List ℕ). Ends (IsOne 4 x) (IsFrontOf x) status before after) is e
   where
     one_text : (x y : List ℕ) → Some x ≡ Some y → x ≡ y
     one_text x y e = cc

@@ -1,6 +1,7 @@
 -- What the program answers: which status and which text belong to its words and to the bytes of its inputs.
 use Rattle.std.specs.Prelude.{◌⊎◌, ◌≡◌, ℕ, ◌<◌, List, [], ◌∷◌, Option, None, Some, codes}
 use Rattle.std.specs.Io.KnownBytes.{Appends}
+use Rattle.byte_ports.specs.Ports.{Port}
 use Rattle.byte_ports.specs.Told.{Tells}
 use Rattle.byte_ports.specs.Ending.{IsOne, IsFrontOf, IsBroken, Ends}
 use Rattle.spec_core.specs.Specification.{Specification}
@@ -70,10 +71,9 @@ IsFrontOfAnswer task bytes more front =
 
 -- It ends so, with the bytes that the second source tells, where it tells them.
 abbrev pub EndsWith : Option (List ℕ) → (List ℕ → ℕ → List ℕ → Type 0) → (List ℕ → List ℕ → Type 0)
-    → ℕ → Option (List ℕ) → Option (List ℕ) → ℕ → ℕ → Type 0
-EndsWith told Whole Front status held_before held_after faults_before faults_after =
-    (more : List ℕ) × Tells told more
-    × Ends (Whole more) (Front more) status held_before held_after faults_before faults_after
+    → ℕ → Port → Port → Type 0
+EndsWith told Whole Front status before after =
+    (more : List ℕ) × Tells told more × Ends (Whole more) (Front more) status before after
 
 -- ---- the words
 

@@ -17,8 +17,9 @@ use report_verifier::{law_one_answer, law_valid_verdicts};
 
 /// What a check wrote of a specification is accepted, where it isn't too long, with the verdicts that the check counted.
 pub fn law_checked_is_verified()
-    ensures { (d : Specification) (budget : ℕ) (tally : Tally) (text : List ℕ) → is_specification d ≡ true → 1 ≤ budget → budget ≤ 1000000
-        → IsChecked d budget tally text → length text ≤ most_report_bytes → IsVerified d text (Ok tally) }
+    ensures { (d : Specification) (budget : ℕ) (tally : Tally) (text : List ℕ)
+        → is_specification d ≡ true → 1 ≤ budget → budget ≤ 1000000 → IsChecked d budget tally text
+        → length text ≤ most_report_bytes → IsVerified d text (Ok tally) }
 {
     law_checked_is_read();
     law_valid_verdicts();
@@ -26,7 +27,8 @@ pub fn law_checked_is_verified()
 
 /// Nothing else is answered to it, but for want of memory and a failed read.
 pub fn law_checked_has_one_answer()
-    ensures { (d : Specification) (budget : ℕ) (tally : Tally) (text : List ℕ) (x : Result Tally VerifyRefused) → is_specification d ≡ true → 1 ≤ budget → budget ≤ 1000000
+    ensures { (d : Specification) (budget : ℕ) (tally : Tally) (text : List ℕ)
+        (x : Result Tally VerifyRefused) → is_specification d ≡ true → 1 ≤ budget → budget ≤ 1000000
         → IsChecked d budget tally text → length text ≤ most_report_bytes → IsVerified d text x → IsOnAll x → x ≡ Ok tally }
 {
     law_checked_is_verified();

@@ -26,13 +26,18 @@ use typing_rules::law_typed_is_well_formed;
 pub fn law_headline()
     ensures proved { (words : List (List ℕ)) (spec extra : Option (List ℕ)) (text : List ℕ)
         → judges (job_of words) ≡ true → IsAnswer (job_of words) spec extra 0 text → IfSome spec IsProved }
-    ensures refuted { (words : List (List ℕ)) (spec extra : Option (List ℕ)) (status : ℕ) (text : List ℕ) (held_before held_after : Option (List ℕ))
-        → is_outcome status ≡ true → IsAnswer (job_of words) spec extra status text → Appends held_before held_after text
+    ensures refuted { (words : List (List ℕ)) (spec extra : Option (List ℕ)) (status : ℕ) (text : List ℕ)
+        (held_before held_after : Option (List ℕ))
+        → is_outcome status ≡ true → IsAnswer (job_of words) spec extra status text
+        → Appends held_before held_after text
         → Refutes (job_of words) spec extra held_before held_after }
     ensures stopped { (words : List (List ℕ)) (spec extra held_before held_after : Option (List ℕ))
-        → writes_report (job_of words) ≡ true → IsStopped (job_of words) spec extra held_before held_after → StopsRightly spec held_before held_after }
-    ensures suggested { (words : List (List ℕ)) (spec extra : Option (List ℕ)) (status : ℕ) (text : List ℕ) (held_before held_after : Option (List ℕ))
-        → job_of words ≡ Some (OfSpec Suggest) → is_outcome status ≡ true → IsAnswer (job_of words) spec extra status text → Appends held_before held_after text
+        → writes_report (job_of words) ≡ true → IsStopped (job_of words) spec extra held_before held_after
+        → StopsRightly spec held_before held_after }
+    ensures suggested { (words : List (List ℕ)) (spec extra : Option (List ℕ)) (status : ℕ) (text : List ℕ)
+        (held_before held_after : Option (List ℕ))
+        → job_of words ≡ Some (OfSpec Suggest) → is_outcome status ≡ true → IsAnswer (job_of words) spec extra status text
+        → Appends held_before held_after text
         → SuggestsRightly spec status held_before held_after }
 {
     law_typed_is_well_formed();
@@ -49,7 +54,8 @@ pub fn law_headline()
 /// counts of a sample of which some verdict is undecided.
 pub fn law_answers_agree()
     ensures { (words : List (List ℕ)) (spec extra : List ℕ) (status other_status : ℕ) (text other_text : List ℕ)
-        → IsAnswer (job_of words) (Some spec) (Some extra) status text → IsAnswer (job_of words) (Some spec) (Some extra) other_status other_text
+        → IsAnswer (job_of words) (Some spec) (Some extra) status text
+        → IsAnswer (job_of words) (Some spec) (Some extra) other_status other_text
         → Agree (job_of words) status text other_status other_text }
 {
     law_typed_is_well_formed();
@@ -61,7 +67,8 @@ pub fn law_answers_agree()
 /// No check, verification or upgrade ends with 0 where another one, on the same specification, ends with 1: whatever their budgets and the
 /// reports are.
 pub fn law_verdicts_never_contradict()
-    ensures { (task other : Task) (bytes more other_more text other_text : List ℕ) → is_judging task ≡ true → is_judging other ≡ true
+    ensures { (task other : Task) (bytes more other_more text other_text : List ℕ)
+        → is_judging task ≡ true → is_judging other ≡ true
         → IsAnswerOf task bytes more 0 text → IsAnswerOf other bytes other_more 1 other_text → ⊥ }
 {
     law_typed_is_well_formed();
@@ -82,8 +89,10 @@ pub fn law_refused_for_all()
 
 /// Where a check or an upgrade wrote a report, it is verified with the same status, where it has at most 64 MiB.
 pub fn law_reports_are_verified()
-    ensures { (words : List (List ℕ)) (spec extra : Option (List ℕ)) (status : ℕ) (text : List ℕ) (held_before held_after : Option (List ℕ))
-        → is_outcome status ≡ true → writes_report (job_of words) ≡ true → IsAnswer (job_of words) spec extra status text → Appends held_before held_after text
+    ensures { (words : List (List ℕ)) (spec extra : Option (List ℕ)) (status : ℕ) (text : List ℕ)
+        (held_before held_after : Option (List ℕ))
+        → is_outcome status ≡ true → writes_report (job_of words) ≡ true
+        → IsAnswer (job_of words) spec extra status text → Appends held_before held_after text
         → VerifiesAlike spec held_before held_after status }
 {
     law_typed_is_well_formed();
@@ -94,8 +103,10 @@ pub fn law_reports_are_verified()
 
 /// Where a specification is refused, what is written says why, and a fault of its tree is the least one.
 pub fn law_least_fault_is_answered()
-    ensures { (words : List (List ℕ)) (spec extra : Option (List ℕ)) (text : List ℕ) (held_before held_after : Option (List ℕ))
-        → reads_spec (job_of words) ≡ true → IsAnswer (job_of words) spec extra 3 text → Appends held_before held_after text → RefusesRightly spec held_before held_after }
+    ensures { (words : List (List ℕ)) (spec extra : Option (List ℕ)) (text : List ℕ)
+        (held_before held_after : Option (List ℕ))
+        → reads_spec (job_of words) ≡ true → IsAnswer (job_of words) spec extra 3 text
+        → Appends held_before held_after text → RefusesRightly spec held_before held_after }
 {
     law_least_refusal();
 }

@@ -1,6 +1,7 @@
 // The program but for its edge: from words, sources and a sink to a status.
 ghost use Rattle.std.specs.Prelude.{◌≡◌, ◌⊎◌, ◌<◌, true, false, List, ℕ, Option, Some, map, string_bytes, IfSome};
 ghost use Rattle.byte_ports.specs.Faults.{IsFault};
+ghost use Rattle.byte_ports.specs.Ports.{port_of};
 ghost use Rattle.byte_ports.specs.Told.{Tells, IsReadWithin};
 ghost use Rattle.byte_ports.specs.Ending.{Ends};
 ghost use Rattle.spec_reader.specs.Form.{tree_of};
@@ -38,8 +39,8 @@ fn do_task<E: Source, K: Sink>(
 ) -> u8
     requires { is_task task ≡ true }
     ensures ends { EndsWith (E.left extra.old) (IsOutcome task (tree_of tree.now) spec.now)
-        (IsOutcomeFront task (tree_of tree.now) spec.now) result (K.held out.old) (K.held out.new)
-        (K.faults out.old) (K.faults out.new) }
+        (IsOutcomeFront task (tree_of tree.now) spec.now) result
+        (port_of K.held K.faults out.old) (port_of K.held K.faults out.new) }
     ensures read_fault { result ≡ 6 → (takes_extra task ≡ true) × IsFault (E.faults extra.old) (E.faults extra.new) }
     ensures unwritten { result ≡ 6 → out.new ≡ out.old }
     ensures unread { takes_extra task ≡ false → extra.new ≡ extra.old }
@@ -68,7 +69,7 @@ fn answer_reading<E: Source, K: Sink>(
     requires { is_task task ≡ true }
     ensures ends { (bytes : List ℕ) → IsReadingOf bytes reading.now
         → EndsWith (E.left extra.old) (IsAnswerOf task bytes) (IsFrontOfAnswer task bytes) result
-        (K.held out.old) (K.held out.new) (K.faults out.old) (K.faults out.new) }
+        (port_of K.held K.faults out.old) (port_of K.held K.faults out.new) }
     ensures read_fault { result ≡ 6 → (takes_extra task ≡ true) × IsFault (E.faults extra.old) (E.faults extra.new) }
     ensures unwritten { result ≡ 6 → out.new ≡ out.old }
     ensures unread { takes_extra task ≡ false → extra.new ≡ extra.old }
@@ -92,7 +93,7 @@ fn answer_task<S: Source, E: Source, K: Sink>(
     requires { is_task task ≡ true }
     ensures ends { Ends (IsAnswer (Some (OfSpec task)) (S.left spec.old) (E.left extra.old))
         (IsAnswerFront (Some (OfSpec task)) (S.left spec.old) (E.left extra.old)) result
-        (K.held out.old) (K.held out.new) (K.faults out.old) (K.faults out.new) }
+        (port_of K.held K.faults out.old) (port_of K.held K.faults out.new) }
     ensures read_fault { result ≡ 6
         → IsInputFault (Some (OfSpec task)) (S.faults spec.old) (S.faults spec.new)
         (E.faults extra.old) (E.faults extra.new) }
@@ -174,7 +175,8 @@ pub fn run<S: Source, E: Source, K: Sink>(
         → VerifiesAlike (S.left spec.old) (K.held out.old) (K.held out.new) result }
 
     // Where the specification is read, and no input and no write fails, there is an answer, or memory ran out.
-    ensures complete { (IsInputFault (job_of (map string_bytes words.now)) (S.faults spec.old) (S.faults spec.new) (E.faults extra.old) (E.faults extra.new) → ⊥)
+    ensures complete { (IsInputFault (job_of (map string_bytes words.now)) (S.faults spec.old)
+        (S.faults spec.new) (E.faults extra.old) (E.faults extra.new) → ⊥)
         → (IsFault (K.faults out.old) (K.faults out.new) → ⊥)
         → IsComplete (job_of (map string_bytes words.now)) (S.left spec.old) result }
 

@@ -1,5 +1,6 @@
 // The command `check`: the report of a specification's obligations.
 ghost use Rattle.std.specs.Prelude.{◌≡◌, ◌≢◌, true};
+ghost use Rattle.byte_ports.specs.Ports.{port_of};
 ghost use Rattle.byte_ports.specs.Ending.{Ends};
 ghost use Rattle.report_lines.specs.Heads.{most_budget};
 ghost use Rattle.cise_program.specs.Words.{is_within};
@@ -16,7 +17,7 @@ use std::alloc::Global;
 pub fn check<K: Sink>(alloc: Global, budget: u32, spec: &Spec, out: &mut K) -> u8
     requires { is_within most_budget budget ≡ true }
     ensures ends { Ends (IsReport budget spec.now) (IsReportFront budget spec.now) result
-        (K.held out.old) (K.held out.new) (K.faults out.old) (K.faults out.new) }
+        (port_of K.held K.faults out.old) (port_of K.held K.faults out.new) }
     ensures no_source { result ≢ 6 }
 {
     match check_all(alloc, spec, budget, out) {

@@ -1,6 +1,7 @@
 // The command `replay`: the text of a replayed schedule.
 ghost use Rattle.std.specs.Prelude.{◌≡◌, ◌≤◌, ◌<◌, length, IfOk};
 ghost use Rattle.byte_ports.specs.Faults.{IsFault};
+ghost use Rattle.byte_ports.specs.Ports.{port_of};
 ghost use Rattle.byte_ports.specs.Told.{IsReadWithin};
 ghost use Rattle.schedule_json.specs.Texts.{most_schedule_bytes};
 ghost use Rattle.cise_program.specs.Answer.{EndsWith};
@@ -30,7 +31,7 @@ pub fn replay_schedule<E: Source, K: Sink>(
     out: &mut K,
 ) -> u8
     ensures ends { EndsWith (E.left extra.old) (IsReplayed spec.now) (IsReplayFront spec.now) result
-        (K.held out.old) (K.held out.new) (K.faults out.old) (K.faults out.new) }
+        (port_of K.held K.faults out.old) (port_of K.held K.faults out.new) }
     ensures read_fault { result ≡ 6 → IsFault (E.faults extra.old) (E.faults extra.new) }
     ensures unwritten { result ≡ 6 → out.new ≡ out.old }
     ensures end { result < 6 → IsReadWithin most_schedule_bytes (E.left extra.old) (E.left extra.new) }

@@ -1,5 +1,6 @@
 // The command `sample`: the verdicts on a generated specification, counted.
 ghost use Rattle.std.specs.Prelude.{◌≡◌, ◌≢◌, ◌++◌, [], ◌∷◌, true, IfOk, codes, decimal};
+ghost use Rattle.byte_ports.specs.Ports.{port_of};
 ghost use Rattle.byte_ports.specs.Ending.{Ends};
 ghost use Rattle.proof_report.specs.Verdicts.{obligation_count};
 ghost use Rattle.proof_report.specs.Texts.{end_text};
@@ -40,7 +41,8 @@ fn count_verdicts(alloc: Global, spec: &Spec) -> Result<Count, AllocError>
 /// The lines that tell a count.
 fn text_of(alloc: Global, number: u8, count: Count) -> Result<Vec<u8>, AllocError>
     ensures { IfOk result
-        (λ text. text.items ≡ line (codes "cise" ∷ codes "sample" ∷ decimal number ∷ []) ++ (line (codes "obligations" ∷ decimal count.obligations ∷ []) ++ end_text count.tally)) }
+        (λ text. text.items ≡ line (codes "cise" ∷ codes "sample" ∷ decimal number ∷ [])
+        ++ (line (codes "obligations" ∷ decimal count.obligations ∷ []) ++ end_text count.tally)) }
 {
     let mut text = Vec::new(alloc);
     push_placed(alloc, &mut text, b"cise", b"sample", number as usize)?;
@@ -69,8 +71,8 @@ fn answer_of(alloc: Global, number: u8) -> Result<Answer, AllocError>
 /// one is refuted, 5 where none is refuted and one is undecided.
 pub fn sample<K: Sink>(alloc: Global, number: u8, out: &mut K) -> u8
     requires { is_within most_sample number ≡ true }
-    ensures ends { Ends (IsSampled number) (IsSampleFront number) result (K.held out.old)
-        (K.held out.new) (K.faults out.old) (K.faults out.new) }
+    ensures ends { Ends (IsSampled number) (IsSampleFront number) result
+        (port_of K.held K.faults out.old) (port_of K.held K.faults out.new) }
     ensures no_source { result ≢ 6 }
 {
     match answer_of(alloc, number) {

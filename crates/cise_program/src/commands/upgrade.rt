@@ -1,6 +1,7 @@
 // The command `upgrade`: a report that stands, in version 2 of the format.
 ghost use Rattle.std.specs.Prelude.{◌≡◌, ◌≢◌, ◌<◌, List, ℕ, Some, Err};
 ghost use Rattle.byte_ports.specs.Faults.{IsFault};
+ghost use Rattle.byte_ports.specs.Ports.{port_of};
 ghost use Rattle.byte_ports.specs.Ending.{IsOne, IsFrontOf, Ends};
 ghost use Rattle.byte_ports.specs.Told.{IsReadWithin};
 ghost use Rattle.report_verifier.specs.Verified.{most_report_bytes};
@@ -19,8 +20,8 @@ use std::alloc::Global;
 /// Writes why a report is refused, as `verify` does.
 fn refuse<K: Sink>(alloc: Global, why: VerifyRefused, out: &mut K) -> u8
     ensures ends { (text : List ℕ) → text_said (Err why) ≡ Some text
-        → Ends (IsOne 4 text) (IsFrontOf text) result (K.held out.old) (K.held out.new)
-        (K.faults out.old) (K.faults out.new) }
+        → Ends (IsOne 4 text) (IsFrontOf text) result
+        (port_of K.held K.faults out.old) (port_of K.held K.faults out.new) }
     ensures no_source { result ≢ 6 }
 {
     match text_said(alloc, Err(why)) {
@@ -33,7 +34,7 @@ fn refuse<K: Sink>(alloc: Global, why: VerifyRefused, out: &mut K) -> u8
 /// and one is undecided. Where the bytes are no report or one of its lines breaks a rule, it says why and ends with 4.
 pub fn upgrade<E: Source, K: Sink>(alloc: Global, spec: &Spec, extra: &mut E, out: &mut K) -> u8
     ensures ends { EndsWith (E.left extra.old) (IsUpgraded spec.now) (IsUpgradeFront spec.now)
-        result (K.held out.old) (K.held out.new) (K.faults out.old) (K.faults out.new) }
+        result (port_of K.held K.faults out.old) (port_of K.held K.faults out.new) }
     ensures read_fault { result ≡ 6 → IsFault (E.faults extra.old) (E.faults extra.new) }
     ensures unwritten { result ≡ 6 → out.new ≡ out.old }
     ensures end { result < 6 → IsReadWithin most_report_bytes (E.left extra.old) (E.left extra.new) }

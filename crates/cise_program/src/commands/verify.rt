@@ -1,6 +1,7 @@
 // The command `verify`: whether a report on a specification stands.
 ghost use Rattle.std.specs.Prelude.{◌≡◌, ◌<◌, ◌∷◌, [], Some, Err, IfOk, IsErrOf, codes, decimal};
 ghost use Rattle.byte_ports.specs.Faults.{IsFault};
+ghost use Rattle.byte_ports.specs.Ports.{port_of};
 ghost use Rattle.byte_ports.specs.Told.{IsReadWithin};
 ghost use Rattle.report_verifier.specs.Verified.{most_report_bytes};
 ghost use Rattle.report_verifier.specs.declared.refused.VerifyRefused.TheVariants as refused;
@@ -89,7 +90,7 @@ fn status_said(said: Result<Tally, VerifyRefused>) -> u8
 /// refuted, 5 where none is refuted and one is undecided, 4 where the bytes are no report or one of its lines breaks a rule.
 pub fn verify<E: Source, K: Sink>(alloc: Global, spec: &Spec, extra: &mut E, out: &mut K) -> u8
     ensures ends { EndsWith (E.left extra.old) (IsVerdict spec.now) (IsVerdictFront spec.now) result
-        (K.held out.old) (K.held out.new) (K.faults out.old) (K.faults out.new) }
+        (port_of K.held K.faults out.old) (port_of K.held K.faults out.new) }
     ensures read_fault { result ≡ 6 → IsFault (E.faults extra.old) (E.faults extra.new) }
     ensures unwritten { result ≡ 6 → out.new ≡ out.old }
     ensures end { result < 6 → IsReadWithin most_report_bytes (E.left extra.old) (E.left extra.new) }

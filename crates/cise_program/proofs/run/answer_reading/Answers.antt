@@ -16,7 +16,7 @@ returns-in-Specified-clause-ends g c = λ bytes h.
     let ends = c.do_task.ensures.ends in (
       ends.0,
       ends.1,
-      Ends-map (IsOutcome task tree d ends.0) (IsAnswerOf task bytes ends.0) (IsOutcomeFront task tree d ends.0) (IsFrontOfAnswer task bytes ends.0) c.do_task.result _ _ _ _
+      Ends-map (IsOutcome task tree d ends.0) (IsAnswerOf task bytes ends.0) (IsOutcomeFront task tree d ends.0) (IsFrontOfAnswer task bytes ends.0) c.do_task.result _ _
           (λ s t done. inr (tree, d, read, done)) (λ front left. inr (tree, d, read, left)) ends.2,
     )
 
@@ -28,7 +28,7 @@ returns-in-Refused-clause-ends g c = λ bytes h.
     let text_is = c.as_slice.ensures.value ∙ said.2 in (
       given.0,
       given.1,
-      Ends-map (IsOne 3 text) (IsAnswerOf task bytes given.0) (IsFrontOf text) (IsFrontOfAnswer task bytes given.0) c.write_answer.result _ _ _ _
+      Ends-map (IsOne 3 text) (IsAnswerOf task bytes given.0) (IsFrontOf text) (IsFrontOfAnswer task bytes given.0) c.write_answer.result _ _
           (λ s t one. inl (said.0, said.1, (one.0, one.1 ∙ text_is))) (λ front left. inl (said.0, said.1, (left.0, left.1 ∙ ap (take left.0) text_is))) c.write_answer.ensures.ends,
     )
 

@@ -12,7 +12,7 @@ returns-in-Ok-clause-ends g c =
     let given = c.in-Ok.ensures.ok in
     let ends = c.answer_reading-status.ensures.ends given.0 given.2 in
     Ends-map (IsAnswerOf task given.0 ends.0) (IsAnswer (Some (OfSpec task)) told extra) (IsFrontOfAnswer task given.0 ends.0) (IsAnswerFront (Some (OfSpec task)) told extra)
-    c.answer_reading-status.result _ _ _ _
+    c.answer_reading-status.result _ _
     (λ s t a. (given.0, ends.0, given.1, ends.1, a)) (λ front a. (given.0, ends.0, given.1, ends.1, a)) ends.2
 
 pub returns-in-Ok-clause-read : goal.returns-in-Ok-clause-read

@@ -11,22 +11,22 @@ use Rattle.cise_program.proofs.run.do_task.Goals as goal
 pub returns-in-Check-clause-ends : goal.returns-in-Check-clause-ends
 returns-in-Check-clause-ends g c =
     let given = some_told (g.E.Source.left c.args.extra.now) in
-    (given.0, given.1, Ends-task c.args.task (Check c.in-Check.budget) (tree_of c.args.tree.now) c.args.spec.now given.0 c.check.result _ _ _ _ c.in-Check.is c.check.ensures.ends)
+    (given.0, given.1, Ends-task c.args.task (Check c.in-Check.budget) (tree_of c.args.tree.now) c.args.spec.now given.0 c.check.result _ _ c.in-Check.is c.check.ensures.ends)
 
 pub returns-in-Spell-clause-ends : goal.returns-in-Spell-clause-ends
 returns-in-Spell-clause-ends g c =
     let given = some_told (g.E.Source.left c.args.extra.now) in
-    (given.0, given.1, Ends-task c.args.task Spell (tree_of c.args.tree.now) c.args.spec.now given.0 c.spell_tree.result _ _ _ _ c.in-Spell.is c.spell_tree.ensures.ends)
+    (given.0, given.1, Ends-task c.args.task Spell (tree_of c.args.tree.now) c.args.spec.now given.0 c.spell_tree.result _ _ c.in-Spell.is c.spell_tree.ensures.ends)
 
 pub returns-in-Upgrade-clause-ends : goal.returns-in-Upgrade-clause-ends
 returns-in-Upgrade-clause-ends g c =
     let e = c.upgrade.ensures.ends in
-    (e.0, e.1, Ends-task c.args.task Upgrade (tree_of c.args.tree.now) c.args.spec.now e.0 c.upgrade.result _ _ _ _ c.in-Upgrade.is e.2)
+    (e.0, e.1, Ends-task c.args.task Upgrade (tree_of c.args.tree.now) c.args.spec.now e.0 c.upgrade.result _ _ c.in-Upgrade.is e.2)
 
 pub returns-in-Suggest-clause-ends : goal.returns-in-Suggest-clause-ends
 returns-in-Suggest-clause-ends g c =
     let given = some_told (g.E.Source.left c.args.extra.now) in
-    (given.0, given.1, Ends-task c.args.task Suggest (tree_of c.args.tree.now) c.args.spec.now given.0 c.suggest_pairs.result _ _ _ _ c.in-Suggest.is c.suggest_pairs.ensures.ends)
+    (given.0, given.1, Ends-task c.args.task Suggest (tree_of c.args.tree.now) c.args.spec.now given.0 c.suggest_pairs.result _ _ c.in-Suggest.is c.suggest_pairs.ensures.ends)
 
 pub returns-in-Verify-clause-end : goal.returns-in-Verify-clause-end
 returns-in-Verify-clause-end g c = λ below takes.

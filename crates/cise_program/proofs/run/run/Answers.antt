@@ -14,12 +14,12 @@ use Rattle.cise_program.proofs.run.run.Goals as goal
 
 pub returns-in-Some-OfSpec-clause-answered : goal.returns-in-Some-OfSpec-clause-answered
 returns-in-Some-OfSpec-clause-answered g c =
-    (Ends-asked (OfSpec c.in-Some-OfSpec.task) (job_of (map string_bytes c.args.words.now)) (g.S.Source.left c.args.spec.now) (g.E.Source.left c.args.extra.now) c.answer_task.result _ _ _ _
+    (Ends-asked (OfSpec c.in-Some-OfSpec.task) (job_of (map string_bytes c.args.words.now)) (g.S.Source.left c.args.spec.now) (g.E.Source.left c.args.extra.now) c.answer_task.result _ _
     (ap Some (sym c.in-Some-OfSpec.field-0-is) ∙ c.in-Some-OfSpec.ensures) c.answer_task.ensures.ends).answered
 
 pub returns-in-Some-OfSpec-clause-front : goal.returns-in-Some-OfSpec-clause-front
 returns-in-Some-OfSpec-clause-front g c =
-    (Ends-asked (OfSpec c.in-Some-OfSpec.task) (job_of (map string_bytes c.args.words.now)) (g.S.Source.left c.args.spec.now) (g.E.Source.left c.args.extra.now) c.answer_task.result _ _ _ _
+    (Ends-asked (OfSpec c.in-Some-OfSpec.task) (job_of (map string_bytes c.args.words.now)) (g.S.Source.left c.args.spec.now) (g.E.Source.left c.args.extra.now) c.answer_task.result _ _
     (ap Some (sym c.in-Some-OfSpec.field-0-is) ∙ c.in-Some-OfSpec.ensures) c.answer_task.ensures.ends).front
 
 pub returns-in-Some-OfSpec-clause-read_fault : goal.returns-in-Some-OfSpec-clause-read_fault
@@ -92,12 +92,12 @@ returns-in-Some-OfSpec-clause-complete g c = λ no_input no_output.
 
 pub returns-in-Some-Sample-clause-answered : goal.returns-in-Some-Sample-clause-answered
 returns-in-Some-Sample-clause-answered g c =
-    (Ends-sample c.in-Some-Sample.number (job_of (map string_bytes c.args.words.now)) (g.S.Source.left c.args.spec.now) (g.E.Source.left c.args.extra.now) c.sample.result _ _ _ _
+    (Ends-sample c.in-Some-Sample.number (job_of (map string_bytes c.args.words.now)) (g.S.Source.left c.args.spec.now) (g.E.Source.left c.args.extra.now) c.sample.result _ _
     (ap Some (sym c.in-Some-Sample.field-0-is) ∙ c.in-Some-Sample.ensures) c.sample.ensures.ends).answered
 
 pub returns-in-Some-Sample-clause-front : goal.returns-in-Some-Sample-clause-front
 returns-in-Some-Sample-clause-front g c =
-    (Ends-sample c.in-Some-Sample.number (job_of (map string_bytes c.args.words.now)) (g.S.Source.left c.args.spec.now) (g.E.Source.left c.args.extra.now) c.sample.result _ _ _ _
+    (Ends-sample c.in-Some-Sample.number (job_of (map string_bytes c.args.words.now)) (g.S.Source.left c.args.spec.now) (g.E.Source.left c.args.extra.now) c.sample.result _ _
     (ap Some (sym c.in-Some-Sample.field-0-is) ∙ c.in-Some-Sample.ensures) c.sample.ensures.ends).front
 
 pub returns-in-Some-Sample-clause-read : goal.returns-in-Some-Sample-clause-read

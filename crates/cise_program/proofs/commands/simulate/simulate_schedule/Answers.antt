@@ -13,7 +13,7 @@ write_answer_from-requires-clause-low g c = λ bytes answer within gives.
 pub returns-clause-ends : goal.returns-clause-ends
 returns-clause-ends g c =
     let d = c.args.spec.now in
-    said_from (g.E.Source.left c.args.extra.now) most_schedule_bytes long_text _ (IsSimulated d) c.write_answer_from.result _ _ _ _ c.write_answer_from.ensures.ends
+    said_from (g.E.Source.left c.args.extra.now) most_schedule_bytes long_text _ (IsSimulated d) c.write_answer_from.result _ _ c.write_answer_from.ensures.ends
     (λ bytes answer within gives. search rules) (long_simulated d)
 
 pub returns-clause-end : goal.returns-clause-end
