@@ -2,10 +2,13 @@
 // empty.
 //
 // An index finds the earlier clauses that lie within a clause. A literal has a spot, and each earlier clause stands in the list
-// of the spot of one of its literals: the shortest of those lists. A clause that lies within another shares that literal with
-// it, so it stands in a list of the other's spots. Its entry has the spots of up to three more literals too, so that a look at
-// some marks passes over nearly all entries, without a look at their clauses. Clauses without literals stand in the list of spot 0,
-// which is always looked through. Where there is no memory for the index, each clause is compared with each earlier one.
+// of the spot of one of its literals: the rarest, which fewest of the clauses before it had. A clause that lies within another shares
+// that literal with it, so it stands in a list of the other's spots. Its entry has the spots of the three next rarest literals too, so
+// that a look at some marks passes over nearly all entries, without a look at their clauses. Clauses without literals stand in the list
+// of spot 0, which is always looked through. Where there is no memory for the index, each clause is compared with each earlier one.
+//
+// Which literal is the rarest is told by a count for each spot. To take the shortest list instead would be to fill the lists of the
+// literals that most clauses have, as long as these are empty, and those are looked through for most clauses.
 //
 // The spots of a clause are marked while it is looked at. So whether an earlier clause may lie within it is one pass over the earlier
 // one, up to a literal without a mark, and whether it may hold an atom both ways is one pass over its own literals. Where all are
@@ -219,10 +222,29 @@ fn is_other(at: usize, first: usize, second: usize, third: usize) -> bool {
     at != first && at != second && at != third
 }
 
-// Of the spots of a clause but three, that with the shortest list; 0 where there is none.
+// How many of the clauses that were put into the index have a literal of a spot.
+fn seen_at(seen: &[usize], at: usize) -> usize {
+    match seen.get(at) {
+        Some(clauses) => *clauses,
+        None => 0,
+    }
+}
+
+// Counts a clause at the spots of its literals. The counts choose lists and decide nothing, so no clause speaks of them.
+fn count_in(count: usize, seen: &mut Vec<usize>, lits: &[Lit])
+    requires { 0 < count }
+{
+    for lit in lits {
+        if let Some(clauses) = seen.get_mut(spot(count, *lit)) {
+            *clauses = clauses.saturating_add(1);
+        }
+    }
+}
+
+// Of the spots of a clause but three, that which fewest clauses before have; 0 where there is none.
 fn rarest(
     count: usize,
-    lists: &[Items<Entry>],
+    seen: &[usize],
     lits: &[Lit],
     first: usize,
     second: usize,
@@ -236,10 +258,10 @@ fn rarest(
     let mut fewest = usize::MAX;
     for lit in lits {
         let at = spot(count, *lit);
-        let length = list_at(lists, at).len();
-        if is_other(at, first, second, third) && length < fewest {
+        let clauses = seen_at(seen, at);
+        if is_other(at, first, second, third) && clauses < fewest {
             best = at;
-            fewest = length;
+            fewest = clauses;
         }
     }
     best
@@ -253,9 +275,10 @@ fn put_at(lists: &mut Vec<Items<Entry>>, at: usize, entry: Entry) -> Result<(), 
     Ok(())
 }
 
-// Puts a clause into the shortest list of its spots.
+// Puts a clause into the list of the rarest of its spots.
 fn put(
     count: usize,
+    seen: &mut Vec<usize>,
     lists: &mut Vec<Items<Entry>>,
     number: usize,
     lits: &[Lit],
@@ -264,16 +287,17 @@ fn put(
     requires listed { length lists.old.items ≡ count }
     ensures { OnOk result (PutsOne count lits.now number lists.old.items lists.new.items) }
 {
-    let first = rarest(count, lists.as_slice(), lits, 0, 0, 0);
-    let second = rarest(count, lists.as_slice(), lits, first, 0, 0);
-    let third = rarest(count, lists.as_slice(), lits, first, second, 0);
-    let fourth = rarest(count, lists.as_slice(), lits, first, second, third);
+    let first = rarest(count, seen.as_slice(), lits, 0, 0, 0);
+    let second = rarest(count, seen.as_slice(), lits, first, 0, 0);
+    let third = rarest(count, seen.as_slice(), lits, first, second, 0);
+    let fourth = rarest(count, seen.as_slice(), lits, first, second, third);
     let entry = Entry {
         number,
         second,
         third,
         fourth,
     };
+    count_in(count, seen, lits);
     put_at(lists, first, entry)
 }
 
@@ -281,6 +305,7 @@ fn put(
 fn put_slot(
     count: usize,
     slots: &[Option<Clause>],
+    seen: &mut Vec<usize>,
     lists: &mut Vec<Items<Entry>>,
     number: usize,
 ) -> Result<(), AllocError>
@@ -291,7 +316,7 @@ fn put_slot(
     ensures next { OnOk result (IsIndex count slots.now lists.old.items (live_of (take number slots.now)) → IsIndex count slots.now lists.new.items (live_of (take (number + 1) slots.now))) }
 {
     match &slots[number] {
-        Some(clause) => put(count, lists, number, clause.lits()),
+        Some(clause) => put(count, seen, lists, number, clause.lits()),
         None => Ok(()),
     }
 }
@@ -307,11 +332,12 @@ fn empty_lists(alloc: Global, count: usize) -> Result<Vec<Items<Entry>>, AllocEr
     Ok(lists)
 }
 
-// The index of the clauses before a number.
+// The index of the clauses before a number, which are counted at their spots.
 fn index_before(
     alloc: Global,
     count: usize,
     slots: &[Option<Clause>],
+    seen: &mut Vec<usize>,
     number: usize,
 ) -> Result<Vec<Items<Entry>>, AllocError>
     requires some { 0 < count }
@@ -321,7 +347,7 @@ fn index_before(
 {
     let mut lists = empty_lists(alloc, count)?;
     for i in 0..number {
-        put_slot(count, slots, &mut lists, i)?;
+        put_slot(count, slots, seen, &mut lists, i)?;
     }
     Ok(lists)
 }
@@ -364,12 +390,13 @@ fn each_new_by_index(
     ensures { IfOk result (λ b. b ≡ each_new (live_of (take given slots.now)) (live_of (drop given slots.now))) }
 {
     let mut marks = vec![in alloc; false; count]?;
-    let mut lists = index_before(alloc, count, slots, given)?;
+    let mut seen = vec![in alloc; 0; count]?;
+    let mut lists = index_before(alloc, count, slots, &mut seen, given)?;
     for i in given..slots.len() {
         if !is_slot_new(count, &mut marks, slots, lists.as_slice(), i) {
             return Ok(false);
         }
-        put_slot(count, slots, &mut lists, i)?;
+        put_slot(count, slots, &mut seen, &mut lists, i)?;
     }
     Ok(true)
 }
