@@ -11,9 +11,9 @@
 // literals that most clauses have, as long as these are empty, and those are looked through for most clauses.
 //
 // The spots of a clause are marked while it is looked at. So whether an earlier clause may lie within it is one pass over the earlier
-// one, up to a literal without a mark, and whether it may hold an atom both ways is one pass over its own literals. Where all are
-// marked the lists are compared, once for a log that isn't fresh.
-ghost use Rattle.std.specs.Prelude.{◌≡◌, ◌+◌, ◌*◌, ◌^◌, ◌<◌, ◌≤◌, ◌++◌, ◌∷◌, true, cond, IfOk, OnOk, drop, take, length, is_some, map, slice_index_or, slice_set, Some, None, []};
+// one, from where the last such pass ended to a literal without a mark, and whether it may hold an atom both ways is one pass over its own
+// literals. Where all are marked the lists are compared, once for a log that isn't fresh.
+ghost use Rattle.std.specs.Prelude.{◌≡◌, ◌+◌, ◌*◌, ◌^◌, ◌<◌, ◌≤◌, ◌++◌, ◌∷◌, true, cond, is_none, IfOk, OnOk, drop, take, length, is_some, map, slice_index_or, slice_set, Some, None, []};
 ghost use Rattle.std.specs.List.{list_all, list_any};
 ghost use Rattle.proof_lines.specs.Clauses.{sub, holds_both_ways};
 ghost use Rattle.proof_kernel.specs.Rules.{live_of};
@@ -24,6 +24,9 @@ ghost use Rattle.proof_kernel.specs.Index.{HasNoEntry, HasNoMark, slot_new, IsIn
 use items::Items;
 use proof_lines::clause::{Clause, Lit, holds_both_ways, is_within};
 use std::alloc::{AllocError, Global};
+
+// How many places before the last one a search for a literal without a mark begins.
+const MOST_SHIFT: usize = 2;
 
 /// An earlier clause in a list of the index: its number, and the spots of three of its literals, or 0 where it has fewer.
 #[derive(Clone, Copy)]
@@ -69,12 +72,45 @@ fn all_marked(marks: &[bool], entry: Entry) -> bool
         && (is_marked(marks, entry.third) && is_marked(marks, entry.fourth))
 }
 
-// Whether the spots of all literals are marked.
-fn lits_marked(count: usize, marks: &[bool], lits: &[Lit]) -> bool
+// The place of a literal whose spot isn't marked, the first, if there is one.
+fn first_unmarked(count: usize, marks: &[bool], lits: &[Lit]) -> Option<usize>
+    requires { 0 < count }
+    ensures { lits_marked count marks.now lits.now ≡ is_none result }
+{
+    for (i, lit) in lits.iter().enumerate() {
+        if !is_marked(marks, spot(count, *lit)) {
+            return Some(i);
+        }
+    }
+    None
+}
+
+// The place of a literal whose spot isn't marked, if there is one: the first from a place on, or the first of all.
+fn unmarked_from(count: usize, marks: &[bool], lits: &[Lit], start: usize) -> Option<usize>
+    requires some { 0 < count }
+    requires within { start ≤ length lits.now }
+    ensures { lits_marked count marks.now lits.now ≡ is_none result }
+{
+    match first_unmarked(count, marks, &lits[start..]) {
+        Some(at) => Some(start.saturating_add(at)),
+        None => first_unmarked(count, marks, &lits[..start]),
+    }
+}
+
+// Whether the spots of all literals are marked. Of clauses that have most literals in common many lack the same one, at nearly the same
+// place, so the search begins shortly before the place where the last one was found.
+fn lits_marked(count: usize, marks: &[bool], lits: &[Lit], hint: &mut usize) -> bool
     requires { 0 < count }
     ensures { result ≡ lits_marked count marks.now lits.now }
 {
-    lits.iter().all(|lit| is_marked(marks, spot(count, *lit)))
+    let start = (*hint).saturating_sub(MOST_SHIFT).min(lits.len());
+    match unmarked_from(count, marks, lits, start) {
+        Some(at) => {
+            *hint = at;
+            false
+        }
+        None => true,
+    }
 }
 
 // Whether the spot of some literal's opposite is marked.
@@ -101,13 +137,14 @@ fn marked_slot_within(
     slots: &[Option<Clause>],
     number: usize,
     lits: &[Lit],
+    hint: &mut usize,
 ) -> bool
     requires { 0 < count }
     ensures { result ≡ marked_slot_within count marks.now lits.now (slice_index_or slots.now number None) }
 {
     match slots.get(number) {
         Some(Some(clause)) => {
-            lits_marked(count, marks, clause.lits()) && is_within(clause.lits(), lits)
+            lits_marked(count, marks, clause.lits(), hint) && is_within(clause.lits(), lits)
         }
         _ => false,
     }
@@ -140,12 +177,19 @@ fn any_within(
     slots: &[Option<Clause>],
     lits: &[Lit],
     entries: &[Entry],
+    hint: &mut usize,
 ) -> bool
     requires { 0 < count }
     ensures { result ≡ list_any (marked_within count marks.now slots.now lits.now) entries.now }
 {
-    entries.iter().any(|entry| all_marked(marks, *entry)
-        && marked_slot_within(count, marks, slots, entry.number, lits))
+    for entry in entries {
+        if all_marked(marks, *entry)
+            && marked_slot_within(count, marks, slots, entry.number, lits, hint)
+        {
+            return true;
+        }
+    }
+    false
 }
 
 // Whether a marked entry of a list of a clause's spots names a clause that lies within it.
@@ -155,12 +199,13 @@ fn finds_marked(
     slots: &[Option<Clause>],
     lists: &[Items<Entry>],
     lits: &[Lit],
+    hint: &mut usize,
 ) -> bool
     requires { 0 < count }
     ensures { result ≡ finds_marked count marks.now slots.now lists.now lits.now }
 {
-    any_within(count, marks, slots, lits, list_at(lists, 0))
-        || finds_at_literals(count, marks, slots, lists, lits)
+    any_within(count, marks, slots, lits, list_at(lists, 0), hint)
+        || finds_at_literals(count, marks, slots, lists, lits, hint)
 }
 
 fn finds_at_literals(
@@ -169,12 +214,20 @@ fn finds_at_literals(
     slots: &[Option<Clause>],
     lists: &[Items<Entry>],
     lits: &[Lit],
+    hint: &mut usize,
 ) -> bool
     requires { 0 < count }
     ensures { result ≡ list_any (λ k. list_any (marked_within count marks.now slots.now lits.now) (slice_index_or lists.now k [])) (map (spot count) lits.now) }
 {
     for lit in lits {
-        if any_within(count, marks, slots, lits, list_at(lists, spot(count, *lit))) {
+        if any_within(
+            count,
+            marks,
+            slots,
+            lits,
+            list_at(lists, spot(count, *lit)),
+            hint,
+        ) {
             return true;
         }
     }
@@ -188,6 +241,7 @@ fn finds(
     slots: &[Option<Clause>],
     lists: &[Items<Entry>],
     lits: &[Lit],
+    hint: &mut usize,
 ) -> bool
     requires some { 0 < count }
     requires sized { length marks.old.items ≡ count }
@@ -197,7 +251,7 @@ fn finds(
     ensures clear { HasNoMark marks.new.items }
 {
     mark(marks, count, lits, true);
-    let found = finds_marked(count, marks.as_slice(), slots, lists, lits);
+    let found = finds_marked(count, marks.as_slice(), slots, lists, lits, hint);
     mark(marks, count, lits, false);
     found
 }
@@ -359,6 +413,7 @@ fn is_slot_new(
     slots: &[Option<Clause>],
     lists: &[Items<Entry>],
     number: usize,
+    hint: &mut usize,
 ) -> bool
     requires some { 0 < count }
     requires sized { length marks.old.items ≡ count }
@@ -371,7 +426,7 @@ fn is_slot_new(
 {
     match &slots[number] {
         Some(clause) => {
-            let found = finds(count, marks, slots, lists, clause.lits());
+            let found = finds(count, marks, slots, lists, clause.lits(), hint);
             let both = is_both_ways(count, marks, clause.lits());
             !found && !both && !clause.is_empty()
         }
@@ -392,8 +447,9 @@ fn each_new_by_index(
     let mut marks = vec![in alloc; false; count]?;
     let mut seen = vec![in alloc; 0; count]?;
     let mut lists = index_before(alloc, count, slots, &mut seen, given)?;
+    let mut hint = 0;
     for i in given..slots.len() {
-        if !is_slot_new(count, &mut marks, slots, lists.as_slice(), i) {
+        if !is_slot_new(count, &mut marks, slots, lists.as_slice(), i, &mut hint) {
             return Ok(false);
         }
         put_slot(count, slots, &mut seen, &mut lists, i)?;
