@@ -1,4 +1,4 @@
-use Rattle.std.proofs.Common.{◌≡◌, ◌∙◌, ap, refl, sym, Bool, true, false, ◌&&◌, take}
+use Rattle.std.proofs.Common.{◌≡◌, ◌∙◌, ap, refl, Bool, true, false, ◌&&◌, take}
 use Rattle.proof_kernel.specs.Index.{lits_marked}
 use Rattle.proof_kernel.proofs.Index.{marked-from}
 use Rattle.proof_kernel.proofs.freshness.unmarked_from.Goals as goal
