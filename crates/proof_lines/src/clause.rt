@@ -1,5 +1,5 @@
 // Literals, and clauses: sets of literals.
-ghost use Rattle.std.specs.Prelude.{◌≡◌, true, not, ◌&&◌, IfOk, OnOk, OnErr, [], ◌++◌};
+ghost use Rattle.std.specs.Prelude.{◌≡◌, ◌≤◌, true, not, ◌&&◌, IfOk, OnOk, OnErr, [], ◌++◌, length};
 ghost use Rattle.proof_lines.specs.Marks.{HasMarks};
 ghost use Rattle.proof_lines.specs.Clauses.{is_empty, has, resolvent, insert, join, same_lit, sub, distinct, without, flip, negations, holds_both_ways};
 
@@ -179,8 +179,50 @@ pub fn holds_both_ways(lits: &[Lit]) -> bool
     lits.iter().any(|x| holds(lits, x.opposite()))
 }
 
-// Appends the literals other than one.
+// The first place of a literal, or the number of literals where it isn't there.
+fn place_of(lits: &[Lit], lit: Lit) -> usize
+    ensures { result ≤ length lits.now }
+{
+    for (i, x) in lits.iter().enumerate() {
+        if x.same(lit) {
+            return i;
+        }
+    }
+    lits.len()
+}
+
+// Appends the literals other than one: at once, where it isn't there.
+fn put_run(out: &mut Vec<Lit>, lits: &[Lit], lit: Lit) -> Result<(), AllocError>
+    ensures { OnOk result (out.new.items ≡ out.old.items ++ without lit lits.now) }
+{
+    if holds(lits, lit) {
+        return put_others(out, lits, lit);
+    }
+    out.extend_from_slice(lits)?;
+    Ok(())
+}
+
+// The same, where the literal may be the first.
+fn put_behind(out: &mut Vec<Lit>, lits: &[Lit], lit: Lit) -> Result<(), AllocError>
+    ensures { OnOk result (out.new.items ≡ out.old.items ++ without lit lits.now) }
+{
+    if lits.is_empty() || !lits[0].same(lit) {
+        return put_run(out, lits, lit);
+    }
+    put_run(out, &lits[1..], lit)
+}
+
+// The same, in two parts around its place, which are copied at once.
 fn put_without(out: &mut Vec<Lit>, lits: &[Lit], lit: Lit) -> Result<(), AllocError>
+    ensures { OnOk result (out.new.items ≡ out.old.items ++ without lit lits.now) }
+{
+    let at = place_of(lits, lit);
+    put_run(out, &lits[..at], lit)?;
+    put_behind(out, &lits[at..], lit)
+}
+
+// The same, one by one.
+fn put_others(out: &mut Vec<Lit>, lits: &[Lit], lit: Lit) -> Result<(), AllocError>
     ensures { OnOk result (out.new.items ≡ out.old.items ++ without lit lits.now) }
 {
     for x in lits {
