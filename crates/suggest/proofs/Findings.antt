@@ -1,17 +1,15 @@
 -- What obligations come to, with one more before them.
-use Rattle.std.proofs.Common.{◌≡◌, ℕ, true, inl, inr, List, [], ◌∷◌, ◌++◌, refl, ap, subst}
+use Rattle.std.proofs.Common.{◌≡◌, ℕ, inl, inr, List, [], ◌∷◌, ◌++◌, refl, ap, subst}
 use Rattle.std.specs.List.{Contains}
 use Rattle.std.proofs.lemmas.List.Elements.{Contains-append_cases}
 use Rattle.spec_core.specs.Specification.{Specification}
 use Rattle.obligation_list.specs.declared.obligation.Obligation.{Obligation}
 use Rattle.obligation_list.specs.declared.witness.Witness.{Witness}
-use Rattle.proof_lines.specs.declared.line.Line.{Line}
 use Rattle.proof_report.specs.declared.verdict.Cause.{Cause}
-use Rattle.proof_report.specs.declared.verdict.Cause.TheVariants as causes
-use Rattle.proof_report.specs.Verdicts.{proved, refuted}
-use Rattle.report_text.specs.Showing.{shown_by, shown_cause}
+use Rattle.proof_report.specs.Verdicts.{refuted}
+use Rattle.report_bytes.specs.Showing.{shown_by, shown_cause}
 use Rattle.check_run.specs.Good.{IsGood}
-use Rattle.suggest.specs.Answers.{HasProof, HasNoRefutation, is_unrefuted, IsFound}
+use Rattle.suggest.specs.Answers.{HasProof, HasNoRefutation, IsFound}
 use Rattle.suggest.specs.declared.answer.Found.{Found}
 use Rattle.suggest.specs.declared.answer.Found.TheVariants as found
 use Rattle.suggest.proofs.Cons.{nowhere, cons_cases}
@@ -23,34 +21,22 @@ each P ob obs h all x m = elim (cons_cases ob obs x m) [ inl e ↦ subst P e h |
 none : (P : Obligation → Type 0) (x : Obligation) → Contains [] x → P x
 none P x m = absurd (nowhere x m)
 
-cause_unrefuted : (cause : Cause) → is_unrefuted (shown_cause cause) ≡ true
-cause_unrefuted causes.Instances = refl
-cause_unrefuted (causes.Lines log) = refl
-cause_unrefuted (causes.Rows e) = refl
-cause_unrefuted (causes.Range e) = refl
-
 module _ (d : Specification) (budget : ℕ) where
-  unrefuted : (ob : Obligation) → HasProof d budget ob → HasNoRefutation d budget ob
-  unrefuted ob h = (proved h.0, h.1, refl)
-
-  undecided_unrefuted : (ob : Obligation) (cause : Cause) → IsGood d budget ob (shown_cause cause) → HasNoRefutation d budget ob
-  undecided_unrefuted ob cause g = (shown_cause cause, g, cause_unrefuted cause)
-
   -- behind a proved one
-  pub behind_proved : (ob : Obligation) (log : List Line) (obs : List Obligation) (f : Found) → IsGood d budget ob (proved log) → IsFound d budget obs f → IsFound d budget (ob ∷ obs) f
-  behind_proved ob log obs found.Proved g h = each (HasProof d budget) ob obs (log, g) h
-  behind_proved ob log obs (found.Refuted o w) g h = record {
+  pub behind_proved : (ob : Obligation) (obs : List Obligation) (f : Found) → HasProof d budget ob → IsFound d budget obs f → IsFound d budget (ob ∷ obs) f
+  behind_proved ob obs found.Proved g h = each (HasProof d budget) ob obs g h
+  behind_proved ob obs (found.Refuted o w) g h = record {
     before = ob ∷ h.before;
     behind = h.behind;
     listed = ap (λ os. ob ∷ os) h.listed;
-    earlier = each (HasNoRefutation d budget) ob h.before (unrefuted ob (log, g)) h.earlier;
+    earlier = each (HasNoRefutation d budget) ob h.before (inl g) h.earlier;
     refutes = h.refutes;
   }
-  behind_proved ob log obs (found.Undecided o cause) g h = record {
+  behind_proved ob obs (found.Undecided o cause) g h = record {
     before = ob ∷ h.before;
     behind = h.behind;
     listed = ap (λ os. ob ∷ os) h.listed;
-    earlier = each (HasProof d budget) ob h.before (log, g) h.earlier;
+    earlier = each (HasProof d budget) ob h.before g h.earlier;
     evidence = h.evidence;
     later = h.later;
   }
@@ -73,7 +59,7 @@ module _ (d : Specification) (budget : ℕ) where
     listed = refl;
     earlier = none (HasProof d budget);
     evidence = g;
-    later = λ x m. unrefuted x (h x m);
+    later = λ x m. inl (h x m);
   }
 
   in_parts : (P : Obligation → Type 0) (before behind : List Obligation) (o : Obligation) → ((x : Obligation) → Contains before x → P x) → P o → ((x : Obligation) → Contains behind x → P x) → (x : Obligation) → Contains (before ++ o ∷ behind) x → P x
@@ -87,7 +73,7 @@ module _ (d : Specification) (budget : ℕ) where
     earlier = none (HasProof d budget);
     evidence = g;
     later = λ x m.
-        in_parts (HasNoRefutation d budget) h.before h.behind o (λ y k. unrefuted y (h.earlier y k)) (undecided_unrefuted o other h.evidence) h.later x
+        in_parts (HasNoRefutation d budget) h.before h.behind o (λ y k. inl (h.earlier y k)) (inr (other, h.evidence)) h.later x
         (subst (λ (os : List Obligation). Contains os x) h.listed m);
   }
 
@@ -97,6 +83,6 @@ module _ (d : Specification) (budget : ℕ) where
     before = ob ∷ h.before;
     behind = h.behind;
     listed = ap (λ os. ob ∷ os) h.listed;
-    earlier = each (HasNoRefutation d budget) ob h.before (undecided_unrefuted ob cause g) h.earlier;
+    earlier = each (HasNoRefutation d budget) ob h.before (inr (cause, g)) h.earlier;
     refutes = h.refutes;
   }

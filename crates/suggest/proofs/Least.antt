@@ -12,11 +12,12 @@ use Rattle.obligation_list.proofs.Members.{here, there}
 use Rattle.proof_lines.specs.declared.line.Line.{Line}
 use Rattle.proof_report.specs.declared.place.PartialWitness.{PartialWitness}
 use Rattle.proof_report.specs.Verdicts.{proved, refuted}
-use Rattle.report_text.specs.Showing.{shown_by}
+use Rattle.report_bytes.specs.Showing.{shown_by}
 use Rattle.check_run.specs.Shown.{listing_of}
 use Rattle.check_run.specs.Good.{IsGood}
-use Rattle.keyed_specs.specs.Bare.{bare}
-use Rattle.keyed_specs.specs.Keyed.{keyed}
+use Rattle.conflict_variants.specs.Bare.{bare}
+use Rattle.conflict_variants.specs.Keyed.{keyed}
+use Rattle.conflict_variants.proofs.WellFormed.{bare_well_formed}
 use Rattle.suggest.specs.Pairs.{PairHolds, IsPair, IsEnough, pairs_of, keys_of}
 use Rattle.suggest.specs.Answers.{IsFoundIn, is_refuted, is_undecided, is_proved, keys_after, AreKeyAnswers, IsAnswer, AreAnswers, is_for, is_needed, is_unknown, is_key, is_enough_by}
 use Rattle.suggest.specs.Theorem.{IsShownToBreak, IsBroken, IsRight}
@@ -26,6 +27,7 @@ use Rattle.suggest.specs.declared.answer.Found.{Found}
 use Rattle.suggest.specs.declared.answer.Found.TheVariants as found
 use Rattle.suggest.specs.declared.answer.KeyAnswer.{KeyAnswer}
 use Rattle.suggest.specs.declared.answer.PairAnswer.{PairAnswer}
+use Rattle.suggest.proofs.Bare.{Holds-bare}
 use Rattle.suggest.proofs.Cons.{nowhere, cons_cases, none_passes}
 use Rattle.suggest.proofs.Listed.{listed_pair, pair_listed}
 
@@ -115,7 +117,10 @@ same_key y k p q e h =
 module _ (holds : (d : Specification) (budget : ℕ) (ob : Obligation) (log : List Line) → is_specification d ≡ true → IsGood d budget ob (proved log) → Holds d ob)
     (breaks : (d : Specification) (budget : ℕ) (ob : Obligation) (p : PartialWitness) (es : List ℕ) → IsGood d budget ob (refuted p es) → Breaks d ob p.world (listing_of d p) p.calls es) where
   proved_holds : (d : Specification) (budget a b : ℕ) (f : Found) → IsFoundIn d budget a b f → is_proved f ≡ true → PairHolds d a b
-  proved_holds d budget a b found.Proved h e = λ ob m. let log = h.comes_to ob m in holds d budget ob log.0 h.specified log.1
+  proved_holds d budget a b found.Proved h e = λ ob m. elim (h.comes_to ob m) [
+    | inl log ↦ holds d budget ob log.0 h.specified log.1
+    | inr log ↦ Holds-bare d ob (holds (bare d) budget ob log.0 (bare_well_formed d h.specified) log.1)
+  ]
   proved_holds d budget a b (found.Refuted ob w) h e = absurd cc
   proved_holds d budget a b (found.Undecided ob cause) h e = absurd cc
 

@@ -2,6 +2,7 @@ pub mod Cons
 pub mod Listed
 pub mod Findings
 pub mod First
+pub mod Bare
 pub mod Least
 pub mod Counting
 pub mod Appending

@@ -1,5 +1,5 @@
 -- What is answered for each pair of operations, and when an answer is good.
-use Rattle.std.specs.Prelude.{◌≡◌, ℕ, suc, Bool, true, false, ◌&&◌, ◌==◌, List, [], ◌∷◌, ◌++◌}
+use Rattle.std.specs.Prelude.{◌≡◌, ◌⊎◌, ℕ, suc, Bool, true, false, ◌&&◌, ◌==◌, List, [], ◌∷◌, ◌++◌}
 use Rattle.std.specs.List.{list_any, Contains}
 use Rattle.spec_core.specs.Specification.{Specification}
 use Rattle.spec_core.specs.Typed.{is_specification}
@@ -7,11 +7,11 @@ use Rattle.obligation_list.specs.declared.obligation.Obligation.{Obligation}
 use Rattle.obligation_list.specs.declared.witness.Witness.{Witness}
 use Rattle.proof_lines.specs.declared.line.Line.{Line}
 use Rattle.proof_report.specs.declared.verdict.Cause.{Cause}
-use Rattle.proof_report.specs.Verdicts.{VerdictForm, proved, refuted, instances, lines, rows, range}
-use Rattle.report_text.specs.Showing.{shown_by, shown_cause}
+use Rattle.proof_report.specs.Verdicts.{proved, refuted}
+use Rattle.report_bytes.specs.Showing.{shown_by, shown_cause}
 use Rattle.check_run.specs.Good.{IsGood}
-use Rattle.keyed_specs.specs.Bare.{bare}
-use Rattle.keyed_specs.specs.Keyed.{keyed}
+use Rattle.conflict_variants.specs.Bare.{bare}
+use Rattle.conflict_variants.specs.Keyed.{keyed}
 use Rattle.suggest.specs.Pairs.{obligations_of_pair, keys_of}
 use Rattle.suggest.specs.declared.answer.Pair.{Pair}
 use Rattle.suggest.specs.declared.answer.Key.{Key}
@@ -23,22 +23,22 @@ use Rattle.suggest.specs.declared.answer.SuggestTally.{SuggestTally}
 
 -- ---- what the obligations of a pair come to
 
--- an obligation has a log that proves it
+-- a log proves an obligation
+abbrev pub HasLog : Specification → ℕ → Obligation → Type 0
+HasLog d budget ob = (log : List Line) × IsGood d budget ob (proved log)
+
+-- for each of these obligations a log proves it
+abbrev pub HaveLogs : Specification → ℕ → List Obligation → Type 0
+HaveLogs d budget obs = (ob : Obligation) → Contains obs ob → HasLog d budget ob
+
+-- A log proves an obligation in the specification, or where nothing conflicts. What holds where all calls may run together holds where some
+-- of them may not.
 abbrev pub HasProof : Specification → ℕ → Obligation → Type 0
-HasProof d budget ob = (log : List Line) × IsGood d budget ob (proved log)
+HasProof d budget ob = HasLog d budget ob ⊎ HasLog (bare d) budget ob
 
--- a verdict that doesn't refute
-abbrev pub is_unrefuted : VerdictForm → Bool
-is_unrefuted (proved log) = true
-is_unrefuted (refuted p es) = false
-is_unrefuted instances = true
-is_unrefuted (lines log) = true
-is_unrefuted (rows log r) = true
-is_unrefuted (range log r) = true
-
--- an obligation has a good verdict that doesn't refute it
+-- an obligation is proved, or undecided with evidence of a cause
 abbrev pub HasNoRefutation : Specification → ℕ → Obligation → Type 0
-HasNoRefutation d budget ob = (v : VerdictForm) × IsGood d budget ob v × (is_unrefuted v ≡ true)
+HasNoRefutation d budget ob = HasProof d budget ob ⊎ ((cause : Cause) × IsGood d budget ob (shown_cause cause))
 
 -- The first of these obligations that is refuted, by what is shown of a witness: those before it have verdicts that don't refute them.
 pub record IsFirstRefuted (d : Specification) (budget : ℕ) (obs : List Obligation) (ob : Obligation)

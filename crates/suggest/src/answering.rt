@@ -2,20 +2,21 @@
 
 ghost use Rattle.std.specs.Prelude.{◌≡◌, ◌≤◌, IfOk};
 ghost use Rattle.std.specs.List.{Contains};
-ghost use Rattle.keyed_specs.specs.Bare.{bare as bare_of};
-ghost use Rattle.keyed_specs.specs.Keyed.{CanBeKeyed, keyed as keyed_of};
+ghost use Rattle.conflict_variants.specs.Bare.{bare as bare_of};
+ghost use Rattle.conflict_variants.specs.Keyed.{CanBeKeyed, keyed as keyed_of};
 ghost use Rattle.suggest.specs.Pairs.{IsPair, pairs_of, keys_of};
-ghost use Rattle.suggest.specs.Answers.{IsFoundIn, AreKeyAnswers, IsAnswer, AreAnswers, is_refuted as is_refuted_of, keys_after};
+ghost use Rattle.suggest.specs.Answers.{HaveLogs, IsFoundIn, AreKeyAnswers, IsAnswer, AreAnswers, is_refuted as is_refuted_of, keys_after};
 ghost use Rattle.suggest.specs.declared.answer.Pair.{Pair};
 ghost use Rattle.suggest.specs.declared.answer.Key.{Key};
 
 use crate::answer::{Found, Key, KeyAnswer, Pair, PairAnswer};
-use crate::finding::find_in;
+use crate::finding::{find_bare, find_in};
 use crate::known::Known;
 use crate::listing::{list_keys, list_pairs};
 use crate::writing::is_refuted;
+use conflict_variants::{bare, keyed};
 use items::Items;
-use keyed_specs::{bare, keyed};
+use obligation_list::Obligation;
 use spec_core::Spec;
 use std::alloc::{AllocError, Global};
 
@@ -25,17 +26,19 @@ fn key_answer(
     budget: u32,
     pair: Pair,
     key: Key,
+    free: &[Obligation],
     known: &mut Known,
 ) -> Result<KeyAnswer, AllocError>
     requires budget { 1 ≤ budget }
     requires keyed { CanBeKeyed spec.now pair.first key.p pair.second key.q }
+    requires free { HaveLogs (bare_of spec.now) budget free.now }
     ensures key { IfOk result (λ y. y.key ≡ key) }
     ensures found { IfOk result
         (λ y. IsFoundIn (keyed_of spec.now pair.first key.p pair.second key.q) budget pair.first
         pair.second y.found) }
 {
     let keyed = keyed(alloc, spec, pair.first, key.p, pair.second, key.q)?;
-    let found = or_drop!(find_in(alloc, &keyed, budget, pair, known); keyed);
+    let found = or_drop!(find_in(alloc, &keyed, budget, pair, free, known); keyed);
     drop(keyed);
     Ok(KeyAnswer { key, found })
 }
@@ -46,15 +49,17 @@ fn key_answers(
     budget: u32,
     pair: Pair,
     keys: &[Key],
+    free: &[Obligation],
     known: &mut Known,
 ) -> Result<Items<KeyAnswer>, AllocError>
     requires budget { 1 ≤ budget }
     requires keyed { (k : Key) → Contains keys.now k → CanBeKeyed spec.now pair.first k.p pair.second k.q }
+    requires free { HaveLogs (bare_of spec.now) budget free.now }
     ensures { IfOk result (λ ys. AreKeyAnswers spec.now budget pair.first pair.second keys.now ys) }
 {
     let mut answers = Items::new(alloc);
     for key in keys {
-        let answer = or_drop!(key_answer(alloc, spec, budget, pair, *key, known); answers);
+        let answer = or_drop!(key_answer(alloc, spec, budget, pair, *key, free, known); answers);
         or_drop!(answers.push(answer); answers);
     }
     Ok(answers)
@@ -66,10 +71,12 @@ fn keys_for(
     budget: u32,
     pair: Pair,
     found: &Found,
+    free: &[Obligation],
     known: &mut Known,
 ) -> Result<Items<KeyAnswer>, AllocError>
     requires budget { 1 ≤ budget }
     requires pair { IsPair spec.now pair.first pair.second }
+    requires free { HaveLogs (bare_of spec.now) budget free.now }
     ensures { IfOk result
         (λ ys. AreKeyAnswers spec.now budget pair.first pair.second
         (keys_after found.now (keys_of spec.now pair.first pair.second)) ys) }
@@ -78,7 +85,8 @@ fn keys_for(
         return Ok(Items::new(alloc));
     }
     let keys = list_keys(alloc, spec, pair)?;
-    let answers = or_drop!(key_answers(alloc, spec, budget, pair, keys.as_slice(), known); keys);
+    let answers =
+        or_drop!(key_answers(alloc, spec, budget, pair, keys.as_slice(), free, known); keys);
     drop(keys);
     Ok(answers)
 }
@@ -96,9 +104,13 @@ fn pair_answer(
     ensures { IfOk result (λ x. IsAnswer spec.now budget pair x) }
 {
     let mut known = Known::new(alloc);
-    let found = or_drop!(find_in(alloc, bare, budget, pair, &mut known); known);
-    let keys = or_drop!(keys_for(alloc, spec, budget, pair, &found, &mut known); found, known);
+    let mut proved = Items::new(alloc);
+    let found =
+        or_drop!(find_bare(alloc, bare, budget, pair, &mut known, &mut proved); known, proved);
+    let keys =
+        or_drop!(keys_for(alloc, spec, budget, pair, &found, proved.as_slice(), &mut known); found, known, proved);
     drop(known);
+    drop(proved);
     Ok(PairAnswer { pair, found, keys })
 }
 

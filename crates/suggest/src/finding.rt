@@ -1,18 +1,20 @@
 // What the obligations of a pair come to.
 
-ghost use Rattle.std.specs.Prelude.{◌≡◌, ◌≤◌, ℕ, ◌∷◌, List, IfOk};
+ghost use Rattle.std.specs.Prelude.{◌≡◌, ◌≤◌, ℕ, ◌∷◌, List, IfOk, OnOk, IsTrue};
 ghost use Rattle.std.specs.List.{Contains};
 ghost use Rattle.spec_core.specs.Specification.{Specification};
 ghost use Rattle.obligation_list.specs.declared.obligation.Obligation.{Obligation};
 ghost use Rattle.obligation_list.specs.Obligations.{IsObligation};
-ghost use Rattle.report_text.specs.Showing.{shown_cause};
+ghost use Rattle.report_bytes.specs.Showing.{shown_cause};
 ghost use Rattle.check_run.specs.Good.{IsGood};
-ghost use Rattle.suggest.specs.Answers.{IsFound, IsFoundIn};
+ghost use Rattle.conflict_variants.specs.Bare.{bare as bare_of};
+ghost use Rattle.suggest.specs.Answers.{HaveLogs, IsFound, IsFoundIn};
 ghost use Rattle.suggest.specs.Writing.{CanBeWritten};
 
 use crate::answer::{Found, Pair};
 use crate::known::Known;
 use crate::listing::list_pair;
+use items::Items;
 use obligation_list::Obligation;
 use proof_report::{Cause, Verdict};
 use spec_core::Spec;
@@ -38,51 +40,119 @@ fn with_undecided(ob: Obligation, cause: Cause, rest: Found) -> Found
     }
 }
 
-// What obligations come to, one after the other. The first one that is refuted settles it.
+// The obligation is one of these.
+fn is_among(obligations: &[Obligation], ob: &Obligation) -> bool
+    ensures { IsTrue result → Contains obligations.now ob.now }
+{
+    obligations.contains(ob)
+}
+
+// What obligations come to, one after the other. The first one that is refuted settles it. The free ones, which are proved where nothing
+// conflicts, aren't decided anew. Those that are proved by a log of their own are added to a list.
 fn find(
     alloc: Global,
     spec: &Spec,
     budget: u32,
     obligations: &[Obligation],
+    free: &[Obligation],
     known: &mut Known,
+    proved: &mut Items<Obligation>,
 ) -> Result<Found, AllocError>
     requires members { (ob : Obligation) → Contains obligations.now ob → IsObligation spec.now ob }
     requires budget { 1 ≤ budget }
+    requires free { HaveLogs (bare_of spec.now) budget free.now }
+    requires proved { HaveLogs spec.now budget proved.old }
     ensures found { IfOk result (λ found. IsFound spec.now budget obligations.now found) }
     ensures fit { IfOk result (λ found. CanBeWritten spec.now found) }
+    ensures proved { OnOk result (HaveLogs spec.now budget proved.new) }
 {
     match obligations {
         [] => Ok(Found::Proved),
-        [ob, rest @ ..] => match known.decide(alloc, spec, ob, budget)? {
-            Verdict::Proved(log) => {
-                drop(log);
-                find(alloc, spec, budget, rest, known)
+        [ob, rest @ ..] => {
+            if is_among(free, ob) {
+                return find(alloc, spec, budget, rest, free, known, proved);
             }
-            Verdict::Refuted(witness) => Ok(Found::Refuted(*ob, witness)),
-            Verdict::Undecided(cause) => {
-                let found = or_drop!(find(alloc, spec, budget, rest, known); cause);
-                Ok(with_undecided(*ob, cause, found))
+            match known.decide(alloc, spec, ob, budget)? {
+                Verdict::Proved(log) => {
+                    drop(log);
+                    proved.push(*ob)?;
+                    find(alloc, spec, budget, rest, free, known, proved)
+                }
+                Verdict::Refuted(witness) => Ok(Found::Refuted(*ob, witness)),
+                Verdict::Undecided(cause) => {
+                    let found =
+                        or_drop!(find(alloc, spec, budget, rest, free, known, proved); cause);
+                    Ok(with_undecided(*ob, cause, found))
+                }
             }
-        },
+        }
     }
 }
 
+// What the obligations of a pair come to in a specification. The free ones aren't decided anew, and those that are proved by a log of
+// their own are added to a list.
+fn find_pair(
+    alloc: Global,
+    spec: &Spec,
+    budget: u32,
+    pair: Pair,
+    free: &[Obligation],
+    known: &mut Known,
+    proved: &mut Items<Obligation>,
+) -> Result<Found, AllocError>
+    requires budget { 1 ≤ budget }
+    requires free { HaveLogs (bare_of spec.now) budget free.now }
+    requires proved { HaveLogs spec.now budget proved.old }
+    ensures found { IfOk result (λ found. IsFoundIn spec.now budget pair.first pair.second found) }
+    ensures fit { IfOk result (λ found. CanBeWritten spec.now found) }
+    ensures proved { OnOk result (HaveLogs spec.now budget proved.new) }
+{
+    spec.well_formed();
+    let obligations = list_pair(alloc, spec, pair)?;
+    let found =
+        or_drop!(find(alloc, spec, budget, obligations.as_slice(), free, known, proved); obligations);
+    drop(obligations);
+    Ok(found)
+}
+
 /// What the obligations of a pair come to in a specification, with logs of at most `budget` lines. Values that are known to break some of
-/// them elsewhere are tried first, and new ones are added to them.
-pub fn find_in(
+/// them elsewhere are tried first, and new ones are added to them. Those that were proved are added to a list, up to the first one that is
+/// refuted.
+pub fn find_bare(
     alloc: Global,
     spec: &Spec,
     budget: u32,
     pair: Pair,
     known: &mut Known,
+    proved: &mut Items<Obligation>,
 ) -> Result<Found, AllocError>
-    requires { 1 ≤ budget }
+    requires budget { 1 ≤ budget }
+    requires proved { HaveLogs spec.now budget proved.old }
+    ensures found { IfOk result (λ found. IsFoundIn spec.now budget pair.first pair.second found) }
+    ensures fit { IfOk result (λ found. CanBeWritten spec.now found) }
+    ensures proved { OnOk result (HaveLogs spec.now budget proved.new) }
+{
+    find_pair(alloc, spec, budget, pair, &[], known, proved)
+}
+
+/// What the obligations of a pair come to in a specification, with logs of at most `budget` lines. The free ones, which are proved where
+/// nothing conflicts, aren't decided anew. Values that are known to break some of the others elsewhere are tried first, and new ones are
+/// added to them.
+pub fn find_in(
+    alloc: Global,
+    spec: &Spec,
+    budget: u32,
+    pair: Pair,
+    free: &[Obligation],
+    known: &mut Known,
+) -> Result<Found, AllocError>
+    requires budget { 1 ≤ budget }
+    requires free { HaveLogs (bare_of spec.now) budget free.now }
     ensures found { IfOk result (λ found. IsFoundIn spec.now budget pair.first pair.second found) }
     ensures fit { IfOk result (λ found. CanBeWritten spec.now found) }
 {
-    spec.well_formed();
-    let obligations = list_pair(alloc, spec, pair)?;
-    let found = or_drop!(find(alloc, spec, budget, obligations.as_slice(), known); obligations);
-    drop(obligations);
+    let mut proved = Items::new(alloc);
+    let found = or_drop!(find_pair(alloc, spec, budget, pair, free, known, &mut proved); proved);
+    drop(proved);
     Ok(found)
 }

@@ -4,22 +4,23 @@ ghost use Rattle.std.specs.Prelude.{◌≡◌, ◌≤◌, ◌++◌, ◌∷◌, [
 ghost use Rattle.std.specs.List.{Contains};
 ghost use Rattle.obligation_list.specs.Obligations.{IsObligation};
 ghost use Rattle.proof_report.specs.Texts.{block_text, CanStand};
-ghost use Rattle.keyed_specs.specs.Bare.{bare as bare_of};
-ghost use Rattle.keyed_specs.specs.Keyed.{CanBeKeyed};
+ghost use Rattle.conflict_variants.specs.Bare.{bare as bare_of};
+ghost use Rattle.conflict_variants.specs.Keyed.{CanBeKeyed};
 ghost use Rattle.report_lines.specs.Words.{line_text};
 ghost use Rattle.suggest.specs.Pairs.{IsPair, pairs_of, keys_of};
-ghost use Rattle.suggest.specs.Answers.{is_refuted as is_refuted_of, keys_after, with_answer};
+ghost use Rattle.suggest.specs.Answers.{HaveLogs, is_refuted as is_refuted_of, keys_after, with_answer};
 ghost use Rattle.suggest.specs.Texts.{param_name as param_name_of, found_text, pair_word as pair_word_of, key_word as key_word_of, head_text, end_text, last_word as last_word_of};
 ghost use Rattle.suggest.specs.Writing.{CanBeWritten, IsKeyAppended, AreKeysAppended, IsBareAppended, IsPairAppended};
 ghost use Rattle.suggest.specs.declared.answer.Key.{Key};
 ghost use Rattle.suggest.specs.declared.answer.Found.{Found};
 
 use crate::answer::{Found, Key, Pair, SuggestTally};
-use crate::finding::find_in;
+use crate::finding::{find_bare, find_in};
 use crate::known::Known;
 use crate::listing::list_keys;
+use conflict_variants::keyed;
+use items::Items;
 use itoa::Buffer;
-use keyed_specs::keyed;
 use obligation_list::Obligation;
 use proof_report::{Verdict, write_verdict};
 use report_lines::verdict::operation_name;
@@ -108,15 +109,17 @@ fn write_key(
     budget: u32,
     pair: Pair,
     key: Key,
+    free: &[Obligation],
     known: &mut Known,
     text: &mut Vec<u8>,
 ) -> Result<(), AllocError>
     requires budget { 1 ≤ budget }
     requires keyed { CanBeKeyed spec.now pair.first key.p pair.second key.q }
+    requires free { HaveLogs (bare_of spec.now) budget free.now }
     ensures { OnOk result (IsKeyAppended spec.now budget pair key text.old.items text.new.items) }
 {
     let keyed = keyed(alloc, spec, pair.first, key.p, pair.second, key.q)?;
-    let found = or_drop!(find_in(alloc, &keyed, budget, pair, known); keyed);
+    let found = or_drop!(find_in(alloc, &keyed, budget, pair, free, known); keyed);
     let first = param_name(spec, pair.first, key.p);
     let second = param_name(spec, pair.second, key.q);
     or_drop!(write_words(text, key_word(&found), &[first, second]); keyed, found);
@@ -131,15 +134,17 @@ fn write_keys(
     budget: u32,
     pair: Pair,
     keys: &[Key],
+    free: &[Obligation],
     known: &mut Known,
     text: &mut Vec<u8>,
 ) -> Result<(), AllocError>
     requires budget { 1 ≤ budget }
     requires keyed { (k : Key) → Contains keys.now k → CanBeKeyed spec.now pair.first k.p pair.second k.q }
+    requires free { HaveLogs (bare_of spec.now) budget free.now }
     ensures { OnOk result (AreKeysAppended spec.now budget pair keys.now text.old.items text.new.items) }
 {
     for key in keys {
-        write_key(alloc, spec, budget, pair, *key, known, text)?;
+        write_key(alloc, spec, budget, pair, *key, free, known, text)?;
     }
     Ok(())
 }
@@ -151,11 +156,13 @@ fn write_keys_after(
     budget: u32,
     pair: Pair,
     needed: bool,
+    free: &[Obligation],
     known: &mut Known,
     text: &mut Vec<u8>,
 ) -> Result<(), AllocError>
     requires budget { 1 ≤ budget }
     requires pair { IsPair spec.now pair.first pair.second }
+    requires free { HaveLogs (bare_of spec.now) budget free.now }
     ensures { OnOk result
         ((f : Found) → needed ≡ is_refuted_of f
         → AreKeysAppended spec.now budget pair
@@ -165,7 +172,7 @@ fn write_keys_after(
         return Ok(());
     }
     let keys = list_keys(alloc, spec, pair)?;
-    or_drop!(write_keys(alloc, spec, budget, pair, keys.as_slice(), known, text); keys);
+    or_drop!(write_keys(alloc, spec, budget, pair, keys.as_slice(), free, known, text); keys);
     drop(keys);
     Ok(())
 }
@@ -205,7 +212,8 @@ fn with_found(tally: SuggestTally, found: &Found) -> Result<SuggestTally, AllocE
     Ok(now)
 }
 
-// Writes what a pair comes to in the bare specification, and counts it. Answers whether it is needed, and the tally.
+// Writes what a pair comes to in the bare specification, and counts it. Answers whether it is needed, and the tally. Obligations that were
+// proved are added to a list.
 fn write_bare(
     alloc: Global,
     spec: &Spec,
@@ -214,13 +222,16 @@ fn write_bare(
     pair: Pair,
     tally: SuggestTally,
     known: &mut Known,
+    proved: &mut Items<Obligation>,
     text: &mut Vec<u8>,
 ) -> Result<(bool, SuggestTally), AllocError>
     requires budget { 1 ≤ budget }
     requires bare { bare.now ≡ bare_of spec.now }
-    ensures { IfOk result (λ x. IsBareAppended spec.now budget pair tally x.0 x.1 text.old.items text.new.items) }
+    requires proved { HaveLogs (bare_of spec.now) budget proved.old }
+    ensures text { IfOk result (λ x. IsBareAppended spec.now budget pair tally x.0 x.1 text.old.items text.new.items) }
+    ensures proved { OnOk result (HaveLogs (bare_of spec.now) budget proved.new) }
 {
-    let found = find_in(alloc, bare, budget, pair, known)?;
+    let found = find_bare(alloc, bare, budget, pair, known, proved)?;
     let needed = is_refuted(&found);
     let now = or_drop!(with_found(tally, &found); found);
     let first = operation_name(spec, pair.first);
@@ -246,10 +257,12 @@ pub fn write_pair(
     ensures { IfOk result (λ now. IsPairAppended spec.now budget pair tally now text.old.items text.new.items) }
 {
     let mut known = Known::new(alloc);
+    let mut proved = Items::new(alloc);
     let written =
-        or_drop!(write_bare(alloc, spec, bare, budget, pair, tally, &mut known, text); known);
-    or_drop!(write_keys_after(alloc, spec, budget, pair, written.0, &mut known, text); known);
+        or_drop!(write_bare(alloc, spec, bare, budget, pair, tally, &mut known, &mut proved, text); known, proved);
+    or_drop!(write_keys_after(alloc, spec, budget, pair, written.0, proved.as_slice(), &mut known, text); known, proved);
     drop(known);
+    drop(proved);
     Ok(written.1)
 }
 

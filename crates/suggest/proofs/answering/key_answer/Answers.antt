@@ -1,7 +1,12 @@
 use Rattle.std.proofs.Common.{subst}
 use Rattle.spec_core.specs.Specification.{Specification}
 use Rattle.suggest.specs.Answers.{IsFoundIn}
+use Rattle.suggest.proofs.Bare.{free_at_key}
 use Rattle.suggest.proofs.answering.key_answer.Goals as goal
+
+pub find_in-requires-clause-free : goal.find_in-requires-clause-free
+find_in-requires-clause-free c =
+    free_at_key c.args.spec.now c.args.budget c.args.pair.first c.args.key.p c.args.pair.second c.args.key.q c.in_ok-keyed.keyed c.args.free.now c.in_ok-keyed.ensures c.requires.free
 
 pub returns-clause-found : goal.returns-clause-found
 returns-clause-found c =

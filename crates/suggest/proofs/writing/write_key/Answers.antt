@@ -1,6 +1,11 @@
 use Rattle.suggest.specs.Texts.{param_name, key_word}
 use Rattle.suggest.proofs.Appending.{line_written, key_written}
+use Rattle.suggest.proofs.Bare.{free_at_key}
 use Rattle.suggest.proofs.writing.write_key.Goals as goal
+
+pub find_in-requires-clause-free : goal.find_in-requires-clause-free
+find_in-requires-clause-free c =
+    free_at_key c.args.spec.now c.args.budget c.args.pair.first c.args.key.p c.args.pair.second c.args.key.q c.in_ok-keyed.keyed c.args.free.now c.in_ok-keyed.ensures c.requires.free
 
 pub returns : goal.returns
 returns c =
