@@ -18,6 +18,7 @@ use Rattle.simulate_text.specs.declared.said.Stop.{Stop as Halt}
 use Rattle.simulate_text.specs.declared.said.Stop.TheVariants as halt
 use Rattle.simulate_text.specs.Text as simulation
 use Rattle.simulate_text.specs.Course.{course as simulated}
+use Rattle.byte_ports.specs.Ports.{Port}
 use Rattle.byte_ports.specs.Ending.{EndsIn}
 use Rattle.bank_host.specs.Bank.{bank}
 use Rattle.bank_host.specs.declared.words.Command.{Command}
@@ -126,9 +127,9 @@ pub long_answer : (command : Command) (bytes : List ℕ) → most_schedule_bytes
 long_answer command bytes h = record { status_is = long_status command bytes h; text_is = long_answer_text command bytes h }
 
 -- the ending of an answer is that of the words that ask for it
-pub EndsIn-asked : (a b : Option Command) (bytes : List ℕ) (status : ℕ) (before after : Option (List ℕ)) (m n : ℕ) → a ≡ b
-    → EndsIn (IsAnswer a bytes) status before after m n → EndsIn (IsAnswer b bytes) status before after m n
-EndsIn-asked a b bytes status before after m n e x = subst (λ (asked : Option Command). EndsIn (IsAnswer asked bytes) status before after m n) e x
+pub EndsIn-asked : (a b : Option Command) (bytes : List ℕ) (status : ℕ) (before after : Port) → a ≡ b
+    → EndsIn (IsAnswer a bytes) status before after → EndsIn (IsAnswer b bytes) status before after
+EndsIn-asked a b bytes status before after e x = subst (λ (asked : Option Command). EndsIn (IsAnswer asked bytes) status before after) e x
 
 -- words that aren't accepted name no command
 pub not_asked : (asked : Option Command) → None ≡ asked → is_some asked ≡ true → ⊥

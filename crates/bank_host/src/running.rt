@@ -3,6 +3,7 @@
 ghost use Rattle.std.specs.Prelude.{◌≡◌, ◌<◌, ℕ, List, true, Some, map, string_bytes};
 ghost use Rattle.std.specs.Option.{is_some};
 ghost use Rattle.byte_ports.specs.Faults.{IsFault};
+ghost use Rattle.byte_ports.specs.Ports.{port_of};
 ghost use Rattle.byte_ports.specs.Ending.{EndsIn};
 ghost use Rattle.byte_ports.specs.Told.{Tells, IsReadWithin};
 ghost use Rattle.schedule_json.specs.Texts.{most_schedule_bytes};
@@ -23,8 +24,8 @@ fn run_command<S: Source, K: Sink>(
     out: &mut K,
 ) -> u8
     ensures ends { (bytes : List ℕ) × Tells (S.left schedule.old) bytes
-        × EndsIn (IsAnswer (Some command) bytes) result (K.held out.old) (K.held out.new)
-        (K.faults out.old) (K.faults out.new) }
+        × EndsIn (IsAnswer (Some command) bytes) result
+        (port_of K.held K.faults out.old) (port_of K.held K.faults out.new) }
     ensures read_fault { result ≡ 6 → IsFault (S.faults schedule.old) (S.faults schedule.new) }
     ensures unwritten { result ≡ 6 → out.new ≡ out.old }
     ensures end { result < 6 → IsReadWithin most_schedule_bytes (S.left schedule.old) (S.left schedule.new) }
@@ -52,8 +53,8 @@ pub fn run_bank<S: Source, K: Sink>(
     out: &mut K,
 ) -> u8
     ensures ends { (bytes : List ℕ) × Tells (S.left schedule.old) bytes
-        × EndsIn (IsAnswer (asked_of (map string_bytes words.now)) bytes) result (K.held out.old)
-        (K.held out.new) (K.faults out.old) (K.faults out.new) }
+        × EndsIn (IsAnswer (asked_of (map string_bytes words.now)) bytes) result
+        (port_of K.held K.faults out.old) (port_of K.held K.faults out.new) }
     ensures read_fault { result ≡ 6
         → (is_some (asked_of (map string_bytes words.now)) ≡ true)
         × IsFault (S.faults schedule.old) (S.faults schedule.new) }

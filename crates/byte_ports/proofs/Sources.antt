@@ -5,6 +5,7 @@ use Rattle.std.proofs.lemmas.Bool.Decides.{nat_tests}
 use Rattle.std.specs.Io.KnownBytes.{IsAtEnd}
 use Rattle.std.specs.declared.alloc.AllocError.{AllocError}
 use Rattle.byte_ports.specs.declared.ending.Answer.{Answer}
+use Rattle.byte_ports.specs.Ports.{Port}
 use Rattle.byte_ports.specs.Ending.{EndsIn}
 use Rattle.byte_ports.specs.Told.{Tells, IsReadWithin, IsAnswerWithin}
 use Rattle.byte_ports.proofs.Endings.{EndsIn-map}
@@ -62,10 +63,10 @@ low_within most long Gives bytes status text low is = answer_within (λ s t. s <
 -- What was written is said of the bytes that the source tells, where what the job gives for bytes is said of them, and so is the answer to too
 -- many.
 pub said_from : (told : Option (List ℕ)) (most : ℕ) (long : List ℕ) (Gives : List ℕ → Result Answer AllocError → Type 0) (Said : List ℕ → ℕ → List ℕ → Type 0)
-    (status : ℕ) (before after : Option (List ℕ)) (m n : ℕ)
-    → (bytes : List ℕ) × Tells told bytes × EndsIn (IsAnswerWithin most long Gives bytes) status before after m n
+    (status : ℕ) (before after : Port)
+    → (bytes : List ℕ) × Tells told bytes × EndsIn (IsAnswerWithin most long Gives bytes) status before after
     → ((bytes : List ℕ) (answer : Answer) → length bytes ≤ most → Gives bytes (Ok answer) → Said bytes answer.status answer.text.items)
     → ((bytes : List ℕ) → most < length bytes → Said bytes 4 long)
-    → (bytes : List ℕ) × Tells told bytes × EndsIn (Said bytes) status before after m n
-said_from told most long Gives Said status before after m n (bytes, tells, ends) given over =
-    (bytes, tells, EndsIn-map (IsAnswerWithin most long Gives bytes) (Said bytes) status before after m n (answer_within (Said bytes) most long Gives bytes (given bytes) (over bytes)) ends)
+    → (bytes : List ℕ) × Tells told bytes × EndsIn (Said bytes) status before after
+said_from told most long Gives Said status before after (bytes, tells, ends) given over =
+    (bytes, tells, EndsIn-map (IsAnswerWithin most long Gives bytes) (Said bytes) status before after (answer_within (Said bytes) most long Gives bytes (given bytes) (over bytes)) ends)

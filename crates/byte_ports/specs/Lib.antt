@@ -1,4 +1,5 @@
 pub mod Faults
+pub mod Ports
 pub mod Written
 pub mod Memory
 pub mod Ending

@@ -9,9 +9,10 @@
 // and `write_answer_from` writes that answer, so that a command whose input is one source is its job.
 //
 // It stands on std and on `thiserror`, which derives the error types. The definitions that contracts cite are in
-// specs/Faults.antt (how faults are counted, and when a failure may come), specs/Written.antt (what a sink holds after the writing of a
-// text), specs/Memory.antt (the source and the sink in memory, and what one call does to them), specs/Ending.antt (how the writing of an
-// answer ends) and specs/Told.antt (which bytes a source gives, and what is answered to them).
+// specs/Faults.antt (how faults are counted, and when a failure may come), specs/Ports.antt (what a sink holds with how often it has
+// failed), specs/Written.antt (what a sink holds after the writing of a text), specs/Memory.antt (the source and the sink in memory, and
+// what one call does to them), specs/Ending.antt (how the writing of an answer ends) and specs/Told.antt (which bytes a source gives, and
+// what is answered to them).
 #![tactic(auto)]
 
 ghost use Rattle.std.specs.Prelude.{◌≡◌};

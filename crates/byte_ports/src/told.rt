@@ -2,6 +2,7 @@
 ghost use Rattle.std.specs.Prelude.{◌≡◌, ℕ, List, ◌<◌, ◌≤◌, length, Ok, IfOk, OnOk, IsErrOf};
 ghost use Rattle.std.specs.Fn.{FnReturnsAt};
 ghost use Rattle.byte_ports.specs.Faults.{IsFault};
+ghost use Rattle.byte_ports.specs.Ports.{port_of};
 ghost use Rattle.byte_ports.specs.declared.ending.Answer.{Answer};
 ghost use Rattle.byte_ports.specs.Ending.{EndsIn};
 ghost use Rattle.byte_ports.specs.Told.{Tells, IsReadWithin, IsAnswerWithin, IsAnswerFrom};
@@ -76,8 +77,8 @@ pub fn write_answer_from<S: Source, K: Sink, F: Fn(&[u8]) -> Result<Answer, Allo
     requires low { (bytes : List ℕ) (answer : Answer) → length bytes ≤ most
         → FnReturnsAt F.Fn job bytes (Ok answer) → answer.status < 6 }
     ensures ends { (bytes : List ℕ) × Tells (S.left source.old) bytes
-        × EndsIn (IsAnswerWithin most long.now (FnReturnsAt F.Fn job) bytes) result (K.held out.old)
-        (K.held out.new) (K.faults out.old) (K.faults out.new) }
+        × EndsIn (IsAnswerWithin most long.now (FnReturnsAt F.Fn job) bytes) result
+        (port_of K.held K.faults out.old) (port_of K.held K.faults out.new) }
     ensures read_fault { result ≡ 6 → IsFault (S.faults source.old) (S.faults source.new) }
     ensures unwritten { result ≡ 6 → out.new ≡ out.old }
     ensures end { result < 6 → IsReadWithin most (S.left source.old) (S.left source.new) }

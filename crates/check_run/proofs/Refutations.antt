@@ -23,7 +23,7 @@ use Rattle.proof_report.specs.declared.verdict.Verdict.{Verdict}
 use Rattle.proof_report.specs.declared.verdict.Verdict.TheVariants as verdicts
 use Rattle.proof_report.specs.Verdicts.{call_count, element_count}
 use Rattle.proof_report.specs.Texts.{WitnessFits, CanStand}
-use Rattle.report_text.specs.Showing.{CanBeShown, IsFit}
+use Rattle.report_bytes.specs.Showing.{CanBeShown, IsFit}
 use Rattle.check_run.specs.Fitting.{holds_verdict, HasShown}
 use Rattle.check_run.specs.Reports.{written_version}
 

@@ -26,7 +26,7 @@ use Rattle.obligation_list.specs.declared.witness.Witness.{Witness}
 use Rattle.report_lines.specs.declared.witness.Fact.{Fact}
 use Rattle.report_lines.specs.declared.witness.Reading.{Reading}
 use Rattle.report_lines.specs.Witnesses.{is_other}
-use Rattle.report_text.specs.Showing.{facts_from, readings_from, shown_by}
+use Rattle.report_bytes.specs.Showing.{facts_from, readings_from, shown_by}
 use Rattle.check_run.specs.Shown.{tuples_among, values_among, relations_from, counters_from, listing_of}
 
 same_place : (k : ℕ) → (k == k) ≡ true

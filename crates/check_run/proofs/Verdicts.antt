@@ -15,7 +15,7 @@ use Rattle.report_lines.specs.declared.head.Outcome.{Outcome}
 use Rattle.report_lines.specs.declared.head.Outcome.TheVariants as outcome
 use Rattle.proof_report.specs.Verdicts.{VerdictForm, proved, refuted, instances, lines, rows, range}
 use Rattle.proof_report.specs.Events.{with_verdict, outcome_of}
-use Rattle.report_text.specs.Showing.{counted}
+use Rattle.report_bytes.specs.Showing.{counted}
 use Rattle.check_run.specs.Good.{Refutes, IsGood, AreGood}
 
 -- a log that refutes a problem shows that it has no interpretation

@@ -9,7 +9,7 @@ use Rattle.report_lines.specs.declared.head.Tally.{Tally}
 use Rattle.proof_report.specs.declared.verdict.Verdict.{Verdict}
 use Rattle.proof_report.specs.Verdicts.{obligation_count}
 use Rattle.proof_report.specs.Texts.{head_text, end_text}
-use Rattle.report_text.specs.Showing.{blocks_text, written_text, AllFit}
+use Rattle.report_bytes.specs.Showing.{blocks_text, written_text, AllFit}
 use Rattle.check_run.proofs.Blocks.{from_first}
 use Rattle.byte_ports.specs.declared.text.WriteOut.{WriteOut}
 use Rattle.check_run.specs.Good.{AreGood}

@@ -9,7 +9,7 @@ use Rattle.proof_report.specs.declared.verdict.Verdict.{Verdict}
 use Rattle.proof_report.specs.Verdicts.{VerdictForm, obligation_at}
 use Rattle.proof_report.specs.Events.{with_verdict}
 use Rattle.proof_report.specs.Texts.{block_text}
-use Rattle.report_text.specs.Showing.{shown_verdict, blocks_text, IsFit}
+use Rattle.report_bytes.specs.Showing.{shown_verdict, blocks_text, IsFit}
 use Rattle.byte_ports.specs.declared.text.WriteOut.{WriteOut}
 use Rattle.byte_ports.specs.declared.text.WriteOut.TheVariants.{Fault, Memory}
 use Rattle.check_run.specs.Good.{IsGood, AreGood, AreGoodSoFar}

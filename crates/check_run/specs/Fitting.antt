@@ -9,7 +9,7 @@ use Rattle.proof_report.specs.declared.verdict.Cause.TheVariants as causes
 use Rattle.proof_report.specs.declared.verdict.Verdict.{Verdict}
 use Rattle.proof_report.specs.declared.verdict.Verdict.TheVariants as verdicts
 use Rattle.proof_report.specs.Verdicts.{is_log}
-use Rattle.report_text.specs.Showing.{CanBeShown}
+use Rattle.report_bytes.specs.Showing.{CanBeShown}
 
 -- lines hold the log and the evidence of a cause
 abbrev pub holds_cause : Cause → Bool

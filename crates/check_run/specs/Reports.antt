@@ -10,7 +10,7 @@ use Rattle.proof_report.specs.declared.verdict.Verdict.{Verdict}
 use Rattle.proof_report.specs.Verdicts.{VerdictForm}
 use Rattle.proof_report.specs.Events.{no_verdicts}
 use Rattle.proof_report.specs.Texts.{head_text}
-use Rattle.report_text.specs.Showing.{shown_verdict, counted, blocks_text, written_text, AllFit}
+use Rattle.report_bytes.specs.Showing.{shown_verdict, counted, blocks_text, written_text, AllFit}
 use Rattle.check_run.specs.Good.{AreGood, AreGoodSoFar}
 
 -- ---- what verdicts come to

@@ -5,7 +5,7 @@ ghost use Rattle.spec_core.specs.Specification.{Specification};
 ghost use Rattle.obligation_list.specs.Obligations.{IsObligation};
 ghost use Rattle.obligation_list.specs.declared.obligation.Obligation.{Obligation};
 ghost use Rattle.proof_report.specs.Events.{told, with_verdict};
-ghost use Rattle.report_text.specs.Showing.{shown_verdict};
+ghost use Rattle.report_bytes.specs.Showing.{shown_verdict};
 ghost use Rattle.check_run.specs.Reports.{AreDecided, IsDecided};
 ghost use Rattle.check_run.specs.Checking.{IsCounted};
 

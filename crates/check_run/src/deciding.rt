@@ -6,7 +6,7 @@ ghost use Rattle.ground_numbers.specs.Problem.{problem_of};
 ghost use Rattle.sat_core.specs.Answers.{IsAnswer, IsModelOf};
 ghost use Rattle.proof_report.specs.declared.verdict.Cause.TheVariants.{Instances};
 ghost use Rattle.proof_report.specs.declared.verdict.Verdict.TheVariants.{Undecided};
-ghost use Rattle.report_text.specs.Showing.{shown_verdict, IsFit};
+ghost use Rattle.report_bytes.specs.Showing.{shown_verdict, IsFit};
 ghost use Rattle.check_run.specs.Good.{HasFew, HasMany, IsGood};
 ghost use Rattle.check_run.specs.Fitting.{HasShown};
 ghost use Rattle.check_run.specs.Decided.{IsDecided};

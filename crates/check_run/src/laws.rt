@@ -13,16 +13,16 @@ ghost use Rattle.proof_report.specs.declared.place.PartialWitness.{PartialWitnes
 ghost use Rattle.proof_report.specs.Verdicts.{VerdictForm, proved, refuted, is_report};
 ghost use Rattle.proof_report.specs.Events.{outcome_of};
 ghost use Rattle.report_lines.specs.declared.head.Tally.{Tally};
-ghost use Rattle.report_text.specs.Bytes.{report_bytes};
-ghost use Rattle.report_text.specs.Showing.{report_on};
-ghost use Rattle.report_text.specs.Reading.{first_fault};
+ghost use Rattle.report_bytes.specs.Bytes.{report_bytes};
+ghost use Rattle.report_bytes.specs.Showing.{report_on};
+ghost use Rattle.report_bytes.specs.Reading.{first_fault};
 ghost use Rattle.check_run.specs.Shown.{listing_of};
 ghost use Rattle.check_run.specs.Good.{IsGood, AreGood};
 ghost use Rattle.check_run.specs.Reports.{tally_of, written_version, IsChecked};
 
 use ground_numbers::{law_obligation_fits, law_refuted_problem_holds};
 use obligation_list::law_obligations;
-use report_text::law_written_is_read;
+use report_bytes::law_written_is_read;
 
 /// An obligation with a good verdict that it is proved holds, and what a good refutation shows breaks it.
 pub fn law_good_verdicts()

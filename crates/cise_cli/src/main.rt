@@ -8,11 +8,11 @@
 // never one.
 //
 // This is the edge alone: the words after the program's name, files as sources, and standard output as the sink. All else is `run`
-// of `cise_run`, for any sources and any sink, whose clauses say what each status means.
+// of `cise_program`, for any sources and any sink, whose clauses say what each status means.
 #![tactic(auto)]
 
 use byte_ports::{FileSource, NO_WORDS, StdSink};
-use cise_run::run::run;
+use cise_program::run::run;
 use std::alloc::{AllocError, Global};
 use std::env::Env;
 use std::process::ExitCode;

@@ -1,6 +1,6 @@
 // What the program prints for a command and some bytes.
 use byte_ports::{EndlessSource, MemSink, MemSource, Source};
-use cise_run::run::run;
+use cise_program::run::run;
 use std::alloc::{AllocError, Global};
 
 /// What is wanted: a command for some bytes ends with this status and writes this text.

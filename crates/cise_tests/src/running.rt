@@ -1,6 +1,6 @@
 // Runs of the program on words and on the bytes of two inputs.
 use byte_ports::{MemSink, MemSource, Source};
-use cise_run::run::run;
+use cise_program::run::run;
 use std::alloc::{AllocError, Global};
 
 /// How a run ended: with this status, and with this text written.

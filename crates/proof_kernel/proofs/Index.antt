@@ -1,9 +1,9 @@
-use Rattle.std.proofs.Common.{◌≡◌, ℕ, zero, suc, ◌<◌, Bool, true, false, cond, ◌&&◌, ◌||◌, ◌==◌, inl, inr, List, [], ◌∷◌, ◌++◌, length, map, set, get_or, refl, sym, ◌∙◌, ap, subst, arith, Option, Some, None, take, drop, drop-cons, append-nil}
+use Rattle.std.proofs.Common.{◌≡◌, ℕ, zero, suc, ◌-◌, ◌<◌, ◌≤◌, Bool, true, false, cond, ◌&&◌, ◌||◌, ◌==◌, inl, inr, List, [], ◌∷◌, ◌++◌, length, map, set, get_or, refl, sym, ◌∙◌, ap, subst, arith, Option, Some, None, take, drop, drop-cons, append-nil}
 use Rattle.std.specs.Prelude.{slice_index_or}
 use Rattle.std.specs.List.{list_any, list_all}
 use Rattle.std.proofs.lemmas.Bool.Decides.{nat_tests}
-use Rattle.std.proofs.lemmas.List.Folds.{list_any-append}
-use Rattle.std.proofs.lemmas.List.{length-set, get_or_default}
+use Rattle.std.proofs.lemmas.List.Folds.{list_any-append, list_all-append}
+use Rattle.std.proofs.lemmas.List.{length-set, length-drop, take-append-drop, get_or_default}
 use Rattle.std.proofs.lemmas.Nat.{mod_below}
 use Rattle.proof_lines.specs.declared.clause.Lit.{Lit}
 use Rattle.proof_kernel.specs.declared.freshness.Entry.{Entry}
@@ -11,7 +11,7 @@ use Rattle.proof_lines.specs.Clauses.{has, sub, flip, holds_both_ways}
 use Rattle.proof_kernel.specs.Rules.{live_of}
 use Rattle.proof_lines.specs.Numbers.{stands_in}
 use Rattle.proof_kernel.specs.Evidence.{is_new, each_new}
-use Rattle.proof_kernel.specs.Index.{spot, spots, HasNoEntry, slot_new, slot_within, entry_within, finds, IsIndex, PutsOne, with_marks, marked, marked_both_ways, marked_slot_within, finds_marked, HasNoMark}
+use Rattle.proof_kernel.specs.Index.{spot, spots, HasNoEntry, slot_new, slot_within, entry_within, finds, IsIndex, PutsOne, with_marks, marked, marked_both_ways, marked_slot_within, finds_marked, lits_marked, HasNoMark}
 use Rattle.std.proofs.lemmas.Bool.{and_parts, and_from, or_left, or_right, eqb-true}
 use Rattle.proof_lines.proofs.Sets.{has-cases, same_nat-refl}
 use Rattle.proof_kernel.proofs.States.{live_of-next}
@@ -149,6 +149,21 @@ sub-among m (x ∷ d) c h =
     let p = and_parts (has c x) (sub d c) h in
     and_from (stands_in (spots m c) (spot m x)) (list_all (λ l. stands_in (spots m c) (spot m l)) d)
     (or_right (0 == spot m x) (stands_in (map (spot m) c) (spot m x)) (has-spot m c x p.0)) (sub-among m d c p.1)
+
+-- what holds of all literals holds of those before a place and of those from it on
+pub marked-from : (m : ℕ) (marks : List Bool) (c : List Lit) (s : ℕ) → s ≤ length c
+    → lits_marked m marks c ≡ (lits_marked m marks (take s c) && lits_marked m marks (take (length c - s) (drop s c)))
+marked-from m marks c s le =
+    ap (lits_marked m marks) (sym (take-append-drop s c))
+    ∙ list_all-append (λ l. marked marks (spot m l)) (take s c) (drop s c)
+    ∙ ap (λ (z : List Lit). lits_marked m marks (take s c) && lits_marked m marks z) (sym (all_rest s c le))
+  where
+    all_of : (d : List Lit) → take (length d) d ≡ d
+    all_of [] = refl
+    all_of (x ∷ d) = ap (λ (z : List Lit). x ∷ z) (all_of d)
+
+    all_rest : (s : ℕ) (c : List Lit) → s ≤ length c → take (length c - s) (drop s c) ≡ drop s c
+    all_rest s c le = ap (λ (k : ℕ). take k (drop s c)) (sym (length-drop s c)) ∙ all_of (drop s c)
 
 and_given : (a b : Bool) → (b ≡ true → a ≡ true) → (a && b) ≡ b
 and_given a true h = ap (λ z. z && true) (h refl)

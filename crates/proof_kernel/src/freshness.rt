@@ -2,15 +2,18 @@
 // empty.
 //
 // An index finds the earlier clauses that lie within a clause. A literal has a spot, and each earlier clause stands in the list
-// of the spot of one of its literals: the shortest of those lists. A clause that lies within another shares that literal with
-// it, so it stands in a list of the other's spots. Its entry has the spots of up to three more literals too, so that a look at
-// some marks passes over nearly all entries, without a look at their clauses. Clauses without literals stand in the list of spot 0,
-// which is always looked through. Where there is no memory for the index, each clause is compared with each earlier one.
+// of the spot of one of its literals: the rarest, which fewest of the clauses before it had. A clause that lies within another shares
+// that literal with it, so it stands in a list of the other's spots. Its entry has the spots of the three next rarest literals too, so
+// that a look at some marks passes over nearly all entries, without a look at their clauses. Clauses without literals stand in the list
+// of spot 0, which is always looked through. Where there is no memory for the index, each clause is compared with each earlier one.
+//
+// Which literal is the rarest is told by a count for each spot. To take the shortest list instead would be to fill the lists of the
+// literals that most clauses have, as long as these are empty, and those are looked through for most clauses.
 //
 // The spots of a clause are marked while it is looked at. So whether an earlier clause may lie within it is one pass over the earlier
-// one, up to a literal without a mark, and whether it may hold an atom both ways is one pass over its own literals. Where all are
-// marked the lists are compared, once for a log that isn't fresh.
-ghost use Rattle.std.specs.Prelude.{◌≡◌, ◌+◌, ◌*◌, ◌^◌, ◌<◌, ◌≤◌, ◌++◌, ◌∷◌, true, cond, IfOk, OnOk, drop, take, length, is_some, map, slice_index_or, slice_set, Some, None, []};
+// one, from where the last such pass ended to a literal without a mark, and whether it may hold an atom both ways is one pass over its own
+// literals. Where all are marked the lists are compared, once for a log that isn't fresh.
+ghost use Rattle.std.specs.Prelude.{◌≡◌, ◌+◌, ◌*◌, ◌^◌, ◌<◌, ◌≤◌, ◌++◌, ◌∷◌, true, cond, is_none, IfOk, OnOk, drop, take, length, is_some, map, slice_index_or, slice_set, Some, None, []};
 ghost use Rattle.std.specs.List.{list_all, list_any};
 ghost use Rattle.proof_lines.specs.Clauses.{sub, holds_both_ways};
 ghost use Rattle.proof_kernel.specs.Rules.{live_of};
@@ -21,6 +24,9 @@ ghost use Rattle.proof_kernel.specs.Index.{HasNoEntry, HasNoMark, slot_new, IsIn
 use items::Items;
 use proof_lines::clause::{Clause, Lit, holds_both_ways, is_within};
 use std::alloc::{AllocError, Global};
+
+// How many places before the last one a search for a literal without a mark begins.
+const MOST_SHIFT: usize = 2;
 
 /// An earlier clause in a list of the index: its number, and the spots of three of its literals, or 0 where it has fewer.
 #[derive(Clone, Copy)]
@@ -66,12 +72,45 @@ fn all_marked(marks: &[bool], entry: Entry) -> bool
         && (is_marked(marks, entry.third) && is_marked(marks, entry.fourth))
 }
 
-// Whether the spots of all literals are marked.
-fn lits_marked(count: usize, marks: &[bool], lits: &[Lit]) -> bool
+// The place of a literal whose spot isn't marked, the first, if there is one.
+fn first_unmarked(count: usize, marks: &[bool], lits: &[Lit]) -> Option<usize>
+    requires { 0 < count }
+    ensures { lits_marked count marks.now lits.now ≡ is_none result }
+{
+    for (i, lit) in lits.iter().enumerate() {
+        if !is_marked(marks, spot(count, *lit)) {
+            return Some(i);
+        }
+    }
+    None
+}
+
+// The place of a literal whose spot isn't marked, if there is one: the first from a place on, or the first of all.
+fn unmarked_from(count: usize, marks: &[bool], lits: &[Lit], start: usize) -> Option<usize>
+    requires some { 0 < count }
+    requires within { start ≤ length lits.now }
+    ensures { lits_marked count marks.now lits.now ≡ is_none result }
+{
+    match first_unmarked(count, marks, &lits[start..]) {
+        Some(at) => Some(start.saturating_add(at)),
+        None => first_unmarked(count, marks, &lits[..start]),
+    }
+}
+
+// Whether the spots of all literals are marked. Of clauses that have most literals in common many lack the same one, at nearly the same
+// place, so the search begins shortly before the place where the last one was found.
+fn lits_marked(count: usize, marks: &[bool], lits: &[Lit], hint: &mut usize) -> bool
     requires { 0 < count }
     ensures { result ≡ lits_marked count marks.now lits.now }
 {
-    lits.iter().all(|lit| is_marked(marks, spot(count, *lit)))
+    let start = (*hint).saturating_sub(MOST_SHIFT).min(lits.len());
+    match unmarked_from(count, marks, lits, start) {
+        Some(at) => {
+            *hint = at;
+            false
+        }
+        None => true,
+    }
 }
 
 // Whether the spot of some literal's opposite is marked.
@@ -98,13 +137,14 @@ fn marked_slot_within(
     slots: &[Option<Clause>],
     number: usize,
     lits: &[Lit],
+    hint: &mut usize,
 ) -> bool
     requires { 0 < count }
     ensures { result ≡ marked_slot_within count marks.now lits.now (slice_index_or slots.now number None) }
 {
     match slots.get(number) {
         Some(Some(clause)) => {
-            lits_marked(count, marks, clause.lits()) && is_within(clause.lits(), lits)
+            lits_marked(count, marks, clause.lits(), hint) && is_within(clause.lits(), lits)
         }
         _ => false,
     }
@@ -137,12 +177,19 @@ fn any_within(
     slots: &[Option<Clause>],
     lits: &[Lit],
     entries: &[Entry],
+    hint: &mut usize,
 ) -> bool
     requires { 0 < count }
     ensures { result ≡ list_any (marked_within count marks.now slots.now lits.now) entries.now }
 {
-    entries.iter().any(|entry| all_marked(marks, *entry)
-        && marked_slot_within(count, marks, slots, entry.number, lits))
+    for entry in entries {
+        if all_marked(marks, *entry)
+            && marked_slot_within(count, marks, slots, entry.number, lits, hint)
+        {
+            return true;
+        }
+    }
+    false
 }
 
 // Whether a marked entry of a list of a clause's spots names a clause that lies within it.
@@ -152,12 +199,13 @@ fn finds_marked(
     slots: &[Option<Clause>],
     lists: &[Items<Entry>],
     lits: &[Lit],
+    hint: &mut usize,
 ) -> bool
     requires { 0 < count }
     ensures { result ≡ finds_marked count marks.now slots.now lists.now lits.now }
 {
-    any_within(count, marks, slots, lits, list_at(lists, 0))
-        || finds_at_literals(count, marks, slots, lists, lits)
+    any_within(count, marks, slots, lits, list_at(lists, 0), hint)
+        || finds_at_literals(count, marks, slots, lists, lits, hint)
 }
 
 fn finds_at_literals(
@@ -166,12 +214,20 @@ fn finds_at_literals(
     slots: &[Option<Clause>],
     lists: &[Items<Entry>],
     lits: &[Lit],
+    hint: &mut usize,
 ) -> bool
     requires { 0 < count }
     ensures { result ≡ list_any (λ k. list_any (marked_within count marks.now slots.now lits.now) (slice_index_or lists.now k [])) (map (spot count) lits.now) }
 {
     for lit in lits {
-        if any_within(count, marks, slots, lits, list_at(lists, spot(count, *lit))) {
+        if any_within(
+            count,
+            marks,
+            slots,
+            lits,
+            list_at(lists, spot(count, *lit)),
+            hint,
+        ) {
             return true;
         }
     }
@@ -185,6 +241,7 @@ fn finds(
     slots: &[Option<Clause>],
     lists: &[Items<Entry>],
     lits: &[Lit],
+    hint: &mut usize,
 ) -> bool
     requires some { 0 < count }
     requires sized { length marks.old.items ≡ count }
@@ -194,7 +251,7 @@ fn finds(
     ensures clear { HasNoMark marks.new.items }
 {
     mark(marks, count, lits, true);
-    let found = finds_marked(count, marks.as_slice(), slots, lists, lits);
+    let found = finds_marked(count, marks.as_slice(), slots, lists, lits, hint);
     mark(marks, count, lits, false);
     found
 }
@@ -219,10 +276,29 @@ fn is_other(at: usize, first: usize, second: usize, third: usize) -> bool {
     at != first && at != second && at != third
 }
 
-// Of the spots of a clause but three, that with the shortest list; 0 where there is none.
+// How many of the clauses that were put into the index have a literal of a spot.
+fn seen_at(seen: &[usize], at: usize) -> usize {
+    match seen.get(at) {
+        Some(clauses) => *clauses,
+        None => 0,
+    }
+}
+
+// Counts a clause at the spots of its literals. The counts choose lists and decide nothing, so no clause speaks of them.
+fn count_in(count: usize, seen: &mut Vec<usize>, lits: &[Lit])
+    requires { 0 < count }
+{
+    for lit in lits {
+        if let Some(clauses) = seen.get_mut(spot(count, *lit)) {
+            *clauses = clauses.saturating_add(1);
+        }
+    }
+}
+
+// Of the spots of a clause but three, that which fewest clauses before have; 0 where there is none.
 fn rarest(
     count: usize,
-    lists: &[Items<Entry>],
+    seen: &[usize],
     lits: &[Lit],
     first: usize,
     second: usize,
@@ -236,10 +312,10 @@ fn rarest(
     let mut fewest = usize::MAX;
     for lit in lits {
         let at = spot(count, *lit);
-        let length = list_at(lists, at).len();
-        if is_other(at, first, second, third) && length < fewest {
+        let clauses = seen_at(seen, at);
+        if is_other(at, first, second, third) && clauses < fewest {
             best = at;
-            fewest = length;
+            fewest = clauses;
         }
     }
     best
@@ -253,9 +329,10 @@ fn put_at(lists: &mut Vec<Items<Entry>>, at: usize, entry: Entry) -> Result<(), 
     Ok(())
 }
 
-// Puts a clause into the shortest list of its spots.
+// Puts a clause into the list of the rarest of its spots.
 fn put(
     count: usize,
+    seen: &mut Vec<usize>,
     lists: &mut Vec<Items<Entry>>,
     number: usize,
     lits: &[Lit],
@@ -264,16 +341,17 @@ fn put(
     requires listed { length lists.old.items ≡ count }
     ensures { OnOk result (PutsOne count lits.now number lists.old.items lists.new.items) }
 {
-    let first = rarest(count, lists.as_slice(), lits, 0, 0, 0);
-    let second = rarest(count, lists.as_slice(), lits, first, 0, 0);
-    let third = rarest(count, lists.as_slice(), lits, first, second, 0);
-    let fourth = rarest(count, lists.as_slice(), lits, first, second, third);
+    let first = rarest(count, seen.as_slice(), lits, 0, 0, 0);
+    let second = rarest(count, seen.as_slice(), lits, first, 0, 0);
+    let third = rarest(count, seen.as_slice(), lits, first, second, 0);
+    let fourth = rarest(count, seen.as_slice(), lits, first, second, third);
     let entry = Entry {
         number,
         second,
         third,
         fourth,
     };
+    count_in(count, seen, lits);
     put_at(lists, first, entry)
 }
 
@@ -281,6 +359,7 @@ fn put(
 fn put_slot(
     count: usize,
     slots: &[Option<Clause>],
+    seen: &mut Vec<usize>,
     lists: &mut Vec<Items<Entry>>,
     number: usize,
 ) -> Result<(), AllocError>
@@ -291,7 +370,7 @@ fn put_slot(
     ensures next { OnOk result (IsIndex count slots.now lists.old.items (live_of (take number slots.now)) → IsIndex count slots.now lists.new.items (live_of (take (number + 1) slots.now))) }
 {
     match &slots[number] {
-        Some(clause) => put(count, lists, number, clause.lits()),
+        Some(clause) => put(count, seen, lists, number, clause.lits()),
         None => Ok(()),
     }
 }
@@ -307,11 +386,12 @@ fn empty_lists(alloc: Global, count: usize) -> Result<Vec<Items<Entry>>, AllocEr
     Ok(lists)
 }
 
-// The index of the clauses before a number.
+// The index of the clauses before a number, which are counted at their spots.
 fn index_before(
     alloc: Global,
     count: usize,
     slots: &[Option<Clause>],
+    seen: &mut Vec<usize>,
     number: usize,
 ) -> Result<Vec<Items<Entry>>, AllocError>
     requires some { 0 < count }
@@ -321,7 +401,7 @@ fn index_before(
 {
     let mut lists = empty_lists(alloc, count)?;
     for i in 0..number {
-        put_slot(count, slots, &mut lists, i)?;
+        put_slot(count, slots, seen, &mut lists, i)?;
     }
     Ok(lists)
 }
@@ -333,6 +413,7 @@ fn is_slot_new(
     slots: &[Option<Clause>],
     lists: &[Items<Entry>],
     number: usize,
+    hint: &mut usize,
 ) -> bool
     requires some { 0 < count }
     requires sized { length marks.old.items ≡ count }
@@ -345,7 +426,7 @@ fn is_slot_new(
 {
     match &slots[number] {
         Some(clause) => {
-            let found = finds(count, marks, slots, lists, clause.lits());
+            let found = finds(count, marks, slots, lists, clause.lits(), hint);
             let both = is_both_ways(count, marks, clause.lits());
             !found && !both && !clause.is_empty()
         }
@@ -364,12 +445,14 @@ fn each_new_by_index(
     ensures { IfOk result (λ b. b ≡ each_new (live_of (take given slots.now)) (live_of (drop given slots.now))) }
 {
     let mut marks = vec![in alloc; false; count]?;
-    let mut lists = index_before(alloc, count, slots, given)?;
+    let mut seen = vec![in alloc; 0; count]?;
+    let mut lists = index_before(alloc, count, slots, &mut seen, given)?;
+    let mut hint = 0;
     for i in given..slots.len() {
-        if !is_slot_new(count, &mut marks, slots, lists.as_slice(), i) {
+        if !is_slot_new(count, &mut marks, slots, lists.as_slice(), i, &mut hint) {
             return Ok(false);
         }
-        put_slot(count, slots, &mut lists, i)?;
+        put_slot(count, slots, &mut seen, &mut lists, i)?;
     }
     Ok(true)
 }

@@ -16,6 +16,7 @@ use proof_lines::clause::{Clause, Lit, holds_both_ways};
 use proof_lines::evidence::{all_cancel, all_different, shows_range};
 use proof_lines::kept::{kept_at, kept_rows, refutes_used};
 use proof_lines::line::{Line, LineRefused, RangeWhat, RowStep, Why};
+use proof_lines::marks::some_both_ways;
 use proof_lines::problem::{AtomKind, Problem, law_rows};
 use proof_lines::splitting::{at_most, names_of_two, split_cause};
 use proof_lines::steps::line_rows;
@@ -227,10 +228,10 @@ impl Kernel {
     ) -> Result<bool, AllocError>
         ensures { IfOk result (λ b. b ≡ range_holds self.now used.now steps.now what.now) }
     {
-        if holds_both_ways(used) {
+        if !shows_range(self.alloc, self.atoms.as_slice(), used, steps, what)? {
             return Ok(false);
         }
-        shows_range(self.alloc, self.atoms.as_slice(), used, steps, what)
+        Ok(!some_both_ways(self.alloc, used)?)
     }
 
     fn is_live(&self, number: u32) -> bool

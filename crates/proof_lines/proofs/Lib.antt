@@ -1,4 +1,5 @@
 pub mod Sets
+pub mod Marking
 pub mod Resolving
 pub mod Names
 pub mod Sound

@@ -1,6 +1,9 @@
 -- What a resolvent holds of the literals of the right clause that it takes one by one.
-use Rattle.std.proofs.Common.{◌≡◌, ℕ, zero, suc, ◌<◌, Bool, true, false, not, ◌&&◌, ◌||◌, List, [], ◌∷◌, length, take, get_or, refl, sym, ◌∙◌, ap, subst, arith}
+use Rattle.std.proofs.Common.{◌≡◌, ℕ, zero, suc, ◌-◌, ◌<◌, ◌≤◌, Bool, true, false, not, cond, ◌&&◌, ◌||◌, List, [], ◌∷◌, ◌++◌, length, take, drop, get_or, refl, sym, ◌∙◌, ap, subst, arith}
+use Rattle.std.proofs.Math.Seq.{take-length}
 use Rattle.std.proofs.lemmas.Bool.{and_parts, or_left, or_right}
+use Rattle.std.proofs.lemmas.List.{length-drop, take-append-drop}
+use Rattle.std.proofs.lemmas.List.Elements.{filter-append}
 use Rattle.proof_lines.specs.declared.clause.Lit.{Lit}
 use Rattle.proof_lines.specs.Clauses.{same_lit, flip, has, distinct, join, without}
 use Rattle.proof_lines.proofs.Sets.{same_lit-is, same_lit-refl, has-join, has-without, without-has}
@@ -15,6 +18,25 @@ has-without-is l c x = by_case (has (without l c) x) (same_lit x l) (has c x) re
     by_case false true h p q r = refl
     by_case false false true p q r = absurd (let e = has-without l c x r q in cc)
     by_case false false false p q r = refl
+
+-- a list without a literal that isn't there is that list; without its first one, it is the rest
+pub without-absent : (l : Lit) (c : List Lit) → has c l ≡ false → without l c ≡ c
+without-absent l [] h = refl
+without-absent l (x ∷ c) h = by_case (without-absent l c) (same_lit x l) (has c l) refl refl h
+  where
+    by_case : (has c l ≡ false → without l c ≡ c) → (s b : Bool) → same_lit x l ≡ s → has c l ≡ b → (s || b) ≡ false → cond (not (same_lit x l)) (x ∷ without l c) (without l c) ≡ x ∷ c
+    by_case ih true b e f h = absurd cc
+    by_case ih false true e f h = absurd cc
+    by_case ih false false e f h = ap (λ (z : Bool). cond (not z) (x ∷ without l c) (without l c)) e ∙ ap (λ (z : List Lit). x ∷ z) (ih f)
+
+pub without-parts : (l : Lit) (c : List Lit) (i : ℕ) → i ≤ length c → without l c ≡ without l (take i c) ++ without l (take (length c - i) (drop i c))
+without-parts l c i le =
+    ap (without l) (sym (take-append-drop i c))
+    ∙ filter-append (λ x. not (same_lit x l)) (take i c) (drop i c)
+    ∙ ap (λ (z : List Lit). without l (take i c) ++ without l z) (sym all_rest)
+  where
+    all_rest : take (length c - i) (drop i c) ≡ drop i c
+    all_rest = ap (λ (k : ℕ). take k (drop i c)) (sym (length-drop i c)) ∙ take-length (drop i c)
 
 has-at : (d : List Lit) (i : ℕ) (e : Lit) → i < length d → has d (get_or d i e) ≡ true
 has-at [] i e h = absurd (omega arith)

@@ -1,7 +1,9 @@
 // Literals, and clauses: sets of literals.
-ghost use Rattle.std.specs.Prelude.{◌≡◌, true, not, ◌&&◌, IfOk, OnOk, OnErr, [], ◌++◌};
+ghost use Rattle.std.specs.Prelude.{◌≡◌, ◌≤◌, true, not, ◌&&◌, IfOk, OnOk, OnErr, [], ◌++◌, length};
+ghost use Rattle.proof_lines.specs.Marks.{HasMarks};
 ghost use Rattle.proof_lines.specs.Clauses.{is_empty, has, resolvent, insert, join, same_lit, sub, distinct, without, flip, negations, holds_both_ways};
 
+use crate::marks::{is_among, marks_for};
 use items::Items;
 use std::alloc::{AllocError, Global};
 use std::marker::Model;
@@ -111,10 +113,11 @@ impl Clause {
         };
         left.law_distinct();
         right.law_distinct();
+        let marks = marks_for(alloc, left.lits(), right.lits())?;
         let most = (left.lits().len() + right.lits().len()).saturating_sub(2);
         let mut lits = Vec::with_capacity(alloc, most)?;
         put_without(&mut lits, left.lits(), up)?;
-        put_right(&mut lits, left.lits(), right.lits(), up)?;
+        put_right(&mut lits, marks.as_slice(), left.lits(), right.lits(), up)?;
         Ok(Clause {
             lits: Items::from_vec(lits),
         })
@@ -176,8 +179,50 @@ pub fn holds_both_ways(lits: &[Lit]) -> bool
     lits.iter().any(|x| holds(lits, x.opposite()))
 }
 
-// Appends the literals other than one.
+// The first place of a literal, or the number of literals where it isn't there.
+fn place_of(lits: &[Lit], lit: Lit) -> usize
+    ensures { result ≤ length lits.now }
+{
+    for (i, x) in lits.iter().enumerate() {
+        if x.same(lit) {
+            return i;
+        }
+    }
+    lits.len()
+}
+
+// Appends the literals other than one: at once, where it isn't there.
+fn put_run(out: &mut Vec<Lit>, lits: &[Lit], lit: Lit) -> Result<(), AllocError>
+    ensures { OnOk result (out.new.items ≡ out.old.items ++ without lit lits.now) }
+{
+    if holds(lits, lit) {
+        return put_others(out, lits, lit);
+    }
+    out.extend_from_slice(lits)?;
+    Ok(())
+}
+
+// The same, where the literal may be the first.
+fn put_behind(out: &mut Vec<Lit>, lits: &[Lit], lit: Lit) -> Result<(), AllocError>
+    ensures { OnOk result (out.new.items ≡ out.old.items ++ without lit lits.now) }
+{
+    if lits.is_empty() || !lits[0].same(lit) {
+        return put_run(out, lits, lit);
+    }
+    put_run(out, &lits[1..], lit)
+}
+
+// The same, in two parts around its place, which are copied at once.
 fn put_without(out: &mut Vec<Lit>, lits: &[Lit], lit: Lit) -> Result<(), AllocError>
+    ensures { OnOk result (out.new.items ≡ out.old.items ++ without lit lits.now) }
+{
+    let at = place_of(lits, lit);
+    put_run(out, &lits[..at], lit)?;
+    put_behind(out, &lits[at..], lit)
+}
+
+// The same, one by one.
+fn put_others(out: &mut Vec<Lit>, lits: &[Lit], lit: Lit) -> Result<(), AllocError>
     ensures { OnOk result (out.new.items ≡ out.old.items ++ without lit lits.now) }
 {
     for x in lits {
@@ -189,26 +234,40 @@ fn put_without(out: &mut Vec<Lit>, lits: &[Lit], lit: Lit) -> Result<(), AllocEr
 }
 
 // Adds a literal of the right clause to a resolvent. The right clause has it once, so it is there only where the left one has it.
-fn put_new(out: &mut Vec<Lit>, left: &[Lit], up: Lit, lit: Lit) -> Result<(), AllocError>
-    requires { has out.old.items lit ≡ (not (same_lit lit up) && has left.now lit) }
+fn put_new(
+    out: &mut Vec<Lit>,
+    marks: &[bool],
+    left: &[Lit],
+    up: Lit,
+    lit: Lit,
+) -> Result<(), AllocError>
+    requires marks { HasMarks marks.now left.now }
+    requires there { has out.old.items lit ≡ (not (same_lit lit up) && has left.now lit) }
     ensures { OnOk result (out.new.items ≡ insert out.old.items lit) }
 {
-    if !lit.same(up) && holds(left, lit) {
+    if !lit.same(up) && is_among(marks, left, lit) {
         return Ok(());
     }
     out.push(lit)?;
     Ok(())
 }
 
-// Adds the literals of the right clause, other than the opposite, to those of the left one.
-fn put_right(out: &mut Vec<Lit>, left: &[Lit], right: &[Lit], up: Lit) -> Result<(), AllocError>
+// Adds the literals of the right clause, other than the opposite, to those of the left one, which have this table of marks.
+fn put_right(
+    out: &mut Vec<Lit>,
+    marks: &[bool],
+    left: &[Lit],
+    right: &[Lit],
+    up: Lit,
+) -> Result<(), AllocError>
+    requires marks { HasMarks marks.now left.now }
     requires left { out.old.items ≡ without up left.now }
     requires right { distinct right.now ≡ true }
     ensures { OnOk result (out.new.items ≡ join (without up left.now) (without (flip up) right.now)) }
 {
     for lit in right {
         if !lit.same(up.opposite()) {
-            put_new(out, left, up, *lit)?;
+            put_new(out, marks, left, up, *lit)?;
         }
     }
     Ok(())

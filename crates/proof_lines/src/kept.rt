@@ -182,6 +182,16 @@ fn take_steps(
     Ok(())
 }
 
+// Room for so many rows at once.
+fn room_for(alloc: Global, count: usize) -> Result<Vec<Option<Row>>, LineRefused>
+    ensures { MatchResult result (λ rows. rows.items ≡ []) (λ e. e ≡ LineRefused.Memory) }
+{
+    match Vec::with_capacity(alloc, count) {
+        Ok(rows) => Ok(rows),
+        Err(_) => Err(LineRefused::Memory),
+    }
+}
+
 // The rows of used literals, of which those are kept that are named.
 fn keep_rows(
     alloc: Global,
@@ -195,7 +205,7 @@ fn keep_rows(
         kept.items)
         (λ e. IsTold e (or_broken TheRange (lit_rows atoms.now used.now))) }
 {
-    let mut rows = Vec::new(alloc);
+    let mut rows = room_for(alloc, ends.len())?;
     for lit in used {
         let row = match lit_row(alloc, atoms, *lit) {
             Ok(row) => row,

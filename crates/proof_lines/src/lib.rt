@@ -29,6 +29,7 @@ pub mod clause;
 pub mod evidence;
 pub mod kept;
 pub mod line;
+pub mod marks;
 pub mod problem;
 pub mod splitting;
 pub mod steps;

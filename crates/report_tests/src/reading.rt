@@ -4,7 +4,7 @@ use crate::examples::{FLAG, RAISING};
 use crate::reports::{RAISED, RAISED_DROPPING, REFUTED, UP};
 use crate::running::{Answer, read_by_lines, spec};
 use proof_report::{Block, ReportKind, ReportRefused};
-use report_text::read_report;
+use report_bytes::read_report;
 use spec_core::Spec;
 use std::alloc::Global;
 

@@ -16,14 +16,14 @@ use Rattle.report_lines.specs.Heads.{title_format, budget_format}
 use Rattle.proof_report.specs.declared.kind.Fault.{Fault}
 use Rattle.proof_report.specs.Verdicts.{VerdictForm, proved, refuted, instances, lines, rows, range, is_verdict, are_verdicts, obligation_at, obligation_count, ReportForm, is_report}
 use Rattle.proof_report.specs.Events.{no_verdicts, with_verdict, verdict_lines}
-use Rattle.report_text.specs.Bytes.{report_bytes}
-use Rattle.report_text.specs.Reading.{blocks_behind}
-use Rattle.report_text.proofs.BytesOfReports.{one_report_of_bytes}
+use Rattle.report_bytes.specs.Bytes.{report_bytes}
+use Rattle.report_bytes.specs.Reading.{blocks_behind}
+use Rattle.report_bytes.proofs.BytesOfReports.{one_report_of_bytes}
 use Rattle.report_verifier.specs.Rules.{or_else, rule_fault, blocks_fault, verdict_fault}
 use Rattle.report_verifier.specs.Valid.{IsProof, IsValid}
 use Rattle.report_verifier.specs.Verified.{most_report_bytes, IsAccepted}
-use Rattle.log_upgrade.specs.Upgraded.{upgraded}
-use Rattle.log_upgrade.specs.Agreement.{IsAccepted as IsTaken}
+use Rattle.log_drops.specs.Upgraded.{upgraded}
+use Rattle.log_drops.specs.Agreement.{IsAccepted as IsTaken}
 use Rattle.report_upgrader.specs.Reports.{upgraded_verdict, upgraded_report, upgraded_version, has_room}
 use Rattle.report_upgrader.specs.Upgrading.{IsUpgradedText}
 use Rattle.report_upgrader.proofs.Room.{report_room}

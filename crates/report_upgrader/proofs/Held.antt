@@ -8,7 +8,7 @@ use Rattle.byte_ports.specs.Written.{IsFrontWritten}
 use Rattle.byte_ports.proofs.Sources.{long_told, some_told}
 use Rattle.spec_core.specs.Specification.{Specification}
 use Rattle.report_lines.specs.declared.head.Tally.{Tally}
-use Rattle.report_text.specs.Bytes.{report_bytes}
+use Rattle.report_bytes.specs.Bytes.{report_bytes}
 use Rattle.report_upgrader.specs.Reports.{upgraded_report}
 use Rattle.report_verifier.specs.declared.refused.VerifyRefused.{VerifyRefused}
 use Rattle.report_verifier.specs.declared.refused.VerifyRefused.TheVariants as verifying

@@ -19,9 +19,9 @@ use Rattle.proof_report.specs.Feeding
 use Rattle.proof_report.specs.Feeding.{fed, fed_all}
 use Rattle.proof_report.specs.Reader.{budget_of, stated, ReaderForm, read_on, read_behind, read_line, first_reader}
 use Rattle.proof_report.proofs.Whole.{all_ok}
-use Rattle.report_text.specs.Bytes.{report_bytes, pieces, before_last, lines_of}
-use Rattle.report_text.proofs.BytesOfReports.{text_bytes_are_fed}
-use Rattle.report_text.proofs.Cutting.{front_more, pieces_some, no_bytes}
+use Rattle.report_bytes.specs.Bytes.{report_bytes, pieces, before_last, lines_of}
+use Rattle.report_bytes.proofs.BytesOfReports.{text_bytes_are_fed}
+use Rattle.report_bytes.proofs.Cutting.{front_more, pieces_some, no_bytes}
 use Rattle.report_upgrader.specs.Reports.{upgraded_report, upgraded_version}
 use Rattle.report_upgrader.specs.declared.passing.Held.{Held}
 use Rattle.report_upgrader.specs.Passing.{held_on, held_at, lines_out, passed, text_of, text_out, IsLeft, IsUnderway, IsPassed, IsTitled}

@@ -12,7 +12,7 @@ use Rattle.proof_report.specs.declared.event.Event.{Event}
 use Rattle.proof_report.specs.Verdicts.{proved}
 use Rattle.proof_report.specs.Events.{words, log_lines, verdict_lines}
 use Rattle.proof_report.specs.Texts.{log_text}
-use Rattle.log_upgrade.specs.Upgraded.{upgraded}
+use Rattle.log_drops.specs.Upgraded.{upgraded}
 use Rattle.report_upgrader.specs.declared.passing.Held.{Held}
 use Rattle.report_upgrader.specs.Passing.{whole_lines, lines_out, text_of, proved_text, whole_text, text_out}
 

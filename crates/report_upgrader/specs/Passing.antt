@@ -18,8 +18,8 @@ use Rattle.proof_report.specs.Events.{words, verdict_lines}
 use Rattle.proof_report.specs.Feeding.{fed_all}
 use Rattle.proof_report.specs.Reader.{begin_of, log_of_event, ReaderForm, read_line}
 use Rattle.proof_report.specs.Texts.{log_text}
-use Rattle.report_text.specs.Bytes.{lines_of}
-use Rattle.log_upgrade.specs.Upgraded.{upgraded}
+use Rattle.report_bytes.specs.Bytes.{lines_of}
+use Rattle.log_drops.specs.Upgraded.{upgraded}
 use Rattle.report_upgrader.specs.Reports.{upgraded_version}
 use Rattle.report_upgrader.specs.declared.passing.Held.{Held}
 

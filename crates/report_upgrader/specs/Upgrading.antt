@@ -4,7 +4,7 @@ use Rattle.std.specs.Io.KnownBytes.{Keeps, Appends}
 use Rattle.byte_ports.specs.Told.{Tells}
 use Rattle.spec_core.specs.Specification.{Specification}
 use Rattle.report_lines.specs.declared.head.Tally.{Tally}
-use Rattle.report_text.specs.Bytes.{report_bytes}
+use Rattle.report_bytes.specs.Bytes.{report_bytes}
 use Rattle.report_verifier.specs.declared.refused.VerifyRefused.{VerifyRefused}
 use Rattle.report_verifier.specs.declared.refused.VerifyRefused.TheVariants as verifying
 use Rattle.report_verifier.specs.Verified.{most_report_bytes, IsAccepted, IsVerified}

@@ -12,7 +12,7 @@ use crate::report_laws::{
     law_report_upgraded_twice, law_upgraded_report_has_the_same_summary,
     law_upgraded_report_is_a_report,
 };
-use log_upgrade::law_upgraded_log_is_accepted;
+use log_drops::law_upgraded_log_is_accepted;
 use report_verifier::{law_one_answer, law_valid_verdicts};
 
 /// The text of an upgraded report is that of a report without fault, with as many verdicts of each kind.

@@ -1,7 +1,7 @@
 // Upgrading reports: a report that stands is written in version 2 of the format, with the same budget and verdicts, where each log that
 // proves drops its clauses behind the lines that name them last.
 //
-// It stands on `report_verifier`, which says whether a report stands, and on `log_upgrade`, which says what is left of a log. A source is
+// It stands on `report_verifier`, which says whether a report stands, and on `log_drops`, which says what is left of a log. A source is
 // read once, and nothing may be written of a report that is refused; so the bytes are held, of which there are at most 64 MiB, and gone
 // through twice: they are verified, and then written line by line. Each line is passed on as it is but for the first one and those of
 // proved verdicts. Their logs are held one at a time until they are whole, since what a later line names isn't known before.

@@ -1,11 +1,11 @@
 // A line of a report that stands, passed on: as it is, or held where it is one of a proved verdict.
 ghost use Rattle.std.specs.Prelude.{◌≡◌, ◌++◌, ◌∷◌, [], length, IfOk, OnOk};
 ghost use Rattle.proof_report.specs.Texts.{log_text};
-ghost use Rattle.log_upgrade.specs.Upgraded.{upgraded};
+ghost use Rattle.log_drops.specs.Upgraded.{upgraded};
 ghost use Rattle.report_upgrader.specs.Passing.{held_with, held_on, proved_text, text_out, IsTold, IsPassed, IsTitled};
 
 use items::Items;
-use log_upgrade::upgrade_log;
+use log_drops::upgrade_log;
 use proof_lines::Line;
 use proof_report::{Fed, ReportReader};
 use report_lines::head::write_title;

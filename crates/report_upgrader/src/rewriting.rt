@@ -6,14 +6,14 @@ ghost use Rattle.byte_ports.specs.Written.{IsFrontWritten};
 ghost use Rattle.byte_ports.specs.declared.text.WriteOut.TheVariants.{Fault};
 ghost use Rattle.spec_core.specs.Specification.{Specification};
 ghost use Rattle.proof_report.specs.Verdicts.{ReportForm, is_report};
-ghost use Rattle.report_text.specs.Bytes.{pieces, report_bytes};
+ghost use Rattle.report_bytes.specs.Bytes.{pieces, report_bytes};
 ghost use Rattle.report_upgrader.specs.Reports.{upgraded_report};
 ghost use Rattle.report_upgrader.specs.Passing.{IsUnderway};
 
 use crate::passing::{Held, pass_line, pass_title};
 use byte_ports::{Sink, WriteOut, write_text};
 use proof_report::ReportReader;
-use report_text::next_line;
+use report_bytes::next_line;
 use spec_core::Spec;
 use std::alloc::Global;
 

@@ -5,9 +5,9 @@ use Rattle.spec_core.specs.Typed.{is_specification}
 use Rattle.report_lines.specs.declared.head.Tally.{Tally}
 use Rattle.proof_report.specs.declared.kind.Fault.{Fault}
 use Rattle.proof_report.specs.Verdicts.{ReportForm}
-use Rattle.report_text.specs.Reading.{first_fault}
-use Rattle.report_text.proofs.BytesOfReports.{one_report_of_bytes}
-use Rattle.report_text.proofs.NoFault.{report_has_no_fault}
+use Rattle.report_bytes.specs.Reading.{first_fault}
+use Rattle.report_bytes.proofs.BytesOfReports.{one_report_of_bytes}
+use Rattle.report_bytes.proofs.NoFault.{report_has_no_fault}
 use Rattle.report_verifier.specs.declared.refused.VerifyRefused.{VerifyRefused}
 use Rattle.report_verifier.specs.declared.refused.VerifyRefused.TheVariants as refused
 use Rattle.report_verifier.specs.Rules.{verdict_fault}

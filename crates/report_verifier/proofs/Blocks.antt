@@ -38,8 +38,8 @@ use Rattle.proof_report.specs.Events.{told, no_verdicts, with_refuted, with_verd
 use Rattle.proof_report.specs.Feeding.{log_ended, no_witness, no_world, at_consts, at_sizes, with_size, with_const, with_fact, with_reading, with_call, closed, start}
 use Rattle.proof_report.specs.Reader.{EndForm, end_proved, end_refuted, end_instances, end_lines, end_rows, end_range, log_end}
 use Rattle.proof_report.proofs.Sound.{at, one_more, one_told}
-use Rattle.report_text.specs.Reading.{blocks_behind}
-use Rattle.report_text.specs.Collecting.{budget_in}
+use Rattle.report_bytes.specs.Reading.{blocks_behind}
+use Rattle.report_bytes.specs.Collecting.{budget_in}
 use Rattle.report_verifier.specs.declared.judgement.Judgement.{Judgement}
 use Rattle.report_verifier.specs.Rules.{fault_at, unless, or_else, kind_of, has_many, refutes_shown, log_fault, problem_fault, many_fault, rule_fault, blocks_fault, verdict_fault}
 use Rattle.report_verifier.specs.Verified.{tally_of}

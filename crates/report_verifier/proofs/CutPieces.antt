@@ -2,8 +2,8 @@
 use Rattle.std.proofs.Common.{◌≡◌, ℕ, Bool, true, false, not, cond, List, [], ◌∷◌, ◌++◌, refl, sym, ap, ◌∙◌, append_assoc}
 use Rattle.std.specs.List.{list_all, flat_map, onto_first}
 use Rattle.std.proofs.lemmas.Bool.{and_parts, and_from}
-use Rattle.report_text.specs.Bytes.{pieces, before_last, last_of, lines_of, unended}
-use Rattle.report_text.proofs.Cutting.{is_feed, no_feed, ended, cut_more, bytes_again}
+use Rattle.report_bytes.specs.Bytes.{pieces, before_last, last_of, lines_of, unended}
+use Rattle.report_bytes.proofs.Cutting.{is_feed, no_feed, ended, cut_more, bytes_again}
 
 -- no line of some has a line feed
 abbrev pub are_free : List (List ℕ) → Bool

@@ -8,8 +8,8 @@ use Rattle.byte_ports.proofs.Sources.{long_told, some_told}
 use Rattle.spec_core.specs.Specification.{Specification}
 use Rattle.spec_core.specs.Typed.{is_specification}
 use Rattle.report_lines.specs.declared.head.Tally.{Tally}
-use Rattle.report_text.specs.Bytes.{pieces, before_last, last_of, lines_of, unended}
-use Rattle.report_text.proofs.Cutting.{front_more, pieces_some, no_bytes}
+use Rattle.report_bytes.specs.Bytes.{pieces, before_last, last_of, lines_of, unended}
+use Rattle.report_bytes.proofs.Cutting.{front_more, pieces_some, no_bytes}
 use Rattle.report_verifier.specs.declared.refused.VerifyRefused.{VerifyRefused}
 use Rattle.report_verifier.specs.declared.refused.VerifyRefused.TheVariants as refused
 use Rattle.report_verifier.specs.Verified.{most_report_bytes, IsVerified, IsVerifiedFrom}

@@ -21,10 +21,10 @@ use Rattle.report_verifier.proofs.Taken.{taken_same}
 use Rattle.proof_report.specs.Reader.{Tells, IsAnswered, budget_of, stated, ReaderForm, read_on, read_behind, read_line, first_reader, fault_at_end, end_fault}
 use Rattle.proof_report.proofs.Whole.{all_ok}
 use Rattle.proof_report.proofs.Sound.{admitted_is_report}
-use Rattle.report_text.specs.Bytes.{lines_of, unended}
-use Rattle.report_text.specs.Reading.{◌>>=◌, read_lines, fault_behind, first_fault}
-use Rattle.report_text.specs.Collecting.{budget_in}
-use Rattle.report_text.proofs.BytesOfReports.{bytes_are_text}
+use Rattle.report_bytes.specs.Bytes.{lines_of, unended}
+use Rattle.report_bytes.specs.Reading.{◌>>=◌, read_lines, fault_behind, first_fault}
+use Rattle.report_bytes.specs.Collecting.{budget_in}
+use Rattle.report_bytes.proofs.BytesOfReports.{bytes_are_text}
 use Rattle.report_verifier.specs.declared.judgement.Judgement.{Judgement}
 use Rattle.report_verifier.specs.declared.refused.VerifyRefused.{VerifyRefused}
 use Rattle.report_verifier.specs.declared.refused.VerifyRefused.TheVariants as refused

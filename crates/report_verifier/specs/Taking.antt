@@ -16,7 +16,7 @@ use Rattle.proof_report.specs.declared.verdict.Fed.{Fed}
 use Rattle.proof_report.specs.Events.{with_proved, with_refuted, with_undecided}
 use Rattle.report_verifier.specs.declared.judgement.Judgement.{Judgement}
 use Rattle.report_verifier.specs.Rules.{fault_at, unless, or_else, has_many}
-use Rattle.report_text.specs.Collecting.{budget_in}
+use Rattle.report_bytes.specs.Collecting.{budget_in}
 use Rattle.report_verifier.specs.Verifier.{obligation_due, begun, logged, kernel_fault, unrefuted, VerifierForm}
 
 -- the kernel before a log on an obligation, or nothing where there are too many formulas

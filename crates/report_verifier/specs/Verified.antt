@@ -7,8 +7,8 @@ use Rattle.report_lines.specs.declared.head.Tally.{Tally}
 use Rattle.proof_report.specs.declared.kind.Fault.{Fault}
 use Rattle.proof_report.specs.Verdicts.{VerdictForm, ReportForm, is_report}
 use Rattle.proof_report.specs.Events.{no_verdicts, with_verdict}
-use Rattle.report_text.specs.Bytes.{report_bytes}
-use Rattle.report_text.specs.Reading.{first_fault}
+use Rattle.report_bytes.specs.Bytes.{report_bytes}
+use Rattle.report_bytes.specs.Reading.{first_fault}
 use Rattle.report_verifier.specs.Rules.{verdict_fault}
 use Rattle.report_verifier.specs.declared.refused.VerifyRefused.{VerifyRefused}
 use Rattle.report_verifier.specs.declared.refused.VerifyRefused.TheVariants as refused

@@ -19,8 +19,8 @@ use Rattle.proof_report.specs.Verdicts.{obligation_at}
 use Rattle.proof_report.specs.Events.{told, no_verdicts, with_proved, with_refuted, with_undecided}
 use Rattle.proof_report.specs.Reader.{EndForm, end_proved, end_refuted, end_instances, end_lines, end_rows, end_range, begin_of, log_of_event, ended_by, budget_of, stated, ReaderForm, read_line, first_reader, fault_at_end}
 use Rattle.proof_report.specs.Feeding.{after}
-use Rattle.report_text.specs.Bytes.{lines_of, unended}
-use Rattle.report_text.specs.Collecting.{budget_in}
+use Rattle.report_bytes.specs.Bytes.{lines_of, unended}
+use Rattle.report_bytes.specs.Collecting.{budget_in}
 use Rattle.report_verifier.specs.declared.judgement.Judgement.{Judgement}
 use Rattle.report_verifier.specs.Rules.{fault_at, unless, or_else, kind_of, has_many, refutes_shown}
 use Rattle.report_verifier.specs.declared.refused.VerifyRefused.{VerifyRefused}

@@ -8,7 +8,7 @@ ghost use Rattle.report_verifier.specs.Verified.{most_report_bytes};
 
 use crate::verifier::Verifier;
 use byte_ports::{ReadRefused, Source};
-use report_text::next_line;
+use report_bytes::next_line;
 use std::alloc::AllocError;
 
 /// The most bytes of a report: 64 MiB.

@@ -1,7 +1,7 @@
 // A verifier of a report, line by line.
 ghost use Rattle.std.specs.Prelude.{◌≡◌, ◌≤◌, IfOk, IsErr, true, false};
 ghost use Rattle.proof_report.specs.Resolving.{resolve_told};
-ghost use Rattle.report_text.specs.Collecting.{budget_in};
+ghost use Rattle.report_bytes.specs.Collecting.{budget_in};
 ghost use Rattle.report_verifier.specs.Taking.{IsTold};
 ghost use Rattle.report_verifier.specs.Verifier.{first_verifier, IsTaken, IsFinished, IsCutOff, IsJudgement, IsMissing, clauses_in, most_kept};
 

@@ -1,8 +1,8 @@
 -- Parts that are equal where both have the places of their words, and how such parts are put together.
 use Rattle.std.proofs.Common.{◌≡◌, ℕ, ◌+◌, List, [], ◌∷◌, ◌++◌, refl, subst}
-use Rattle.token_readers.specs.declared.token.Key.{Key}
-use Rattle.token_readers.specs.declared.token.Key.TheVariants as keys
-use Rattle.token_readers.specs.Words.{Spelt, sign, with_place, each, listed, group, AllSame, NotEmpty}
+use Rattle.parser_combinators.specs.declared.token.Key.{Key}
+use Rattle.parser_combinators.specs.declared.token.Key.TheVariants as keys
+use Rattle.parser_combinators.specs.Words.{Spelt, sign, with_place, each, listed, group, AllSame, NotEmpty}
 use Rattle.spec_reader.specs.Place.{IsPlaced}
 
 -- From whichever word on: if the places in both parts are those of their words, the parts are equal.

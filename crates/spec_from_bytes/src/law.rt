@@ -6,11 +6,11 @@ ghost use Rattle.spec_core.specs.Specification.{Specification};
 ghost use Rattle.spec_reader.specs.Form.{TreeForm};
 ghost use Rattle.spec_reader.specs.Place.{IsRead};
 ghost use Rattle.typing_rules.specs.Fault.{Fault};
-ghost use Rattle.typing_faults.specs.Sites.{specification_of};
-ghost use Rattle.typing_faults.specs.Faults.{IsLeastFault, HasNoFault};
+ghost use Rattle.fault_rules.specs.Sites.{specification_of};
+ghost use Rattle.fault_rules.specs.Faults.{IsLeastFault, HasNoFault};
 ghost use Rattle.spec_from_bytes.specs.Refusal.{IsTreeOf, IsReadAs, IsSpecificationOf, Refusal, faulty, IsRefusal};
 
-use typing_faults::{law_least_fault, law_read_is_written};
+use fault_rules::{law_least_fault, law_read_is_written};
 
 /// Some bytes are read as one tree at most, with the places of all its words.
 pub fn law_one_tree()

@@ -5,13 +5,13 @@ use Rattle.std.proofs.lemmas.List.{append-nil, take-map, map-append, length-map}
 use Rattle.word_cut.specs.declared.word.Word.{Word}
 use Rattle.word_cut.specs.Words.{IsCut, Stands, text_of}
 use Rattle.word_cut.proofs.Standing.{words_stand}
-use Rattle.token_readers.specs.declared.token.Symbol.{Symbol}
-use Rattle.token_readers.specs.declared.token.Token.{Token}
-use Rattle.token_readers.specs.Words.{seen, Spelt, plain, Matches}
-use Rattle.token_readers.specs.Texts.{symbol_of, IsWord, AreWords}
-use Rattle.token_readers.specs.Texts as words
-use Rattle.token_readers.specs.Tokens.{tokens_from, tokens_of}
-use Rattle.token_readers.proofs.Part.{Matches-seen, AreWords-append, length-seen}
+use Rattle.parser_combinators.specs.declared.token.Symbol.{Symbol}
+use Rattle.parser_combinators.specs.declared.token.Token.{Token}
+use Rattle.parser_combinators.specs.Words.{seen, Spelt, plain, Matches}
+use Rattle.parser_combinators.specs.Texts.{symbol_of, IsWord, AreWords}
+use Rattle.parser_combinators.specs.Texts as words
+use Rattle.parser_combinators.specs.Tokens.{tokens_from, tokens_of}
+use Rattle.parser_combinators.proofs.Part.{Matches-seen, AreWords-append, length-seen}
 use Rattle.spec_reader.specs.declared.tree.Tree.{Tree}
 use Rattle.spec_reader.specs.Form.{TreeForm, tree_of}
 use Rattle.spec_reader.specs.Spelling.{tree, spelling}
@@ -21,7 +21,7 @@ use Rattle.spec_reader.specs.Reading.{whole_by}
 use Rattle.spec_reader.proofs.TreeParts.{Place}
 use Rattle.spec_reader.proofs.TreeParts as parts
 use Rattle.spec_reader.proofs.TreeCode.{found, none, place}
-use Rattle.token_readers.proofs.TextFacts.{symbol_of-text, Stood, text_of-symbol}
+use Rattle.parser_combinators.proofs.TextFacts.{symbol_of-text, Stood, text_of-symbol}
 
 stood : (bytes : List ℕ) (w : Word) → Stands bytes w → Stood (text_of bytes w)
 stood bytes w s = text_of-symbol (text_of bytes w) s.is_one s.short_name s.short_number

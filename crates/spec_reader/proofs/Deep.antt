@@ -1,7 +1,7 @@
 -- A formula fits a number of levels exactly where it is no deeper.
 use Rattle.std.proofs.Common.{◌≡◌, ℕ, zero, suc, ◌+◌, ◌≤◌, Bool, true, false, cond, leb, refl, arith}
 use Rattle.std.proofs.lemmas.Bool.{leb-false, leb-true}
-use Rattle.token_readers.specs.declared.token.Version.{Version}
+use Rattle.parser_combinators.specs.declared.token.Version.{Version}
 use Rattle.spec_reader.specs.Form.{Form, true_form, false_form, not_form, connect_form, has_form, compare_form}
 use Rattle.spec_reader.specs.Trees.{FormFits}
 use Rattle.spec_reader.specs.Depth.{greater, depth, NamesFree}

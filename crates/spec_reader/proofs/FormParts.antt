@@ -3,21 +3,21 @@ use Rattle.std.proofs.Common.{◌≡◌, ℕ, zero, suc, Bool, true, false, cond
 use Rattle.std.proofs.lemmas.Bool.{or_from}
 use Rattle.std.specs.Prelude.{not}
 use Rattle.std.specs.List.{AllByRecursion}
-use Rattle.token_readers.specs.declared.token.Key.{Key}
-use Rattle.token_readers.specs.declared.token.Key.TheVariants as keys
-use Rattle.token_readers.specs.declared.token.Symbol.{Symbol}
-use Rattle.token_readers.specs.declared.token.Symbol.TheVariants as symbol
-use Rattle.token_readers.specs.declared.token.Token.{Token}
-use Rattle.token_readers.specs.declared.token.Kind.{Kind}
-use Rattle.token_readers.specs.declared.token.Kind.TheVariants as kind
-use Rattle.token_readers.specs.declared.token.Version.{Version}
-use Rattle.token_readers.specs.Words.{next, kind_of, Spelt, plain, name_kind, number_kind, is_key, is_name, key, sign, each, AllSame, with_place}
-use Rattle.token_readers.specs.Texts.{AreWords}
-use Rattle.token_readers.specs.Read.{Read, both, only}
-use Rattle.token_readers.proofs.Part.{Part, then_part, viewed_part, fits_part, placed_part, regroup}
-use Rattle.token_readers.proofs.Choice.{word_part, either_part, only_part, sum_same, sum_of, clash}
-use Rattle.token_readers.proofs.Many.{list_on_false}
-use Rattle.token_readers.proofs.Pieces.{symbol_key, name_not_key, name_kind_cases, number_kind_cases, key_part, sign_part, group_off}
+use Rattle.parser_combinators.specs.declared.token.Key.{Key}
+use Rattle.parser_combinators.specs.declared.token.Key.TheVariants as keys
+use Rattle.parser_combinators.specs.declared.token.Symbol.{Symbol}
+use Rattle.parser_combinators.specs.declared.token.Symbol.TheVariants as symbol
+use Rattle.parser_combinators.specs.declared.token.Token.{Token}
+use Rattle.parser_combinators.specs.declared.token.Kind.{Kind}
+use Rattle.parser_combinators.specs.declared.token.Kind.TheVariants as kind
+use Rattle.parser_combinators.specs.declared.token.Version.{Version}
+use Rattle.parser_combinators.specs.Words.{next, kind_of, Spelt, plain, name_kind, number_kind, is_key, is_name, key, sign, each, AllSame, with_place}
+use Rattle.parser_combinators.specs.Texts.{AreWords}
+use Rattle.parser_combinators.specs.Read.{Read, both, only}
+use Rattle.parser_combinators.proofs.Part.{Part, then_part, viewed_part, fits_part, placed_part, regroup}
+use Rattle.parser_combinators.proofs.Choice.{word_part, either_part, only_part, sum_same, sum_of, clash}
+use Rattle.parser_combinators.proofs.Many.{list_on_false}
+use Rattle.parser_combinators.proofs.Pieces.{symbol_key, name_not_key, name_kind_cases, number_kind_cases, key_part, sign_part, group_off}
 use Rattle.spec_reader.specs.declared.tree.Reading.{Reading}
 use Rattle.spec_reader.specs.declared.tree.Product.{Product}
 use Rattle.spec_reader.specs.declared.tree.Product.TheVariants as products

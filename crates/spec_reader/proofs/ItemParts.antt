@@ -1,18 +1,18 @@
 -- The parts of the grammar from initial values to items.
 use Rattle.std.proofs.Common.{◌≡◌, ℕ, Bool, true, false, cond, ◌||◌, List, [], ◌∷◌, ◌++◌, ◌⊎◌, inl, inr, refl, sym, ap, ◌∙◌}
 use Rattle.std.specs.List.{AllByRecursion}
-use Rattle.token_readers.specs.declared.token.Key.{Key}
-use Rattle.token_readers.specs.declared.token.Key.TheVariants as keys
-use Rattle.token_readers.specs.declared.token.Symbol.{Symbol}
-use Rattle.token_readers.specs.declared.token.Kind.{Kind}
-use Rattle.token_readers.specs.declared.token.Kind.TheVariants as kind
-use Rattle.token_readers.specs.declared.token.Version.{Version}
-use Rattle.token_readers.specs.declared.token.Version.TheVariants as version
-use Rattle.token_readers.specs.Words.{next, Spelt, plain, is_key, key, sign, each, group, AllSame}
-use Rattle.token_readers.proofs.Part.{Part, then_part, viewed_part}
-use Rattle.token_readers.proofs.Choice.{either_part, sum_same, sum_of}
-use Rattle.token_readers.proofs.Many.{many_part, list_on, list_on_false}
-use Rattle.token_readers.proofs.Pieces.{number_not_key, name_not_key, key_part, sign_part, group_part, group_on, group_off}
+use Rattle.parser_combinators.specs.declared.token.Key.{Key}
+use Rattle.parser_combinators.specs.declared.token.Key.TheVariants as keys
+use Rattle.parser_combinators.specs.declared.token.Symbol.{Symbol}
+use Rattle.parser_combinators.specs.declared.token.Kind.{Kind}
+use Rattle.parser_combinators.specs.declared.token.Kind.TheVariants as kind
+use Rattle.parser_combinators.specs.declared.token.Version.{Version}
+use Rattle.parser_combinators.specs.declared.token.Version.TheVariants as version
+use Rattle.parser_combinators.specs.Words.{next, Spelt, plain, is_key, key, sign, each, group, AllSame}
+use Rattle.parser_combinators.proofs.Part.{Part, then_part, viewed_part}
+use Rattle.parser_combinators.proofs.Choice.{either_part, sum_same, sum_of}
+use Rattle.parser_combinators.proofs.Many.{many_part, list_on, list_on_false}
+use Rattle.parser_combinators.proofs.Pieces.{number_not_key, name_not_key, key_part, sign_part, group_part, group_on, group_off}
 use Rattle.spec_reader.specs.declared.tree.Mark.{Mark}
 use Rattle.spec_reader.specs.declared.tree.Figure.{Figure}
 use Rattle.spec_reader.specs.declared.tree.Reading.{Reading}

@@ -3,9 +3,9 @@ use Rattle.std.proofs.Common.{◌≡◌, ℕ, ◌+◌, ◌/◌, ◌%◌, ◌<◌
 use Rattle.std.specs.Fmt.{decimal}
 use Rattle.std.proofs.lemmas.List.{at_drop_more, append-nil}
 use Rattle.std.proofs.lemmas.Fmt.{decimal_digit, decimal_step_wide}
-use Rattle.token_readers.specs.declared.token.Symbol.{Symbol}
-use Rattle.token_readers.specs.declared.token.Version.{Version}
-use Rattle.token_readers.specs.Texts.{text_of}
+use Rattle.parser_combinators.specs.declared.token.Symbol.{Symbol}
+use Rattle.parser_combinators.specs.declared.token.Version.{Version}
+use Rattle.parser_combinators.specs.Texts.{text_of}
 use Rattle.spec_reader.specs.Layout.{before, behind}
 
 pub ruleset laying = (append_assoc, append-nil)

@@ -4,23 +4,23 @@ use Rattle.std.proofs.lemmas.Bool.{or_from, or_parts}
 use Rattle.std.specs.List.{AllByRecursion}
 use Rattle.std.specs.Str.{bytes_eq}
 use Rattle.std.proofs.lemmas.Slice.Eq.{bytes_eq-Decides}
-use Rattle.token_readers.specs.declared.token.Key.{Key}
-use Rattle.token_readers.specs.declared.token.Key.TheVariants as keys
-use Rattle.token_readers.specs.declared.token.Symbol.{Symbol}
-use Rattle.token_readers.specs.declared.token.Symbol.TheVariants as symbol
-use Rattle.token_readers.specs.declared.token.Token.{Token}
-use Rattle.token_readers.specs.declared.token.Kind.{Kind}
-use Rattle.token_readers.specs.declared.token.Kind.TheVariants as kind
-use Rattle.token_readers.specs.declared.token.Version.{Version}
-use Rattle.token_readers.specs.declared.token.Version.TheVariants as version
-use Rattle.token_readers.specs.Words.{next, kind_of, Spelt, plain, Matches, shared_text, exclusive_text, observes_text, name_kind, number_kind, is_key, key, sign, each, listed, group, AllSame, NotEmpty}
-use Rattle.token_readers.specs.Texts.{AreWords}
-use Rattle.token_readers.specs.Read.{Read, second, word_at}
-use Rattle.token_readers.proofs.Part.{Part, Joins, both_part, then_part, viewed_part, shaped_part, fits_part, ok_is, regroup}
-use Rattle.token_readers.proofs.Choice.{word_part, either_part, perhaps_part, sum_same, sum_of, option_same, option_of, clash}
-use Rattle.token_readers.proofs.Many.{many_part, list_on, list_on_false}
-use Rattle.token_readers.proofs.TextFacts.{shared_word, observes_word}
-use Rattle.token_readers.proofs.Pieces.{symbol_key, name_kind_cases, number_kind_cases, name_not_key, key_part, sign_part, listed_part, group_part, group_on, group_off, perhaps_on, perhaps_joins}
+use Rattle.parser_combinators.specs.declared.token.Key.{Key}
+use Rattle.parser_combinators.specs.declared.token.Key.TheVariants as keys
+use Rattle.parser_combinators.specs.declared.token.Symbol.{Symbol}
+use Rattle.parser_combinators.specs.declared.token.Symbol.TheVariants as symbol
+use Rattle.parser_combinators.specs.declared.token.Token.{Token}
+use Rattle.parser_combinators.specs.declared.token.Kind.{Kind}
+use Rattle.parser_combinators.specs.declared.token.Kind.TheVariants as kind
+use Rattle.parser_combinators.specs.declared.token.Version.{Version}
+use Rattle.parser_combinators.specs.declared.token.Version.TheVariants as version
+use Rattle.parser_combinators.specs.Words.{next, kind_of, Spelt, plain, Matches, shared_text, exclusive_text, observes_text, name_kind, number_kind, is_key, key, sign, each, listed, group, AllSame, NotEmpty}
+use Rattle.parser_combinators.specs.Texts.{AreWords}
+use Rattle.parser_combinators.specs.Read.{Read, second, word_at}
+use Rattle.parser_combinators.proofs.Part.{Part, Joins, both_part, then_part, viewed_part, shaped_part, fits_part, ok_is, regroup}
+use Rattle.parser_combinators.proofs.Choice.{word_part, either_part, perhaps_part, sum_same, sum_of, option_same, option_of, clash}
+use Rattle.parser_combinators.proofs.Many.{many_part, list_on, list_on_false}
+use Rattle.parser_combinators.proofs.TextFacts.{shared_word, observes_word}
+use Rattle.parser_combinators.proofs.Pieces.{symbol_key, name_kind_cases, number_kind_cases, name_not_key, key_part, sign_part, listed_part, group_part, group_on, group_off, perhaps_on, perhaps_joins}
 use Rattle.spec_reader.specs.declared.tree.Mark.{Mark}
 use Rattle.spec_reader.specs.declared.tree.Reading.{Reading}
 use Rattle.spec_reader.specs.declared.tree.Product.{Product}

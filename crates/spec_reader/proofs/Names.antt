@@ -4,12 +4,12 @@ use Rattle.std.specs.Prelude.{◌==◌, nat_lt}
 use Rattle.std.specs.Str.{bytes_eq}
 use Rattle.std.proofs.lemmas.Slice.Eq.{bytes_eq-Decides}
 use Rattle.std.proofs.lemmas.Bool.{ltb-false, or_parts}
-use Rattle.token_readers.specs.declared.token.Symbol.{Symbol}
-use Rattle.token_readers.specs.declared.token.Symbol.TheVariants as symbol
-use Rattle.token_readers.specs.declared.token.Kind.TheVariants as kind
-use Rattle.token_readers.specs.declared.token.Version.{Version}
-use Rattle.token_readers.specs.Words.{kind_of, is_name, name_of, name_kind, shared_text, exclusive_text, observes_text, number_kind}
-use Rattle.token_readers.proofs.Pieces.{number_kind_cases}
+use Rattle.parser_combinators.specs.declared.token.Symbol.{Symbol}
+use Rattle.parser_combinators.specs.declared.token.Symbol.TheVariants as symbol
+use Rattle.parser_combinators.specs.declared.token.Kind.TheVariants as kind
+use Rattle.parser_combinators.specs.declared.token.Version.{Version}
+use Rattle.parser_combinators.specs.Words.{kind_of, is_name, name_of, name_kind, shared_text, exclusive_text, observes_text, number_kind}
+use Rattle.parser_combinators.proofs.Pieces.{number_kind_cases}
 
 abbrev pub IsLong : List ℕ → Type 0
 IsLong text = (1 ≤ length text) × (length text ≤ 32)

@@ -15,13 +15,13 @@ use Rattle.word_cut.specs.Words.{is_gap, line_feeds, IsLongest, Next, Leaves, Is
 use Rattle.word_cut.specs.Words as cuts
 use Rattle.word_cut.proofs.Spelled.{decimal_writes}
 use Rattle.word_cut.proofs.Unique.{cut_unique}
-use Rattle.token_readers.specs.declared.token.Key.{Key}
-use Rattle.token_readers.specs.declared.token.Key.TheVariants as keys
-use Rattle.token_readers.specs.declared.token.Symbol.{Symbol}
-use Rattle.token_readers.specs.declared.token.Symbol.TheVariants as symbol
-use Rattle.token_readers.specs.declared.token.Version.{Version}
-use Rattle.token_readers.specs.Words.{plain, is_first, observes_text}
-use Rattle.token_readers.specs.Texts.{key_text, text_of, IsWord, AreWords}
+use Rattle.parser_combinators.specs.declared.token.Key.{Key}
+use Rattle.parser_combinators.specs.declared.token.Key.TheVariants as keys
+use Rattle.parser_combinators.specs.declared.token.Symbol.{Symbol}
+use Rattle.parser_combinators.specs.declared.token.Symbol.TheVariants as symbol
+use Rattle.parser_combinators.specs.declared.token.Version.{Version}
+use Rattle.parser_combinators.specs.Words.{plain, is_first, observes_text}
+use Rattle.parser_combinators.specs.Texts.{key_text, text_of, IsWord, AreWords}
 use Rattle.spec_reader.specs.Form.{TreeForm}
 use Rattle.spec_reader.specs.Spelling.{tree, spelling}
 use Rattle.spec_reader.specs.Trees.{IsTree, SameTree}

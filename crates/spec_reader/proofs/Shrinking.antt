@@ -1,14 +1,14 @@
 -- What loops read takes a word at least.
 use Rattle.std.proofs.Common.{◌≡◌, ℕ, false, refl}
-use Rattle.token_readers.specs.declared.token.Key.TheVariants as keys
-use Rattle.token_readers.specs.declared.token.Version.{Version}
-use Rattle.token_readers.specs.declared.token.Version.TheVariants as version
-use Rattle.token_readers.specs.declared.token.Kind.TheVariants as kind
-use Rattle.token_readers.specs.Words.{is_key}
-use Rattle.token_readers.specs.Read.{one_more}
+use Rattle.parser_combinators.specs.declared.token.Key.TheVariants as keys
+use Rattle.parser_combinators.specs.declared.token.Version.{Version}
+use Rattle.parser_combinators.specs.declared.token.Version.TheVariants as version
+use Rattle.parser_combinators.specs.declared.token.Kind.TheVariants as kind
+use Rattle.parser_combinators.specs.Words.{is_key}
+use Rattle.parser_combinators.specs.Read.{one_more}
 use Rattle.spec_reader.specs.Reading.{name_at, variable_at, spot_at, param_at, is_sign, signed_at, starts_line, line_at, starts_item, item_at}
-use Rattle.token_readers.proofs.Loop.{Shrinks, shrinks}
-use Rattle.token_readers.proofs.Pieces.{one_more_part}
+use Rattle.parser_combinators.proofs.Loop.{Shrinks, shrinks}
+use Rattle.parser_combinators.proofs.Pieces.{one_more_part}
 use Rattle.spec_reader.proofs.TermParts.{name_part, signed_part, signed_begins}
 use Rattle.spec_reader.proofs.LineParts.{variable_part, spot_part, line_part, line_begins}
 use Rattle.spec_reader.proofs.ItemParts.{param_part, item_part, item_begins}

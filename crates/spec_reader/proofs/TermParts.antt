@@ -2,14 +2,14 @@
 use Rattle.std.proofs.Common.{◌≡◌, ℕ, Bool, true, false, cond, ◌||◌, List, [], ◌∷◌, ◌++◌, Option, Some, None, ◌⊎◌, inl, inr, refl, sym, ap, ◌∙◌}
 use Rattle.std.proofs.lemmas.Bool.{or_from, or_parts}
 use Rattle.std.specs.List.{AllByRecursion}
-use Rattle.token_readers.specs.declared.token.Key.{Key}
-use Rattle.token_readers.specs.declared.token.Key.TheVariants as keys
-use Rattle.token_readers.specs.declared.token.Symbol.{Symbol}
-use Rattle.token_readers.specs.declared.token.Symbol.TheVariants as symbol
-use Rattle.token_readers.specs.declared.token.Token.{Token}
-use Rattle.token_readers.specs.declared.token.Kind.{Kind}
-use Rattle.token_readers.specs.declared.token.Kind.TheVariants as kind
-use Rattle.token_readers.specs.declared.token.Version.{Version}
+use Rattle.parser_combinators.specs.declared.token.Key.{Key}
+use Rattle.parser_combinators.specs.declared.token.Key.TheVariants as keys
+use Rattle.parser_combinators.specs.declared.token.Symbol.{Symbol}
+use Rattle.parser_combinators.specs.declared.token.Symbol.TheVariants as symbol
+use Rattle.parser_combinators.specs.declared.token.Token.{Token}
+use Rattle.parser_combinators.specs.declared.token.Kind.{Kind}
+use Rattle.parser_combinators.specs.declared.token.Kind.TheVariants as kind
+use Rattle.parser_combinators.specs.declared.token.Version.{Version}
 use Rattle.spec_reader.specs.declared.tree.Mark.{Mark}
 use Rattle.spec_reader.specs.declared.tree.Figure.{Figure}
 use Rattle.spec_reader.specs.declared.tree.Reading.{Reading}
@@ -20,16 +20,16 @@ use Rattle.spec_reader.specs.declared.tree.Sign.{Sign}
 use Rattle.spec_reader.specs.declared.tree.Sign.TheVariants as signs
 use Rattle.spec_reader.specs.declared.tree.Signed.{Signed}
 use Rattle.spec_reader.specs.declared.tree.Term.{Term}
-use Rattle.token_readers.specs.Words.{next, kind_of, Spelt, plain, Matches, is_key, is_name, is_number, name_of, value_of, key, sign, each, group, AllSame, with_place}
+use Rattle.parser_combinators.specs.Words.{next, kind_of, Spelt, plain, Matches, is_key, is_name, is_number, name_of, value_of, key, sign, each, group, AllSame, with_place}
 use Rattle.spec_reader.specs.Spelling.{mark, figure, one, reading, product, summand, sign_key, signed, minus, term}
 use Rattle.spec_reader.specs.Trees.{IsFree, ReadingFits, ProductFits, SummandFits, SignedFits, TermFits, SameMark, SameFigure, SameReading, SameProduct, SameSummand, SameSigned, SameTerm}
-use Rattle.token_readers.specs.Read.{Read, second}
+use Rattle.parser_combinators.specs.Read.{Read, second}
 use Rattle.spec_reader.specs.Reading.{name_at, figure_at, args_at, to_reading, reading_at, to_product, times_at, product_at, to_summand, summand_at, is_sign, sign_of, plus_at, to_signed, signed_at, is_some, minus_at, to_term, more_at, term_at}
-use Rattle.token_readers.proofs.Part.{Part, Joins, both_part, then_part, mapped_part, shaped_part, viewed_part, placed_part, regroup}
-use Rattle.token_readers.proofs.Choice.{word_part, either_part, perhaps_part, sum_same, sum_of, option_same, option_of}
-use Rattle.token_readers.proofs.Many.{many_part, list_on, list_on_tail, list_on_false}
-use Rattle.token_readers.proofs.TextFacts.{a_word}
-use Rattle.token_readers.proofs.Pieces.{symbol_key, symbol_name, symbol_number, number_not_key, name_not_key, name_not_number, number_is, key_part, sign_part, group_part, group_on, group_off, perhaps_on, perhaps_joins}
+use Rattle.parser_combinators.proofs.Part.{Part, Joins, both_part, then_part, mapped_part, shaped_part, viewed_part, placed_part, regroup}
+use Rattle.parser_combinators.proofs.Choice.{word_part, either_part, perhaps_part, sum_same, sum_of, option_same, option_of}
+use Rattle.parser_combinators.proofs.Many.{many_part, list_on, list_on_tail, list_on_false}
+use Rattle.parser_combinators.proofs.TextFacts.{a_word}
+use Rattle.parser_combinators.proofs.Pieces.{symbol_key, symbol_name, symbol_number, number_not_key, name_not_key, name_not_number, number_is, key_part, sign_part, group_part, group_on, group_off, perhaps_on, perhaps_joins}
 
 -- ---- single words
 

@@ -1,18 +1,18 @@
 -- Reading the whole, as the code goes about it.
 use Rattle.std.proofs.Common.{◌≡◌, ◌-◌, ◌≤◌, ℕ, cond, List, [], ◌∷◌, length, Ok, Err, inl, inr, refl, ap, ◌∙◌}
 use Rattle.std.specs.Prelude.{◌==◌}
-use Rattle.token_readers.specs.declared.token.Kind.{Kind}
-use Rattle.token_readers.specs.declared.token.Kind.TheVariants as kind
-use Rattle.token_readers.specs.declared.token.Key.TheVariants as keys
-use Rattle.token_readers.specs.declared.token.Token.{Token}
-use Rattle.token_readers.specs.declared.token.Version.TheVariants as version
+use Rattle.parser_combinators.specs.declared.token.Kind.{Kind}
+use Rattle.parser_combinators.specs.declared.token.Kind.TheVariants as kind
+use Rattle.parser_combinators.specs.declared.token.Key.TheVariants as keys
+use Rattle.parser_combinators.specs.declared.token.Token.{Token}
+use Rattle.parser_combinators.specs.declared.token.Version.TheVariants as version
 use Rattle.spec_reader.specs.declared.tree.Tree.{Tree}
 use Rattle.spec_reader.specs.Form.{ItemForm, TreeForm, tree_of}
 use Rattle.spec_reader.specs.Spelling.{tree as spelled}
 use Rattle.spec_reader.specs.Trees.{TreeFits}
 use Rattle.spec_reader.proofs.TreeParts.{Place, whole_ok, whole_err, whole_only, whole_left}
-use Rattle.token_readers.specs.Words.{seen, kind_of, plain, Matches}
-use Rattle.token_readers.specs.Read.{Read, ◌>>=◌, mapped, both, either, word_at, sign_at}
+use Rattle.parser_combinators.specs.Words.{seen, kind_of, plain, Matches}
+use Rattle.parser_combinators.specs.Read.{Read, ◌>>=◌, mapped, both, either, word_at, sign_at}
 use Rattle.spec_reader.specs.Reading.{items_at, is_one, is_two, to_tree, tree_at, version_at, tree_by, whole_at, whole_by}
 
 bare : {A : Type 0} → A → List Token → Read A

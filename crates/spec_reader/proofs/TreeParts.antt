@@ -4,21 +4,21 @@ use Rattle.std.specs.Prelude.{◌==◌}
 use Rattle.std.specs.List.{AllByRecursion}
 use Rattle.std.proofs.lemmas.Bool.{eqb-true, cases_lt}
 use Rattle.std.proofs.lemmas.List.{append-nil, length-append, take_at, nil_from_length}
-use Rattle.token_readers.specs.declared.token.Key.TheVariants as keys
-use Rattle.token_readers.specs.declared.token.Symbol.{Symbol}
-use Rattle.token_readers.specs.declared.token.Symbol.TheVariants as symbol
-use Rattle.token_readers.specs.declared.token.Token.{Token}
-use Rattle.token_readers.specs.declared.token.Kind.{Kind}
-use Rattle.token_readers.specs.declared.token.Kind.TheVariants as kind
-use Rattle.token_readers.specs.declared.token.Version.{Version}
-use Rattle.token_readers.specs.declared.token.Version.TheVariants as version
-use Rattle.token_readers.specs.Words.{next, seen, kind_of, plain, Matches, name_kind, sign, each, AllSame}
-use Rattle.token_readers.specs.Texts.{AreWords}
-use Rattle.token_readers.specs.Read.{word_at}
-use Rattle.token_readers.proofs.Part.{Part, then_part, viewed_part, bind_ok, bind_err, done, ok_is, length-seen, Matches-seen, AreWords-append}
-use Rattle.token_readers.proofs.Choice.{word_part, either_part, sum_same, sum_of, clash}
-use Rattle.token_readers.proofs.Many.{list_on, list_on_false}
-use Rattle.token_readers.proofs.Pieces.{name_kind_cases, number_kind_cases, sign_part}
+use Rattle.parser_combinators.specs.declared.token.Key.TheVariants as keys
+use Rattle.parser_combinators.specs.declared.token.Symbol.{Symbol}
+use Rattle.parser_combinators.specs.declared.token.Symbol.TheVariants as symbol
+use Rattle.parser_combinators.specs.declared.token.Token.{Token}
+use Rattle.parser_combinators.specs.declared.token.Kind.{Kind}
+use Rattle.parser_combinators.specs.declared.token.Kind.TheVariants as kind
+use Rattle.parser_combinators.specs.declared.token.Version.{Version}
+use Rattle.parser_combinators.specs.declared.token.Version.TheVariants as version
+use Rattle.parser_combinators.specs.Words.{next, seen, kind_of, plain, Matches, name_kind, sign, each, AllSame}
+use Rattle.parser_combinators.specs.Texts.{AreWords}
+use Rattle.parser_combinators.specs.Read.{word_at}
+use Rattle.parser_combinators.proofs.Part.{Part, then_part, viewed_part, bind_ok, bind_err, done, ok_is, length-seen, Matches-seen, AreWords-append}
+use Rattle.parser_combinators.proofs.Choice.{word_part, either_part, sum_same, sum_of, clash}
+use Rattle.parser_combinators.proofs.Many.{list_on, list_on_false}
+use Rattle.parser_combinators.proofs.Pieces.{name_kind_cases, number_kind_cases, sign_part}
 use Rattle.spec_reader.specs.Form.{ItemForm, TreeForm}
 use Rattle.spec_reader.specs.Spelling.{item, tree}
 use Rattle.spec_reader.specs.Trees.{ItemFits, TreeFits, SameItem, SameTree}

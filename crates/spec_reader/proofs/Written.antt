@@ -1,9 +1,9 @@
 -- One more of a list that is written.
 use Rattle.std.proofs.Common.{◌≡◌, ℕ, zero, suc, ◌+◌, ◌<◌, List, [], ◌∷◌, ◌++◌, length, get_or, take, map, refl, sym, ap, ◌∙◌, append_assoc, arith}
 use Rattle.std.proofs.lemmas.List.{append-nil, take_more}
-use Rattle.token_readers.specs.declared.token.Symbol.{Symbol}
-use Rattle.token_readers.specs.Words.{Spelt, plain, each, with_place}
-use Rattle.token_readers.proofs.Part.{plain-append, plain-with_place}
+use Rattle.parser_combinators.specs.declared.token.Symbol.{Symbol}
+use Rattle.parser_combinators.specs.Words.{Spelt, plain, each, with_place}
+use Rattle.parser_combinators.proofs.Part.{plain-append, plain-with_place}
 
 each_push : {A : Type 0} (f : A → List Spelt) (xs : List A) (x : A) → plain (each f (xs ++ x ∷ [])) ≡ plain (each f xs) ++ plain (f x)
 each_push f [] x = ap plain (append-nil (f x))

@@ -1,6 +1,6 @@
 -- How deep a formula nests.
 use Rattle.std.specs.Prelude.{ℕ, ◌+◌, nat_le, if◌then◌else◌}
-use Rattle.token_readers.specs.declared.token.Version.{Version}
+use Rattle.parser_combinators.specs.declared.token.Version.{Version}
 use Rattle.spec_reader.specs.Form.{Form, true_form, false_form, not_form, connect_form, has_form, compare_form}
 use Rattle.spec_reader.specs.Trees.{ReadingFits, TermFits}
 

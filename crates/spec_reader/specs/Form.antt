@@ -1,6 +1,6 @@
 -- Trees as plain data, wherever they lie in memory.
 use Rattle.std.specs.Prelude.{ℕ, Option, Some, None, List, map}
-use Rattle.token_readers.specs.declared.token.Version.{Version}
+use Rattle.parser_combinators.specs.declared.token.Version.{Version}
 use Rattle.spec_reader.specs.declared.tree.Mark.{Mark}
 use Rattle.spec_reader.specs.declared.tree.Reading.{Reading}
 use Rattle.spec_reader.specs.declared.tree.Term.{Term}

@@ -1,13 +1,13 @@
 -- The layout of spelled text.
 use Rattle.std.specs.Prelude.{ℕ, Bool, true, false, ◌||◌, ◌&&◌, not, if◌then◌else◌, List, [], ◌∷◌, ◌++◌, codes}
 use Rattle.std.specs.Str.{bytes_eq}
-use Rattle.token_readers.specs.declared.token.Key.{Key}
-use Rattle.token_readers.specs.declared.token.Key.TheVariants as keys
-use Rattle.token_readers.specs.declared.token.Symbol.{Symbol}
-use Rattle.token_readers.specs.declared.token.Symbol.TheVariants as symbol
-use Rattle.token_readers.specs.declared.token.Version.{Version}
-use Rattle.token_readers.specs.Words.{plain, same_key, is_first, observes_text}
-use Rattle.token_readers.specs.Texts.{text_of}
+use Rattle.parser_combinators.specs.declared.token.Key.{Key}
+use Rattle.parser_combinators.specs.declared.token.Key.TheVariants as keys
+use Rattle.parser_combinators.specs.declared.token.Symbol.{Symbol}
+use Rattle.parser_combinators.specs.declared.token.Symbol.TheVariants as symbol
+use Rattle.parser_combinators.specs.declared.token.Version.{Version}
+use Rattle.parser_combinators.specs.Words.{plain, same_key, is_first, observes_text}
+use Rattle.parser_combinators.specs.Texts.{text_of}
 use Rattle.spec_reader.specs.Form.{TreeForm}
 use Rattle.spec_reader.specs.Spelling.{tree}
 

@@ -3,7 +3,7 @@ use Rattle.std.specs.Prelude.{◌≡◌, ℕ, ◌+◌, ◌≤◌, List, [], ◌�
 use Rattle.std.specs.List.{AllByRecursion}
 use Rattle.word_cut.specs.declared.word.Word.{Word}
 use Rattle.word_cut.specs.Words.{text_of}
-use Rattle.token_readers.specs.Words.{Spelt}
+use Rattle.parser_combinators.specs.Words.{Spelt}
 use Rattle.spec_reader.specs.declared.parsing.SyntaxRefused.{SyntaxRefused}
 use Rattle.spec_reader.specs.declared.parsing.SyntaxRefused.TheVariants as refused
 use Rattle.spec_reader.specs.Form.{TreeForm}

@@ -1,13 +1,13 @@
 -- The readers of each part of the grammar, which mirror the code; what reading means is said in `Place`.
 use Rattle.std.specs.Prelude.{◌==◌, ℕ, zero, suc, Bool, true, false, ◌||◌, not, if◌then◌else◌, List, [], ◌∷◌, length, Option, Some, None, Result, Ok, Err, ◌⊎◌}
 use Rattle.std.proofs.Common.{inl, inr}
-use Rattle.token_readers.specs.declared.token.Key.{Key}
-use Rattle.token_readers.specs.declared.token.Key.TheVariants as keys
-use Rattle.token_readers.specs.declared.token.Kind.{Kind}
-use Rattle.token_readers.specs.declared.token.Kind.TheVariants as kind
-use Rattle.token_readers.specs.declared.token.Token.{Token}
-use Rattle.token_readers.specs.declared.token.Version.{Version}
-use Rattle.token_readers.specs.declared.token.Version.TheVariants as version
+use Rattle.parser_combinators.specs.declared.token.Key.{Key}
+use Rattle.parser_combinators.specs.declared.token.Key.TheVariants as keys
+use Rattle.parser_combinators.specs.declared.token.Kind.{Kind}
+use Rattle.parser_combinators.specs.declared.token.Kind.TheVariants as kind
+use Rattle.parser_combinators.specs.declared.token.Token.{Token}
+use Rattle.parser_combinators.specs.declared.token.Version.{Version}
+use Rattle.parser_combinators.specs.declared.token.Version.TheVariants as version
 use Rattle.spec_reader.specs.declared.tree.Mark.{Mark}
 use Rattle.spec_reader.specs.declared.tree.Figure.{Figure}
 use Rattle.spec_reader.specs.declared.tree.Reading.{Reading}
@@ -36,8 +36,8 @@ use Rattle.spec_reader.specs.declared.tree.Quantifier.TheVariants as quantifiers
 use Rattle.spec_reader.specs.declared.tree.Prefix.{Prefix}
 use Rattle.spec_reader.specs.declared.tree.Variable.{Variable}
 use Rattle.spec_reader.specs.Form.{Form, true_form, false_form, not_form, connect_form, has_form, compare_form, Sentence, LineForm, requires_form, insert_form, remove_form, add_form, set_form, takes_form, observes_form, ItemForm, sort_form, const_form, relation_form, counter_form, initially_form, token_form, conflict_form, invariant_form, operation_form, TreeForm}
-use Rattle.token_readers.specs.Words.{kind_of, is_key, is_name, is_number, name_of, value_of}
-use Rattle.token_readers.specs.Read.{Read, ◌>>=◌, mapped, both, either, perhaps, only, many, word_at, key_at, sign_at, placed, second, listed_at, group_at}
+use Rattle.parser_combinators.specs.Words.{kind_of, is_key, is_name, is_number, name_of, value_of}
+use Rattle.parser_combinators.specs.Read.{Read, ◌>>=◌, mapped, both, either, perhaps, only, many, word_at, key_at, sign_at, placed, second, listed_at, group_at}
 
 -- ---- names, numbers, readings, terms
 

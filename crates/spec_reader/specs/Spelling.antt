@@ -1,10 +1,10 @@
 -- The words of a tree, each with the numbers that the tree has for its place: the grammar of both versions.
 use Rattle.std.specs.Prelude.{ℕ, List, [], ◌∷◌, ◌++◌, map, Bool, true, false, Option, Some, None}
-use Rattle.token_readers.specs.declared.token.Key.{Key}
-use Rattle.token_readers.specs.declared.token.Key.TheVariants as keys
-use Rattle.token_readers.specs.declared.token.Symbol.TheVariants as symbol
-use Rattle.token_readers.specs.declared.token.Version.{Version}
-use Rattle.token_readers.specs.declared.token.Version.TheVariants as version
+use Rattle.parser_combinators.specs.declared.token.Key.{Key}
+use Rattle.parser_combinators.specs.declared.token.Key.TheVariants as keys
+use Rattle.parser_combinators.specs.declared.token.Symbol.TheVariants as symbol
+use Rattle.parser_combinators.specs.declared.token.Version.{Version}
+use Rattle.parser_combinators.specs.declared.token.Version.TheVariants as version
 use Rattle.spec_reader.specs.declared.tree.Mark.{Mark}
 use Rattle.spec_reader.specs.declared.tree.Figure.{Figure}
 use Rattle.spec_reader.specs.declared.tree.Reading.{Reading}
@@ -33,8 +33,8 @@ use Rattle.spec_reader.specs.declared.tree.Quantifier.TheVariants as quantifiers
 use Rattle.spec_reader.specs.declared.tree.Prefix.{Prefix}
 use Rattle.spec_reader.specs.declared.tree.Variable.{Variable}
 use Rattle.spec_reader.specs.Form.{Form, true_form, false_form, not_form, connect_form, has_form, compare_form, Sentence, LineForm, requires_form, insert_form, remove_form, add_form, set_form, takes_form, observes_form, ItemForm, sort_form, const_form, relation_form, counter_form, initially_form, token_form, conflict_form, invariant_form, operation_form, TreeForm}
-use Rattle.token_readers.specs.Words.{Spelt, plain, shared_text, exclusive_text, observes_text, key, sign, each, listed, group, with_place}
-use Rattle.token_readers.specs.Texts.{text_of}
+use Rattle.parser_combinators.specs.Words.{Spelt, plain, shared_text, exclusive_text, observes_text, key, sign, each, listed, group, with_place}
+use Rattle.parser_combinators.specs.Texts.{text_of}
 
 -- a name as a word, whose place the tree has
 abbrev pub mark : Mark → Spelt

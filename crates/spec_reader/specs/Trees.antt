@@ -1,8 +1,8 @@
 -- Which trees the grammar has, and which trees differ in the places of their words alone.
 use Rattle.std.specs.Prelude.{◌≡◌, ◌≤◌, ℕ, zero, suc, List, [], ◌∷◌, Option, Some, None, true}
 use Rattle.std.specs.List.{AllByRecursion}
-use Rattle.token_readers.specs.declared.token.Version.{Version}
-use Rattle.token_readers.specs.declared.token.Version.TheVariants as version
+use Rattle.parser_combinators.specs.declared.token.Version.{Version}
+use Rattle.parser_combinators.specs.declared.token.Version.TheVariants as version
 use Rattle.spec_reader.specs.declared.tree.Mark.{Mark}
 use Rattle.spec_reader.specs.declared.tree.Figure.{Figure}
 use Rattle.spec_reader.specs.declared.tree.Reading.{Reading}
@@ -23,8 +23,8 @@ use Rattle.spec_reader.specs.declared.tree.Mode.TheVariants as modes
 use Rattle.spec_reader.specs.declared.tree.Prefix.{Prefix}
 use Rattle.spec_reader.specs.declared.tree.Variable.{Variable}
 use Rattle.spec_reader.specs.Form.{Form, true_form, false_form, not_form, connect_form, has_form, compare_form, Sentence, LineForm, requires_form, insert_form, remove_form, add_form, set_form, takes_form, observes_form, ItemForm, sort_form, const_form, relation_form, counter_form, initially_form, token_form, conflict_form, invariant_form, operation_form, TreeForm}
-use Rattle.token_readers.specs.Words.{plain, name_kind, is_name, AllSame, NotEmpty}
-use Rattle.token_readers.specs.Texts.{AreWords}
+use Rattle.parser_combinators.specs.Words.{plain, name_kind, is_name, AllSame, NotEmpty}
+use Rattle.parser_combinators.specs.Texts.{AreWords}
 use Rattle.spec_reader.specs.Spelling.{tree}
 
 -- ---- which trees there are in a version

@@ -2,7 +2,7 @@
 // what follows the reading does, so nothing is read twice.
 
 ghost use Rattle.std.specs.Prelude.{◌≡◌, ◌<◌, ◌-◌, length};
-ghost use Rattle.token_readers.specs.Gives.{Gives};
+ghost use Rattle.parser_combinators.specs.Gives.{Gives};
 ghost use Rattle.spec_reader.specs.Form.{form_of};
 ghost use Rattle.spec_reader.specs.Bracket.{bracket_of};
 ghost use Rattle.spec_reader.specs.Reading.{true_at, false_at, has_at, closed_by, compared_with_at, compared_at, connected_with_at, connected_at, behind_at, named_at, negation_at, inside_at, inner_at, plain_at, form_at, starts_term as term_test};
@@ -10,11 +10,11 @@ ghost use Rattle.spec_reader.specs.Reading.{true_at, false_at, has_at, closed_by
 use crate::terms::{atom, more, term};
 use crate::tree::{Comparison, Connective, Formula, Product, Reading, Summand, Term};
 use crate::words::{comparison, connective, is_connective};
-use std::alloc::Global;
-use token_readers::{
+use parser_combinators::{
     Key, Kind, ReadError, Token, Version, closing, is_key, is_name, is_number, is_opening, key,
     next_kind, opening,
 };
+use std::alloc::Global;
 
 /// What stands in brackets. Its parts are in boxes, so that a level of brackets takes little stack.
 #[derive(Drop)]

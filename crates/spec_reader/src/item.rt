@@ -1,8 +1,8 @@
 // Reading the items of a specification.
 
 ghost use Rattle.std.specs.Prelude.{◌≡◌, length, map};
-ghost use Rattle.token_readers.specs.Gives.{Gives};
-ghost use Rattle.token_readers.specs.Read.{one_more, listed_at};
+ghost use Rattle.parser_combinators.specs.Gives.{Gives};
+ghost use Rattle.parser_combinators.specs.Read.{one_more, listed_at};
 ghost use Rattle.spec_reader.specs.Form.{item_of};
 ghost use Rattle.spec_reader.specs.Reading.{value_at, param_kind_at, param_at, params_at, places_at, sort_item_at, const_item_at, relation_item_at, counter_item_at, initially_item_at, token_item_at, conflict_item_at, invariant_item_at, operation_item_at, item_at, items_at, starts_item as item_test};
 
@@ -12,8 +12,8 @@ use crate::terms::{args, minus, reading};
 use crate::tree::{Item, Mark, Param, ParamKind, Value};
 use crate::words::{figure, name};
 use items::Items;
+use parser_combinators::{Key, Kind, ReadError, Token, Version, is_key, key, next_kind, sign};
 use std::alloc::Global;
-use token_readers::{Key, Kind, ReadError, Token, Version, is_key, key, next_kind, sign};
 
 #[tactic(auto, unfolding(crate::specs::Reading::value_at))]
 fn value(tokens: &[Token]) -> Result<(Value, &[Token]), ReadError>

@@ -3,7 +3,7 @@
 ghost use Rattle.std.specs.Prelude.{◌≡◌, ◌≤◌, ◌↔◌, List};
 ghost use Rattle.word_cut.specs.declared.word.Word.{Word};
 ghost use Rattle.word_cut.specs.Words.{IsCut};
-ghost use Rattle.token_readers.specs.declared.token.Version.{Version};
+ghost use Rattle.parser_combinators.specs.declared.token.Version.{Version};
 ghost use Rattle.spec_reader.specs.Form.{Form, TreeForm};
 ghost use Rattle.spec_reader.specs.Spelling.{spelling};
 ghost use Rattle.spec_reader.specs.Trees.{FormFits, IsTree, SameTree};

@@ -3,7 +3,7 @@
 // The grammar of both versions of the language is the definition of how a tree is spelled, in `specs/Spelling.antt`. Which trees there
 // are stands in `specs/Trees.antt`, and what it means that bytes are read as a tree, and where no spelling goes on, in
 // `specs/Place.antt`. The code reads words into trees by the readers of `specs/Reading.antt`; `proofs/` shows that each of them is an
-// exact part of the grammar. The crate stands on word_cut (words), token_readers (how parts of a grammar are put together) and
+// exact part of the grammar. The crate stands on word_cut (words), parser_combinators (how parts of a grammar are put together) and
 // spec_core (names).
 #![tactic(auto)]
 
@@ -34,9 +34,9 @@ mod tree;
 mod words;
 
 pub use laws::{law_depth, law_spelled_is_read};
+pub use parser_combinators::Version;
 pub use parsing::{SyntaxRefused, law_one_spelling, parse};
 pub use spelling::spell;
-pub use token_readers::Version;
 pub use tree::{
     Comparison, Connective, Figure, Formula, Item, Line, Mark, Mode, Param, ParamKind, Prefix,
     Prefixed, Product, Quantifier, Reading, Sign, Signed, Spot, Summand, Term, Tree, Value,

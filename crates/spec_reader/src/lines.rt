@@ -1,8 +1,8 @@
 // Reading the lines of an operation.
 
 ghost use Rattle.std.specs.Prelude.{◌≡◌, length, map};
-ghost use Rattle.token_readers.specs.Gives.{Gives};
-ghost use Rattle.token_readers.specs.Read.{one_more, listed_at};
+ghost use Rattle.parser_combinators.specs.Gives.{Gives};
+ghost use Rattle.parser_combinators.specs.Read.{one_more, listed_at};
 ghost use Rattle.spec_reader.specs.Form.{guard_of, sentence_of, line_of};
 ghost use Rattle.spec_reader.specs.Reading.{spot_at, spots_at, guard_at, mode_at, change_at, amount_at, old_line_at, insert_at, remove_at, add_at, set_at, takes_line_at, requires_line_at, is_observes as observes_test, observes_at, line_at, starts_old_line as old_line_test, starts_line as line_test, lines_at};
 
@@ -12,10 +12,10 @@ use crate::terms::{reading, term};
 use crate::tree::{Formula, Line, Mark, Mode, Prefixed, Reading, Spot, Term};
 use crate::words::name;
 use items::Items;
-use std::alloc::Global;
-use token_readers::{
+use parser_combinators::{
     Key, Kind, ReadError, Token, Version, is_key, key, kind_of_symbol, next_kind, sign,
 };
+use std::alloc::Global;
 
 #[tactic(auto, unfolding(crate::specs::Reading::spot_at))]
 fn spot(alloc: Global, version: Version, tokens: &[Token]) -> Result<(Spot, &[Token]), ReadError>

@@ -2,7 +2,7 @@
 
 ghost use Rattle.std.specs.Prelude.{◌≡◌, ◌≤◌, ◌<◌, length, IfOk, IfErr};
 ghost use Rattle.word_cut.specs.Words.{IsCut};
-ghost use Rattle.token_readers.specs.Gives.{Gives};
+ghost use Rattle.parser_combinators.specs.Gives.{Gives};
 ghost use Rattle.spec_reader.specs.Form.{TreeForm, tree_of};
 ghost use Rattle.spec_reader.specs.Spelling.{spelling};
 ghost use Rattle.spec_reader.specs.Trees.{IsTree, SameTree};
@@ -11,8 +11,8 @@ ghost use Rattle.spec_reader.specs.Reading.{version_at, tree_by, whole_by};
 
 use crate::item::items;
 use crate::tree::Tree;
+use parser_combinators::{Key, Kind, ReadError, Token, Version, kind_of_symbol, sign, tokens};
 use std::alloc::Global;
-use token_readers::{Key, Kind, ReadError, Token, Version, kind_of_symbol, sign, tokens};
 use word_cut::Word;
 
 /// The number of the version, and the words after it.

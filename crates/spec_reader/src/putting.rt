@@ -3,9 +3,9 @@
 #![tactic(auto, using(crate::proofs::Written::putting))]
 
 ghost use Rattle.std.specs.Prelude.{◌≡◌, ◌++◌, [], ◌∷◌, OnOk};
-ghost use Rattle.token_readers.specs.declared.token.Symbol.TheVariants as symbol;
-ghost use Rattle.token_readers.specs.declared.token.Key.TheVariants as keys;
-ghost use Rattle.token_readers.specs.Words.{plain, sign as sign_words, listed, group, each, exclusive_text, observes_text};
+ghost use Rattle.parser_combinators.specs.declared.token.Symbol.TheVariants as symbol;
+ghost use Rattle.parser_combinators.specs.declared.token.Key.TheVariants as keys;
+ghost use Rattle.parser_combinators.specs.Words.{plain, sign as sign_words, listed, group, each, exclusive_text, observes_text};
 ghost use Rattle.spec_reader.specs.Form.{form_of, sentence_of, guard_of, line_of, item_of, tree_of};
 ghost use Rattle.spec_reader.specs.Spelling.{mark as mark_words, one, reading as reading_words, product as product_words, summand as summand_words, signed as signed_words, minus as minus_words, term as term_words, form as form_words, sign_key, comparison_key, connective_key, quantifier_key, variable as variable_words, prefix as prefix_words, sentence as sentence_words, value as value_words, param_kind as kind_words, param as param_words, spot as spot_words, mode as mode_words, guard as guard_words, line as line_words, item as item_words, version_number, tree as tree_words};
 
@@ -14,8 +14,8 @@ use crate::tree::{
     Product, Quantifier, Reading, Sign, Signed, Spot, Summand, Term, Tree, Value, Variable,
 };
 use items::Items;
+use parser_combinators::{Key, Symbol, Version};
 use std::alloc::{AllocError, Global};
-use token_readers::{Key, Symbol, Version};
 
 fn put_key(out: &mut Items<Symbol>, key: Key) -> Result<(), AllocError>
     ensures { OnOk result (out.new ≡ out.old ++ symbol.Key key ∷ []) }

@@ -1,8 +1,8 @@
 // Reading formulas with their variables.
 
 ghost use Rattle.std.specs.Prelude.{◌≡◌, length};
-ghost use Rattle.token_readers.specs.Gives.{Gives};
-ghost use Rattle.token_readers.specs.Read.{one_more};
+ghost use Rattle.parser_combinators.specs.Gives.{Gives};
+ghost use Rattle.parser_combinators.specs.Read.{one_more};
 ghost use Rattle.spec_reader.specs.Form.{sentence_of};
 ghost use Rattle.spec_reader.specs.Reading.{variable_at, variables_at, prefix_at, sentence_at};
 
@@ -10,8 +10,8 @@ use crate::formulas::formula;
 use crate::tree::{Prefix, Prefixed, Variable};
 use crate::words::{is_quantifier, name, quantifier};
 use items::Items;
+use parser_combinators::{Key, ReadError, Token, Version, is_key, next_kind, sign};
 use std::alloc::Global;
-use token_readers::{Key, ReadError, Token, Version, is_key, next_kind, sign};
 
 #[tactic(auto, unfolding(crate::specs::Reading::variable_at))]
 fn variable(

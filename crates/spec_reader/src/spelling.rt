@@ -4,15 +4,15 @@
 
 ghost use Rattle.std.specs.Prelude.{◌≡◌, ◌++◌, OnOk, IfOk, vec_len};
 ghost use Rattle.std.specs.Fmt.{decimal};
-ghost use Rattle.token_readers.specs.Texts.{text_of};
+ghost use Rattle.parser_combinators.specs.Texts.{text_of};
 ghost use Rattle.spec_reader.specs.Form.{tree_of};
 ghost use Rattle.spec_reader.specs.Layout.{begins_line as line_test, begins_indented as indented_test, before as before_text, behind, laid_out, text_of_tree};
 
 use crate::putting::put_tree;
 use crate::tree::Tree;
 use items::Items;
+use parser_combinators::{Key, Symbol, Version, key_text};
 use std::alloc::{AllocError, Global};
-use token_readers::{Key, Symbol, Version, key_text};
 
 fn begins_line(key: Key) -> bool
     ensures { result ≡ line_test key }

@@ -1,15 +1,15 @@
 // Reading names with arguments, and sums.
 
 ghost use Rattle.std.specs.Prelude.{◌≡◌, length};
-ghost use Rattle.token_readers.specs.Gives.{Gives};
-ghost use Rattle.token_readers.specs.Read.{mapped, one_more, listed_at, place_of};
+ghost use Rattle.parser_combinators.specs.Gives.{Gives};
+ghost use Rattle.parser_combinators.specs.Read.{mapped, one_more, listed_at, place_of};
 ghost use Rattle.spec_reader.specs.Reading.{name_at, args_at, reading_at, atom_at, product_at, summand_at, signed_at, minus_at, more_at, term_at};
 
 use crate::tree::{Mark, Product, Reading, Signed, Summand, Term};
 use crate::words::{figure, is_sign, name, plus};
 use items::Items;
+use parser_combinators::{Key, ReadError, Token, Version, is_key, is_number, next_kind, sign};
 use std::alloc::Global;
-use token_readers::{Key, ReadError, Token, Version, is_key, is_number, next_kind, sign};
 
 /// The place of the next word.
 pub fn place(tokens: &[Token]) -> u32

@@ -1,8 +1,8 @@
 // The tree of a specification: one variant for each alternative of the grammar, with names and numbers where they stand.
 
 use items::Items;
+use parser_combinators::Version;
 use spec_core::Name;
-use token_readers::Version;
 
 /// A name and its place among the words, counted from 0.
 #[derive(Drop)]

@@ -1,16 +1,16 @@
 // Reading single words: names, numbers, and the signs that stand between.
 
 ghost use Rattle.std.specs.Prelude.{◌≡◌, ◌≤◌, length, Ok};
-ghost use Rattle.token_readers.specs.Gives.{Gives};
-ghost use Rattle.token_readers.specs.Words.{name_of, value_of};
+ghost use Rattle.parser_combinators.specs.Gives.{Gives};
+ghost use Rattle.parser_combinators.specs.Words.{name_of, value_of};
 ghost use Rattle.spec_reader.specs.Reading.{name_at, figure_at, is_sign as sign_test, sign_of as sign_for, plus_at, is_comparison as comparison_test, comparison_of as comparison_for, comparison_at, is_connective as connective_test, connective_of as connective_for, connective_at, is_quantifier as quantifier_test, quantifier_of as quantifier_for, quantifier_at};
 
 use crate::tree::{Comparison, Connective, Figure, Mark, Quantifier, Sign};
-use spec_core::Name;
-use std::alloc::Global;
-use token_readers::{
+use parser_combinators::{
     Key, Kind, ReadError, Symbol, Token, Version, is_key, is_name, is_number, kind_of_symbol,
 };
+use spec_core::Name;
+use std::alloc::Global;
 
 /// The name that a word is.
 fn name_in(alloc: Global, symbol: &Symbol) -> Result<Name, ReadError>

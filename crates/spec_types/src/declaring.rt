@@ -4,18 +4,18 @@ ghost use Rattle.std.specs.Prelude.{◌≡◌, ◌<◌, length, count_by, ◌==�
 ghost use Rattle.spec_reader.specs.Form.{sort_form, const_form, relation_form, counter_form, token_form};
 ghost use Rattle.typing_rules.specs.Items.{few_consts_fault as few_consts_fault_of, const_fault as const_fault_of, place_number as place_number_of, with_sort, with_const, with_relation, with_counter, with_token, typed_item};
 ghost use Rattle.spec_types.specs.Refusals.{Makes};
-ghost use Rattle.type_faults.specs.Views.{faulted};
+ghost use Rattle.find_faults.specs.Views.{faulted};
 ghost use Rattle.spec_types.specs.Views.{known_of};
 
 use crate::known::{Known, heading_fault, scope_in, sort_numbers, sorts_fault};
 use crate::refusal::Stop;
+use find_faults::{Draft, Fault, declared_fault, limit_at, sort_fault, sort_number};
 use spec_core::limits::{
     MOST_CONSTANTS, MOST_COUNTERS, MOST_KEYS, MOST_PLACES, MOST_RELATIONS, MOST_SORTS, MOST_TOKENS,
 };
 use spec_core::{Const, Counter, Name, Relation, Token};
 use spec_reader::Mark;
 use std::alloc::{AllocError, Global};
-use type_faults::{Draft, Fault, declared_fault, limit_at, sort_fault, sort_number};
 use typing_rules::{Meaning, Which};
 
 // ---- sorts

@@ -3,20 +3,20 @@
 ghost use Rattle.std.specs.Prelude.{◌≡◌, OnOk};
 ghost use Rattle.spec_reader.specs.Form.{initially_form};
 ghost use Rattle.typing_rules.specs.Items.{value_fault as value_fault_of, initially_fault as initially_fault_of, truth_of as truth_of_value, number_of as number_of_value, initial_truth, initial_number, initial_design, with_initial, typed_item};
-ghost use Rattle.type_faults.specs.Names.{meaning_in};
+ghost use Rattle.find_faults.specs.Names.{meaning_in};
 ghost use Rattle.spec_types.specs.Refusals.{Makes};
-ghost use Rattle.type_faults.specs.Views.{faulted};
+ghost use Rattle.find_faults.specs.Views.{faulted};
 ghost use Rattle.spec_types.specs.Views.{known_of};
 
 use crate::known::Known;
 use crate::making::literal_of;
 use crate::refusal::Stop;
+use find_faults::{Draft, Fault, literal_fault};
 use items::Items;
 use spec_core::{Counter, Relation};
 use spec_reader::{Mark, Value};
 use std::alloc::{AllocError, Global};
 use std::mem;
-use type_faults::{Draft, Fault, literal_fault};
 use typing_rules::Meaning;
 
 /// A relation is initially true or false, a counter has a number.

@@ -2,14 +2,14 @@
 
 ghost use Rattle.std.specs.Prelude.{◌≡◌, ◌<◌, IfOk, IfNone};
 ghost use Rattle.typing_rules.specs.Items.{scope_in as scope_in_known, heading_fault as heading_fault_of, place_fault as place_fault_of, sorts_fault as sorts_fault_of, sort_numbers as sort_numbers_of, nothing_known as nothing_known_of};
-ghost use Rattle.type_faults.specs.Names.{meaning_in};
-ghost use Rattle.type_faults.specs.Views.{faulted, scope_of};
+ghost use Rattle.find_faults.specs.Names.{meaning_in};
+ghost use Rattle.find_faults.specs.Views.{faulted, scope_of};
 ghost use Rattle.spec_types.specs.Views.{known_of};
 
+use find_faults::{Draft, Fault, Names, Scope, declared_fault, limit_at, sort_fault, sort_number};
 use items::Items;
 use spec_reader::{Mark, Version};
 use std::alloc::{AllocError, Global};
-use type_faults::{Draft, Fault, Names, Scope, declared_fault, limit_at, sort_fault, sort_number};
 use typing_rules::Which;
 
 /// The specification that some items are, what their names mean, and the names whose initial value was stated.

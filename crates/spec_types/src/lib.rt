@@ -1,7 +1,7 @@
 // From trees to specifications.
 //
 // It stands on `typing_rules`, whose definitions say which specification a tree is and what is wrong with one that is none, on
-// `typing_faults`, which says it by rules, and on `type_faults`, which looks for what is wrong. `known` is what is known after some items.
+// `fault_rules`, which says it by rules, and on `find_faults`, which looks for what is wrong. `known` is what is known after some items.
 // `making` and `making_lines` copy the parts of a tree that have no fault; `declaring`, `initials`, `rules` and `operations` have the items,
 // `refusal` the answer with a fault, and `typing` the whole.
 #![tactic(auto)]

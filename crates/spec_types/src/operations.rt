@@ -5,25 +5,25 @@ ghost use Rattle.spec_reader.specs.Form.{sentence_of, line_of, invariant_form, o
 ghost use Rattle.typing_rules.specs.Scope.{kind_of as kind_of_tree, param_of as param_of_tree, params_of as params_of_tree};
 ghost use Rattle.typing_rules.specs.Lines.{unless, typed_lines};
 ghost use Rattle.typing_rules.specs.Items.{exists_fault as exists_fault_of, claim_fault as claim_fault_of, with_invariant, typed_invariant, scope_in as scope_in_known, with_params as with_params_of, param_kind_fault as param_kind_fault_of, param_fault as param_fault_of, params_fault as params_fault_of, without_lines as without_lines_of, typed_operation, typed_item};
-ghost use Rattle.type_faults.specs.Names.{meaning_in};
+ghost use Rattle.find_faults.specs.Names.{meaning_in};
 ghost use Rattle.spec_types.specs.Refusals.{Gives, Makes};
-ghost use Rattle.type_faults.specs.Views.{faulted, scope_of};
+ghost use Rattle.find_faults.specs.Views.{faulted, scope_of};
 ghost use Rattle.spec_types.specs.Views.{known_of};
 
 use crate::known::{Known, heading_fault, scope_in};
 use crate::making::sentence_of;
 use crate::making_lines::add_line;
 use crate::refusal::Stop;
+use find_faults::{
+    Fault, Names, Scope, declared_fault, limit_at, line_fault, sentence_fault, sort_fault,
+    sort_number,
+};
 use items::Items;
 use spec_core::limits::{MOST_INVARIANTS, MOST_OPERATIONS, MOST_PARAMETERS};
 use spec_core::{Invariant, Kind, Name, Operation};
 use spec_reader as tree;
 use spec_reader::{Line, Mark, Param, ParamKind, Prefix, Prefixed, Quantifier};
 use std::alloc::{AllocError, Global};
-use type_faults::{
-    Fault, Names, Scope, declared_fault, limit_at, line_fault, sentence_fault, sort_fault,
-    sort_number,
-};
 use typing_rules::{Meaning, Which};
 
 // ---- invariants

@@ -3,12 +3,12 @@
 ghost use Rattle.std.specs.Prelude.{◌≡◌, Err, IfOk};
 ghost use Rattle.spec_core.specs.Specification.{Specification};
 ghost use Rattle.spec_types.specs.Refusals.{IsTypeRefusal};
-ghost use Rattle.type_faults.specs.Views.{fault_of};
+ghost use Rattle.find_faults.specs.Views.{fault_of};
 ghost use Rattle.spec_types.specs.declared.refusal.Stop.TheVariants as stop;
 
+use find_faults::Fault;
 use spec_core::Name;
 use std::alloc::{AllocError, Global};
-use type_faults::Fault;
 use typing_rules::Which;
 
 /// What is wrong with a tree. Of a tree that stands in a text, as each tree that is read, it is the fault with the least word, and at

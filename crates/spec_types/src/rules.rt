@@ -6,17 +6,17 @@ ghost use Rattle.spec_reader.specs.Form.{conflict_form};
 ghost use Rattle.typing_rules.specs.Terms.{small as small_of};
 ghost use Rattle.typing_rules.specs.Items.{first_sort as first_sort_of, pattern_places as pattern_places_of, rule_sort as rule_sort_of, rule_variable_fault as rule_variable_fault_of, rule_variables_fault as rule_variables_fault_of, pattern_fault as pattern_fault_of, conflict_fault as conflict_fault_of, variable_number as variable_number_of, pattern_of as pattern_of_reading, with_rule, typed_item};
 ghost use Rattle.spec_types.specs.Refusals.{Makes};
-ghost use Rattle.type_faults.specs.Views.{faulted};
+ghost use Rattle.find_faults.specs.Views.{faulted};
 ghost use Rattle.spec_types.specs.Views.{known_of};
 
 use crate::known::{Known, scope_in};
 use crate::refusal::Stop;
+use find_faults::{Fault, is_of_sort, limit_at, places_fault, small, stranger_fault, token_places};
 use items::Items;
 use spec_core::limits::MOST_RULES;
 use spec_core::{Pattern, Rule};
 use spec_reader::{Mark, Reading};
 use std::alloc::{AllocError, Global};
-use type_faults::{Fault, is_of_sort, limit_at, places_fault, small, stranger_fault, token_places};
 use typing_rules::Which;
 
 /// The sort of the first place at which a variable stands in a pattern.

@@ -6,8 +6,8 @@ use Rattle.std.specs.List.{flat_map}
 use Rattle.spec_core.specs.Specification.{Specification}
 use Rattle.report_lines.specs.Words.{line_text}
 use Rattle.report_lines.specs.Blocks.{operation_name}
-use Rattle.keyed_specs.specs.Bare.{bare}
-use Rattle.keyed_specs.specs.Keyed.{keyed}
+use Rattle.conflict_variants.specs.Bare.{bare}
+use Rattle.conflict_variants.specs.Keyed.{keyed}
 use Rattle.suggest.specs.Pairs.{keys_of}
 use Rattle.suggest.specs.Answers.{AreKeyAnswers, IsFoundIn, is_refuted, keys_after, with_answer}
 use Rattle.suggest.specs.Texts.{param_name, found_text, pair_word, key_word, key_text}

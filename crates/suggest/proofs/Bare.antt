@@ -20,9 +20,9 @@ use Rattle.effectors.specs.Effect.{has_after, count_after, numbered, after}
 use Rattle.obligation_list.specs.declared.obligation.Obligation.{Obligation}
 use Rattle.obligation_list.specs.declared.obligation.Obligation.TheVariants.{Init, Safety, Commute, Stable}
 use Rattle.obligation_list.specs.Breaking.{requires_line, failing_vars, line_at, reads_same, elements_of, IsCallOf, MayRunTogether, BreaksIn, Breaks, Holds}
-use Rattle.keyed_specs.specs.Takes.{with_takes}
-use Rattle.keyed_specs.specs.Bare.{with_tokens, bare}
-use Rattle.keyed_specs.specs.Keyed.{keyed_from, keyed}
+use Rattle.conflict_variants.specs.Takes.{with_takes}
+use Rattle.conflict_variants.specs.Bare.{with_tokens, bare}
+use Rattle.conflict_variants.specs.Keyed.{keyed_from, keyed}
 use Rattle.suggest.specs.Answers.{HaveLogs}
 
 -- ---- the bare specification of a keyed one

@@ -7,7 +7,7 @@ use Rattle.obligation_list.specs.declared.obligation.Obligation.{Obligation}
 use Rattle.obligation_list.specs.declared.witness.Witness.{Witness}
 use Rattle.proof_report.specs.declared.verdict.Cause.{Cause}
 use Rattle.proof_report.specs.Verdicts.{refuted}
-use Rattle.report_text.specs.Showing.{shown_by, shown_cause}
+use Rattle.report_bytes.specs.Showing.{shown_by, shown_cause}
 use Rattle.check_run.specs.Good.{IsGood}
 use Rattle.suggest.specs.Answers.{HasProof, HasNoRefutation, IsFound}
 use Rattle.suggest.specs.declared.answer.Found.{Found}

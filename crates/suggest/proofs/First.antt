@@ -14,7 +14,7 @@ use Rattle.proof_report.specs.declared.verdict.Cause.{Cause}
 use Rattle.proof_report.specs.declared.verdict.Verdict.{Verdict}
 use Rattle.proof_report.specs.declared.verdict.Verdict.TheVariants as verdicts
 use Rattle.proof_report.specs.Texts.{WitnessFits}
-use Rattle.report_text.specs.Showing.{shown_verdict, shown_cause, IsFit}
+use Rattle.report_bytes.specs.Showing.{shown_verdict, shown_cause, IsFit}
 use Rattle.check_run.specs.Good.{IsGood}
 use Rattle.check_run.specs.Reports.{written_version}
 use Rattle.suggest.specs.Answers.{HasLog, HaveLogs, HasProof, IsFound}

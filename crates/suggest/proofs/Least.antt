@@ -12,12 +12,12 @@ use Rattle.obligation_list.proofs.Members.{here, there}
 use Rattle.proof_lines.specs.declared.line.Line.{Line}
 use Rattle.proof_report.specs.declared.place.PartialWitness.{PartialWitness}
 use Rattle.proof_report.specs.Verdicts.{proved, refuted}
-use Rattle.report_text.specs.Showing.{shown_by}
+use Rattle.report_bytes.specs.Showing.{shown_by}
 use Rattle.check_run.specs.Shown.{listing_of}
 use Rattle.check_run.specs.Good.{IsGood}
-use Rattle.keyed_specs.specs.Bare.{bare}
-use Rattle.keyed_specs.specs.Keyed.{keyed}
-use Rattle.keyed_specs.proofs.WellFormed.{bare_well_formed}
+use Rattle.conflict_variants.specs.Bare.{bare}
+use Rattle.conflict_variants.specs.Keyed.{keyed}
+use Rattle.conflict_variants.proofs.WellFormed.{bare_well_formed}
 use Rattle.suggest.specs.Pairs.{PairHolds, IsPair, IsEnough, pairs_of, keys_of}
 use Rattle.suggest.specs.Answers.{IsFoundIn, is_refuted, is_undecided, is_proved, keys_after, AreKeyAnswers, IsAnswer, AreAnswers, is_for, is_needed, is_unknown, is_key, is_enough_by}
 use Rattle.suggest.specs.Theorem.{IsShownToBreak, IsBroken, IsRight}

@@ -11,7 +11,7 @@ use Rattle.obligation_list.specs.declared.obligation.Obligation.{Obligation}
 use Rattle.obligation_list.specs.Obligations.{obligations_of, IsObligation}
 use Rattle.obligation_list.proofs.Below.{flat_map-below_more}
 use Rattle.obligation_list.proofs.Members.{here, Contains-filter_cases, Contains-flat_map, Contains-flat_map_cases, Contains-below, Contains-below_cases}
-use Rattle.keyed_specs.specs.Keyed.{sort_of_parameter, CanBeKeyed}
+use Rattle.conflict_variants.specs.Keyed.{sort_of_parameter, CanBeKeyed}
 use Rattle.suggest.specs.Pairs.{is_of_pair, IsPair, pairs_from, pairs_of, keys_from, keys_of}
 use Rattle.suggest.specs.declared.answer.Pair.{Pair}
 use Rattle.suggest.specs.declared.answer.Key.{Key}

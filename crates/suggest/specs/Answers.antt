@@ -8,10 +8,10 @@ use Rattle.obligation_list.specs.declared.witness.Witness.{Witness}
 use Rattle.proof_lines.specs.declared.line.Line.{Line}
 use Rattle.proof_report.specs.declared.verdict.Cause.{Cause}
 use Rattle.proof_report.specs.Verdicts.{proved, refuted}
-use Rattle.report_text.specs.Showing.{shown_by, shown_cause}
+use Rattle.report_bytes.specs.Showing.{shown_by, shown_cause}
 use Rattle.check_run.specs.Good.{IsGood}
-use Rattle.keyed_specs.specs.Bare.{bare}
-use Rattle.keyed_specs.specs.Keyed.{keyed}
+use Rattle.conflict_variants.specs.Bare.{bare}
+use Rattle.conflict_variants.specs.Keyed.{keyed}
 use Rattle.suggest.specs.Pairs.{obligations_of_pair, keys_of}
 use Rattle.suggest.specs.declared.answer.Pair.{Pair}
 use Rattle.suggest.specs.declared.answer.Key.{Key}

@@ -8,8 +8,8 @@ use Rattle.obligation_list.specs.declared.obligation.Obligation.{Obligation}
 use Rattle.obligation_list.specs.declared.obligation.Obligation.TheVariants.{Init, Safety, Commute, Stable}
 use Rattle.obligation_list.specs.Obligations.{obligations_of}
 use Rattle.obligation_list.specs.Breaking.{Holds}
-use Rattle.keyed_specs.specs.Bare.{bare}
-use Rattle.keyed_specs.specs.Keyed.{sort_of_parameter}
+use Rattle.conflict_variants.specs.Bare.{bare}
+use Rattle.conflict_variants.specs.Keyed.{sort_of_parameter}
 use Rattle.suggest.specs.declared.answer.Pair.{Pair}
 use Rattle.suggest.specs.declared.answer.Key.{Key}
 

@@ -9,8 +9,8 @@ use Rattle.report_lines.specs.Words.{line_text}
 use Rattle.report_lines.specs.Blocks.{operation_name}
 use Rattle.proof_report.specs.declared.verdict.Verdict.TheVariants as verdicts
 use Rattle.proof_report.specs.Texts.{block_text}
-use Rattle.keyed_specs.specs.Bare.{bare}
-use Rattle.keyed_specs.specs.Keyed.{keyed}
+use Rattle.conflict_variants.specs.Bare.{bare}
+use Rattle.conflict_variants.specs.Keyed.{keyed}
 use Rattle.suggest.specs.Pairs.{pairs_of}
 use Rattle.suggest.specs.Answers.{AreAnswers, AreAnswersSoFar, counted}
 use Rattle.suggest.specs.declared.answer.Pair.{Pair}

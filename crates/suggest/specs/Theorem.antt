@@ -8,10 +8,10 @@ use Rattle.spec_core.specs.Specification.{Specification}
 use Rattle.obligation_list.specs.declared.obligation.Obligation.{Obligation}
 use Rattle.obligation_list.specs.declared.witness.Witness.{Witness}
 use Rattle.obligation_list.specs.Breaking.{Breaks}
-use Rattle.report_text.specs.Showing.{shown_by}
+use Rattle.report_bytes.specs.Showing.{shown_by}
 use Rattle.check_run.specs.Shown.{listing_of}
-use Rattle.keyed_specs.specs.Bare.{bare}
-use Rattle.keyed_specs.specs.Keyed.{keyed}
+use Rattle.conflict_variants.specs.Bare.{bare}
+use Rattle.conflict_variants.specs.Keyed.{keyed}
 use Rattle.suggest.specs.Pairs.{obligations_of_pair, PairHolds, IsPair, IsEnough}
 use Rattle.suggest.specs.Answers.{is_needed, is_unknown, is_enough_by}
 use Rattle.suggest.specs.declared.answer.Found.TheVariants as found

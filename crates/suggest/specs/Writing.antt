@@ -7,8 +7,8 @@ use Rattle.obligation_list.specs.Obligations.{IsObligation}
 use Rattle.proof_report.specs.Texts.{WitnessFits}
 use Rattle.byte_ports.specs.declared.text.WriteOut.{WriteOut}
 use Rattle.byte_ports.specs.declared.text.WriteOut.TheVariants.{Fault, Memory}
-use Rattle.keyed_specs.specs.Bare.{bare}
-use Rattle.keyed_specs.specs.Keyed.{keyed}
+use Rattle.conflict_variants.specs.Bare.{bare}
+use Rattle.conflict_variants.specs.Keyed.{keyed}
 use Rattle.suggest.specs.Pairs.{pairs_of}
 use Rattle.report_lines.specs.Words.{line_text}
 use Rattle.report_lines.specs.Blocks.{operation_name}

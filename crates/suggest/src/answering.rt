@@ -2,8 +2,8 @@
 
 ghost use Rattle.std.specs.Prelude.{◌≡◌, ◌≤◌, IfOk};
 ghost use Rattle.std.specs.List.{Contains};
-ghost use Rattle.keyed_specs.specs.Bare.{bare as bare_of};
-ghost use Rattle.keyed_specs.specs.Keyed.{CanBeKeyed, keyed as keyed_of};
+ghost use Rattle.conflict_variants.specs.Bare.{bare as bare_of};
+ghost use Rattle.conflict_variants.specs.Keyed.{CanBeKeyed, keyed as keyed_of};
 ghost use Rattle.suggest.specs.Pairs.{IsPair, pairs_of, keys_of};
 ghost use Rattle.suggest.specs.Answers.{HaveLogs, IsFoundIn, AreKeyAnswers, IsAnswer, AreAnswers, is_refuted as is_refuted_of, keys_after};
 ghost use Rattle.suggest.specs.declared.answer.Pair.{Pair};
@@ -14,8 +14,8 @@ use crate::finding::{find_bare, find_in};
 use crate::known::Known;
 use crate::listing::{list_keys, list_pairs};
 use crate::writing::is_refuted;
+use conflict_variants::{bare, keyed};
 use items::Items;
-use keyed_specs::{bare, keyed};
 use obligation_list::Obligation;
 use spec_core::Spec;
 use std::alloc::{AllocError, Global};

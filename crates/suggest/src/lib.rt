@@ -3,7 +3,7 @@
 // A pair is needed where one of its obligations breaks in the bare specification, in which nothing conflicts: then each set of pairs that
 // is enough contains it. Where all obligations of the other pairs hold, the needed pairs are enough. So they are the least set.
 //
-// It stands on `keyed_specs`, which makes the bare and the keyed specifications, and on `check_run`, which decides obligations. Definitions,
+// It stands on `conflict_variants`, which makes the bare and the keyed specifications, and on `check_run`, which decides obligations. Definitions,
 // in the order in which a reader needs them: specs/Pairs (pairs, their obligations, and what is enough), specs/Answers (what is answered for
 // each pair), specs/Texts (the text of a suggestion), specs/Theorem (what a suggestion says). specs/Writing mirrors the code.
 #![tactic(auto)]

@@ -6,7 +6,7 @@ ghost use Rattle.std.specs.List.{filter, Contains};
 ghost use Rattle.spec_core.specs.Typed.{sort_of_kind as sort_of_kind_of, same_sort as same_sort_of};
 ghost use Rattle.obligation_list.specs.declared.obligation.Obligation.{Obligation};
 ghost use Rattle.obligation_list.specs.Obligations.{IsObligation};
-ghost use Rattle.keyed_specs.specs.Keyed.{sort_of_parameter as sort_of_parameter_of, CanBeKeyed};
+ghost use Rattle.conflict_variants.specs.Keyed.{sort_of_parameter as sort_of_parameter_of, CanBeKeyed};
 ghost use Rattle.suggest.specs.Pairs.{is_of_pair as is_of_pair_in, obligations_of_pair, IsPair, pair_at, key_at, pairs_from, pairs_of as pairs_in, keys_from, keys_of as keys_in};
 ghost use Rattle.suggest.specs.declared.answer.Pair.{Pair};
 ghost use Rattle.suggest.specs.declared.answer.Key.{Key};

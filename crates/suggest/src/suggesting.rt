@@ -5,7 +5,7 @@ ghost use Rattle.std.specs.List.{Contains};
 ghost use Rattle.byte_ports.specs.Faults.{IsFault};
 ghost use Rattle.byte_ports.specs.declared.text.WriteOut.TheVariants.{Fault};
 ghost use Rattle.byte_ports.specs.Written.{IsText};
-ghost use Rattle.keyed_specs.specs.Bare.{bare as bare_of};
+ghost use Rattle.conflict_variants.specs.Bare.{bare as bare_of};
 ghost use Rattle.suggest.specs.Pairs.{IsPair, pairs_of};
 ghost use Rattle.suggest.specs.Texts.{head_text, end_text};
 ghost use Rattle.suggest.specs.Writing.{IsPairWritten, ArePairs, IsSuggested};
@@ -15,7 +15,7 @@ use crate::answer::{Pair, SuggestTally};
 use crate::listing::list_pairs;
 use crate::writing::{write_end, write_head, write_pair};
 use byte_ports::{Sink, WriteOut, write_text};
-use keyed_specs::bare;
+use conflict_variants::bare;
 use spec_core::Spec;
 use std::alloc::Global;
 

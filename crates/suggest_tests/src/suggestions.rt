@@ -2,14 +2,14 @@
 
 ghost use Rattle.std.specs.Prelude.{◌≡◌};
 ghost use Rattle.spec_core.specs.Typed.{same_sort as same_sort_of, sort_of_kind as sort_of_kind_of};
-ghost use Rattle.keyed_specs.specs.Keyed.{sort_of_parameter as sort_of_parameter_of};
+ghost use Rattle.conflict_variants.specs.Keyed.{sort_of_parameter as sort_of_parameter_of};
 
 use crate::examples::{
     BANK_SUGGESTION, KEPT, KEPT_BEFORE, KEPT_BEHIND, NAMED, NAMED_SUGGESTION, PURSES, SETS,
     SETS_SUGGESTION, SHOP, SHOP_SUGGESTION, TOURNAMENTS, TOURNAMENTS_SUGGESTION, VAST, WITHDRAWALS,
 };
 use crate::running::{spec, suggested};
-use keyed_specs::{bare, keyed};
+use conflict_variants::{bare, keyed};
 use spec_core::{Elem, Kind, Spec};
 use std::alloc::Global;
 use std::process::Abort;

@@ -33,6 +33,7 @@ abbrev pub single_if : Bool → ℕ → Span
 single_if true v = record { from = v; to = suc v }
 single_if false v = record { from = 0; to = 0 }
 
+-- the element of this number, of a sort of this size
 abbrev pub single : ℕ → ℕ → Span
 single v size = single_if (nat_lt v size) v
 
@@ -68,15 +69,17 @@ true_where w r args l es xs = all_within (spans_from w args es xs 0 l.vars) [] (
 abbrev pub true_reached : World → Reads → List ℤ → Line → List UpdateLine → Thing → List Elem → Bool
 true_reached w r args l us x es = list_all (λ (u : UpdateLine). cond (is_thing u.thing x) (true_where w r args l es u.at) true) us
 
--- the same of each reading in a body, in a term and in a formula
+-- the same of each reading in a body
 abbrev pub body_true : World → Reads → List ℤ → Line → List UpdateLine → Body → Bool
 body_true w r args l us body.One = true
 body_true w r args l us (body.Param k) = true
 body_true w r args l us (body.Count k es) = true_reached w r args l us (thing.Counter k) es
 
+-- in a term
 abbrev pub term_true : World → Reads → List ℤ → Line → List UpdateLine → Term → Bool
 term_true w r args l us t = list_all (λ (s : Summand). body_true w r args l us s.body) t.summands
 
+-- and in a formula
 abbrev pub form_true : World → Reads → List ℤ → Line → List UpdateLine → Form → Bool
 form_true w r args l us true_form = true
 form_true w r args l us false_form = true

@@ -4,12 +4,12 @@ use Rattle.std.proofs.lemmas.Bool.{and_parts, and_from}
 use Rattle.std.proofs.lemmas.Bool.Decides.{nat_tests}
 use Rattle.std.specs.List.{AllByRecursion, list_all}
 use Rattle.word_cut.specs.Texts.{is_name, is_reserved, is_long_name}
-use Rattle.token_readers.specs.declared.token.Key.TheVariants as keys
-use Rattle.token_readers.specs.declared.token.Symbol.{Symbol}
-use Rattle.token_readers.specs.declared.token.Symbol.TheVariants as symbol
-use Rattle.token_readers.specs.Texts.{is_word, AreWords}
-use Rattle.token_readers.specs.Words.{Spelt, plain, sign, each, listed, group}
-use Rattle.token_readers.proofs.Part.{plain-append}
+use Rattle.parser_combinators.specs.declared.token.Key.TheVariants as keys
+use Rattle.parser_combinators.specs.declared.token.Symbol.{Symbol}
+use Rattle.parser_combinators.specs.declared.token.Symbol.TheVariants as symbol
+use Rattle.parser_combinators.specs.Texts.{is_word, AreWords}
+use Rattle.parser_combinators.specs.Words.{Spelt, plain, sign, each, listed, group}
+use Rattle.parser_combinators.proofs.Part.{plain-append}
 use Rattle.spec_core.specs.Name.{is_word_name}
 use Rattle.spec_core.specs.Name as core
 use Rattle.spec_reader.specs.declared.tree.Param.{Param}

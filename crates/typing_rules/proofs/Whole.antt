@@ -8,8 +8,8 @@ use Rattle.std.proofs.lemmas.List.Folds.{list_all-map}
 use Rattle.std.specs.Prelude.{is_some}
 use Rattle.std.specs.List.{AllByRecursion, list_all}
 use Rattle.std.specs.Str.{bytes_eq}
-use Rattle.token_readers.specs.declared.token.Version.{Version}
-use Rattle.token_readers.specs.declared.token.Version.TheVariants as version
+use Rattle.parser_combinators.specs.declared.token.Version.{Version}
+use Rattle.parser_combinators.specs.declared.token.Version.TheVariants as version
 use Rattle.spec_core.specs.declared.spec.Const.{Const as Constant}
 use Rattle.spec_core.specs.declared.spec.Relation.{Relation}
 use Rattle.spec_core.specs.declared.spec.Counter.{Counter}

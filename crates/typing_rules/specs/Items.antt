@@ -2,8 +2,8 @@
 use Rattle.std.specs.Prelude.{ℕ, ◌+◌, nat_lt, ◌==◌, count_by, ℤ, pos, Bool, true, false, if◌then◌else◌, List, [], ◌∷◌, ◌++◌, length, map, take, get_or, ◌-◌, ◌&&◌, position, Option, None, Some, is_some, is_none, unwrap_or, Result, Ok, Err, codes}
 use Rattle.std.specs.Option.{option_or}
 use Rattle.std.specs.Str.{bytes_eq}
-use Rattle.token_readers.specs.declared.token.Version.{Version}
-use Rattle.token_readers.specs.declared.token.Version.TheVariants as version
+use Rattle.parser_combinators.specs.declared.token.Version.{Version}
+use Rattle.parser_combinators.specs.declared.token.Version.TheVariants as version
 use Rattle.spec_core.specs.declared.spec.Const.{Const}
 use Rattle.spec_core.specs.declared.spec.Relation.{Relation}
 use Rattle.spec_core.specs.declared.spec.Counter.{Counter}

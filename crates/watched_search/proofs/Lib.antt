@@ -9,3 +9,4 @@ mod Rows
 mod Asking
 mod Solvers
 mod Evaluated
+mod Proposals

@@ -43,8 +43,9 @@
 // solver of difference rows it neither did nor was.
 //
 // Plain atoms are decided before rows: what is asked of the solver then follows from fewer guesses. Of either kind the atoms are decided
-// by number for a few lines. Where these don't suffice, the search begins anew and decides the most active atoms first
-// (`decision_queue`), and where that takes all lines of the budget, by number again. On pigeons the order by number has fewer lines, on
+// by number for a few lines. Where these don't suffice, a search that promises nothing (`clause_learning`) proposes values or a log, which
+// are tested (src/proposed.rt). Where it has none, the search begins anew and decides the most active atoms first (`decision_queue`), and
+// where that takes all lines of the budget, by number again. On pigeons the order by number has fewer lines, on
 // most else that by activity. So a budget suffices where it does for one of the two, and a log of all its lines is the evidence where
 // it does for neither.
 //
@@ -73,6 +74,7 @@ mod hints;
 mod lists;
 mod looking;
 mod propagation;
+mod proposed;
 mod reducing;
 mod row_hints;
 mod searching;

@@ -19,6 +19,7 @@ ghost use Rattle.watched_search.specs.Spent.{is_spent};
 use crate::early::{Clash, Said, ask_rows};
 use crate::hints::Hints;
 use crate::propagation::Propagation;
+use crate::proposed::proposed;
 use crate::reducing::{Reduced, ask_reduced};
 use crate::row_hints::RowHints;
 use decision_queue::Order;
@@ -384,7 +385,8 @@ fn search_in_both<T: Theory>(
     search_in(alloc, problem, theory, Order::Number, budget)
 }
 
-// The search, without the fact that its Unsat means that there is no interpretation. A few lines are tried by number first.
+// The search, without the fact that its Unsat means that there is no interpretation. A few lines are tried by number first, and then what
+// the search proposes that promises nothing.
 fn search<T: Theory>(alloc: Global, problem: &Problem, theory: &mut T, budget: u32) -> Answer
     requires taken { T.MAY_SPLIT ≡ false → (lits : List PlainLit) (rows : List PlainRow) → AreRowsOf problem.now.atoms lits rows → T.takes rows problem.now.ints }
     ensures { IsAnswer T.MAY_SPLIT T.MAY_STOP problem.now budget result }
@@ -397,6 +399,13 @@ fn search<T: Theory>(alloc: Global, problem: &Problem, theory: &mut T, budget: u
         return answer;
     }
     drop(answer);
+    if budget > FEW {
+        match proposed(alloc, problem, budget) {
+            Ok(Some(found)) => return found,
+            Ok(None) => {}
+            Err(_) => return Answer::Memory,
+        }
+    }
     search_in_both(alloc, problem, theory, budget)
 }
 

@@ -1,7 +1,7 @@
 // Logs and the upgraded ones.
 
 use crate::upgrades::making::{Short, is_log, log_of, problem};
-use log_upgrade::upgrade_log;
+use log_drops::upgrade_log;
 use proof_kernel::check_log;
 use proof_lines::Lit;
 use std::alloc::Global;

@@ -10,7 +10,7 @@ pub returns-in-Some-clause-ends : goal.returns-in-Some-clause-ends
 returns-in-Some-clause-ends g c =
     let asked : Some c.in-Some.command ≡ command_of (map string_bytes c.args.words.now) = sym c.in-Some.is ∙ c.command_of.ensures in
     let ends = c.run_command.ensures.ends in
-    (ends.0, ends.1, EndsIn-asked (Some c.in-Some.command) (command_of (map string_bytes c.args.words.now)) ends.0 c.run_command.result _ _ _ _ asked ends.2)
+    (ends.0, ends.1, EndsIn-asked (Some c.in-Some.command) (command_of (map string_bytes c.args.words.now)) ends.0 c.run_command.result _ _ asked ends.2)
 
 pub returns-in-None-clause-ends : goal.returns-in-None-clause-ends
 returns-in-None-clause-ends g c =
@@ -19,8 +19,8 @@ returns-in-None-clause-ends g c =
     let asked : none ≡ command_of (map string_bytes c.args.words.now) = sym c.in-None.is ∙ c.command_of.ensures in (
       given.0,
       given.1,
-      EndsIn-asked none (command_of (map string_bytes c.args.words.now)) given.0 c.write_answer.result _ _ _ _ asked
-          (Ends-one (IsAnswer none given.0) 2 _ c.write_answer.result _ _ _ _ (record { status_is = refl; text_is = refl }) c.write_answer.ensures.ends),
+      EndsIn-asked none (command_of (map string_bytes c.args.words.now)) given.0 c.write_answer.result _ _ asked
+          (Ends-one (IsAnswer none given.0) 2 _ c.write_answer.result _ _ (record { status_is = refl; text_is = refl }) c.write_answer.ensures.ends),
     )
 
 pub returns-in-None-clause-end : goal.returns-in-None-clause-end

@@ -16,7 +16,7 @@ returns-in-Ok-clause-ends g c =
     let answer = c.in-Ok.answer in let from = c.in-Ok.ensures.ok in (
       from.0,
       from.1,
-      Ends-one (IsAnswerWithin c.args.most c.args.long.now (FnReturnsAt g.F.Fn c.args.job) from.0) answer.status c.as_slice.result.now c.write_answer.result _ _ _ _
+      Ends-one (IsAnswerWithin c.args.most c.args.long.now (FnReturnsAt g.F.Fn c.args.job) from.0) answer.status c.as_slice.result.now c.write_answer.result _ _
           (rw c.as_slice.ensures.value from.2) c.write_answer.ensures.ends,
     )
 
@@ -24,10 +24,10 @@ pub returns-in-Err-Fault-clause-ends : goal.returns-in-Err-Fault-clause-ends
 returns-in-Err-Fault-clause-ends g c =
     let given = some_told (g.S.Source.left c.args.source.now) in
     let Whole = IsAnswerWithin c.args.most c.args.long.now (FnReturnsAt g.F.Fn c.args.job) given.0 in
-    (given.0, given.1, Ends-stopped Whole (IsFrontOfOne Whole) 6 _ _ (omega arith) (omega arith) (omega arith))
+    (given.0, given.1, Ends-stopped Whole (IsFrontOfOne Whole) 6 _ (omega arith) (omega arith) (omega arith))
 
 pub returns-in-Err-Memory-clause-ends : goal.returns-in-Err-Memory-clause-ends
 returns-in-Err-Memory-clause-ends g c =
     let given = some_told (g.S.Source.left c.args.source.now) in
     let Whole = IsAnswerWithin c.args.most c.args.long.now (FnReturnsAt g.F.Fn c.args.job) given.0 in
-    (given.0, given.1, Ends-stopped Whole (IsFrontOfOne Whole) 8 _ _ (omega arith) (omega arith) (omega arith))
+    (given.0, given.1, Ends-stopped Whole (IsFrontOfOne Whole) 8 _ (omega arith) (omega arith) (omega arith))

@@ -1,7 +1,7 @@
 use Rattle.std.proofs.Common.{◌<◌, ◌≤◌, ◌+◌, Ok, Err, length, get_or, subst, refl, ◌∙◌, ap, arith}
 use Rattle.obligation_list.specs.declared.obligation.Obligation.TheVariants.{Init}
 use Rattle.proof_report.specs.Events.{told}
-use Rattle.report_text.specs.Showing.{shown_verdict}
+use Rattle.report_bytes.specs.Showing.{shown_verdict}
 use Rattle.check_run.specs.Checking.{IsBlock}
 use Rattle.check_run.proofs.Blocks.{none_written, next_written, stopped_written, all_written, told_next}
 use Rattle.check_run.proofs.checking.check_each.Goals as goal

@@ -1,6 +1,6 @@
 use Rattle.std.proofs.Common.{refl, ap, ◌∙◌, le-leb}
 use Rattle.std.proofs.lemmas.Bool.{and_from}
-use Rattle.report_text.specs.Reading.{first_fault}
+use Rattle.report_bytes.specs.Reading.{first_fault}
 use Rattle.check_run.specs.Reports.{written_version}
 use Rattle.check_run.proofs.laws.law_checked_is_read.Goals as goal
 

@@ -1,4 +1,4 @@
-use Rattle.report_text.specs.Bytes.{report_bytes}
+use Rattle.report_bytes.specs.Bytes.{report_bytes}
 use Rattle.report_upgrader.specs.Reports.{upgraded_report}
 use Rattle.report_upgrader.proofs.Steps.{begun}
 use Rattle.report_upgrader.proofs.rewriting.write_upgraded.Goals as goal

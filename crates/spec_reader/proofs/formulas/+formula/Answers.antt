@@ -1,6 +1,6 @@
 use Rattle.std.proofs.Common.{◌≡◌, true, false, sym, ap, ◌∙◌, arith}
-use Rattle.token_readers.specs.declared.token.Key.TheVariants as keys
-use Rattle.token_readers.specs.Words.{next, seen, is_key, is_name}
+use Rattle.parser_combinators.specs.declared.token.Key.TheVariants as keys
+use Rattle.parser_combinators.specs.Words.{next, seen, is_key, is_name}
 use Rattle.spec_reader.specs.Reading.{form_at, starts_term}
 use Rattle.spec_reader.proofs.FormCode.{form_at-flat, form_at-plain, form_at-not, inner_at-flat, inner_at-more, inside_at-term, inside_at-named, inside_at-connected}
 use Rattle.spec_reader.proofs.formulas.+formula.Goals as goal

@@ -2,9 +2,9 @@ use Rattle.std.proofs.Common.{◌≡◌, true, false, ◌++◌, ◌∷◌, [], m
 use Rattle.std.proofs.lemmas.Result.{err_from_is_err_and}
 use Rattle.std.proofs.lemmas.List.{map_push}
 use Rattle.spec_reader.specs.Form.{item_of}
-use Rattle.token_readers.specs.Words.{next, seen}
+use Rattle.parser_combinators.specs.Words.{next, seen}
 use Rattle.spec_reader.specs.Reading.{starts_item, item_at, items_at}
-use Rattle.token_readers.proofs.Loop.{goes_on, ends, is_done}
+use Rattle.parser_combinators.proofs.Loop.{goes_on, ends, is_done}
 use Rattle.spec_reader.proofs.Shrinking.{item_shrinks}
 use Rattle.spec_reader.proofs.item.items.Goals as goal
 

@@ -1,9 +1,9 @@
 use Rattle.std.proofs.Common.{◌≡◌, length}
-use Rattle.token_readers.specs.declared.token.Key.TheVariants as keys
-use Rattle.token_readers.specs.Words.{is_key}
-use Rattle.token_readers.specs.Read.{many, one_more, listed_at}
+use Rattle.parser_combinators.specs.declared.token.Key.TheVariants as keys
+use Rattle.parser_combinators.specs.Words.{is_key}
+use Rattle.parser_combinators.specs.Read.{many, one_more, listed_at}
 use Rattle.spec_reader.specs.Reading.{param_at}
-use Rattle.token_readers.proofs.Loop.{with_front}
+use Rattle.parser_combinators.proofs.Loop.{with_front}
 use Rattle.spec_reader.proofs.item.param_list.Given as goal
 
 abbrev pub invariant-params : goal.invariant-params

@@ -2,9 +2,9 @@ use Rattle.std.proofs.Common.{◌≡◌, true, false, ◌++◌, ◌∷◌, [], m
 use Rattle.std.proofs.lemmas.Result.{err_from_is_err_and}
 use Rattle.std.proofs.lemmas.List.{map_push}
 use Rattle.spec_reader.specs.Form.{line_of}
-use Rattle.token_readers.specs.Words.{next, seen}
+use Rattle.parser_combinators.specs.Words.{next, seen}
 use Rattle.spec_reader.specs.Reading.{starts_line, line_at, lines_at}
-use Rattle.token_readers.proofs.Loop.{goes_on, ends, is_done}
+use Rattle.parser_combinators.proofs.Loop.{goes_on, ends, is_done}
 use Rattle.spec_reader.proofs.Shrinking.{line_shrinks, lines_end}
 use Rattle.spec_reader.proofs.lines.lines.Goals as goal
 

@@ -1,7 +1,7 @@
 use Rattle.std.proofs.Common.{◌≡◌, length, map}
 use Rattle.spec_reader.specs.Form.{line_of}
 use Rattle.spec_reader.specs.Reading.{lines_at}
-use Rattle.token_readers.proofs.Loop.{with_front}
+use Rattle.parser_combinators.proofs.Loop.{with_front}
 use Rattle.spec_reader.proofs.lines.lines.Given as goal
 
 abbrev pub invariant-lines : goal.invariant-lines

@@ -1,10 +1,10 @@
 use Rattle.std.proofs.Common.{◌≡◌, true, false, refl, sym, ap, ◌∙◌}
 use Rattle.std.proofs.lemmas.Result.{err_from_is_err_and}
-use Rattle.token_readers.specs.declared.token.Key.TheVariants as keys
-use Rattle.token_readers.specs.Words.{is_key, next, seen}
-use Rattle.token_readers.specs.Read.{one_more, listed_at}
+use Rattle.parser_combinators.specs.declared.token.Key.TheVariants as keys
+use Rattle.parser_combinators.specs.Words.{is_key, next, seen}
+use Rattle.parser_combinators.specs.Read.{one_more, listed_at}
 use Rattle.spec_reader.specs.Reading.{spot_at}
-use Rattle.token_readers.proofs.Loop.{goes_on, ends, is_done}
+use Rattle.parser_combinators.proofs.Loop.{goes_on, ends, is_done}
 use Rattle.spec_reader.proofs.Shrinking.{spot_shrinks}
 use Rattle.spec_reader.proofs.lines.spot_list.Goals as goal
 

@@ -1,5 +1,5 @@
 use Rattle.std.proofs.Common.{◌≡◌, ◌≤◌, length, Err, sym, ap, ◌∙◌, arith}
-use Rattle.token_readers.specs.Tokens.{tokens_of}
+use Rattle.parser_combinators.specs.Tokens.{tokens_of}
 use Rattle.spec_reader.specs.Reading.{whole_by}
 use Rattle.spec_reader.proofs.TreeCode.{left_within}
 use Rattle.spec_reader.proofs.Bytes.{is_read, is_only, is_place}

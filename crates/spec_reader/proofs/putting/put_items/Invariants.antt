@@ -1,5 +1,5 @@
 use Rattle.std.proofs.Common.{◌≡◌, ◌++◌, take}
-use Rattle.token_readers.specs.Words.{plain, each}
+use Rattle.parser_combinators.specs.Words.{plain, each}
 use Rattle.spec_reader.specs.Form.{item_of}
 use Rattle.spec_reader.specs.Spelling.{item}
 use Rattle.spec_reader.proofs.putting.put_items.Given as goal

@@ -1,5 +1,5 @@
 use Rattle.std.proofs.Common.{◌≡◌, ◌++◌, take}
-use Rattle.token_readers.specs.Words.{plain, each}
+use Rattle.parser_combinators.specs.Words.{plain, each}
 use Rattle.spec_reader.specs.Form.{line_of}
 use Rattle.spec_reader.specs.Spelling.{line}
 use Rattle.spec_reader.proofs.putting.put_lines.Given as goal

@@ -1,8 +1,8 @@
 use Rattle.std.proofs.Common.{◌≡◌, List, [], ◌∷◌, ◌++◌, ap, ◌∙◌, append_assoc}
-use Rattle.token_readers.specs.declared.token.Key.TheVariants as keys
-use Rattle.token_readers.specs.declared.token.Symbol.{Symbol}
-use Rattle.token_readers.specs.declared.token.Symbol.TheVariants as symbol
-use Rattle.token_readers.specs.Words.{plain, sign}
+use Rattle.parser_combinators.specs.declared.token.Key.TheVariants as keys
+use Rattle.parser_combinators.specs.declared.token.Symbol.{Symbol}
+use Rattle.parser_combinators.specs.declared.token.Symbol.TheVariants as symbol
+use Rattle.parser_combinators.specs.Words.{plain, sign}
 use Rattle.spec_reader.specs.Spelling.{spot}
 use Rattle.spec_reader.proofs.Written.{written}
 use Rattle.spec_reader.proofs.putting.put_more_spots.Goals as goal

@@ -1,6 +1,6 @@
 use Rattle.std.proofs.Common.{◌≡◌, ◌++◌, ◌∷◌, take}
-use Rattle.token_readers.specs.declared.token.Key.TheVariants as keys
-use Rattle.token_readers.specs.Words.{plain, each, sign}
+use Rattle.parser_combinators.specs.declared.token.Key.TheVariants as keys
+use Rattle.parser_combinators.specs.Words.{plain, each, sign}
 use Rattle.spec_reader.specs.Spelling.{spot}
 use Rattle.spec_reader.proofs.putting.put_more_spots.Given as goal
 

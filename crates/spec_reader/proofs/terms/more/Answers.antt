@@ -1,8 +1,8 @@
 use Rattle.std.proofs.Common.{◌≡◌, true, false, refl, sym, ap, ◌∙◌}
 use Rattle.std.proofs.lemmas.Result.{err_from_is_err_and}
-use Rattle.token_readers.specs.Words.{next, seen}
+use Rattle.parser_combinators.specs.Words.{next, seen}
 use Rattle.spec_reader.specs.Reading.{is_sign, signed_at, more_at}
-use Rattle.token_readers.proofs.Loop.{goes_on, ends, is_done}
+use Rattle.parser_combinators.proofs.Loop.{goes_on, ends, is_done}
 use Rattle.spec_reader.proofs.Shrinking.{signed_shrinks}
 use Rattle.spec_reader.proofs.terms.more.Goals as goal
 

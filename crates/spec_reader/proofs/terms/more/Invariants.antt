@@ -1,6 +1,6 @@
 use Rattle.std.proofs.Common.{◌≡◌, length}
 use Rattle.spec_reader.specs.Reading.{more_at}
-use Rattle.token_readers.proofs.Loop.{with_front}
+use Rattle.parser_combinators.proofs.Loop.{with_front}
 use Rattle.spec_reader.proofs.terms.more.Given as goal
 
 abbrev pub invariant-more : goal.invariant-more

@@ -1,6 +1,6 @@
 use Rattle.std.proofs.Common.{◌≡◌, take, map}
 use Rattle.typing_rules.specs.Lines.{spot_of}
-use Rattle.type_faults.specs.Views.{scope_of}
+use Rattle.find_faults.specs.Views.{scope_of}
 use Rattle.spec_types.proofs.making_lines.spots_of.Given as goal
 
 -- the spots so far

@@ -1,6 +1,6 @@
 use Rattle.std.proofs.Common.{List, subst, sym, ◌∙◌}
 use Rattle.std.specs.List.{Contains}
-use Rattle.keyed_specs.specs.Keyed.{CanBeKeyed}
+use Rattle.conflict_variants.specs.Keyed.{CanBeKeyed}
 use Rattle.suggest.specs.Pairs.{keys_of}
 use Rattle.suggest.specs.Answers.{AreKeyAnswers, keys_after}
 use Rattle.suggest.specs.declared.answer.Key.{Key}

@@ -1,7 +1,7 @@
 use Rattle.std.proofs.Common.{List, subst, sym, refl}
 use Rattle.spec_core.specs.Specification.{Specification}
 use Rattle.obligation_list.specs.declared.obligation.Obligation.{Obligation}
-use Rattle.keyed_specs.specs.Bare.{bare}
+use Rattle.conflict_variants.specs.Bare.{bare}
 use Rattle.suggest.specs.Answers.{HaveLogs, IsFoundIn}
 use Rattle.suggest.proofs.answering.pair_answer.Goals as goal
 

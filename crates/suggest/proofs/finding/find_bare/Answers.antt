@@ -1,4 +1,4 @@
-use Rattle.keyed_specs.specs.Bare.{bare}
+use Rattle.conflict_variants.specs.Bare.{bare}
 use Rattle.suggest.proofs.First.{no_logs}
 use Rattle.suggest.proofs.finding.find_bare.Goals as goal
 

@@ -1,6 +1,6 @@
 use Rattle.std.proofs.Common.{◌∷◌, [], cond}
 use Rattle.spec_core.specs.Typed.{same_sort}
-use Rattle.keyed_specs.specs.Keyed.{sort_of_parameter}
+use Rattle.conflict_variants.specs.Keyed.{sort_of_parameter}
 use Rattle.suggest.proofs.Listed.{listed_more}
 use Rattle.suggest.proofs.listing.add_keys_from.Goals as goal
 

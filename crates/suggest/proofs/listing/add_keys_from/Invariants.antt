@@ -2,7 +2,7 @@ use Rattle.std.proofs.Common.{◌≡◌, ◌++◌, ◌∷◌, [], cond}
 use Rattle.std.specs.List.{flat_map}
 use Rattle.spec_core.specs.World.{below}
 use Rattle.spec_core.specs.Typed.{same_sort}
-use Rattle.keyed_specs.specs.Keyed.{sort_of_parameter}
+use Rattle.conflict_variants.specs.Keyed.{sort_of_parameter}
 use Rattle.suggest.proofs.listing.add_keys_from.Given as goal
 
 abbrev pub invariant-loop-q : goal.invariant-loop-q

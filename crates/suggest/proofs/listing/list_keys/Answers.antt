@@ -1,6 +1,6 @@
 use Rattle.std.proofs.Common.{List, sym, subst}
 use Rattle.std.specs.List.{Contains}
-use Rattle.keyed_specs.specs.Keyed.{CanBeKeyed}
+use Rattle.conflict_variants.specs.Keyed.{CanBeKeyed}
 use Rattle.suggest.specs.declared.answer.Key.{Key}
 use Rattle.suggest.proofs.Listed.{listed_key}
 use Rattle.suggest.proofs.listing.list_keys.Goals as goal

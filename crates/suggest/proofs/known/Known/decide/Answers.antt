@@ -1,7 +1,7 @@
 use Rattle.std.proofs.Common.{Option, subst}
 use Rattle.std.specs.Prelude.{IfSome}
 use Rattle.proof_report.specs.declared.verdict.Verdict.{Verdict}
-use Rattle.report_text.specs.Showing.{shown_verdict}
+use Rattle.report_bytes.specs.Showing.{shown_verdict}
 use Rattle.check_run.specs.Good.{IsGood}
 use Rattle.suggest.proofs.known.Known.decide.Goals as goal
 

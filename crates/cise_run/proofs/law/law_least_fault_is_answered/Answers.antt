@@ -1,7 +1,0 @@
-use Rattle.cise_run.specs.Words.{job_of}
-use Rattle.cise_run.proofs.Refusals.{refused_rightly}
-use Rattle.cise_run.proofs.law.law_least_fault_is_answered.Goals as goal
-
-pub returns : goal.returns
-returns c = λ words spec extra text before after reads answer written.
-    refused_rightly (job_of words) spec extra text before after c.law_least_refusal.ensures.refused reads answer written

@@ -1,8 +1,0 @@
-use Rattle.cise_run.specs.Words.{job_of}
-use Rattle.cise_run.proofs.Written.{verifies_alike}
-use Rattle.cise_run.proofs.law.law_reports_are_verified.Goals as goal
-
-pub returns : goal.returns
-returns c = λ words spec extra status text before after outcome writes answer written.
-    verifies_alike words spec extra status text before after c.law_typed_is_well_formed.ensures c.law_one_answer.ensures c.law_checked_is_verified.ensures c.law_upgraded_report_is_accepted.ensures
-    outcome writes answer written

@@ -1,0 +1,358 @@
+// The search, and what it proposes.
+use crate::analysis::Analysis;
+use crate::assignment::{Assignment, Truth};
+use crate::chains::Chains;
+use crate::codes::{code, opposite};
+use crate::watching::Clauses;
+use decision_queue::{DecisionQueue, Order};
+use items::Items;
+use proof_lines::{AtomKind, Line, Problem};
+use std::alloc::{AllocError, Global};
+
+/// What the search proposes. Nothing is promised of it.
+#[derive(Drop)]
+pub enum Proposal {
+    /// A log that should give the empty clause.
+    Log(Items<Line>),
+    /// Values of the atoms by which all clauses should be true.
+    Values(Items<bool>),
+    /// Neither was found.
+    Nothing,
+}
+
+// The most atoms of a problem that is tried: each literal has a number.
+const MOST_ATOMS: usize = 1 << 30;
+
+// In which style a search is tried: it begins anew after a multiple of so many conflicts, and what older conflicts added to the activity of
+// an atom counts for less so many times with each.
+#[derive(Clone, Copy)]
+struct Style {
+    restart: u32,
+    fades: u32,
+}
+
+const STYLES: [Style; 2] = [
+    Style {
+        restart: 100,
+        fades: 1,
+    },
+    Style {
+        restart: 20,
+        fades: 2,
+    },
+];
+
+// Of so many members of the restart sequence one is looked for.
+const LUBY_STEPS: u32 = 32;
+
+// What a search came to.
+#[derive(Drop)]
+enum Tried {
+    /// It proposes this.
+    Ended(Proposal),
+    /// There is a log, but it is longer than the budget.
+    Long,
+}
+
+// What a step came to.
+#[derive(Clone, Copy)]
+enum Progress {
+    Goes,
+    Refuted,
+    Found,
+    Stuck,
+}
+
+#[derive(Drop)]
+struct Search {
+    clauses: Clauses,
+    assignment: Assignment,
+    analysis: Analysis,
+    chains: Chains,
+    queue: DecisionQueue,
+    noted: usize,
+    style: Style,
+    conflicts: u32,
+    restarts: u32,
+    left: u32,
+}
+
+// A member of the sequence 1, 1, 2, 1, 1, 2, 4, ..: its places are counted from 0.
+fn luby(place: u32) -> u32 {
+    let mut size = 1u32;
+    let mut power = 1u32;
+    for _ in 0..LUBY_STEPS {
+        if size > place {
+            break;
+        }
+        size = size.saturating_mul(2).saturating_add(1);
+        power = power.saturating_mul(2);
+    }
+    let mut rest = place;
+    for _ in 0..LUBY_STEPS {
+        if size <= 1 || size - 1 == rest {
+            break;
+        }
+        size = (size - 1) / 2;
+        power /= 2;
+        if size > 0 {
+            rest %= size;
+        }
+    }
+    power
+}
+
+fn are_plain(problem: &Problem) -> bool {
+    problem.atoms.iter().all(|atom| match atom {
+        AtomKind::Plain => true,
+        AtomKind::Row(_) => false,
+    })
+}
+
+impl Search {
+    fn new(
+        alloc: Global,
+        problem: &Problem,
+        atoms: u32,
+        style: Style,
+    ) -> Result<Search, AllocError> {
+        let clauses = Clauses::new(alloc, atoms)?;
+        let assignment = Assignment::new(alloc, atoms)?;
+        let analysis = Analysis::new(alloc, atoms)?;
+        Ok(Search {
+            clauses,
+            assignment,
+            analysis,
+            chains: Chains::new(alloc, problem.clauses.len()),
+            queue: DecisionQueue::new(alloc, Order::Activity),
+            noted: 0,
+            style,
+            conflicts: 0,
+            restarts: 0,
+            left: style.restart,
+        })
+    }
+
+    // Adds the clauses of the problem. Answers one of them that is false already, where one is.
+    fn load(&mut self, alloc: Global, problem: &Problem) -> Result<Option<u32>, AllocError> {
+        let mut lits = Vec::new(alloc);
+        for clause in problem.clauses.as_slice() {
+            lits.clear();
+            for lit in clause.lits() {
+                lits.push(code(*lit))?;
+                self.queue.count(lit.atom)?;
+            }
+            self.clauses.add(lits.as_slice())?;
+        }
+        for number in 0..self.clauses.len() {
+            if let Ok(number) = u32::try_from(number) {
+                if let Some(conflict) = self.load_unit(number)? {
+                    return Ok(Some(conflict));
+                }
+            }
+        }
+        Ok(None)
+    }
+
+    // Takes the literal of a clause that has one alone to be true.
+    fn load_unit(&mut self, clause: u32) -> Result<Option<u32>, AllocError> {
+        let lits = self.clauses.lits(clause);
+        if lits.len() != 1 {
+            return Ok(None);
+        }
+        let lit = lits[0];
+        match self.assignment.truth(lit) {
+            Truth::Open => {
+                self.assignment.assign(lit, Some(clause))?;
+                self.analysis.set_unit(lit, clause);
+                Ok(None)
+            }
+            Truth::True => Ok(None),
+            Truth::False => {
+                self.note_fixed()?;
+                Ok(Some(clause))
+            }
+        }
+    }
+
+    // Gives each literal of level 0 a clause of its own.
+    fn note_fixed(&mut self) -> Result<(), AllocError> {
+        for place in self.noted..self.assignment.trail.len() {
+            if let Some(lit) = self.assignment.trail.get(place) {
+                let lit = *lit;
+                self.note(lit)?;
+            }
+        }
+        self.noted = self.assignment.trail.len();
+        Ok(())
+    }
+
+    fn note(&mut self, lit: u32) -> Result<(), AllocError> {
+        let Some(reason) = self.assignment.cause(lit).reason else {
+            return Ok(());
+        };
+        if self.clauses.lits(reason).len() <= 1 {
+            self.analysis.set_unit(lit, reason);
+            return Ok(());
+        }
+        self.analysis
+            .reduce(&self.clauses, &mut self.chains, reason, Some(lit))?;
+        let unit = self.clauses.add(&[lit])?;
+        self.analysis.set_unit(lit, unit);
+        Ok(())
+    }
+
+    // Finds what follows from the literals of the trail. A clause that is false then is answered.
+    fn propagate(&mut self) -> Result<Option<u32>, AllocError> {
+        for _ in 0..self.assignment.truths.len() {
+            let Some(lit) = self.assignment.next() else {
+                return Ok(None);
+            };
+            let found = self.clauses.follow(&mut self.assignment, opposite(lit))?;
+            if found.is_some() {
+                return Ok(found);
+            }
+        }
+        Ok(None)
+    }
+
+    // Learns from a false clause.
+    fn learn(&mut self, conflict: u32) -> Result<Progress, AllocError> {
+        self.conflicts = self.conflicts.saturating_add(1);
+        self.left = self.left.saturating_sub(1);
+        if self.assignment.level() == 0 {
+            self.note_fixed()?;
+            self.analysis
+                .reduce(&self.clauses, &mut self.chains, conflict, None)?;
+            return Ok(Progress::Refuted);
+        }
+        for _ in 0..self.style.fades {
+            self.queue.fade();
+        }
+        let learned = self.analysis.learn(
+            &self.clauses,
+            &self.assignment,
+            &mut self.queue,
+            &mut self.chains,
+            conflict,
+        )?;
+        let Some(level) = learned else {
+            return Ok(Progress::Stuck);
+        };
+        self.assignment.cut(level, &mut self.queue)?;
+        let clause = self.clauses.add(self.analysis.lits.as_slice())?;
+        if let Some(lit) = self.analysis.lits.first() {
+            self.assignment.assign(*lit, Some(clause))?;
+        }
+        Ok(Progress::Goes)
+    }
+
+    // Decides an atom, where one has no value.
+    fn decide(&mut self) -> Result<Progress, AllocError> {
+        for _ in 0..self.assignment.truths.len() {
+            let Some(atom) = self.queue.first() else {
+                return Ok(Progress::Found);
+            };
+            self.queue.remove_first();
+            let lit = self.assignment.last_of(atom);
+            if self.assignment.truth(lit) == Truth::Open {
+                self.assignment.decide(lit)?;
+                return Ok(Progress::Goes);
+            }
+        }
+        Ok(Progress::Found)
+    }
+
+    // Begins anew, where it is due.
+    fn restart(&mut self) -> Result<(), AllocError> {
+        if self.left == 0 {
+            self.restarts = self.restarts.saturating_add(1);
+            self.left = luby(self.restarts).saturating_mul(self.style.restart);
+            self.assignment.cut(0, &mut self.queue)?;
+        }
+        Ok(())
+    }
+
+    // One step: what follows from the trail is found; then a conflict is learned from, or an atom is decided.
+    fn advance(&mut self) -> Result<Progress, AllocError> {
+        if let Some(conflict) = self.propagate()? {
+            return self.learn(conflict);
+        }
+        if self.assignment.level() == 0 {
+            self.note_fixed()?;
+        }
+        self.restart()?;
+        self.decide()
+    }
+
+    // The values of all atoms.
+    fn values(&self, alloc: Global, atoms: u32) -> Result<Items<bool>, AllocError> {
+        let mut values = Items::new(alloc);
+        for atom in 0..atoms {
+            let lit = atom.saturating_mul(2).saturating_add(1);
+            values.push(self.assignment.truth(lit) == Truth::True)?;
+        }
+        Ok(values)
+    }
+
+    fn log(&self, alloc: Global, budget: u32) -> Result<Tried, AllocError> {
+        match self.chains.lines(alloc, budget)? {
+            Some(lines) => Ok(Tried::Ended(Proposal::Log(lines))),
+            None => Ok(Tried::Long),
+        }
+    }
+
+    // Searches until there is an answer, or there were so many conflicts.
+    fn run(
+        &mut self,
+        alloc: Global,
+        problem: &Problem,
+        atoms: u32,
+        budget: u32,
+    ) -> Result<Tried, AllocError> {
+        if let Some(conflict) = self.load(alloc, problem)? {
+            self.learn(conflict)?;
+            return self.log(alloc, budget);
+        }
+        for atom in 0..atoms {
+            self.queue.insert(atom, false)?;
+        }
+        for _ in 0..budget {
+            for _ in 0..self.assignment.truths.len().saturating_add(1) {
+                let conflicts = self.conflicts;
+                match self.advance()? {
+                    Progress::Goes => {}
+                    Progress::Refuted => return self.log(alloc, budget),
+                    Progress::Found => {
+                        let values = self.values(alloc, atoms)?;
+                        return Ok(Tried::Ended(Proposal::Values(values)));
+                    },
+                    Progress::Stuck => return Ok(Tried::Ended(Proposal::Nothing)),
+                }
+                if self.conflicts != conflicts {
+                    break;
+                }
+            }
+        }
+        Ok(Tried::Ended(Proposal::Nothing))
+    }
+}
+
+/// Searches a problem for values by which all clauses are true, or for a log of at most `budget` lines that shows that there are none. It
+/// gives up after as many conflicts, in each style. Atoms that stand for rows aren't tried.
+pub fn propose(alloc: Global, problem: &Problem, budget: u32) -> Result<Proposal, AllocError> {
+    if problem.atoms.len() > MOST_ATOMS || !are_plain(problem) {
+        return Ok(Proposal::Nothing);
+    }
+    let Ok(atoms) = u32::try_from(problem.atoms.len()) else {
+        return Ok(Proposal::Nothing);
+    };
+    for style in STYLES {
+        let mut search = Search::new(alloc, problem, atoms, style)?;
+        match search.run(alloc, problem, atoms, budget)? {
+            Tried::Ended(proposal) => return Ok(proposal),
+            Tried::Long => {}
+        }
+    }
+    Ok(Proposal::Nothing)
+}

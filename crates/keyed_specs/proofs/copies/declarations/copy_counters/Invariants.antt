@@ -1,5 +1,0 @@
-use Rattle.std.proofs.Common.{◌≡◌, take}
-use Rattle.keyed_specs.proofs.copies.declarations.copy_counters.Given as goal
-
-abbrev pub invariant-loop-counter : goal.invariant-loop-counter
-invariant-loop-counter l = l.copies ≡ take l.counter-index l.counters

@@ -1,5 +1,0 @@
-use Rattle.std.proofs.Common.{◌≡◌, take}
-use Rattle.keyed_specs.proofs.copies.declarations.copy_relations.Given as goal
-
-abbrev pub invariant-loop-relation : goal.invariant-loop-relation
-invariant-loop-relation l = l.copies ≡ take l.relation-index l.relations

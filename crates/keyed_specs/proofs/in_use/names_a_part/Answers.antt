@@ -1,6 +1,0 @@
-use Rattle.std.proofs.Common.{◌∙◌}
-use Rattle.keyed_specs.proofs.TokenNames.{any_of_same}
-use Rattle.keyed_specs.proofs.in_use.names_a_part.Goals as goal
-
-pub returns : goal.returns
-returns c = c.any_of.ensures ∙ any_of_same _ _ _ _ _ _ c.names_a_counter.ensures c.names_an_invariant.ensures c.names_an_operation.ensures

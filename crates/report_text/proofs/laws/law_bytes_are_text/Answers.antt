@@ -1,5 +1,0 @@
-use Rattle.report_text.proofs.BytesOfReports.{bytes_are_text}
-use Rattle.report_text.proofs.laws.law_bytes_are_text.Goals as goal
-
-pub returns : goal.returns
-returns c = bytes_are_text

@@ -1,5 +1,0 @@
-use Rattle.report_text.proofs.BytesOfReports.{text_bytes_are_fed}
-use Rattle.report_text.proofs.laws.law_text_bytes_are_fed.Goals as goal
-
-pub returns : goal.returns
-returns c = text_bytes_are_fed

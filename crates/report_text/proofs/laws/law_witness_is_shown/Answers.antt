@@ -1,5 +1,0 @@
-use Rattle.report_text.proofs.ShownFits.{shown_fits}
-use Rattle.report_text.proofs.laws.law_witness_is_shown.Goals as goal
-
-pub returns : goal.returns
-returns c = shown_fits

@@ -1,5 +1,0 @@
-use Rattle.report_text.proofs.NoFault.{written_is_read}
-use Rattle.report_text.proofs.laws.law_written_is_read.Goals as goal
-
-pub returns : goal.returns
-returns c = written_is_read

@@ -1,5 +1,0 @@
-use Rattle.report_text.proofs.WrittenBytes.{written_is_report}
-use Rattle.report_text.proofs.laws.law_written_is_report.Goals as goal
-
-pub returns : goal.returns
-returns c = written_is_report

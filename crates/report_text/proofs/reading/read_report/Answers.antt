@@ -1,4 +1,0 @@
-use Rattle.report_text.proofs.reading.read_report.Goals as goal
-
-pub returns-in-Err : goal.returns-in-Err
-returns-in-Err c = c.in-Err.ensures.refused c.args.spec.now c.in-Ok.ensures

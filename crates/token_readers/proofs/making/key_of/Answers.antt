@@ -1,6 +1,0 @@
-use Rattle.std.proofs.Common.{◌∙◌}
-use Rattle.token_readers.proofs.KeyLemmas.{key_of-all}
-use Rattle.token_readers.proofs.making.key_of.Goals as goal
-
-pub returns : goal.returns
-returns c = c.key_among.ensures ∙ key_of-all c.as_slice.result.now c.args.text.now c.as_slice.ensures

@@ -1,8 +1,0 @@
-use Rattle.token_readers.proofs.KeyLemmas.{word_stands}
-use Rattle.token_readers.proofs.making.tokens.Goals as goal
-
-pub token_of-requires-clause-stands : goal.token_of-requires-clause-stands
-token_of-requires-clause-stands c = (word_stands c.args.bytes.now c.args.words.now c.words.number _ c.requires c.words-test.true).0
-
-pub token_of-requires-clause-place : goal.token_of-requires-clause-place
-token_of-requires-clause-place c = (word_stands c.args.bytes.now c.args.words.now c.words.number _ c.requires c.words-test.true).1

@@ -1,5 +1,0 @@
-use Rattle.token_readers.proofs.KeyLemmas.{Front}
-use Rattle.token_readers.proofs.making.tokens.Given as goal
-
-abbrev pub invariant-words : goal.invariant-words
-invariant-words l = Front l.bytes l.words l.number l.tokens
