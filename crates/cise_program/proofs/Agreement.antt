@@ -4,7 +4,7 @@ use Rattle.std.specs.Prelude.{Result, Ok, Err}
 use Rattle.byte_ports.specs.Ending.{IsOne}
 use Rattle.spec_core.specs.Specification.{Specification}
 use Rattle.spec_core.specs.Typed.{is_specification}
-use Rattle.spec_reader.specs.Form.{TreeForm}
+use Rattle.spec_trees.specs.Form.{TreeForm}
 use Rattle.spec_from_bytes.specs.Refusal.{Refusal, IsRefusal, refusal_text}
 use Rattle.spec_from_bytes.proofs.Reasons.{tree_unique, specification_unique, refusal_is_unique, refused_or_specified}
 use Rattle.report_lines.specs.declared.head.Tally.{Tally}

@@ -2,7 +2,7 @@
 use Rattle.std.proofs.Common.{◌≡◌, ◌⊎◌, ℕ, zero, suc, ◌<◌, Bool, true, false, ◌||◌, ◌==◌, List, length, Option, Some, None, Result, refl, sym, subst, ◌∙◌, inl, inr, arith}
 use Rattle.std.specs.Prelude.{nat_le, if◌then◌else◌, Ok, Err}
 use Rattle.spec_core.specs.Specification.{Specification}
-use Rattle.spec_reader.specs.Form.{TreeForm}
+use Rattle.spec_trees.specs.Form.{TreeForm}
 use Rattle.spec_from_bytes.specs.Refusal.{IsSpecificationOf}
 use Rattle.spec_from_bytes.proofs.Reasons.{refused_or_specified}
 use Rattle.schedule_json.specs.Checks.{Checked}

@@ -10,7 +10,7 @@ use Rattle.spec_core.specs.declared.world.Call.{Call}
 use Rattle.spec_core.specs.Specification.{Specification}
 use Rattle.spec_core.specs.State.{Listing}
 use Rattle.spec_core.specs.Typed.{is_specification}
-use Rattle.spec_reader.specs.Form.{TreeForm}
+use Rattle.spec_trees.specs.Form.{TreeForm}
 use Rattle.obligation_list.specs.declared.obligation.Obligation.{Obligation}
 use Rattle.obligation_list.specs.declared.obligation.Obligation.TheVariants.{Init}
 use Rattle.obligation_list.specs.Obligations.{obligations_of, IsObligation}

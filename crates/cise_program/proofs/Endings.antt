@@ -4,7 +4,7 @@ use Rattle.byte_ports.specs.Ports.{Port}
 use Rattle.byte_ports.specs.Ending.{Ends}
 use Rattle.byte_ports.proofs.Endings.{Ends-map}
 use Rattle.spec_core.specs.Specification.{Specification}
-use Rattle.spec_reader.specs.Form.{TreeForm}
+use Rattle.spec_trees.specs.Form.{TreeForm}
 use Rattle.cise_program.specs.declared.words.Task.{Task}
 use Rattle.cise_program.specs.declared.words.Job.{Job}
 use Rattle.cise_program.specs.declared.words.Job.TheVariants.{Sample}

@@ -4,8 +4,8 @@ use Rattle.std.specs.Prelude.{Ok, slice_get}
 use Rattle.spec_core.specs.Specification.{Specification}
 use Rattle.spec_core.specs.State.{Listing, reads}
 use Rattle.spec_core.specs.Typed.{is_specification}
-use Rattle.spec_reader.specs.Form.{TreeForm}
-use Rattle.spec_reader.specs.Trees.{IsTree}
+use Rattle.spec_trees.specs.Form.{TreeForm}
+use Rattle.spec_trees.specs.Trees.{IsTree}
 use Rattle.typing_rules.specs.Items.{typing}
 use Rattle.obligation_list.specs.declared.obligation.Obligation.{Obligation}
 use Rattle.obligation_list.specs.Obligations.{obligations_of}

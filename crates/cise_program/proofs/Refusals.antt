@@ -1,7 +1,7 @@
 -- Bytes that are no specification are refused for one reason; where it is a fault of their tree, it is the least.
 use Rattle.std.proofs.Common.{◌≡◌, ◌↔◌, ℕ, true, List, Option, Some, None, sym, subst, inl, inr}
 use Rattle.std.specs.Io.KnownBytes.{Appends}
-use Rattle.spec_reader.specs.Form.{TreeForm}
+use Rattle.spec_trees.specs.Form.{TreeForm}
 use Rattle.typing_rules.specs.Fault.{Fault}
 use Rattle.fault_rules.specs.Faults.{IsLeastFault}
 use Rattle.spec_from_bytes.specs.Refusal.{IsTreeOf, Refusal, faulty, IsRefusal, refusal_text}

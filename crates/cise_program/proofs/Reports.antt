@@ -5,7 +5,7 @@ use Rattle.std.proofs.lemmas.Bool.{and_parts}
 use Rattle.std.proofs.lemmas.Bool.Decides.{nat_tests}
 use Rattle.spec_core.specs.Specification.{Specification}
 use Rattle.spec_core.specs.Typed.{is_specification}
-use Rattle.spec_reader.specs.Form.{TreeForm}
+use Rattle.spec_trees.specs.Form.{TreeForm}
 use Rattle.obligation_list.specs.Obligations.{obligations_of}
 use Rattle.obligation_list.specs.Breaking.{Safe}
 use Rattle.report_lines.specs.declared.head.Tally.{Tally}

@@ -5,7 +5,7 @@ use Rattle.std.proofs.lemmas.Bool.{and_parts}
 use Rattle.std.specs.Io.KnownBytes.{Appends}
 use Rattle.spec_core.specs.Specification.{Specification}
 use Rattle.spec_core.specs.Typed.{is_specification}
-use Rattle.spec_reader.specs.Form.{TreeForm}
+use Rattle.spec_trees.specs.Form.{TreeForm}
 use Rattle.spec_from_bytes.specs.Refusal.{IsReadAs}
 use Rattle.spec_from_bytes.proofs.Reasons.{specification_unique, refused_or_specified}
 use Rattle.report_lines.specs.declared.head.Tally.{Tally}

@@ -5,7 +5,7 @@ use Rattle.byte_ports.specs.Ports.{Port}
 use Rattle.byte_ports.specs.Told.{Tells}
 use Rattle.byte_ports.specs.Ending.{IsOne, IsFrontOf, IsBroken, Ends}
 use Rattle.spec_core.specs.Specification.{Specification}
-use Rattle.spec_reader.specs.Form.{TreeForm}
+use Rattle.spec_trees.specs.Form.{TreeForm}
 use Rattle.report_lines.specs.declared.head.Tally.{Tally}
 use Rattle.spec_from_bytes.specs.Lines.{line}
 use Rattle.spec_from_bytes.specs.Refusal.{IsReadAs, Refusal, IsRefusal, refusal_text}

@@ -6,7 +6,7 @@ use Rattle.std.specs.Io.KnownBytes.{Appends}
 use Rattle.byte_ports.specs.Ending.{IsFrontOf, IsBroken}
 use Rattle.spec_core.specs.Specification.{Specification}
 use Rattle.spec_core.specs.State.{Listing, reads}
-use Rattle.spec_reader.specs.Form.{TreeForm}
+use Rattle.spec_trees.specs.Form.{TreeForm}
 use Rattle.obligation_list.specs.declared.obligation.Obligation.{Obligation}
 use Rattle.obligation_list.specs.Breaking.{Breaks, Safe}
 use Rattle.executions.specs.Convergence.{Converges}

@@ -4,7 +4,7 @@ ghost use Rattle.byte_ports.specs.Faults.{IsFault};
 ghost use Rattle.byte_ports.specs.Ports.{port_of};
 ghost use Rattle.byte_ports.specs.Told.{Tells, IsReadWithin};
 ghost use Rattle.byte_ports.specs.Ending.{Ends};
-ghost use Rattle.spec_reader.specs.Form.{tree_of};
+ghost use Rattle.spec_trees.specs.Form.{tree_of};
 ghost use Rattle.spec_from_bytes.specs.Reading.{IsReadingOf};
 ghost use Rattle.cise_program.specs.declared.words.Task.TheVariants.{Replay, Simulate, Suggest};
 ghost use Rattle.cise_program.specs.declared.words.Job.TheVariants.{OfSpec};
@@ -25,7 +25,7 @@ use crate::words::{Job, Task, job_asked};
 use byte_ports::{MEMORY, READ_FAULT, SPECIFICATION, Sink, Source, Stopped, WORDS, write_answer};
 use spec_core::Spec;
 use spec_from_bytes::{Reading, read_specification};
-use spec_reader::Tree;
+use spec_trees::Tree;
 use std::alloc::Global;
 
 /// Does a task for a specification and its tree.

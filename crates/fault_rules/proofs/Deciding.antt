@@ -9,12 +9,12 @@ use Rattle.std.specs.Str.{bytes_eq}
 use Rattle.spec_core.specs.declared.formula.Elem.{Elem}
 use Rattle.spec_core.specs.Limits.{most_nodes, greatest_literal}
 use Rattle.spec_core.specs.Typed.{is_sort, same_sort}
-use Rattle.spec_reader.specs.declared.tree.Mark.{Mark}
-use Rattle.spec_reader.specs.declared.tree.Figure.{Figure}
-use Rattle.spec_reader.specs.declared.tree.Reading.{Reading}
-use Rattle.spec_reader.specs.declared.tree.Param.{Param}
-use Rattle.spec_reader.specs.declared.tree.Variable.{Variable}
-use Rattle.spec_reader.specs.Form.{Form}
+use Rattle.spec_trees.specs.declared.tree.Mark.{Mark}
+use Rattle.spec_trees.specs.declared.tree.Figure.{Figure}
+use Rattle.spec_trees.specs.declared.tree.Reading.{Reading}
+use Rattle.spec_trees.specs.declared.tree.Param.{Param}
+use Rattle.spec_trees.specs.declared.tree.Variable.{Variable}
+use Rattle.spec_trees.specs.Form.{Form}
 use Rattle.typing_rules.specs.declared.meaning.Meaning.{Meaning}
 use Rattle.typing_rules.specs.declared.which.Which.{Which}
 use Rattle.typing_rules.specs.declared.which.Which.TheVariants as which

@@ -4,18 +4,18 @@ use Rattle.std.specs.Prelude.{is_some}
 use Rattle.parser_combinators.specs.declared.token.Key.TheVariants as keys
 use Rattle.parser_combinators.specs.Words.{Spelt, key, sign, each, listed, group}
 use Rattle.spec_core.specs.Limits.{most_constants, most_parameters}
-use Rattle.spec_reader.specs.declared.tree.Mark.{Mark}
-use Rattle.spec_reader.specs.declared.tree.Reading.{Reading}
-use Rattle.spec_reader.specs.declared.tree.Quantifier.{Quantifier}
-use Rattle.spec_reader.specs.declared.tree.Quantifier.TheVariants as quantifiers
-use Rattle.spec_reader.specs.declared.tree.Prefix.{Prefix}
-use Rattle.spec_reader.specs.declared.tree.Param.{Param}
-use Rattle.spec_reader.specs.declared.tree.ParamKind.{ParamKind}
-use Rattle.spec_reader.specs.declared.tree.ParamKind.TheVariants as kinds
-use Rattle.spec_reader.specs.declared.tree.Value.{Value}
-use Rattle.spec_reader.specs.declared.tree.Value.TheVariants as values
-use Rattle.spec_reader.specs.Form.{Sentence, LineForm, ItemForm, sort_form, const_form, relation_form, counter_form, initially_form, token_form, conflict_form, invariant_form, operation_form, TreeForm}
-use Rattle.spec_reader.specs.Spelling.{mark, figure, one, reading, minus, form, variable, quantifier_key, prefix, sentence, value, param_kind, param, line, item, tree}
+use Rattle.spec_trees.specs.declared.tree.Mark.{Mark}
+use Rattle.spec_trees.specs.declared.tree.Reading.{Reading}
+use Rattle.spec_trees.specs.declared.tree.Quantifier.{Quantifier}
+use Rattle.spec_trees.specs.declared.tree.Quantifier.TheVariants as quantifiers
+use Rattle.spec_trees.specs.declared.tree.Prefix.{Prefix}
+use Rattle.spec_trees.specs.declared.tree.Param.{Param}
+use Rattle.spec_trees.specs.declared.tree.ParamKind.{ParamKind}
+use Rattle.spec_trees.specs.declared.tree.ParamKind.TheVariants as kinds
+use Rattle.spec_trees.specs.declared.tree.Value.{Value}
+use Rattle.spec_trees.specs.declared.tree.Value.TheVariants as values
+use Rattle.spec_trees.specs.Form.{Sentence, LineForm, ItemForm, sort_form, const_form, relation_form, counter_form, initially_form, token_form, conflict_form, invariant_form, operation_form, TreeForm}
+use Rattle.spec_trees.specs.Spelling.{mark, figure, one, reading, minus, form, variable, quantifier_key, prefix, sentence, value, param_kind, param, line, item, tree}
 use Rattle.typing_rules.specs.declared.which.Which.{Which}
 use Rattle.typing_rules.specs.declared.which.Which.TheVariants as which
 use Rattle.typing_rules.specs.declared.meaning.Meaning.TheVariants as meaning

@@ -1,8 +1,8 @@
 -- The first fault of what stands in a tree is its least.
 use Rattle.std.proofs.Common.{◌≡◌, ℕ, zero, suc, ◌<◌, ◌≤◌, ◌⊎◌, ◌↔◌, inl, inr, List, [], ◌∷◌, length, slice_index_or, Option, None, Some, Result, Ok, Err, refl, sym, ◌∙◌, ap, subst, arith}
 use Rattle.std.specs.List.{AllByRecursion, Contains}
-use Rattle.spec_reader.specs.Form.{TreeForm}
-use Rattle.spec_reader.specs.Spelling.{tree}
+use Rattle.spec_trees.specs.Form.{TreeForm}
+use Rattle.spec_trees.specs.Spelling.{tree}
 use Rattle.spec_core.specs.Specification.{Specification}
 use Rattle.typing_rules.specs.Fault.{Fault, ◌otherwise◌}
 use Rattle.typing_rules.specs.Lines.{unless}

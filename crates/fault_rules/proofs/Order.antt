@@ -3,7 +3,7 @@ use Rattle.std.proofs.Common.{◌≡◌, ℕ, suc, ◌+◌, ◌<◌, ◌≤◌, 
 use Rattle.std.proofs.lemmas.List.{length-append}
 use Rattle.std.specs.List.{AllByRecursion}
 use Rattle.parser_combinators.specs.Words.{Spelt}
-use Rattle.spec_reader.specs.Place.{IsPlaced}
+use Rattle.spec_trees.specs.Place.{IsPlaced}
 use Rattle.typing_rules.specs.Fault.{Fault}
 use Rattle.typing_rules.specs.Formulas.{node_count, first_word}
 use Rattle.fault_rules.specs.Sites.{Site, declared, used, applied, one_more, formula, literal, stated, compared, claimed_exists, rule_variable, rule_place}

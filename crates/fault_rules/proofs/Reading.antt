@@ -7,9 +7,9 @@ use Rattle.word_cut.specs.Words.{IsCut, Stands, text_of}
 use Rattle.word_cut.proofs.Standing.{words_stand, words_rise}
 use Rattle.parser_combinators.specs.Words.{Spelt, plain}
 use Rattle.parser_combinators.specs.Texts.{text_of as symbol_text}
-use Rattle.spec_reader.specs.Form.{TreeForm}
-use Rattle.spec_reader.specs.Spelling.{tree}
-use Rattle.spec_reader.specs.Place.{IsRead}
+use Rattle.spec_trees.specs.Form.{TreeForm}
+use Rattle.spec_trees.specs.Spelling.{tree}
+use Rattle.spec_trees.specs.Place.{IsRead}
 use Rattle.fault_rules.specs.Faults.{IsWritten}
 
 length-plain : (xs : List Spelt) → length (plain xs) ≡ length xs

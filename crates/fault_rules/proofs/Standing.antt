@@ -7,19 +7,19 @@ use Rattle.parser_combinators.specs.declared.token.Key.TheVariants as keys
 use Rattle.parser_combinators.specs.Words.{Spelt, key, sign, each, listed, group, with_place}
 use Rattle.spec_core.specs.declared.operation.Operation.{Operation}
 use Rattle.spec_core.specs.Specification.{counter_keys}
-use Rattle.spec_reader.specs.declared.tree.Mark.{Mark}
-use Rattle.spec_reader.specs.declared.tree.Reading.{Reading}
-use Rattle.spec_reader.specs.declared.tree.Product.{Product}
-use Rattle.spec_reader.specs.declared.tree.Product.TheVariants as products
-use Rattle.spec_reader.specs.declared.tree.Signed.{Signed}
-use Rattle.spec_reader.specs.declared.tree.Term.{Term}
-use Rattle.spec_reader.specs.declared.tree.Comparison.{Comparison}
-use Rattle.spec_reader.specs.declared.tree.Variable.{Variable}
-use Rattle.spec_reader.specs.declared.tree.Prefix.{Prefix}
-use Rattle.spec_reader.specs.declared.tree.Spot.{Spot}
-use Rattle.spec_reader.specs.declared.tree.Spot.TheVariants as spots
-use Rattle.spec_reader.specs.Form.{Form, true_form, false_form, not_form, connect_form, has_form, compare_form, Sentence, LineForm, requires_form, insert_form, remove_form, add_form, set_form, takes_form, observes_form}
-use Rattle.spec_reader.specs.Spelling.{mark, one, reading, product, summand, sign_key, signed, minus, term, comparison_key, connective_key, form, variable, quantifier_key, prefix, sentence, spot, mode, guard, line}
+use Rattle.spec_trees.specs.declared.tree.Mark.{Mark}
+use Rattle.spec_trees.specs.declared.tree.Reading.{Reading}
+use Rattle.spec_trees.specs.declared.tree.Product.{Product}
+use Rattle.spec_trees.specs.declared.tree.Product.TheVariants as products
+use Rattle.spec_trees.specs.declared.tree.Signed.{Signed}
+use Rattle.spec_trees.specs.declared.tree.Term.{Term}
+use Rattle.spec_trees.specs.declared.tree.Comparison.{Comparison}
+use Rattle.spec_trees.specs.declared.tree.Variable.{Variable}
+use Rattle.spec_trees.specs.declared.tree.Prefix.{Prefix}
+use Rattle.spec_trees.specs.declared.tree.Spot.{Spot}
+use Rattle.spec_trees.specs.declared.tree.Spot.TheVariants as spots
+use Rattle.spec_trees.specs.Form.{Form, true_form, false_form, not_form, connect_form, has_form, compare_form, Sentence, LineForm, requires_form, insert_form, remove_form, add_form, set_form, takes_form, observes_form}
+use Rattle.spec_trees.specs.Spelling.{mark, one, reading, product, summand, sign_key, signed, minus, term, comparison_key, connective_key, form, variable, quantifier_key, prefix, sentence, spot, mode, guard, line}
 use Rattle.typing_rules.specs.declared.which.Which.{Which}
 use Rattle.typing_rules.specs.Fault.{Fault}
 use Rattle.typing_rules.specs.Scope.{Scope, counter_meant}

@@ -4,12 +4,12 @@ use Rattle.std.specs.List.{Contains}
 use Rattle.spec_core.specs.Limits.{most_nodes, greatest_literal}
 use Rattle.spec_core.specs.Specification.{Specification}
 use Rattle.spec_core.specs.Typed.{is_sort, same_sort}
-use Rattle.spec_reader.specs.declared.tree.Mark.{Mark}
-use Rattle.spec_reader.specs.declared.tree.Figure.{Figure}
-use Rattle.spec_reader.specs.declared.tree.Reading.{Reading}
-use Rattle.spec_reader.specs.Form.{Form, TreeForm}
-use Rattle.spec_reader.specs.Spelling.{tree}
-use Rattle.spec_reader.specs.Place.{IsPlaced}
+use Rattle.spec_trees.specs.declared.tree.Mark.{Mark}
+use Rattle.spec_trees.specs.declared.tree.Figure.{Figure}
+use Rattle.spec_trees.specs.declared.tree.Reading.{Reading}
+use Rattle.spec_trees.specs.Form.{Form, TreeForm}
+use Rattle.spec_trees.specs.Spelling.{tree}
+use Rattle.spec_trees.specs.Place.{IsPlaced}
 use Rattle.typing_rules.specs.declared.which.Which.{Which}
 use Rattle.typing_rules.specs.declared.which.Which.TheVariants as which
 use Rattle.typing_rules.specs.Fault.{Fault, unknown_fault, twice_fault, kind_fault, count_fault, limit_fault}

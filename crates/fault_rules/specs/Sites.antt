@@ -6,25 +6,25 @@ use Rattle.spec_core.specs.declared.operation.Operation.{Operation}
 use Rattle.spec_core.specs.Limits.{most_sorts, most_constants, most_relations, most_places, most_counters, most_keys, most_tokens, most_rules, most_invariants, most_operations, most_parameters, most_requires, most_updates, most_takes, most_variables, most_summands}
 use Rattle.spec_core.specs.Specification.{Specification, relation_places, counter_keys, token_places}
 use Rattle.spec_core.specs.Typed.{is_sort}
-use Rattle.spec_reader.specs.declared.tree.Mark.{Mark}
-use Rattle.spec_reader.specs.declared.tree.Figure.{Figure}
-use Rattle.spec_reader.specs.declared.tree.Reading.{Reading}
-use Rattle.spec_reader.specs.declared.tree.Product.{Product}
-use Rattle.spec_reader.specs.declared.tree.Product.TheVariants as products
-use Rattle.spec_reader.specs.declared.tree.Signed.{Signed}
-use Rattle.spec_reader.specs.declared.tree.Term.{Term}
-use Rattle.spec_reader.specs.declared.tree.Variable.{Variable}
-use Rattle.spec_reader.specs.declared.tree.Quantifier.{Quantifier}
-use Rattle.spec_reader.specs.declared.tree.Quantifier.TheVariants as quantifiers
-use Rattle.spec_reader.specs.declared.tree.Prefix.{Prefix}
-use Rattle.spec_reader.specs.declared.tree.Param.{Param}
-use Rattle.spec_reader.specs.declared.tree.ParamKind.{ParamKind}
-use Rattle.spec_reader.specs.declared.tree.ParamKind.TheVariants as kinds
-use Rattle.spec_reader.specs.declared.tree.Spot.{Spot}
-use Rattle.spec_reader.specs.declared.tree.Spot.TheVariants as spots
-use Rattle.spec_reader.specs.declared.tree.Value.{Value}
-use Rattle.spec_reader.specs.declared.tree.Value.TheVariants as values
-use Rattle.spec_reader.specs.Form.{Form, true_form, false_form, not_form, connect_form, has_form, compare_form, Sentence, LineForm, requires_form, insert_form, remove_form, add_form, set_form, takes_form, observes_form, ItemForm, sort_form, const_form, relation_form, counter_form, initially_form, token_form, conflict_form, invariant_form, operation_form, TreeForm}
+use Rattle.spec_trees.specs.declared.tree.Mark.{Mark}
+use Rattle.spec_trees.specs.declared.tree.Figure.{Figure}
+use Rattle.spec_trees.specs.declared.tree.Reading.{Reading}
+use Rattle.spec_trees.specs.declared.tree.Product.{Product}
+use Rattle.spec_trees.specs.declared.tree.Product.TheVariants as products
+use Rattle.spec_trees.specs.declared.tree.Signed.{Signed}
+use Rattle.spec_trees.specs.declared.tree.Term.{Term}
+use Rattle.spec_trees.specs.declared.tree.Variable.{Variable}
+use Rattle.spec_trees.specs.declared.tree.Quantifier.{Quantifier}
+use Rattle.spec_trees.specs.declared.tree.Quantifier.TheVariants as quantifiers
+use Rattle.spec_trees.specs.declared.tree.Prefix.{Prefix}
+use Rattle.spec_trees.specs.declared.tree.Param.{Param}
+use Rattle.spec_trees.specs.declared.tree.ParamKind.{ParamKind}
+use Rattle.spec_trees.specs.declared.tree.ParamKind.TheVariants as kinds
+use Rattle.spec_trees.specs.declared.tree.Spot.{Spot}
+use Rattle.spec_trees.specs.declared.tree.Spot.TheVariants as spots
+use Rattle.spec_trees.specs.declared.tree.Value.{Value}
+use Rattle.spec_trees.specs.declared.tree.Value.TheVariants as values
+use Rattle.spec_trees.specs.Form.{Form, true_form, false_form, not_form, connect_form, has_form, compare_form, Sentence, LineForm, requires_form, insert_form, remove_form, add_form, set_form, takes_form, observes_form, ItemForm, sort_form, const_form, relation_form, counter_form, initially_form, token_form, conflict_form, invariant_form, operation_form, TreeForm}
 use Rattle.typing_rules.specs.declared.meaning.Meaning.TheVariants as meaning
 use Rattle.typing_rules.specs.declared.which.Which.{Which}
 use Rattle.typing_rules.specs.declared.which.Which.TheVariants as which

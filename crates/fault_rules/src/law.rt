@@ -4,8 +4,8 @@ ghost use Rattle.std.specs.Prelude.{◌≡◌, ◌<◌, ◌↔◌, ℕ, List, le
 ghost use Rattle.word_cut.specs.declared.word.Word.{Word};
 ghost use Rattle.word_cut.specs.Words.{IsCut};
 ghost use Rattle.spec_core.specs.Specification.{Specification};
-ghost use Rattle.spec_reader.specs.Form.{TreeForm};
-ghost use Rattle.spec_reader.specs.Place.{IsRead};
+ghost use Rattle.spec_trees.specs.Form.{TreeForm};
+ghost use Rattle.spec_trees.specs.Place.{IsRead};
 ghost use Rattle.typing_rules.specs.Fault.{Fault};
 ghost use Rattle.typing_rules.specs.Items.{typing};
 ghost use Rattle.fault_rules.specs.Faults.{IsWritten, IsTypingOf};

@@ -1,7 +1,7 @@
 -- The tie from the code to the definitions of typing: faults and scopes, as a program holds them.
 use Rattle.std.specs.Prelude.{◌≡◌, Option, None, Some, option_map, Result, Ok, Err, codes}
 use Rattle.std.specs.Borrow.{Bor}
-use Rattle.spec_reader.specs.declared.tree.Mark.{Mark}
+use Rattle.spec_trees.specs.declared.tree.Mark.{Mark}
 use Rattle.spec_core.specs.Specification.{Specification}
 use Rattle.typing_rules.specs.Fault.{Fault, unknown_fault, twice_fault, kind_fault, count_fault, limit_fault}
 use Rattle.typing_rules.specs.Scope.{Scope}

@@ -11,7 +11,7 @@ ghost use Rattle.find_faults.specs.Views.{faulted, scope_of};
 use crate::fault::Fault;
 use crate::scope::{Scope, sort_number, stranger_fault};
 use spec_core::Elem;
-use spec_reader::{Mark, Param, ParamKind, Reading, Variable};
+use spec_trees::{Mark, Param, ParamKind, Reading, Variable};
 
 /// A place that a byte can number.
 pub fn small(place: Option<usize>) -> Option<u8>

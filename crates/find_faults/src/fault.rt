@@ -4,7 +4,7 @@ ghost use Rattle.std.specs.Prelude.{◌≡◌, ◌<◌, IfNone};
 ghost use Rattle.typing_rules.specs.Fault.{limit_at};
 ghost use Rattle.find_faults.specs.Views.{faulted};
 
-use spec_reader::Mark;
+use spec_trees::Mark;
 use typing_rules::Which;
 
 /// What is wrong at a word.

@@ -2,7 +2,7 @@
 
 ghost use Rattle.std.specs.Prelude.{◌≡◌, option_map, nat_le, min};
 ghost use Rattle.spec_core.specs.Specification.{relation_places as places_of};
-ghost use Rattle.spec_reader.specs.Form.{form_of};
+ghost use Rattle.spec_trees.specs.Form.{form_of};
 ghost use Rattle.typing_rules.specs.Formulas.{atom_fault as atom_fault_of, lone_name as lone_name_of, element_alone as element_alone_of, is_equality as is_equality_of, side_element as side_element_of, sorts_fault as sorts_fault_of, terms_fault as terms_fault_of, compare_fault as compare_fault_of, parts_fault as parts_fault_of, node_count as node_count_of, first_word as first_word_of, nodes_fault as nodes_fault_of, formula_fault as formula_fault_of};
 ghost use Rattle.find_faults.specs.Views.{faulted, marked, scope_of};
 
@@ -11,7 +11,7 @@ use crate::fault::Fault;
 use crate::scope::{Scope, stranger_fault};
 use crate::terms::term_fault;
 use spec_core::limits::MOST_NODES;
-use spec_reader::{Comparison, Formula, Mark, Product, Reading, Term};
+use spec_trees::{Comparison, Formula, Mark, Product, Reading, Term};
 use typing_rules::Which;
 
 /// The sorts of a relation's places.

@@ -3,7 +3,7 @@
 ghost use Rattle.std.specs.Prelude.{◌≡◌, length};
 ghost use Rattle.spec_core.specs.Limits.{most_updates};
 ghost use Rattle.spec_core.specs.Specification.{token_places as token_places_of};
-ghost use Rattle.spec_reader.specs.Form.{guard_of, line_of};
+ghost use Rattle.spec_trees.specs.Form.{guard_of, line_of};
 ghost use Rattle.typing_rules.specs.declared.which.Which.TheVariants.{Updates};
 ghost use Rattle.typing_rules.specs.Fault.{◌otherwise◌, limit_at as limit_at_of};
 ghost use Rattle.typing_rules.specs.Terms.{term_fault as term_fault_of};
@@ -19,7 +19,7 @@ use crate::sentences::sentence_fault;
 use crate::terms::{counter_keys, term_fault};
 use spec_core::Operation;
 use spec_core::limits::{MOST_OBSERVES, MOST_REQUIRES, MOST_TAKES, MOST_UPDATES};
-use spec_reader::{Formula, Line, Mark, Reading, Spot, Term};
+use spec_trees::{Formula, Line, Mark, Reading, Spot, Term};
 use typing_rules::Which;
 
 fn spot_fault<'t>(scope: &Scope<'_, '_>, sort: u8, spot: &'t Spot) -> Option<Fault<'t>>

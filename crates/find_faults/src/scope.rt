@@ -8,7 +8,7 @@ ghost use Rattle.find_faults.specs.Views.{faulted, scope_of};
 use crate::draft::Draft;
 use crate::fault::Fault;
 use crate::names::Names;
-use spec_reader::{Mark, Param, Variable};
+use spec_trees::{Mark, Param, Variable};
 
 /// What is in scope at a place: what is declared for the whole specification, and the parameters and variables.
 #[derive(Clone, Copy)]

@@ -1,7 +1,7 @@
 // What is wrong with variables and with formulas that have some.
 
 ghost use Rattle.std.specs.Prelude.{◌≡◌};
-ghost use Rattle.spec_reader.specs.Form.{sentence_of};
+ghost use Rattle.spec_trees.specs.Form.{sentence_of};
 ghost use Rattle.typing_rules.specs.Formulas.{with_vars as with_vars_of, variable_fault as variable_fault_of, variables_fault as variables_fault_of, vars_of as vars_of_prefix, sentence_fault as sentence_fault_of};
 ghost use Rattle.find_faults.specs.Views.{faulted, scope_of};
 
@@ -9,7 +9,7 @@ use crate::fault::{Fault, limit_at};
 use crate::formulas::formula_fault;
 use crate::scope::{Scope, declared_fault, sort_fault};
 use spec_core::limits::MOST_VARIABLES;
-use spec_reader::{Prefix, Prefixed, Variable};
+use spec_trees::{Prefix, Prefixed, Variable};
 use typing_rules::Which;
 
 /// The scope with these variables.

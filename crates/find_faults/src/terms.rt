@@ -11,7 +11,7 @@ use crate::elements::{args_fault, small};
 use crate::fault::{Fault, limit_at};
 use crate::scope::{Scope, stranger_fault};
 use spec_core::limits::{GREATEST_LITERAL, MOST_SUMMANDS};
-use spec_reader::{Figure, Mark, Param, ParamKind, Product, Reading, Signed, Term};
+use spec_trees::{Figure, Mark, Param, ParamKind, Product, Reading, Signed, Term};
 use typing_rules::Which;
 
 /// A literal or a coefficient.

@@ -3,8 +3,8 @@ use Rattle.std.proofs.Common.{◌≡◌, ◌↔◌, ℕ, ◌<◌, List, length, 
 use Rattle.word_cut.specs.declared.word.Word.{Word}
 use Rattle.word_cut.specs.Words.{IsCut}
 use Rattle.spec_core.specs.Specification.{Specification}
-use Rattle.spec_reader.specs.Form.{TreeForm}
-use Rattle.spec_reader.specs.Place.{IsRead}
+use Rattle.spec_trees.specs.Form.{TreeForm}
+use Rattle.spec_trees.specs.Place.{IsRead}
 use Rattle.typing_rules.specs.Fault.{Fault}
 use Rattle.typing_rules.specs.Items.{typing}
 use Rattle.fault_rules.specs.Sites.{specification_of}

@@ -4,10 +4,10 @@ use Rattle.std.proofs.Common.{◌≡◌, ℕ, List, sym, ap, ◌∙◌}
 use Rattle.word_cut.specs.declared.word.Word.{Word}
 use Rattle.word_cut.specs.Words.{IsCut}
 use Rattle.word_cut.proofs.Unique.{cut_unique}
-use Rattle.spec_reader.specs.Form.{TreeForm}
-use Rattle.spec_reader.specs.Spelling.{tree, spelling}
-use Rattle.spec_reader.specs.Trees.{IsTree}
-use Rattle.spec_reader.specs.Place.{texts_of, IsPlaced, IsRead}
+use Rattle.spec_trees.specs.Form.{TreeForm}
+use Rattle.spec_trees.specs.Spelling.{tree, spelling}
+use Rattle.spec_trees.specs.Trees.{IsTree}
+use Rattle.spec_trees.specs.Place.{texts_of, IsPlaced, IsRead}
 use Rattle.spec_reader.proofs.Bytes.{one_spelling}
 use Rattle.spec_from_bytes.proofs.PartsTold.{tree_told}
 

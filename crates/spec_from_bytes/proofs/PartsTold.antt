@@ -2,18 +2,18 @@
 use Rattle.std.proofs.Common.{◌≡◌, ℕ, ◌+◌, Option, Some, None, List, [], ◌∷◌, ◌++◌, refl, sym, ◌∙◌}
 use Rattle.parser_combinators.specs.declared.token.Key.TheVariants as keys
 use Rattle.parser_combinators.specs.Words.{sign, each, listed, group, AllSame, NotEmpty}
-use Rattle.spec_reader.specs.declared.tree.Mark.{Mark}
-use Rattle.spec_reader.specs.declared.tree.Figure.{Figure}
-use Rattle.spec_reader.specs.declared.tree.Product.{Product}
-use Rattle.spec_reader.specs.declared.tree.Product.TheVariants as products
-use Rattle.spec_reader.specs.declared.tree.Term.{Term}
-use Rattle.spec_reader.specs.declared.tree.Value.TheVariants as values
-use Rattle.spec_reader.specs.declared.tree.ParamKind.TheVariants as kinds
-use Rattle.spec_reader.specs.declared.tree.Spot.{Spot}
-use Rattle.spec_reader.specs.declared.tree.Spot.TheVariants as spots
-use Rattle.spec_reader.specs.Form.{Form, true_form, false_form, not_form, connect_form, has_form, compare_form, requires_form, insert_form, remove_form, add_form, set_form, takes_form, observes_form, sort_form, const_form, relation_form, counter_form, initially_form, token_form, conflict_form, invariant_form, operation_form}
-use Rattle.spec_reader.specs.Spelling.{figure, one, reading, product, summand, signed, minus, term, comparison_key, connective_key, form, variable, prefix, sentence, value, param_kind, param, spot, mode, guard, line, item, tree}
-use Rattle.spec_reader.specs.Trees.{SameMark, SameFigure, SameReading, SameProduct, SameSummand, SameSigned, SameTerm, SameForm, SameVariable, SamePrefix, SameSentence, SameValue, SameKind, SameParam, SameSpot, SameGuard, SameLine, SameItem, SameTree}
+use Rattle.spec_trees.specs.declared.tree.Mark.{Mark}
+use Rattle.spec_trees.specs.declared.tree.Figure.{Figure}
+use Rattle.spec_trees.specs.declared.tree.Product.{Product}
+use Rattle.spec_trees.specs.declared.tree.Product.TheVariants as products
+use Rattle.spec_trees.specs.declared.tree.Term.{Term}
+use Rattle.spec_trees.specs.declared.tree.Value.TheVariants as values
+use Rattle.spec_trees.specs.declared.tree.ParamKind.TheVariants as kinds
+use Rattle.spec_trees.specs.declared.tree.Spot.{Spot}
+use Rattle.spec_trees.specs.declared.tree.Spot.TheVariants as spots
+use Rattle.spec_trees.specs.Form.{Form, true_form, false_form, not_form, connect_form, has_form, compare_form, requires_form, insert_form, remove_form, add_form, set_form, takes_form, observes_form, sort_form, const_form, relation_form, counter_form, initially_form, token_form, conflict_form, invariant_form, operation_form}
+use Rattle.spec_trees.specs.Spelling.{figure, one, reading, product, summand, signed, minus, term, comparison_key, connective_key, form, variable, prefix, sentence, value, param_kind, param, spot, mode, guard, line, item, tree}
+use Rattle.spec_trees.specs.Trees.{SameMark, SameFigure, SameReading, SameProduct, SameSummand, SameSigned, SameTerm, SameForm, SameVariable, SamePrefix, SameSentence, SameValue, SameKind, SameParam, SameSpot, SameGuard, SameLine, SameItem, SameTree}
 use Rattle.spec_from_bytes.proofs.Told.{Told, AllTold, front, first_place, both, both_told, between_told, each_told, listed_told, group_told}
 
 -- ---- words

@@ -10,8 +10,8 @@ use Rattle.word_cut.specs.declared.cutting.CutRefused.TheVariants as cutting
 use Rattle.word_cut.specs.Words.{IsCut, IsRefused}
 use Rattle.word_cut.proofs.Unique.{cut_unique, refused_uncut, refusal_unique}
 use Rattle.spec_core.specs.Specification.{Specification}
-use Rattle.spec_reader.specs.Form.{TreeForm}
-use Rattle.spec_reader.specs.Place.{IsRead, IsPlace, texts_of}
+use Rattle.spec_trees.specs.Form.{TreeForm}
+use Rattle.spec_trees.specs.Place.{IsRead, IsPlace, texts_of}
 use Rattle.typing_rules.specs.Fault.{Fault}
 use Rattle.typing_rules.specs.Items.{typing}
 use Rattle.spec_from_bytes.proofs.OneTree.{one_tree}

@@ -3,7 +3,7 @@ use Rattle.std.proofs.Common.{◌≡◌, ℕ, ◌+◌, List, [], ◌∷◌, ◌+
 use Rattle.parser_combinators.specs.declared.token.Key.{Key}
 use Rattle.parser_combinators.specs.declared.token.Key.TheVariants as keys
 use Rattle.parser_combinators.specs.Words.{Spelt, sign, with_place, each, listed, group, AllSame, NotEmpty}
-use Rattle.spec_reader.specs.Place.{IsPlaced}
+use Rattle.spec_trees.specs.Place.{IsPlaced}
 
 -- From whichever word on: if the places in both parts are those of their words, the parts are equal.
 abbrev pub Told : {A : Type 0} → (A → List Spelt) → A → A → Type 0

@@ -3,11 +3,12 @@ use Rattle.std.proofs.Common.{◌≡◌, ℕ, List, length, subst, ◌≤◌}
 use Rattle.std.specs.Prelude.{Err}
 use Rattle.word_cut.specs.declared.word.Word.{Word}
 use Rattle.word_cut.specs.Words.{IsCut}
-use Rattle.spec_reader.specs.Form.{TreeForm}
-use Rattle.spec_reader.specs.Place.{IsRead, IsReadUnlessMemory}
+use Rattle.spec_trees.specs.Form.{TreeForm}
+use Rattle.spec_trees.specs.Place.{IsRead}
+use Rattle.spec_reader.specs.Refused.{IsReadUnlessMemory}
 use Rattle.spec_reader.specs.declared.parsing.SyntaxRefused.{SyntaxRefused}
 use Rattle.spec_reader.specs.declared.parsing.SyntaxRefused.TheVariants.{Syntax}
-use Rattle.spec_reader.specs.declared.tree.Tree.{Tree}
+use Rattle.spec_trees.specs.declared.tree.Tree.{Tree}
 use Rattle.spec_from_bytes.specs.Refusal.{faulty}
 use Rattle.spec_from_bytes.specs.Reading.{SaysFault, SaysRefusal}
 

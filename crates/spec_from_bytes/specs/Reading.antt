@@ -1,7 +1,7 @@
 -- What is answered of some bytes, and of a source that gives them.
 use Rattle.std.specs.Prelude.{◌≡◌, ℕ, List, Option, Ok, Err}
 use Rattle.byte_ports.specs.Told.{Tells}
-use Rattle.spec_reader.specs.Form.{TreeForm, tree_of}
+use Rattle.spec_trees.specs.Form.{TreeForm, tree_of}
 use Rattle.typing_rules.specs.Fault.{Fault}
 use Rattle.typing_rules.specs.Items.{typing}
 use Rattle.spec_from_bytes.specs.declared.reading.Typed.{Typed}

@@ -3,8 +3,8 @@ use Rattle.std.specs.Prelude.{◌≡◌, ℕ, ◌<◌, ◌≤◌, List, [], ◌�
 use Rattle.word_cut.specs.declared.word.Word.{Word}
 use Rattle.word_cut.specs.declared.cutting.CutRefused.TheVariants as cutting
 use Rattle.word_cut.specs.Words.{IsCut, IsRefused}
-use Rattle.spec_reader.specs.Form.{TreeForm}
-use Rattle.spec_reader.specs.Place.{IsRead, IsPlace, texts_of}
+use Rattle.spec_trees.specs.Form.{TreeForm}
+use Rattle.spec_trees.specs.Place.{IsRead, IsPlace, texts_of}
 use Rattle.spec_core.specs.Specification.{Specification}
 use Rattle.typing_rules.specs.declared.which.Which.{Which}
 use Rattle.typing_rules.specs.declared.which.Which.TheVariants as which

@@ -12,11 +12,11 @@ use Rattle.parser_combinators.specs.Texts.{symbol_of, IsWord, AreWords}
 use Rattle.parser_combinators.specs.Texts as words
 use Rattle.parser_combinators.specs.Tokens.{tokens_from, tokens_of}
 use Rattle.parser_combinators.proofs.Part.{Matches-seen, AreWords-append, length-seen}
-use Rattle.spec_reader.specs.declared.tree.Tree.{Tree}
-use Rattle.spec_reader.specs.Form.{TreeForm, tree_of}
-use Rattle.spec_reader.specs.Spelling.{tree, spelling}
-use Rattle.spec_reader.specs.Trees.{TreeFits, IsTree, SameTree}
-use Rattle.spec_reader.specs.Place.{texts_of, IsPlaced, IsRead, Begins, IsPlace}
+use Rattle.spec_trees.specs.declared.tree.Tree.{Tree}
+use Rattle.spec_trees.specs.Form.{TreeForm, tree_of}
+use Rattle.spec_trees.specs.Spelling.{tree, spelling}
+use Rattle.spec_trees.specs.Trees.{TreeFits, IsTree, SameTree}
+use Rattle.spec_trees.specs.Place.{texts_of, IsPlaced, IsRead, Begins, IsPlace}
 use Rattle.spec_reader.specs.Reading.{whole_by}
 use Rattle.spec_reader.proofs.TreeParts.{Place}
 use Rattle.spec_reader.proofs.TreeParts as parts

@@ -3,11 +3,11 @@ use Rattle.std.proofs.Common.{◌≡◌, ℕ, zero, suc, ◌-◌, ◌<◌, true,
 use Rattle.parser_combinators.specs.declared.token.Key.TheVariants as keys
 use Rattle.parser_combinators.specs.declared.token.Token.{Token}
 use Rattle.parser_combinators.specs.declared.token.Version.{Version}
-use Rattle.spec_reader.specs.declared.tree.Reading.{Reading}
-use Rattle.spec_reader.specs.declared.tree.Term.{Term}
-use Rattle.spec_reader.specs.declared.tree.Comparison.{Comparison}
-use Rattle.spec_reader.specs.declared.tree.Connective.{Connective}
-use Rattle.spec_reader.specs.Form.{Form, not_form}
+use Rattle.spec_trees.specs.declared.tree.Reading.{Reading}
+use Rattle.spec_trees.specs.declared.tree.Term.{Term}
+use Rattle.spec_trees.specs.declared.tree.Comparison.{Comparison}
+use Rattle.spec_trees.specs.declared.tree.Connective.{Connective}
+use Rattle.spec_trees.specs.Form.{Form, not_form}
 use Rattle.parser_combinators.specs.Words.{next, seen, is_key, is_name}
 use Rattle.parser_combinators.specs.Read.{Read, ◌>>=◌, mapped, both, key_at}
 use Rattle.spec_reader.specs.Reading.{term_at, comparison_at, connective_at, connected_at, to_compared, to_connected, atom_at, to_form, form_at, plain_at, compared_at, After, after_at, to_inside, inside_at, inner_at, named_at, negation_at, starts_term}

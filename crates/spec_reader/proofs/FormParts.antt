@@ -18,19 +18,19 @@ use Rattle.parser_combinators.proofs.Part.{Part, then_part, viewed_part, fits_pa
 use Rattle.parser_combinators.proofs.Choice.{word_part, either_part, only_part, sum_same, sum_of, clash}
 use Rattle.parser_combinators.proofs.Many.{list_on_false}
 use Rattle.parser_combinators.proofs.Pieces.{symbol_key, name_not_key, name_kind_cases, number_kind_cases, key_part, sign_part, group_off}
-use Rattle.spec_reader.specs.declared.tree.Reading.{Reading}
-use Rattle.spec_reader.specs.declared.tree.Product.{Product}
-use Rattle.spec_reader.specs.declared.tree.Product.TheVariants as products
-use Rattle.spec_reader.specs.declared.tree.Summand.{Summand}
-use Rattle.spec_reader.specs.declared.tree.Signed.{Signed}
-use Rattle.spec_reader.specs.declared.tree.Term.{Term}
-use Rattle.spec_reader.specs.declared.tree.Comparison.{Comparison}
-use Rattle.spec_reader.specs.declared.tree.Comparison.TheVariants as comparisons
-use Rattle.spec_reader.specs.declared.tree.Connective.{Connective}
-use Rattle.spec_reader.specs.declared.tree.Connective.TheVariants as connectives
-use Rattle.spec_reader.specs.Form.{Form, true_form, false_form, not_form, connect_form, has_form, compare_form}
-use Rattle.spec_reader.specs.Spelling.{reading, product, summand, signed, minus, term, comparison_key, connective_key, form}
-use Rattle.spec_reader.specs.Trees.{ReadingFits, ProductFits, SummandFits, SignedFits, TermFits, FormFits, SameReading, SameSigned, SameTerm, SameForm}
+use Rattle.spec_trees.specs.declared.tree.Reading.{Reading}
+use Rattle.spec_trees.specs.declared.tree.Product.{Product}
+use Rattle.spec_trees.specs.declared.tree.Product.TheVariants as products
+use Rattle.spec_trees.specs.declared.tree.Summand.{Summand}
+use Rattle.spec_trees.specs.declared.tree.Signed.{Signed}
+use Rattle.spec_trees.specs.declared.tree.Term.{Term}
+use Rattle.spec_trees.specs.declared.tree.Comparison.{Comparison}
+use Rattle.spec_trees.specs.declared.tree.Comparison.TheVariants as comparisons
+use Rattle.spec_trees.specs.declared.tree.Connective.{Connective}
+use Rattle.spec_trees.specs.declared.tree.Connective.TheVariants as connectives
+use Rattle.spec_trees.specs.Form.{Form, true_form, false_form, not_form, connect_form, has_form, compare_form}
+use Rattle.spec_trees.specs.Spelling.{reading, product, summand, signed, minus, term, comparison_key, connective_key, form}
+use Rattle.spec_trees.specs.Trees.{ReadingFits, ProductFits, SummandFits, SignedFits, TermFits, FormFits, SameReading, SameSigned, SameTerm, SameForm}
 use Rattle.spec_reader.specs.Reading.{is_sign, term_at, is_comparison, comparison_of, comparison_at, is_connective, connective_of, connective_at, Inside, compared, connected, to_compared, compared_at, starts_term, After, to_inside, after_at, atom_at, inside_at, to_bracket, bracket_at, to_plain, plain_at, to_form, form_at}
 use Rattle.spec_reader.proofs.TermParts.{reading_on, reading_part, summand_on, signed_on, product_off, sign_cases, more_on, more_part, term_on, sum_on, term_part}
 

@@ -13,17 +13,17 @@ use Rattle.parser_combinators.proofs.Part.{Part, then_part, viewed_part}
 use Rattle.parser_combinators.proofs.Choice.{either_part, sum_same, sum_of}
 use Rattle.parser_combinators.proofs.Many.{many_part, list_on, list_on_false}
 use Rattle.parser_combinators.proofs.Pieces.{number_not_key, name_not_key, key_part, sign_part, group_part, group_on, group_off}
-use Rattle.spec_reader.specs.declared.tree.Mark.{Mark}
-use Rattle.spec_reader.specs.declared.tree.Figure.{Figure}
-use Rattle.spec_reader.specs.declared.tree.Reading.{Reading}
-use Rattle.spec_reader.specs.declared.tree.Value.{Value}
-use Rattle.spec_reader.specs.declared.tree.Value.TheVariants as values
-use Rattle.spec_reader.specs.declared.tree.ParamKind.{ParamKind}
-use Rattle.spec_reader.specs.declared.tree.ParamKind.TheVariants as kinds
-use Rattle.spec_reader.specs.declared.tree.Param.{Param}
-use Rattle.spec_reader.specs.Form.{Sentence, LineForm, requires_form, insert_form, remove_form, add_form, set_form, takes_form, observes_form, ItemForm, sort_form, const_form, relation_form, counter_form, initially_form, token_form, conflict_form, invariant_form, operation_form}
-use Rattle.spec_reader.specs.Spelling.{mark, figure, one, reading, minus, value, param_kind, param, sentence, line, item}
-use Rattle.spec_reader.specs.Trees.{IsFree, ReadingFits, KindFits, ParamFits, SentenceFits, LineFits, ItemFits, SameMark, SameFigure, SameReading, SameValue, SameKind, SameParam, SameSentence, SameLine, SameItem}
+use Rattle.spec_trees.specs.declared.tree.Mark.{Mark}
+use Rattle.spec_trees.specs.declared.tree.Figure.{Figure}
+use Rattle.spec_trees.specs.declared.tree.Reading.{Reading}
+use Rattle.spec_trees.specs.declared.tree.Value.{Value}
+use Rattle.spec_trees.specs.declared.tree.Value.TheVariants as values
+use Rattle.spec_trees.specs.declared.tree.ParamKind.{ParamKind}
+use Rattle.spec_trees.specs.declared.tree.ParamKind.TheVariants as kinds
+use Rattle.spec_trees.specs.declared.tree.Param.{Param}
+use Rattle.spec_trees.specs.Form.{Sentence, LineForm, requires_form, insert_form, remove_form, add_form, set_form, takes_form, observes_form, ItemForm, sort_form, const_form, relation_form, counter_form, initially_form, token_form, conflict_form, invariant_form, operation_form}
+use Rattle.spec_trees.specs.Spelling.{mark, figure, one, reading, minus, value, param_kind, param, sentence, line, item}
+use Rattle.spec_trees.specs.Trees.{IsFree, ReadingFits, KindFits, ParamFits, SentenceFits, LineFits, ItemFits, SameMark, SameFigure, SameReading, SameValue, SameKind, SameParam, SameSentence, SameLine, SameItem}
 use Rattle.spec_reader.specs.Reading.{to_value, value_at, to_kind, param_kind_at, to_param, param_at, params_at, Places, sort_at, const_at, places_at, initially_at, conflict_at, invariant_at, operation_at, AnyItem, to_item, item_at, starts_item, items_at, starts_line}
 use Rattle.spec_reader.proofs.TermParts.{name_part, figure_part, args_part, reading_on, reading_part, minus_on, minus_part, minus_off}
 use Rattle.spec_reader.proofs.FormParts.{form_on, form_off}

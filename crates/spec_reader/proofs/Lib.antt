@@ -8,7 +8,4 @@ pub mod TreeCode
 pub mod Shrinking
 pub mod Names
 pub mod Bytes
-pub mod Written
-pub mod Laying
 pub mod RoundTrip
-pub mod Deep

@@ -21,22 +21,22 @@ use Rattle.parser_combinators.proofs.Choice.{word_part, either_part, perhaps_par
 use Rattle.parser_combinators.proofs.Many.{many_part, list_on, list_on_false}
 use Rattle.parser_combinators.proofs.TextFacts.{shared_word, observes_word}
 use Rattle.parser_combinators.proofs.Pieces.{symbol_key, name_kind_cases, number_kind_cases, name_not_key, key_part, sign_part, listed_part, group_part, group_on, group_off, perhaps_on, perhaps_joins}
-use Rattle.spec_reader.specs.declared.tree.Mark.{Mark}
-use Rattle.spec_reader.specs.declared.tree.Reading.{Reading}
-use Rattle.spec_reader.specs.declared.tree.Product.{Product}
-use Rattle.spec_reader.specs.declared.tree.Product.TheVariants as products
-use Rattle.spec_reader.specs.declared.tree.Term.{Term}
-use Rattle.spec_reader.specs.declared.tree.Spot.{Spot}
-use Rattle.spec_reader.specs.declared.tree.Spot.TheVariants as spots
-use Rattle.spec_reader.specs.declared.tree.Mode.{Mode}
-use Rattle.spec_reader.specs.declared.tree.Mode.TheVariants as modes
-use Rattle.spec_reader.specs.declared.tree.Quantifier.{Quantifier}
-use Rattle.spec_reader.specs.declared.tree.Quantifier.TheVariants as quantifiers
-use Rattle.spec_reader.specs.declared.tree.Prefix.{Prefix}
-use Rattle.spec_reader.specs.declared.tree.Variable.{Variable}
-use Rattle.spec_reader.specs.Form.{Form, true_form, false_form, not_form, connect_form, has_form, compare_form, Sentence, LineForm, requires_form, insert_form, remove_form, add_form, set_form, takes_form, observes_form}
-use Rattle.spec_reader.specs.Spelling.{mark, one, reading, summand, signed, minus, term, form, variable, quantifier_key, prefix, sentence, spot, mode, guard, line}
-use Rattle.spec_reader.specs.Trees.{IsFree, ReadingFits, TermFits, FormFits, VariableFits, PrefixFits, SentenceFits, SpotFits, ModeFits, GuardFits, LineFits, SameMark, SameReading, SameTerm, SameForm, SameVariable, SamePrefix, SameSentence, SameSpot, SameGuard, SameLine}
+use Rattle.spec_trees.specs.declared.tree.Mark.{Mark}
+use Rattle.spec_trees.specs.declared.tree.Reading.{Reading}
+use Rattle.spec_trees.specs.declared.tree.Product.{Product}
+use Rattle.spec_trees.specs.declared.tree.Product.TheVariants as products
+use Rattle.spec_trees.specs.declared.tree.Term.{Term}
+use Rattle.spec_trees.specs.declared.tree.Spot.{Spot}
+use Rattle.spec_trees.specs.declared.tree.Spot.TheVariants as spots
+use Rattle.spec_trees.specs.declared.tree.Mode.{Mode}
+use Rattle.spec_trees.specs.declared.tree.Mode.TheVariants as modes
+use Rattle.spec_trees.specs.declared.tree.Quantifier.{Quantifier}
+use Rattle.spec_trees.specs.declared.tree.Quantifier.TheVariants as quantifiers
+use Rattle.spec_trees.specs.declared.tree.Prefix.{Prefix}
+use Rattle.spec_trees.specs.declared.tree.Variable.{Variable}
+use Rattle.spec_trees.specs.Form.{Form, true_form, false_form, not_form, connect_form, has_form, compare_form, Sentence, LineForm, requires_form, insert_form, remove_form, add_form, set_form, takes_form, observes_form}
+use Rattle.spec_trees.specs.Spelling.{mark, one, reading, summand, signed, minus, term, form, variable, quantifier_key, prefix, sentence, spot, mode, guard, line}
+use Rattle.spec_trees.specs.Trees.{IsFree, ReadingFits, TermFits, FormFits, VariableFits, PrefixFits, SentenceFits, SpotFits, ModeFits, GuardFits, LineFits, SameMark, SameReading, SameTerm, SameForm, SameVariable, SamePrefix, SameSentence, SameSpot, SameGuard, SameLine}
 use Rattle.spec_reader.specs.Reading.{is_sign, to_variable, variable_at, is_quantifier, quantifier_of, quantifier_at, variables_at, to_prefix, prefix_at, to_sentence, sentence_at, to_spot, spot_at, spots_at, when_at, guard_at, is_mode, mode_of, to_mode, mode_at, Change, Amount, change_at, amount_at, takes_at, requires_at, to_old_line, old_line_at, is_observes, observes_at, to_line, line_at, starts_old_line, starts_line, lines_at}
 use Rattle.spec_reader.proofs.TermParts.{name_part, reading_on, reading_part, term_on, term_part, summand_not_key}
 use Rattle.spec_reader.proofs.FormParts.{form_on, form_off, form_part, term_off}

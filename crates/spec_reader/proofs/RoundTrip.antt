@@ -22,11 +22,11 @@ use Rattle.parser_combinators.specs.declared.token.Symbol.TheVariants as symbol
 use Rattle.parser_combinators.specs.declared.token.Version.{Version}
 use Rattle.parser_combinators.specs.Words.{plain, is_first, observes_text}
 use Rattle.parser_combinators.specs.Texts.{key_text, text_of, IsWord, AreWords}
-use Rattle.spec_reader.specs.Form.{TreeForm}
-use Rattle.spec_reader.specs.Spelling.{tree, spelling}
-use Rattle.spec_reader.specs.Trees.{IsTree, SameTree}
-use Rattle.spec_reader.specs.Layout.{begins_line, begins_indented, before, behind, laid_out, text_of_tree}
-use Rattle.spec_reader.specs.Place.{texts_of, IsRead}
+use Rattle.spec_trees.specs.Form.{TreeForm}
+use Rattle.spec_trees.specs.Spelling.{tree, spelling}
+use Rattle.spec_trees.specs.Trees.{IsTree, SameTree}
+use Rattle.spec_trees.specs.Layout.{begins_line, begins_indented, before, behind, laid_out, text_of_tree}
+use Rattle.spec_trees.specs.Place.{texts_of, IsRead}
 use Rattle.spec_reader.proofs.Bytes.{one_spelling}
 
 -- ---- no word has white space in it

@@ -10,19 +10,19 @@ use Rattle.parser_combinators.specs.declared.token.Token.{Token}
 use Rattle.parser_combinators.specs.declared.token.Kind.{Kind}
 use Rattle.parser_combinators.specs.declared.token.Kind.TheVariants as kind
 use Rattle.parser_combinators.specs.declared.token.Version.{Version}
-use Rattle.spec_reader.specs.declared.tree.Mark.{Mark}
-use Rattle.spec_reader.specs.declared.tree.Figure.{Figure}
-use Rattle.spec_reader.specs.declared.tree.Reading.{Reading}
-use Rattle.spec_reader.specs.declared.tree.Product.{Product}
-use Rattle.spec_reader.specs.declared.tree.Product.TheVariants as products
-use Rattle.spec_reader.specs.declared.tree.Summand.{Summand}
-use Rattle.spec_reader.specs.declared.tree.Sign.{Sign}
-use Rattle.spec_reader.specs.declared.tree.Sign.TheVariants as signs
-use Rattle.spec_reader.specs.declared.tree.Signed.{Signed}
-use Rattle.spec_reader.specs.declared.tree.Term.{Term}
+use Rattle.spec_trees.specs.declared.tree.Mark.{Mark}
+use Rattle.spec_trees.specs.declared.tree.Figure.{Figure}
+use Rattle.spec_trees.specs.declared.tree.Reading.{Reading}
+use Rattle.spec_trees.specs.declared.tree.Product.{Product}
+use Rattle.spec_trees.specs.declared.tree.Product.TheVariants as products
+use Rattle.spec_trees.specs.declared.tree.Summand.{Summand}
+use Rattle.spec_trees.specs.declared.tree.Sign.{Sign}
+use Rattle.spec_trees.specs.declared.tree.Sign.TheVariants as signs
+use Rattle.spec_trees.specs.declared.tree.Signed.{Signed}
+use Rattle.spec_trees.specs.declared.tree.Term.{Term}
 use Rattle.parser_combinators.specs.Words.{next, kind_of, Spelt, plain, Matches, is_key, is_name, is_number, name_of, value_of, key, sign, each, group, AllSame, with_place}
-use Rattle.spec_reader.specs.Spelling.{mark, figure, one, reading, product, summand, sign_key, signed, minus, term}
-use Rattle.spec_reader.specs.Trees.{IsFree, ReadingFits, ProductFits, SummandFits, SignedFits, TermFits, SameMark, SameFigure, SameReading, SameProduct, SameSummand, SameSigned, SameTerm}
+use Rattle.spec_trees.specs.Spelling.{mark, figure, one, reading, product, summand, sign_key, signed, minus, term}
+use Rattle.spec_trees.specs.Trees.{IsFree, ReadingFits, ProductFits, SummandFits, SignedFits, TermFits, SameMark, SameFigure, SameReading, SameProduct, SameSummand, SameSigned, SameTerm}
 use Rattle.parser_combinators.specs.Read.{Read, second}
 use Rattle.spec_reader.specs.Reading.{name_at, figure_at, args_at, to_reading, reading_at, to_product, times_at, product_at, to_summand, summand_at, is_sign, sign_of, plus_at, to_signed, signed_at, is_some, minus_at, to_term, more_at, term_at}
 use Rattle.parser_combinators.proofs.Part.{Part, Joins, both_part, then_part, mapped_part, shaped_part, viewed_part, placed_part, regroup}

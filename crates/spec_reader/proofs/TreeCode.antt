@@ -6,10 +6,10 @@ use Rattle.parser_combinators.specs.declared.token.Kind.TheVariants as kind
 use Rattle.parser_combinators.specs.declared.token.Key.TheVariants as keys
 use Rattle.parser_combinators.specs.declared.token.Token.{Token}
 use Rattle.parser_combinators.specs.declared.token.Version.TheVariants as version
-use Rattle.spec_reader.specs.declared.tree.Tree.{Tree}
-use Rattle.spec_reader.specs.Form.{ItemForm, TreeForm, tree_of}
-use Rattle.spec_reader.specs.Spelling.{tree as spelled}
-use Rattle.spec_reader.specs.Trees.{TreeFits}
+use Rattle.spec_trees.specs.declared.tree.Tree.{Tree}
+use Rattle.spec_trees.specs.Form.{ItemForm, TreeForm, tree_of}
+use Rattle.spec_trees.specs.Spelling.{tree as spelled}
+use Rattle.spec_trees.specs.Trees.{TreeFits}
 use Rattle.spec_reader.proofs.TreeParts.{Place, whole_ok, whole_err, whole_only, whole_left}
 use Rattle.parser_combinators.specs.Words.{seen, kind_of, plain, Matches}
 use Rattle.parser_combinators.specs.Read.{Read, ◌>>=◌, mapped, both, either, word_at, sign_at}

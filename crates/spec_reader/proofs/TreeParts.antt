@@ -19,9 +19,9 @@ use Rattle.parser_combinators.proofs.Part.{Part, then_part, viewed_part, bind_ok
 use Rattle.parser_combinators.proofs.Choice.{word_part, either_part, sum_same, sum_of, clash}
 use Rattle.parser_combinators.proofs.Many.{list_on, list_on_false}
 use Rattle.parser_combinators.proofs.Pieces.{name_kind_cases, number_kind_cases, sign_part}
-use Rattle.spec_reader.specs.Form.{ItemForm, TreeForm}
-use Rattle.spec_reader.specs.Spelling.{item, tree}
-use Rattle.spec_reader.specs.Trees.{ItemFits, TreeFits, SameItem, SameTree}
+use Rattle.spec_trees.specs.Form.{ItemForm, TreeForm}
+use Rattle.spec_trees.specs.Spelling.{item, tree}
+use Rattle.spec_trees.specs.Trees.{ItemFits, TreeFits, SameItem, SameTree}
 use Rattle.spec_reader.specs.Reading.{starts_item, is_one, is_two, to_tree, tree_at, whole_at}
 use Rattle.spec_reader.proofs.ItemParts.{item_on, item_off, items_part}
 

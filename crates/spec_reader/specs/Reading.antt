@@ -1,4 +1,5 @@
--- The readers of each part of the grammar, which mirror the code; what reading means is said in `Place`.
+-- The readers of each part of the grammar, which mirror the code; what reading means is said in
+-- `Place`.
 use Rattle.std.specs.Prelude.{◌==◌, ℕ, zero, suc, Bool, true, false, ◌||◌, not, if◌then◌else◌, List, [], ◌∷◌, length, Option, Some, None, Result, Ok, Err, ◌⊎◌}
 use Rattle.std.proofs.Common.{inl, inr}
 use Rattle.parser_combinators.specs.declared.token.Key.{Key}
@@ -8,34 +9,34 @@ use Rattle.parser_combinators.specs.declared.token.Kind.TheVariants as kind
 use Rattle.parser_combinators.specs.declared.token.Token.{Token}
 use Rattle.parser_combinators.specs.declared.token.Version.{Version}
 use Rattle.parser_combinators.specs.declared.token.Version.TheVariants as version
-use Rattle.spec_reader.specs.declared.tree.Mark.{Mark}
-use Rattle.spec_reader.specs.declared.tree.Figure.{Figure}
-use Rattle.spec_reader.specs.declared.tree.Reading.{Reading}
-use Rattle.spec_reader.specs.declared.tree.Product.{Product}
-use Rattle.spec_reader.specs.declared.tree.Product.TheVariants as products
-use Rattle.spec_reader.specs.declared.tree.Summand.{Summand}
-use Rattle.spec_reader.specs.declared.tree.Sign.{Sign}
-use Rattle.spec_reader.specs.declared.tree.Sign.TheVariants as signs
-use Rattle.spec_reader.specs.declared.tree.Signed.{Signed}
-use Rattle.spec_reader.specs.declared.tree.Term.{Term}
-use Rattle.spec_reader.specs.declared.tree.Comparison.{Comparison}
-use Rattle.spec_reader.specs.declared.tree.Comparison.TheVariants as comparisons
-use Rattle.spec_reader.specs.declared.tree.Connective.{Connective}
-use Rattle.spec_reader.specs.declared.tree.Connective.TheVariants as connectives
-use Rattle.spec_reader.specs.declared.tree.Value.{Value}
-use Rattle.spec_reader.specs.declared.tree.Value.TheVariants as values
-use Rattle.spec_reader.specs.declared.tree.ParamKind.{ParamKind}
-use Rattle.spec_reader.specs.declared.tree.ParamKind.TheVariants as kinds
-use Rattle.spec_reader.specs.declared.tree.Param.{Param}
-use Rattle.spec_reader.specs.declared.tree.Spot.{Spot}
-use Rattle.spec_reader.specs.declared.tree.Spot.TheVariants as spots
-use Rattle.spec_reader.specs.declared.tree.Mode.{Mode}
-use Rattle.spec_reader.specs.declared.tree.Mode.TheVariants as modes
-use Rattle.spec_reader.specs.declared.tree.Quantifier.{Quantifier}
-use Rattle.spec_reader.specs.declared.tree.Quantifier.TheVariants as quantifiers
-use Rattle.spec_reader.specs.declared.tree.Prefix.{Prefix}
-use Rattle.spec_reader.specs.declared.tree.Variable.{Variable}
-use Rattle.spec_reader.specs.Form.{Form, true_form, false_form, not_form, connect_form, has_form, compare_form, Sentence, LineForm, requires_form, insert_form, remove_form, add_form, set_form, takes_form, observes_form, ItemForm, sort_form, const_form, relation_form, counter_form, initially_form, token_form, conflict_form, invariant_form, operation_form, TreeForm}
+use Rattle.spec_trees.specs.declared.tree.Mark.{Mark}
+use Rattle.spec_trees.specs.declared.tree.Figure.{Figure}
+use Rattle.spec_trees.specs.declared.tree.Reading.{Reading}
+use Rattle.spec_trees.specs.declared.tree.Product.{Product}
+use Rattle.spec_trees.specs.declared.tree.Product.TheVariants as products
+use Rattle.spec_trees.specs.declared.tree.Summand.{Summand}
+use Rattle.spec_trees.specs.declared.tree.Sign.{Sign}
+use Rattle.spec_trees.specs.declared.tree.Sign.TheVariants as signs
+use Rattle.spec_trees.specs.declared.tree.Signed.{Signed}
+use Rattle.spec_trees.specs.declared.tree.Term.{Term}
+use Rattle.spec_trees.specs.declared.tree.Comparison.{Comparison}
+use Rattle.spec_trees.specs.declared.tree.Comparison.TheVariants as comparisons
+use Rattle.spec_trees.specs.declared.tree.Connective.{Connective}
+use Rattle.spec_trees.specs.declared.tree.Connective.TheVariants as connectives
+use Rattle.spec_trees.specs.declared.tree.Value.{Value}
+use Rattle.spec_trees.specs.declared.tree.Value.TheVariants as values
+use Rattle.spec_trees.specs.declared.tree.ParamKind.{ParamKind}
+use Rattle.spec_trees.specs.declared.tree.ParamKind.TheVariants as kinds
+use Rattle.spec_trees.specs.declared.tree.Param.{Param}
+use Rattle.spec_trees.specs.declared.tree.Spot.{Spot}
+use Rattle.spec_trees.specs.declared.tree.Spot.TheVariants as spots
+use Rattle.spec_trees.specs.declared.tree.Mode.{Mode}
+use Rattle.spec_trees.specs.declared.tree.Mode.TheVariants as modes
+use Rattle.spec_trees.specs.declared.tree.Quantifier.{Quantifier}
+use Rattle.spec_trees.specs.declared.tree.Quantifier.TheVariants as quantifiers
+use Rattle.spec_trees.specs.declared.tree.Prefix.{Prefix}
+use Rattle.spec_trees.specs.declared.tree.Variable.{Variable}
+use Rattle.spec_trees.specs.Form.{Form, true_form, false_form, not_form, connect_form, has_form, compare_form, Sentence, LineForm, requires_form, insert_form, remove_form, add_form, set_form, takes_form, observes_form, ItemForm, sort_form, const_form, relation_form, counter_form, initially_form, token_form, conflict_form, invariant_form, operation_form, TreeForm}
 use Rattle.parser_combinators.specs.Words.{kind_of, is_key, is_name, is_number, name_of, value_of}
 use Rattle.parser_combinators.specs.Read.{Read, ◌>>=◌, mapped, both, either, perhaps, only, many, word_at, key_at, sign_at, placed, second, listed_at, group_at}
 
@@ -185,13 +186,19 @@ abbrev pub After : Type 0
 After = (Connective × Form) ⊎ (List Signed × (Comparison × Term))
 
 -- What stands in brackets, of what was read: two sums, or two formulas. A reading may begin either.
-abbrev pub to_inside : (Term × (Comparison × Term)) ⊎ (((ℕ × Reading) × After) ⊎ (Form × (Connective × Form)))
+abbrev pub to_inside : (Term × (Comparison × Term))
+    ⊎ (((ℕ × Reading) × After) ⊎ (Form × (Connective × Form)))
     → Inside
 to_inside (inl x) = compared x.0 x.1.0 x.1.1
 to_inside (inr (inl (r, inl x))) = connected (has_form r.0 r.1) x.0 x.1
 to_inside (inr (inl (r, inr x))) =
     compared
-    (record { minus = false; first = record { word = r.0; product = products.Reading r.1 }; more = x.0 }) x.1.0 x.1.1
+    (record {
+      minus = false;
+      first = record { word = r.0; product = products.Reading r.1 };
+      more = x.0;
+    })
+    x.1.0 x.1.1
 to_inside (inr (inr x)) = connected x.0 x.1.0 x.1.1
 
 -- reads what follows a reading in brackets
@@ -245,7 +252,8 @@ unfoldable pub form_at : Version → ℕ → List Token → Read Form
 form_at v zero = plain_at v (compared_at v)
 form_at v (suc d) =
     mapped to_form
-    (either (is_key keys.Not) (both (key_at keys.Not) (form_at v d)) (plain_at v (inside_at v (form_at v d))))
+    (either (is_key keys.Not) (both (key_at keys.Not) (form_at v d))
+    (plain_at v (inside_at v (form_at v d))))
 
 -- what stands in the brackets of a formula
 unfoldable pub inner_at : Version → ℕ → List Token → Read Inside
@@ -377,7 +385,8 @@ unfoldable pub requires_at : Version → ℕ → List Token → Read (ℕ × Sen
 requires_at v d = both (key_at keys.Requires) (sentence_at v d)
 
 -- a line of what was read, by the word that it begins with
-abbrev pub to_old_line : (ℕ × Sentence) ⊎ (Change ⊎ (Change ⊎ (Amount ⊎ (Amount ⊎ (ℕ × (Reading × Mode))))))
+abbrev pub to_old_line : (ℕ × Sentence)
+    ⊎ (Change ⊎ (Change ⊎ (Amount ⊎ (Amount ⊎ (ℕ × (Reading × Mode))))))
     → LineForm
 to_old_line (inl x) = requires_form x.0 x.1
 to_old_line (inr (inl x)) = insert_form x.0 x.1.0 x.1.1.0 x.1.1.1
@@ -702,5 +711,6 @@ invariant_item_at v d =
 abbrev pub operation_item_at : Version → ℕ → List Token → Read ItemForm
 operation_item_at v d =
     mapped
-    (λ (x : ℕ × (Mark × (List Param × (List LineForm × Unit {0})))). operation_form x.0 x.1.0 x.1.1.0 x.1.1.1.0)
+    (λ (x : ℕ × (Mark × (List Param × (List LineForm × Unit {0})))).
+    operation_form x.0 x.1.0 x.1.1.0 x.1.1.1.0)
     (operation_at v d)

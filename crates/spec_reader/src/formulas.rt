@@ -1,19 +1,19 @@
-// Reading formulas. Behind a bracket a comparison or a connective may stand: the next word says which, and behind a name
-// what follows the reading does, so nothing is read twice.
+// Reading formulas. Behind a bracket a comparison or a connective may stand: the next word says
+// which, and behind a name what follows the reading does, so nothing is read twice.
 
 ghost use Rattle.std.specs.Prelude.{◌≡◌, ◌<◌, ◌-◌, length};
 ghost use Rattle.parser_combinators.specs.Gives.{Gives};
-ghost use Rattle.spec_reader.specs.Form.{form_of};
+ghost use Rattle.spec_trees.specs.Form.{form_of};
 ghost use Rattle.spec_reader.specs.Bracket.{bracket_of};
 ghost use Rattle.spec_reader.specs.Reading.{true_at, false_at, has_at, closed_by, compared_with_at, compared_at, connected_with_at, connected_at, behind_at, named_at, negation_at, inside_at, inner_at, plain_at, form_at, starts_term as term_test};
 
 use crate::terms::{atom, more, term};
-use crate::tree::{Comparison, Connective, Formula, Product, Reading, Summand, Term};
 use crate::words::{comparison, connective, is_connective};
 use parser_combinators::{
     Key, Kind, ReadError, Token, Version, closing, is_key, is_name, is_number, is_opening, key,
     next_kind, opening,
 };
+use spec_trees::{Comparison, Connective, Formula, Product, Reading, Summand, Term};
 use std::alloc::Global;
 
 /// What stands in brackets. Its parts are in boxes, so that a level of brackets takes little stack.
@@ -29,7 +29,8 @@ fn compared_with(
     version: Version,
     tokens: &[Token],
 ) -> Result<(Comparison, Box<Term>, &[Token]), ReadError>
-    ensures { Gives (λ x. ((x.0, x.1.value), x.2.now)) result (compared_with_at version tokens.now) }
+    ensures { Gives (λ x. ((x.0, x.1.value), x.2.now)) result
+        (compared_with_at version tokens.now) }
 {
     let (sign, rest) = comparison(tokens)?;
     let (right, rest) = term(alloc, version, rest)?;
@@ -58,7 +59,8 @@ fn connected_with(
     depth: u32,
     tokens: &[Token],
 ) -> Result<(Connective, Box<Formula>, &[Token]), ReadError>
-    ensures { Gives (λ x. ((x.0, form_of x.1.value), x.2.now)) result (connected_with_at (form_at version depth) tokens.now) }
+    ensures { Gives (λ x. ((x.0, form_of x.1.value), x.2.now)) result
+        (connected_with_at (form_at version depth) tokens.now) }
 {
     let (sign, rest) = connective(tokens)?;
     let (right, rest) = formula(alloc, version, depth, rest)?;
@@ -99,7 +101,8 @@ fn named(
     depth: u32,
     tokens: &[Token],
 ) -> Result<(Bracket, &[Token]), ReadError>
-    ensures { Gives (λ x. (bracket_of x.0, x.1.now)) result (named_at version (form_at version depth) tokens.now) }
+    ensures { Gives (λ x. (bracket_of x.0, x.1.now)) result
+        (named_at version (form_at version depth) tokens.now) }
 {
     let (word, reading, rest) = atom(alloc, version, tokens)?;
     after(alloc, version, depth, word, reading, rest)
@@ -119,7 +122,8 @@ fn connected(
     depth: u32,
     tokens: &[Token],
 ) -> Result<(Bracket, &[Token]), ReadError>
-    ensures { Gives (λ x. (bracket_of x.0, x.1.now)) result (connected_at (form_at version depth) tokens.now) }
+    ensures { Gives (λ x. (bracket_of x.0, x.1.now)) result
+        (connected_at (form_at version depth) tokens.now) }
 {
     let (left, rest) = formula(alloc, version, depth, tokens)?;
     let left = Box::new(alloc, left)?;
@@ -135,7 +139,8 @@ fn inside(
     depth: u32,
     tokens: &[Token],
 ) -> Result<(Bracket, &[Token]), ReadError>
-    ensures { Gives (λ x. (bracket_of x.0, x.1.now)) result (inside_at version (form_at version depth) tokens.now) }
+    ensures { Gives (λ x. (bracket_of x.0, x.1.now)) result
+        (inside_at version (form_at version depth) tokens.now) }
 {
     let kind = next_kind(tokens);
     if starts_term(kind) {
@@ -201,7 +206,8 @@ fn plain(
     depth: u32,
     tokens: &[Token],
 ) -> Result<(Formula, &[Token]), ReadError>
-    ensures { Gives (λ x. (form_of x.0, x.1.now)) result (plain_at version (inner_at version depth) tokens.now) }
+    ensures { Gives (λ x. (form_of x.0, x.1.now)) result
+        (plain_at version (inner_at version depth) tokens.now) }
 {
     let kind = next_kind(tokens);
     if is_key(kind, Key::True) {
@@ -246,7 +252,8 @@ fn negation(
     tokens: &[Token],
 ) -> Result<(Formula, &[Token]), ReadError>
     requires { 0 < depth }
-    ensures { Gives (λ x. (form_of x.0, x.1.now)) result (negation_at (form_at version (depth - 1)) tokens.now) }
+    ensures { Gives (λ x. (form_of x.0, x.1.now)) result
+        (negation_at (form_at version (depth - 1)) tokens.now) }
 {
     let (word, rest) = key(tokens, Key::Not)?;
     let (inner, rest) = formula(alloc, version, depth - 1, rest)?;

@@ -3,16 +3,16 @@
 ghost use Rattle.std.specs.Prelude.{◌≡◌, length, map};
 ghost use Rattle.parser_combinators.specs.Gives.{Gives};
 ghost use Rattle.parser_combinators.specs.Read.{one_more, listed_at};
-ghost use Rattle.spec_reader.specs.Form.{item_of};
+ghost use Rattle.spec_trees.specs.Form.{item_of};
 ghost use Rattle.spec_reader.specs.Reading.{value_at, param_kind_at, param_at, params_at, places_at, sort_item_at, const_item_at, relation_item_at, counter_item_at, initially_item_at, token_item_at, conflict_item_at, invariant_item_at, operation_item_at, item_at, items_at, starts_item as item_test};
 
 use crate::lines::lines;
 use crate::sentences::sentence;
 use crate::terms::{args, minus, reading};
-use crate::tree::{Item, Mark, Param, ParamKind, Value};
 use crate::words::{figure, name};
 use items::Items;
 use parser_combinators::{Key, Kind, ReadError, Token, Version, is_key, key, next_kind, sign};
+use spec_trees::{Item, Mark, Param, ParamKind, Value};
 use std::alloc::Global;
 
 #[tactic(auto, unfolding(crate::specs::Reading::value_at))]
@@ -208,7 +208,8 @@ fn invariant(
     depth: u32,
     tokens: &[Token],
 ) -> Result<(Item, &[Token]), ReadError>
-    ensures { Gives (λ x. (item_of x.0, x.1.now)) result (invariant_item_at version depth tokens.now) }
+    ensures { Gives (λ x. (item_of x.0, x.1.now)) result
+        (invariant_item_at version depth tokens.now) }
 {
     let (word, rest) = key(tokens, Key::Invariant)?;
     let (name, rest) = name(alloc, version, rest)?;
@@ -223,7 +224,8 @@ fn operation(
     depth: u32,
     tokens: &[Token],
 ) -> Result<(Item, &[Token]), ReadError>
-    ensures { Gives (λ x. (item_of x.0, x.1.now)) result (operation_item_at version depth tokens.now) }
+    ensures { Gives (λ x. (item_of x.0, x.1.now)) result
+        (operation_item_at version depth tokens.now) }
 {
     let (word, rest) = key(tokens, Key::Operation)?;
     let (name, rest) = name(alloc, version, rest)?;

@@ -3,18 +3,18 @@
 ghost use Rattle.std.specs.Prelude.{◌≡◌, length, map};
 ghost use Rattle.parser_combinators.specs.Gives.{Gives};
 ghost use Rattle.parser_combinators.specs.Read.{one_more, listed_at};
-ghost use Rattle.spec_reader.specs.Form.{guard_of, sentence_of, line_of};
+ghost use Rattle.spec_trees.specs.Form.{guard_of, sentence_of, line_of};
 ghost use Rattle.spec_reader.specs.Reading.{spot_at, spots_at, guard_at, mode_at, change_at, amount_at, old_line_at, insert_at, remove_at, add_at, set_at, takes_line_at, requires_line_at, is_observes as observes_test, observes_at, line_at, starts_old_line as old_line_test, starts_line as line_test, lines_at};
 
 use crate::formulas::formula;
 use crate::sentences::sentence;
 use crate::terms::{reading, term};
-use crate::tree::{Formula, Line, Mark, Mode, Prefixed, Reading, Spot, Term};
 use crate::words::name;
 use items::Items;
 use parser_combinators::{
     Key, Kind, ReadError, Token, Version, is_key, key, kind_of_symbol, next_kind, sign,
 };
+use spec_trees::{Formula, Line, Mark, Mode, Prefixed, Reading, Spot, Term};
 use std::alloc::Global;
 
 #[tactic(auto, unfolding(crate::specs::Reading::spot_at))]
@@ -252,7 +252,8 @@ fn precondition(
     depth: u32,
     tokens: &[Token],
 ) -> Result<(Line, &[Token]), ReadError>
-    ensures { Gives (λ x. (line_of x.0, x.1.now)) result (requires_line_at version depth tokens.now) }
+    ensures { Gives (λ x. (line_of x.0, x.1.now)) result
+        (requires_line_at version depth tokens.now) }
 {
     let (word, rest) = key(tokens, Key::Requires)?;
     let (sentence, rest) = sentence(alloc, version, depth, rest)?;
@@ -304,7 +305,8 @@ fn observation(
     depth: u32,
     tokens: &[Token],
 ) -> Result<(u32, Prefixed, &[Token]), ReadError>
-    ensures { Gives (λ x. ((x.0, sentence_of x.1), x.2.now)) result (observes_at version depth tokens.now) }
+    ensures { Gives (λ x. ((x.0, sentence_of x.1), x.2.now)) result
+        (observes_at version depth tokens.now) }
 {
     match tokens {
         [] => Err(ReadError::Syntax(0)),

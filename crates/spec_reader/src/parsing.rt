@@ -3,15 +3,16 @@
 ghost use Rattle.std.specs.Prelude.{◌≡◌, ◌≤◌, ◌<◌, length, IfOk, IfErr};
 ghost use Rattle.word_cut.specs.Words.{IsCut};
 ghost use Rattle.parser_combinators.specs.Gives.{Gives};
-ghost use Rattle.spec_reader.specs.Form.{TreeForm, tree_of};
-ghost use Rattle.spec_reader.specs.Spelling.{spelling};
-ghost use Rattle.spec_reader.specs.Trees.{IsTree, SameTree};
-ghost use Rattle.spec_reader.specs.Place.{texts_of, IsRead, IsRefusedAt, IsReadUnlessMemory};
+ghost use Rattle.spec_trees.specs.Form.{TreeForm, tree_of};
+ghost use Rattle.spec_trees.specs.Spelling.{spelling};
+ghost use Rattle.spec_trees.specs.Trees.{IsTree, SameTree};
+ghost use Rattle.spec_trees.specs.Place.{texts_of, IsRead};
+ghost use Rattle.spec_reader.specs.Refused.{IsRefusedAt, IsReadUnlessMemory};
 ghost use Rattle.spec_reader.specs.Reading.{version_at, tree_by, whole_by};
 
 use crate::item::items;
-use crate::tree::Tree;
 use parser_combinators::{Key, Kind, ReadError, Token, Version, kind_of_symbol, sign, tokens};
+use spec_trees::Tree;
 use std::alloc::Global;
 use word_cut::Word;
 
@@ -51,7 +52,8 @@ fn whole(alloc: Global, depth: u32, tokens: &[Token]) -> Result<Tree, ReadError>
 /// Why words were not read.
 #[derive(Debug, Drop)]
 pub enum SyntaxRefused {
-    /// No spelling goes on with this word, counted from 0; it is the number of words where one more is missing.
+    /// No spelling goes on with this word, counted from 0; it is the number of words where one more
+    /// is missing.
     Syntax { word: usize },
     Memory,
 }
@@ -63,7 +65,8 @@ const BELOW: u32 = 199;
 pub fn parse(alloc: Global, bytes: &[u8], words: &[Word]) -> Result<Tree, SyntaxRefused>
     requires { IsCut bytes.now words.now }
     ensures found { IfOk result (λ t. IsRead bytes.now words.now (tree_of t)) }
-    ensures only { (t : TreeForm) → IsTree t → spelling t ≡ texts_of bytes.now words.now → IsReadUnlessMemory result }
+    ensures only { (t : TreeForm) → IsTree t → spelling t ≡ texts_of bytes.now words.now
+        → IsReadUnlessMemory result }
     ensures place { IfErr result (IsRefusedAt (texts_of bytes.now words.now)) }
 {
     let Ok(tokens) = tokens(alloc, bytes, words) else {

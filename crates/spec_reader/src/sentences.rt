@@ -3,14 +3,14 @@
 ghost use Rattle.std.specs.Prelude.{◌≡◌, length};
 ghost use Rattle.parser_combinators.specs.Gives.{Gives};
 ghost use Rattle.parser_combinators.specs.Read.{one_more};
-ghost use Rattle.spec_reader.specs.Form.{sentence_of};
+ghost use Rattle.spec_trees.specs.Form.{sentence_of};
 ghost use Rattle.spec_reader.specs.Reading.{variable_at, variables_at, prefix_at, sentence_at};
 
 use crate::formulas::formula;
-use crate::tree::{Prefix, Prefixed, Variable};
 use crate::words::{is_quantifier, name, quantifier};
 use items::Items;
 use parser_combinators::{Key, ReadError, Token, Version, is_key, next_kind, sign};
+use spec_trees::{Prefix, Prefixed, Variable};
 use std::alloc::Global;
 
 #[tactic(auto, unfolding(crate::specs::Reading::variable_at))]
@@ -94,7 +94,8 @@ pub fn sentence(
     depth: u32,
     tokens: &[Token],
 ) -> Result<(Prefixed, &[Token]), ReadError>
-    ensures { Gives (λ x. (sentence_of x.0, x.1.now)) result (sentence_at version depth tokens.now) }
+    ensures { Gives (λ x. (sentence_of x.0, x.1.now)) result
+        (sentence_at version depth tokens.now) }
 {
     if !is_quantifier(next_kind(tokens)) {
         let (body, rest) = formula(alloc, version, depth, tokens)?;

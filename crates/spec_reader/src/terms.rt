@@ -5,10 +5,10 @@ ghost use Rattle.parser_combinators.specs.Gives.{Gives};
 ghost use Rattle.parser_combinators.specs.Read.{mapped, one_more, listed_at, place_of};
 ghost use Rattle.spec_reader.specs.Reading.{name_at, args_at, reading_at, atom_at, product_at, summand_at, signed_at, minus_at, more_at, term_at};
 
-use crate::tree::{Mark, Product, Reading, Signed, Summand, Term};
 use crate::words::{figure, is_sign, name, plus};
 use items::Items;
 use parser_combinators::{Key, ReadError, Token, Version, is_key, is_number, next_kind, sign};
+use spec_trees::{Mark, Product, Reading, Signed, Summand, Term};
 use std::alloc::Global;
 
 /// The place of the next word.

@@ -5,11 +5,11 @@ ghost use Rattle.parser_combinators.specs.Gives.{Gives};
 ghost use Rattle.parser_combinators.specs.Words.{name_of, value_of};
 ghost use Rattle.spec_reader.specs.Reading.{name_at, figure_at, is_sign as sign_test, sign_of as sign_for, plus_at, is_comparison as comparison_test, comparison_of as comparison_for, comparison_at, is_connective as connective_test, connective_of as connective_for, connective_at, is_quantifier as quantifier_test, quantifier_of as quantifier_for, quantifier_at};
 
-use crate::tree::{Comparison, Connective, Figure, Mark, Quantifier, Sign};
 use parser_combinators::{
     Key, Kind, ReadError, Symbol, Token, Version, is_key, is_name, is_number, kind_of_symbol,
 };
 use spec_core::Name;
+use spec_trees::{Comparison, Connective, Figure, Mark, Quantifier, Sign};
 use std::alloc::Global;
 
 /// The name that a word is.
@@ -137,6 +137,7 @@ fn comparison_of(kind: Kind) -> Comparison
     }
 }
 
+/// The sign that compares two sums.
 pub fn comparison(tokens: &[Token]) -> Result<(Comparison, &[Token]), ReadError>
     ensures { Gives (λ x. (x.0, x.1.now)) result (comparison_at tokens.now) }
 {
@@ -171,6 +172,7 @@ fn connective_of(kind: Kind) -> Connective
     }
 }
 
+/// The word that joins two formulas.
 pub fn connective(tokens: &[Token]) -> Result<(Connective, &[Token]), ReadError>
     ensures { Gives (λ x. (x.0, x.1.now)) result (connective_at tokens.now) }
 {

@@ -5,7 +5,7 @@ use Rattle.spec_types.specs.declared.refusal.TypeRefused.{TypeRefused}
 use Rattle.spec_types.specs.declared.refusal.TypeRefused.TheVariants as refused
 use Rattle.spec_types.specs.declared.refusal.Stop.{Stop}
 use Rattle.spec_types.specs.declared.refusal.Stop.TheVariants as stop
-use Rattle.spec_reader.specs.Form.{TreeForm}
+use Rattle.spec_trees.specs.Form.{TreeForm}
 use Rattle.fault_rules.specs.Faults.{IsLeastFault}
 use Rattle.find_faults.specs.Views.{fault_of}
 

@@ -1,7 +1,7 @@
 // The items that declare sorts, constants, relations, counters and tokens.
 
 ghost use Rattle.std.specs.Prelude.{◌≡◌, ◌<◌, length, count_by, ◌==◌, OnOk};
-ghost use Rattle.spec_reader.specs.Form.{sort_form, const_form, relation_form, counter_form, token_form};
+ghost use Rattle.spec_trees.specs.Form.{sort_form, const_form, relation_form, counter_form, token_form};
 ghost use Rattle.typing_rules.specs.Items.{few_consts_fault as few_consts_fault_of, const_fault as const_fault_of, place_number as place_number_of, with_sort, with_const, with_relation, with_counter, with_token, typed_item};
 ghost use Rattle.spec_types.specs.Refusals.{Makes};
 ghost use Rattle.find_faults.specs.Views.{faulted};
@@ -14,7 +14,7 @@ use spec_core::limits::{
     MOST_CONSTANTS, MOST_COUNTERS, MOST_KEYS, MOST_PLACES, MOST_RELATIONS, MOST_SORTS, MOST_TOKENS,
 };
 use spec_core::{Const, Counter, Name, Relation, Token};
-use spec_reader::Mark;
+use spec_trees::Mark;
 use std::alloc::{AllocError, Global};
 use typing_rules::{Meaning, Which};
 

@@ -1,7 +1,7 @@
 // Initial values.
 
 ghost use Rattle.std.specs.Prelude.{◌≡◌, OnOk};
-ghost use Rattle.spec_reader.specs.Form.{initially_form};
+ghost use Rattle.spec_trees.specs.Form.{initially_form};
 ghost use Rattle.typing_rules.specs.Items.{value_fault as value_fault_of, initially_fault as initially_fault_of, truth_of as truth_of_value, number_of as number_of_value, initial_truth, initial_number, initial_design, with_initial, typed_item};
 ghost use Rattle.find_faults.specs.Names.{meaning_in};
 ghost use Rattle.spec_types.specs.Refusals.{Makes};
@@ -14,7 +14,7 @@ use crate::refusal::Stop;
 use find_faults::{Draft, Fault, literal_fault};
 use items::Items;
 use spec_core::{Counter, Relation};
-use spec_reader::{Mark, Value};
+use spec_trees::{Mark, Value};
 use std::alloc::{AllocError, Global};
 use std::mem;
 use typing_rules::Meaning;

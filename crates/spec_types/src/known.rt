@@ -8,7 +8,7 @@ ghost use Rattle.spec_types.specs.Views.{known_of};
 
 use find_faults::{Draft, Fault, Names, Scope, declared_fault, limit_at, sort_fault, sort_number};
 use items::Items;
-use spec_reader::{Mark, Version};
+use spec_trees::{Mark, Version};
 use std::alloc::{AllocError, Global};
 use typing_rules::Which;
 

@@ -2,7 +2,7 @@
 
 ghost use Rattle.std.specs.Prelude.{◌≡◌, ◌++◌, IfOk, OnOk, map};
 ghost use Rattle.spec_core.specs.Form.{form_of as core_form_of, compare_form as core_compare_form};
-ghost use Rattle.spec_reader.specs.Form.{form_of, compare_form, sentence_of, guard_of};
+ghost use Rattle.spec_trees.specs.Form.{form_of, compare_form, sentence_of, guard_of};
 ghost use Rattle.typing_rules.specs.Scope.{var_sorts as var_sorts_of};
 ghost use Rattle.typing_rules.specs.Terms.{elems_of as elems_of_marks, literal_of as literal_of_figure, unit_of as unit_of_sign, coef_of as coef_of_product, count_of as count_of_reading, amount_of as amount_of_reading, body_of as body_of_product, summand_of as summand_of_product, is_minus as is_minus_sign, signed_of as signed_of_tree, term_of as term_of_tree};
 ghost use Rattle.typing_rules.specs.Formulas.{cmp_of as cmp_of_comparison, elements_of as elements_of_sides, is_unequal as is_unequal_of, connected_of, atom_of as atom_of_reading, formula_of as formula_of_form, quantified as quantified_of, prefix_of as prefix_of_tree, sentence_of as line_of_sentence};
@@ -15,8 +15,8 @@ use find_faults::{
 };
 use items::Items;
 use spec_core::{Body, Cmp, Elem, Prefix, Prefixed, Summand, Term};
-use spec_reader as tree;
-use spec_reader::{
+use spec_trees as tree;
+use spec_trees::{
     Comparison, Connective, Figure, Mark, Product, Quantifier, Reading, Sign, Signed, Variable,
 };
 use std::alloc::{AllocError, Global};

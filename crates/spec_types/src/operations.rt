@@ -1,7 +1,7 @@
 // Invariants and operations.
 
 ghost use Rattle.std.specs.Prelude.{◌≡◌, map, OnOk, IfOk};
-ghost use Rattle.spec_reader.specs.Form.{sentence_of, line_of, invariant_form, operation_form};
+ghost use Rattle.spec_trees.specs.Form.{sentence_of, line_of, invariant_form, operation_form};
 ghost use Rattle.typing_rules.specs.Scope.{kind_of as kind_of_tree, param_of as param_of_tree, params_of as params_of_tree};
 ghost use Rattle.typing_rules.specs.Lines.{unless, typed_lines};
 ghost use Rattle.typing_rules.specs.Items.{exists_fault as exists_fault_of, claim_fault as claim_fault_of, with_invariant, typed_invariant, scope_in as scope_in_known, with_params as with_params_of, param_kind_fault as param_kind_fault_of, param_fault as param_fault_of, params_fault as params_fault_of, without_lines as without_lines_of, typed_operation, typed_item};
@@ -21,8 +21,8 @@ use find_faults::{
 use items::Items;
 use spec_core::limits::{MOST_INVARIANTS, MOST_OPERATIONS, MOST_PARAMETERS};
 use spec_core::{Invariant, Kind, Name, Operation};
-use spec_reader as tree;
-use spec_reader::{Line, Mark, Param, ParamKind, Prefix, Prefixed, Quantifier};
+use spec_trees as tree;
+use spec_trees::{Line, Mark, Param, ParamKind, Prefix, Prefixed, Quantifier};
 use std::alloc::{AllocError, Global};
 use typing_rules::{Meaning, Which};
 

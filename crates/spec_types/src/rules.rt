@@ -2,7 +2,7 @@
 
 ghost use Rattle.std.specs.Prelude.{◌≡◌, ◌+◌, ◌++◌, Some, map, position, OnOk, IfOk};
 ghost use Rattle.std.specs.Str.{bytes_eq};
-ghost use Rattle.spec_reader.specs.Form.{conflict_form};
+ghost use Rattle.spec_trees.specs.Form.{conflict_form};
 ghost use Rattle.typing_rules.specs.Terms.{small as small_of};
 ghost use Rattle.typing_rules.specs.Items.{first_sort as first_sort_of, pattern_places as pattern_places_of, rule_sort as rule_sort_of, rule_variable_fault as rule_variable_fault_of, rule_variables_fault as rule_variables_fault_of, pattern_fault as pattern_fault_of, conflict_fault as conflict_fault_of, variable_number as variable_number_of, pattern_of as pattern_of_reading, with_rule, typed_item};
 ghost use Rattle.spec_types.specs.Refusals.{Makes};
@@ -15,7 +15,7 @@ use find_faults::{Fault, is_of_sort, limit_at, places_fault, small, stranger_fau
 use items::Items;
 use spec_core::limits::MOST_RULES;
 use spec_core::{Pattern, Rule};
-use spec_reader::{Mark, Reading};
+use spec_trees::{Mark, Reading};
 use std::alloc::{AllocError, Global};
 use typing_rules::Which;
 

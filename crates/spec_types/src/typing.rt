@@ -2,8 +2,8 @@
 
 ghost use Rattle.std.specs.Prelude.{◌≡◌, map, true, Ok, IfOk, IfErr};
 ghost use Rattle.spec_core.specs.Typed.{is_specification};
-ghost use Rattle.spec_reader.specs.Form.{item_of, tree_of};
-ghost use Rattle.spec_reader.specs.Trees.{IsTree};
+ghost use Rattle.spec_trees.specs.Form.{item_of, tree_of};
+ghost use Rattle.spec_trees.specs.Trees.{IsTree};
 ghost use Rattle.typing_rules.specs.Items.{typed_item, typed_items, typing};
 ghost use Rattle.fault_rules.specs.Faults.{IsWritten, IsTypingOf};
 ghost use Rattle.spec_types.specs.Refusals.{IsTypeRefusal, IsLeastRefusal, Makes};
@@ -17,7 +17,7 @@ use crate::refusal::{Stop, TypeRefused, refused};
 use crate::rules::type_conflict;
 use fault_rules::law_least_fault;
 use spec_core::Spec;
-use spec_reader::{Item, Tree};
+use spec_trees::{Item, Tree};
 use std::alloc::Global;
 use typing_rules::law_typed_is_well_formed;
 

@@ -9,8 +9,8 @@ use Rattle.std.specs.List.{list_all, list_any, zip, position_or_len}
 use Rattle.std.specs.Str.{bytes_eq}
 use Rattle.spec_core.specs.Specification.{token_places}
 use Rattle.spec_core.specs.Typed.{is_sort, is_pattern, agree_on, sorts_of_vars, is_rule}
-use Rattle.spec_reader.specs.declared.tree.Mark.{Mark}
-use Rattle.spec_reader.specs.declared.tree.Reading.{Reading}
+use Rattle.spec_trees.specs.declared.tree.Mark.{Mark}
+use Rattle.spec_trees.specs.declared.tree.Reading.{Reading}
 use Rattle.typing_rules.specs.declared.which.Which.TheVariants as which
 use Rattle.typing_rules.specs.Fault.{◌otherwise◌, kind_at, limit_at}
 use Rattle.typing_rules.specs.Scope.{token_meant}

@@ -15,7 +15,7 @@ use Rattle.spec_core.specs.Name.{is_word_name}
 use Rattle.spec_core.specs.Specification.{Specification, no_relation, no_counter, no_token}
 use Rattle.spec_core.specs.World.{below}
 use Rattle.spec_core.specs.Typed.{are_sorts, is_relation, is_counter, is_token, consts_typed, names_from_consts, names_from_relations, names_from_counters, names_from_tokens, names_from_invariants, global_names}
-use Rattle.spec_reader.specs.declared.tree.Mark.{Mark}
+use Rattle.spec_trees.specs.declared.tree.Mark.{Mark}
 use Rattle.typing_rules.specs.declared.meaning.Meaning.TheVariants as meaning
 use Rattle.typing_rules.specs.declared.which.Which.TheVariants as which
 use Rattle.typing_rules.specs.Fault.{◌otherwise◌, limit_at}

@@ -15,16 +15,16 @@ use Rattle.spec_core.specs.declared.formula.Body.TheVariants as body
 use Rattle.spec_core.specs.Specification.{Specification, counter_keys}
 use Rattle.spec_core.specs.Fits.{in_literal_range}
 use Rattle.spec_core.specs.Typed.{sort_of, is_sort, elems_typed, is_number, body_typed, summand_typed, term_typed}
-use Rattle.spec_reader.specs.declared.tree.Mark.{Mark}
-use Rattle.spec_reader.specs.declared.tree.Figure.{Figure}
-use Rattle.spec_reader.specs.declared.tree.Reading.{Reading}
-use Rattle.spec_reader.specs.declared.tree.Product.{Product}
-use Rattle.spec_reader.specs.declared.tree.Product.TheVariants as products
-use Rattle.spec_reader.specs.declared.tree.Signed.{Signed}
-use Rattle.spec_reader.specs.declared.tree.Term.{Term}
-use Rattle.spec_reader.specs.declared.tree.ParamKind.{ParamKind}
-use Rattle.spec_reader.specs.declared.tree.ParamKind.TheVariants as kinds
-use Rattle.spec_reader.specs.declared.tree.Param.{Param}
+use Rattle.spec_trees.specs.declared.tree.Mark.{Mark}
+use Rattle.spec_trees.specs.declared.tree.Figure.{Figure}
+use Rattle.spec_trees.specs.declared.tree.Reading.{Reading}
+use Rattle.spec_trees.specs.declared.tree.Product.{Product}
+use Rattle.spec_trees.specs.declared.tree.Product.TheVariants as products
+use Rattle.spec_trees.specs.declared.tree.Signed.{Signed}
+use Rattle.spec_trees.specs.declared.tree.Term.{Term}
+use Rattle.spec_trees.specs.declared.tree.ParamKind.{ParamKind}
+use Rattle.spec_trees.specs.declared.tree.ParamKind.TheVariants as kinds
+use Rattle.spec_trees.specs.declared.tree.Param.{Param}
 use Rattle.typing_rules.specs.declared.which.Which.TheVariants.{Summands}
 use Rattle.typing_rules.specs.Fault.{first_fault, kind_at, unknown_at, count_at, limit_at}
 use Rattle.typing_rules.specs.Scope.{Names, Scope, in_scope, stranger_fault, sort_meant, relation_meant, counter_meant, token_meant, param_of, params_of, var_sorts}

@@ -11,17 +11,17 @@ use Rattle.spec_core.specs.Form as core
 use Rattle.spec_core.specs.Specification.{Specification, relation_places}
 use Rattle.spec_core.specs.Fits.{is_plain}
 use Rattle.spec_core.specs.Typed.{sort_of, same_sort, elems_typed, term_typed, form_typed, nodes, depth, is_formula, are_sorts, is_line}
-use Rattle.spec_reader.specs.declared.tree.Mark.{Mark}
-use Rattle.spec_reader.specs.declared.tree.Reading.{Reading}
-use Rattle.spec_reader.specs.declared.tree.Term.{Term}
-use Rattle.spec_reader.specs.declared.tree.Comparison.{Comparison}
-use Rattle.spec_reader.specs.declared.tree.Connective.{Connective}
-use Rattle.spec_reader.specs.declared.tree.Connective.TheVariants as connectives
-use Rattle.spec_reader.specs.declared.tree.Variable.{Variable}
-use Rattle.spec_reader.specs.declared.tree.Quantifier.{Quantifier}
-use Rattle.spec_reader.specs.declared.tree.Quantifier.TheVariants as quantifiers
-use Rattle.spec_reader.specs.declared.tree.Prefix.{Prefix}
-use Rattle.spec_reader.specs.Form.{Form, true_form, false_form, not_form, connect_form, has_form, compare_form, Sentence}
+use Rattle.spec_trees.specs.declared.tree.Mark.{Mark}
+use Rattle.spec_trees.specs.declared.tree.Reading.{Reading}
+use Rattle.spec_trees.specs.declared.tree.Term.{Term}
+use Rattle.spec_trees.specs.declared.tree.Comparison.{Comparison}
+use Rattle.spec_trees.specs.declared.tree.Connective.{Connective}
+use Rattle.spec_trees.specs.declared.tree.Connective.TheVariants as connectives
+use Rattle.spec_trees.specs.declared.tree.Variable.{Variable}
+use Rattle.spec_trees.specs.declared.tree.Quantifier.{Quantifier}
+use Rattle.spec_trees.specs.declared.tree.Quantifier.TheVariants as quantifiers
+use Rattle.spec_trees.specs.declared.tree.Prefix.{Prefix}
+use Rattle.spec_trees.specs.Form.{Form, true_form, false_form, not_form, connect_form, has_form, compare_form, Sentence}
 use Rattle.typing_rules.specs.declared.which.Which.TheVariants.{Variables}
 use Rattle.typing_rules.specs.Fault.{◌otherwise◌, kind_at, limit_at}
 use Rattle.typing_rules.specs.Scope.{Names, Scope, stranger_fault, declared_fault, sort_fault_at, sort_fault, sort_meant, sort_number, relation_meant, var_sort, var_sorts, params_of}

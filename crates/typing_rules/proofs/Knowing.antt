@@ -9,7 +9,7 @@ use Rattle.spec_core.specs.Specification.{Specification, token_places}
 use Rattle.spec_core.specs.State.{is_in}
 use Rattle.spec_core.specs.Typed.{is_relation, is_counter, is_token, is_rule, is_invariant, is_operation, all_distinct, global_names, is_specification}
 use Rattle.spec_core.proofs.Parts.{Parts, few_token_places}
-use Rattle.spec_reader.specs.declared.tree.Mark.{Mark}
+use Rattle.spec_trees.specs.declared.tree.Mark.{Mark}
 use Rattle.typing_rules.specs.declared.meaning.Meaning.{Meaning}
 use Rattle.typing_rules.specs.declared.which.Which.{Which}
 use Rattle.typing_rules.specs.Fault.{twice_at, limit_at}

@@ -9,14 +9,14 @@ use Rattle.spec_core.specs.declared.update.Change.TheVariants as change
 use Rattle.spec_core.specs.UpdateLine.{UpdateLine}
 use Rattle.spec_core.specs.Specification.{Specification, relation_places, counter_keys, token_places}
 use Rattle.spec_core.specs.Typed.{elems_typed, is_formula, is_line, is_parameter, parameter_names, all_distinct, spot_typed, spots_typed, is_update, is_take, is_operation}
-use Rattle.spec_reader.specs.declared.tree.Mark.{Mark}
-use Rattle.spec_reader.specs.declared.tree.Reading.{Reading}
-use Rattle.spec_reader.specs.declared.tree.Term.{Term}
-use Rattle.spec_reader.specs.declared.tree.Spot.{Spot}
-use Rattle.spec_reader.specs.declared.tree.Spot.TheVariants as spots
-use Rattle.spec_reader.specs.declared.tree.Mode.{Mode}
-use Rattle.spec_reader.specs.declared.tree.Param.{Param}
-use Rattle.spec_reader.specs.Form.{Form, Sentence, LineForm, requires_form, insert_form, remove_form, add_form, set_form, takes_form, observes_form}
+use Rattle.spec_trees.specs.declared.tree.Mark.{Mark}
+use Rattle.spec_trees.specs.declared.tree.Reading.{Reading}
+use Rattle.spec_trees.specs.declared.tree.Term.{Term}
+use Rattle.spec_trees.specs.declared.tree.Spot.{Spot}
+use Rattle.spec_trees.specs.declared.tree.Spot.TheVariants as spots
+use Rattle.spec_trees.specs.declared.tree.Mode.{Mode}
+use Rattle.spec_trees.specs.declared.tree.Param.{Param}
+use Rattle.spec_trees.specs.Form.{Form, Sentence, LineForm, requires_form, insert_form, remove_form, add_form, set_form, takes_form, observes_form}
 use Rattle.typing_rules.specs.declared.which.Which.TheVariants.{Requires, Updates, Takes, Observes}
 use Rattle.typing_rules.specs.Fault.{◌otherwise◌, limit_at}
 use Rattle.typing_rules.specs.Scope.{Names, Scope, relation_meant, counter_meant, token_meant, params_of}

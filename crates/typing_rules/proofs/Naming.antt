@@ -12,10 +12,10 @@ use Rattle.parser_combinators.specs.Words.{Spelt, plain, sign, each, listed, gro
 use Rattle.parser_combinators.proofs.Part.{plain-append}
 use Rattle.spec_core.specs.Name.{is_word_name}
 use Rattle.spec_core.specs.Name as core
-use Rattle.spec_reader.specs.declared.tree.Param.{Param}
-use Rattle.spec_reader.specs.Form.{ItemForm, sort_form, const_form, relation_form, counter_form, initially_form, token_form, conflict_form, invariant_form, operation_form, TreeForm}
-use Rattle.spec_reader.specs.Spelling.{param, line, item}
-use Rattle.spec_reader.specs.Trees.{IsTree}
+use Rattle.spec_trees.specs.declared.tree.Param.{Param}
+use Rattle.spec_trees.specs.Form.{ItemForm, sort_form, const_form, relation_form, counter_form, initially_form, token_form, conflict_form, invariant_form, operation_form, TreeForm}
+use Rattle.spec_trees.specs.Spelling.{param, line, item}
+use Rattle.spec_trees.specs.Trees.{IsTree}
 use Rattle.typing_rules.proofs.Basics.{test_le}
 
 -- ---- words

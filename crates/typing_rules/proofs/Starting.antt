@@ -13,9 +13,9 @@ use Rattle.spec_core.specs.Specification.{Specification, no_relation, no_counter
 use Rattle.spec_core.specs.State.{is_in}
 use Rattle.spec_core.specs.Fits.{in_literal_range}
 use Rattle.spec_core.specs.Typed.{are_sorts, is_relation, is_counter, all_distinct, names_from_counters, names_from_tokens, global_names}
-use Rattle.spec_reader.specs.declared.tree.Mark.{Mark}
-use Rattle.spec_reader.specs.declared.tree.Value.{Value}
-use Rattle.spec_reader.specs.declared.tree.Value.TheVariants as values
+use Rattle.spec_trees.specs.declared.tree.Mark.{Mark}
+use Rattle.spec_trees.specs.declared.tree.Value.{Value}
+use Rattle.spec_trees.specs.declared.tree.Value.TheVariants as values
 use Rattle.typing_rules.specs.declared.meaning.Meaning.{Meaning}
 use Rattle.typing_rules.specs.declared.meaning.Meaning.TheVariants as meaning
 use Rattle.typing_rules.specs.Scope.{Names}

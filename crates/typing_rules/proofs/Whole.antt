@@ -23,16 +23,16 @@ use Rattle.spec_core.specs.Specification.{Specification}
 use Rattle.spec_core.specs.State.{is_in}
 use Rattle.spec_core.specs.Truth.{is_exists}
 use Rattle.spec_core.specs.Typed.{is_line, is_kind, is_parameter, is_operation, parameter_names, all_distinct, is_rule, is_invariant, global_names, is_specification}
-use Rattle.spec_reader.specs.declared.tree.Mark.{Mark}
-use Rattle.spec_reader.specs.declared.tree.Reading.{Reading}
-use Rattle.spec_reader.specs.declared.tree.Param.{Param}
-use Rattle.spec_reader.specs.declared.tree.ParamKind.{ParamKind}
-use Rattle.spec_reader.specs.declared.tree.ParamKind.TheVariants as kinds
-use Rattle.spec_reader.specs.declared.tree.Quantifier.{Quantifier}
-use Rattle.spec_reader.specs.declared.tree.Quantifier.TheVariants as quantifiers
-use Rattle.spec_reader.specs.declared.tree.Prefix.{Prefix}
-use Rattle.spec_reader.specs.Trees.{IsTree}
-use Rattle.spec_reader.specs.Form.{Sentence, LineForm, ItemForm, sort_form, const_form, relation_form, counter_form, initially_form, token_form, conflict_form, invariant_form, operation_form, TreeForm}
+use Rattle.spec_trees.specs.declared.tree.Mark.{Mark}
+use Rattle.spec_trees.specs.declared.tree.Reading.{Reading}
+use Rattle.spec_trees.specs.declared.tree.Param.{Param}
+use Rattle.spec_trees.specs.declared.tree.ParamKind.{ParamKind}
+use Rattle.spec_trees.specs.declared.tree.ParamKind.TheVariants as kinds
+use Rattle.spec_trees.specs.declared.tree.Quantifier.{Quantifier}
+use Rattle.spec_trees.specs.declared.tree.Quantifier.TheVariants as quantifiers
+use Rattle.spec_trees.specs.declared.tree.Prefix.{Prefix}
+use Rattle.spec_trees.specs.Trees.{IsTree}
+use Rattle.spec_trees.specs.Form.{Sentence, LineForm, ItemForm, sort_form, const_form, relation_form, counter_form, initially_form, token_form, conflict_form, invariant_form, operation_form, TreeForm}
 use Rattle.typing_rules.specs.declared.meaning.Meaning.TheVariants as meaning
 use Rattle.typing_rules.specs.declared.which.Which.TheVariants as which
 use Rattle.typing_rules.specs.Fault.{Fault, ◌otherwise◌, first_fault, twice_at, limit_at}

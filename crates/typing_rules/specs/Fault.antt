@@ -1,7 +1,7 @@
 -- What is wrong with a tree, and at which word.
 use Rattle.std.specs.Prelude.{ℕ, ◌+◌, nat_lt, List, [], ◌∷◌, Option, None, Some, if◌then◌else◌}
 use Rattle.typing_rules.specs.declared.which.Which.{Which}
-use Rattle.spec_reader.specs.declared.tree.Mark.{Mark}
+use Rattle.spec_trees.specs.declared.tree.Mark.{Mark}
 
 -- A name that isn't in scope, one that is declared while it is in scope, one that isn't what its place needs, one with a wrong
 -- number of arguments, each with its word; and a limit that is passed, with the number that is reached, and the word.

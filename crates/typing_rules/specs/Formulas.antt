@@ -11,21 +11,21 @@ use Rattle.spec_core.specs.Line.{Line}
 use Rattle.spec_core.specs.Limits.{most_variables, most_nodes}
 use Rattle.spec_core.specs.Specification.{relation_places}
 use Rattle.spec_core.specs.Typed.{same_sort}
-use Rattle.spec_reader.specs.declared.tree.Mark.{Mark}
-use Rattle.spec_reader.specs.declared.tree.Reading.{Reading}
-use Rattle.spec_reader.specs.declared.tree.Product.{Product}
-use Rattle.spec_reader.specs.declared.tree.Product.TheVariants as products
-use Rattle.spec_reader.specs.declared.tree.Signed.{Signed}
-use Rattle.spec_reader.specs.declared.tree.Term.{Term}
-use Rattle.spec_reader.specs.declared.tree.Comparison.{Comparison}
-use Rattle.spec_reader.specs.declared.tree.Comparison.TheVariants as comparisons
-use Rattle.spec_reader.specs.declared.tree.Connective.{Connective}
-use Rattle.spec_reader.specs.declared.tree.Connective.TheVariants as connectives
-use Rattle.spec_reader.specs.declared.tree.Variable.{Variable}
-use Rattle.spec_reader.specs.declared.tree.Quantifier.{Quantifier}
-use Rattle.spec_reader.specs.declared.tree.Quantifier.TheVariants as quantifiers
-use Rattle.spec_reader.specs.declared.tree.Prefix.{Prefix}
-use Rattle.spec_reader.specs.Form.{Form, true_form, false_form, not_form, connect_form, has_form, compare_form, Sentence}
+use Rattle.spec_trees.specs.declared.tree.Mark.{Mark}
+use Rattle.spec_trees.specs.declared.tree.Reading.{Reading}
+use Rattle.spec_trees.specs.declared.tree.Product.{Product}
+use Rattle.spec_trees.specs.declared.tree.Product.TheVariants as products
+use Rattle.spec_trees.specs.declared.tree.Signed.{Signed}
+use Rattle.spec_trees.specs.declared.tree.Term.{Term}
+use Rattle.spec_trees.specs.declared.tree.Comparison.{Comparison}
+use Rattle.spec_trees.specs.declared.tree.Comparison.TheVariants as comparisons
+use Rattle.spec_trees.specs.declared.tree.Connective.{Connective}
+use Rattle.spec_trees.specs.declared.tree.Connective.TheVariants as connectives
+use Rattle.spec_trees.specs.declared.tree.Variable.{Variable}
+use Rattle.spec_trees.specs.declared.tree.Quantifier.{Quantifier}
+use Rattle.spec_trees.specs.declared.tree.Quantifier.TheVariants as quantifiers
+use Rattle.spec_trees.specs.declared.tree.Prefix.{Prefix}
+use Rattle.spec_trees.specs.Form.{Form, true_form, false_form, not_form, connect_form, has_form, compare_form, Sentence}
 use Rattle.typing_rules.specs.declared.which.Which.TheVariants.{Nodes, Variables}
 use Rattle.typing_rules.specs.Fault.{Fault, limit_fault, ◌otherwise◌, first_fault, kind_at, limit_at}
 use Rattle.typing_rules.specs.Scope.{Names, Scope, stranger_fault, declared_fault, sort_fault, relation_meant, var_sorts}

@@ -13,14 +13,14 @@ use Rattle.spec_core.specs.Form as core
 use Rattle.spec_core.specs.UpdateLine.{UpdateLine}
 use Rattle.spec_core.specs.Limits.{most_requires, most_updates, most_takes, most_observes}
 use Rattle.spec_core.specs.Specification.{Specification, relation_places, counter_keys, token_places}
-use Rattle.spec_reader.specs.declared.tree.Mark.{Mark}
-use Rattle.spec_reader.specs.declared.tree.Reading.{Reading}
-use Rattle.spec_reader.specs.declared.tree.Term.{Term}
-use Rattle.spec_reader.specs.declared.tree.Spot.{Spot}
-use Rattle.spec_reader.specs.declared.tree.Spot.TheVariants as spots
-use Rattle.spec_reader.specs.declared.tree.Mode.{Mode}
-use Rattle.spec_reader.specs.declared.tree.Mode.TheVariants as modes
-use Rattle.spec_reader.specs.Form.{Form, LineForm, requires_form, insert_form, remove_form, add_form, set_form, takes_form, observes_form}
+use Rattle.spec_trees.specs.declared.tree.Mark.{Mark}
+use Rattle.spec_trees.specs.declared.tree.Reading.{Reading}
+use Rattle.spec_trees.specs.declared.tree.Term.{Term}
+use Rattle.spec_trees.specs.declared.tree.Spot.{Spot}
+use Rattle.spec_trees.specs.declared.tree.Spot.TheVariants as spots
+use Rattle.spec_trees.specs.declared.tree.Mode.{Mode}
+use Rattle.spec_trees.specs.declared.tree.Mode.TheVariants as modes
+use Rattle.spec_trees.specs.Form.{Form, LineForm, requires_form, insert_form, remove_form, add_form, set_form, takes_form, observes_form}
 use Rattle.typing_rules.specs.declared.which.Which.TheVariants.{Requires, Updates, Takes, Observes}
 use Rattle.typing_rules.specs.Fault.{Fault, ◌otherwise◌, limit_at}
 use Rattle.typing_rules.specs.Scope.{Scope, stranger_fault, relation_meant, counter_meant, token_meant}

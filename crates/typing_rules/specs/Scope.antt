@@ -7,11 +7,11 @@ use Rattle.spec_core.specs.declared.operation.Kind.{Kind}
 use Rattle.spec_core.specs.declared.operation.Kind.TheVariants as kind
 use Rattle.spec_core.specs.declared.operation.Param.{Param as Parameter}
 use Rattle.spec_core.specs.Specification.{Specification}
-use Rattle.spec_reader.specs.declared.tree.Mark.{Mark}
-use Rattle.spec_reader.specs.declared.tree.Param.{Param}
-use Rattle.spec_reader.specs.declared.tree.ParamKind.{ParamKind}
-use Rattle.spec_reader.specs.declared.tree.ParamKind.TheVariants as kinds
-use Rattle.spec_reader.specs.declared.tree.Variable.{Variable}
+use Rattle.spec_trees.specs.declared.tree.Mark.{Mark}
+use Rattle.spec_trees.specs.declared.tree.Param.{Param}
+use Rattle.spec_trees.specs.declared.tree.ParamKind.{ParamKind}
+use Rattle.spec_trees.specs.declared.tree.ParamKind.TheVariants as kinds
+use Rattle.spec_trees.specs.declared.tree.Variable.{Variable}
 use Rattle.typing_rules.specs.declared.meaning.Meaning.{Meaning}
 use Rattle.typing_rules.specs.declared.meaning.Meaning.TheVariants as meaning
 use Rattle.typing_rules.specs.Fault.{Fault, ◌otherwise◌, unknown_at, twice_at, kind_at}

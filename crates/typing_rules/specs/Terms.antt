@@ -10,19 +10,19 @@ use Rattle.spec_core.specs.declared.formula.Term.{Term as CoreTerm}
 use Rattle.spec_core.specs.Limits.{most_summands, greatest_literal}
 use Rattle.spec_core.specs.Specification.{Specification, counter_keys}
 use Rattle.spec_core.specs.Typed.{sort_of, is_sort}
-use Rattle.spec_reader.specs.declared.tree.Mark.{Mark}
-use Rattle.spec_reader.specs.declared.tree.Figure.{Figure}
-use Rattle.spec_reader.specs.declared.tree.Reading.{Reading}
-use Rattle.spec_reader.specs.declared.tree.Product.{Product}
-use Rattle.spec_reader.specs.declared.tree.Product.TheVariants as products
-use Rattle.spec_reader.specs.declared.tree.Summand.{Summand}
-use Rattle.spec_reader.specs.declared.tree.Sign.{Sign}
-use Rattle.spec_reader.specs.declared.tree.Sign.TheVariants as signs
-use Rattle.spec_reader.specs.declared.tree.Signed.{Signed}
-use Rattle.spec_reader.specs.declared.tree.Term.{Term}
-use Rattle.spec_reader.specs.declared.tree.ParamKind.{ParamKind}
-use Rattle.spec_reader.specs.declared.tree.ParamKind.TheVariants as kinds
-use Rattle.spec_reader.specs.declared.tree.Param.{Param}
+use Rattle.spec_trees.specs.declared.tree.Mark.{Mark}
+use Rattle.spec_trees.specs.declared.tree.Figure.{Figure}
+use Rattle.spec_trees.specs.declared.tree.Reading.{Reading}
+use Rattle.spec_trees.specs.declared.tree.Product.{Product}
+use Rattle.spec_trees.specs.declared.tree.Product.TheVariants as products
+use Rattle.spec_trees.specs.declared.tree.Summand.{Summand}
+use Rattle.spec_trees.specs.declared.tree.Sign.{Sign}
+use Rattle.spec_trees.specs.declared.tree.Sign.TheVariants as signs
+use Rattle.spec_trees.specs.declared.tree.Signed.{Signed}
+use Rattle.spec_trees.specs.declared.tree.Term.{Term}
+use Rattle.spec_trees.specs.declared.tree.ParamKind.{ParamKind}
+use Rattle.spec_trees.specs.declared.tree.ParamKind.TheVariants as kinds
+use Rattle.spec_trees.specs.declared.tree.Param.{Param}
 use Rattle.typing_rules.specs.declared.which.Which.TheVariants.{Summands, Literal}
 use Rattle.typing_rules.specs.Fault.{Fault, limit_fault, ◌otherwise◌, first_fault, kind_at, count_at, limit_at}
 use Rattle.typing_rules.specs.Scope.{Names, Scope, stranger_fault, const_meant, counter_meant, var_sorts, params_of}

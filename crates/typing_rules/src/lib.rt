@@ -1,6 +1,6 @@
 // The typing of specifications: which specification a tree is, and what is wrong with a tree that is none.
 //
-// It stands on `spec_reader`, whose trees are typed, and on `spec_core`, whose specifications they give. The definitions are in
+// It stands on `spec_trees`, whose trees are typed, and on `spec_core`, whose specifications they give. The definitions are in
 // specs/, over plain data, in this order: `Fault` (what is wrong at a word), `Scope` (what a name means where it stands),
 // `Terms` (elements and amounts), `Formulas` (formulas and their prefixes), `Lines` (what operations do) and `Items` (the
 // declarations, and the whole). Each part of a tree has the first of its faults, and what it is in the specification. Where the

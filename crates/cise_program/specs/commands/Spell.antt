@@ -1,8 +1,8 @@
 -- What `spell` answers for the tree of a specification.
 use Rattle.std.specs.Prelude.{◌≡◌, ℕ, List}
 use Rattle.byte_ports.specs.Ending.{IsFrontOfOne}
-use Rattle.spec_reader.specs.Form.{TreeForm}
-use Rattle.spec_reader.specs.Layout.{text_of_tree}
+use Rattle.spec_trees.specs.Form.{TreeForm}
+use Rattle.spec_trees.specs.Layout.{text_of_tree}
 
 -- A specification's words, in the layout of the language.
 pub record IsSpelled (tree : TreeForm) (status : ℕ) (text : List ℕ) : Type 0 where

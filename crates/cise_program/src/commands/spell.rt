@@ -2,11 +2,12 @@
 ghost use Rattle.std.specs.Prelude.{◌≢◌};
 ghost use Rattle.byte_ports.specs.Ports.{port_of};
 ghost use Rattle.byte_ports.specs.Ending.{Ends};
-ghost use Rattle.spec_reader.specs.Form.{tree_of};
+ghost use Rattle.spec_trees.specs.Form.{tree_of};
 ghost use Rattle.cise_program.specs.commands.Spell.{IsSpelled, IsSpellFront};
 
 use byte_ports::{MEMORY, Sink, write_answer};
-use spec_reader::{Tree, spell};
+use spec_trees::Tree;
+use spec_writer::spell;
 use std::alloc::Global;
 
 /// Spells the tree of a specification.

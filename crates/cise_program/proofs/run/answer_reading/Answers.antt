@@ -2,7 +2,7 @@ use Rattle.std.proofs.Common.{subst, inr, inl, ◌∙◌, ap, take}
 use Rattle.byte_ports.specs.Ending.{IsOne, IsFrontOf}
 use Rattle.byte_ports.proofs.Endings.{Ends-map}
 use Rattle.byte_ports.proofs.Sources.{some_told}
-use Rattle.spec_reader.specs.Form.{tree_of}
+use Rattle.spec_trees.specs.Form.{tree_of}
 use Rattle.spec_from_bytes.specs.Reading.{IsReadingOf}
 use Rattle.cise_program.specs.Answer.{IsOutcome, IsOutcomeFront, IsAnswerOf, IsFrontOfAnswer}
 use Rattle.cise_program.proofs.run.answer_reading.Goals as goal

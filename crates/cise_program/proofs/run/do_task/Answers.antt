@@ -1,5 +1,5 @@
 use Rattle.byte_ports.proofs.Sources.{some_told}
-use Rattle.spec_reader.specs.Form.{tree_of}
+use Rattle.spec_trees.specs.Form.{tree_of}
 use Rattle.cise_program.specs.declared.words.Task.TheVariants.{Check, Upgrade, Suggest, Spell}
 use Rattle.cise_program.proofs.Endings.{Ends-task}
 use Rattle.std.proofs.Common.{sym, subst}

@@ -1,6 +1,7 @@
 use Rattle.std.proofs.Common.{subst}
-use Rattle.spec_reader.specs.Form.{tree_of}
-use Rattle.spec_reader.specs.Place.{IsRefusedAt, texts_of}
+use Rattle.spec_trees.specs.Form.{tree_of}
+use Rattle.spec_trees.specs.Place.{texts_of}
+use Rattle.spec_reader.specs.Refused.{IsRefusedAt}
 use Rattle.spec_from_bytes.specs.Refusal.{no_reading}
 use Rattle.spec_from_bytes.specs.Reading.{IsTyped}
 use Rattle.spec_from_bytes.proofs.Unread.{unread-syntax, faulty_refusal}

@@ -1,5 +1,5 @@
 use Rattle.std.proofs.Common.{◌≡◌, length, map}
-use Rattle.spec_reader.specs.Form.{item_of}
+use Rattle.spec_trees.specs.Form.{item_of}
 use Rattle.spec_reader.specs.Reading.{items_at}
 use Rattle.parser_combinators.proofs.Loop.{with_front}
 use Rattle.spec_reader.proofs.item.items.Given as goal

@@ -1,7 +1,7 @@
 use Rattle.std.proofs.Common.{◌≡◌, true, false, ◌++◌, ◌∷◌, [], map, refl, sym, ap, ◌∙◌}
 use Rattle.std.proofs.lemmas.Result.{err_from_is_err_and}
 use Rattle.std.proofs.lemmas.List.{map_push}
-use Rattle.spec_reader.specs.Form.{line_of}
+use Rattle.spec_trees.specs.Form.{line_of}
 use Rattle.parser_combinators.specs.Words.{next, seen}
 use Rattle.spec_reader.specs.Reading.{starts_line, line_at, lines_at}
 use Rattle.parser_combinators.proofs.Loop.{goes_on, ends, is_done}

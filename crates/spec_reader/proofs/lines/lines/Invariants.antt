@@ -1,5 +1,5 @@
 use Rattle.std.proofs.Common.{◌≡◌, length, map}
-use Rattle.spec_reader.specs.Form.{line_of}
+use Rattle.spec_trees.specs.Form.{line_of}
 use Rattle.spec_reader.specs.Reading.{lines_at}
 use Rattle.parser_combinators.proofs.Loop.{with_front}
 use Rattle.spec_reader.proofs.lines.lines.Given as goal

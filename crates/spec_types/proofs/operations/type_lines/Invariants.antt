@@ -1,5 +1,5 @@
 use Rattle.std.proofs.Common.{◌≡◌, drop, map}
-use Rattle.spec_reader.specs.Form.{line_of}
+use Rattle.spec_trees.specs.Form.{line_of}
 use Rattle.typing_rules.specs.Lines.{typed_lines}
 use Rattle.find_faults.specs.Views.{scope_of}
 use Rattle.spec_types.proofs.operations.type_lines.Given as goal

@@ -1,6 +1,6 @@
 use Rattle.std.proofs.Common.{◌∙◌, ap}
 use Rattle.std.specs.Str.{bytes_eq}
-use Rattle.spec_reader.specs.declared.tree.Mark.{Mark}
+use Rattle.spec_trees.specs.declared.tree.Mark.{Mark}
 use Rattle.typing_rules.specs.Terms.{small}
 use Rattle.spec_types.proofs.Lists.{found_first, found_behind, found_nowhere}
 use Rattle.spec_types.proofs.rules.rule_place.Goals as goal

@@ -1,8 +1,8 @@
 use Rattle.std.proofs.Common.{◌≡◌, List, map, sym, ◌∙◌, ap, subst}
-use Rattle.spec_reader.specs.declared.tree.Item.{Item}
-use Rattle.spec_reader.specs.declared.tree.Line.{Line}
-use Rattle.spec_reader.specs.declared.tree.Param.{Param}
-use Rattle.spec_reader.specs.Form.{ItemForm, invariant_form, operation_form, item_of, line_of, sentence_of}
+use Rattle.spec_trees.specs.declared.tree.Item.{Item}
+use Rattle.spec_trees.specs.declared.tree.Line.{Line}
+use Rattle.spec_trees.specs.declared.tree.Param.{Param}
+use Rattle.spec_trees.specs.Form.{ItemForm, invariant_form, operation_form, item_of, line_of, sentence_of}
 use Rattle.typing_rules.specs.Items.{typed_item}
 use Rattle.spec_types.specs.Refusals.{Makes}
 use Rattle.spec_types.specs.Views.{known_of}

@@ -1,5 +1,5 @@
 use Rattle.std.proofs.Common.{◌≡◌, drop, map}
-use Rattle.spec_reader.specs.Form.{item_of}
+use Rattle.spec_trees.specs.Form.{item_of}
 use Rattle.typing_rules.specs.Items.{typed_items}
 use Rattle.spec_types.specs.Views.{known_of}
 use Rattle.spec_types.proofs.typing.type_items.Given as goal

@@ -1,4 +1,4 @@
-use Rattle.spec_reader.specs.Form.{tree_of}
+use Rattle.spec_trees.specs.Form.{tree_of}
 use Rattle.spec_types.proofs.Least.{if_faultless, if_least}
 use Rattle.spec_types.proofs.typing.type_tree.Goals as goal
 

@@ -1,5 +1,5 @@
 use Rattle.std.proofs.Common.{◌≡◌, map, Ok, sym, ◌∙◌, ap}
-use Rattle.spec_reader.specs.Form.{item_of, tree_of}
+use Rattle.spec_trees.specs.Form.{item_of, tree_of}
 use Rattle.typing_rules.specs.Items.{typed_items, typing}
 use Rattle.spec_types.specs.Views.{known_of}
 use Rattle.spec_types.proofs.typing.typed.Goals as goal
