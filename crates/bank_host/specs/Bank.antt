@@ -76,7 +76,11 @@ plain f = record { prefix = Plain; vars = []; body = f }
 abbrev pub solvent : Invariant
 solvent = record {
   name = codes "solvent";
-  line = record { prefix = Forall; vars = account ∷ []; body = compare_form (balance_of (elem.Var 0)) AtLeast nothing };
+  line = record {
+    prefix = Forall;
+    vars = account ∷ [];
+    body = compare_form (balance_of (elem.Var 0)) AtLeast nothing;
+  };
 }
 
 -- `requires ( n >= 0 )`
@@ -91,7 +95,9 @@ covered = plain (compare_form (balance_of (elem.Param 0)) AtLeast (amount_times 
 
 -- the parameters `( a : Account , n : int )`
 abbrev pub params : List Param
-params = record { name = codes "a"; kind = kind.Sort account } ∷ record { name = codes "n"; kind = kind.Int } ∷ []
+params =
+    record { name = codes "a"; kind = kind.Sort account }
+    ∷ record { name = codes "n"; kind = kind.Int } ∷ []
 
 -- `add balance ( a )` with the amount, or with minus the amount
 abbrev pub add_to_balance : ℤ → UpdateLine

@@ -1,6 +1,7 @@
 // The bank's own code for the effect of a call: it changes one balance of a copy.
 
-ghost use Rattle.std.specs.Prelude.{◌≡◌, ◌<◌, ◌≤◌, ◌^◌, ◌+ℤ◌, ℕ, ℤ, List, [], ◌∷◌, true, false, length, unsigned_abs, Err, IfOk, OnOk};
+ghost use Rattle.std.specs.Prelude.{◌≡◌, ◌<◌, ◌≤◌, ◌^◌, ◌+ℤ◌, ℕ, ℤ, List, [], ◌∷◌, true, false};
+ghost use Rattle.std.specs.Prelude.{length, unsigned_abs, Err, IfOk, OnOk};
 ghost use Rattle.spec_core.specs.declared.world.World.{World as WorldValue};
 ghost use Rattle.spec_core.specs.Specification.{Specification, counter_keys};
 ghost use Rattle.spec_core.specs.State.{reads, with_count};
@@ -43,7 +44,8 @@ fn in_range(value: i128) -> bool
 fn with_balance(state: &State, key: &[u32], value: i128) -> Result<State, AllocError>
     requires counter { 0 < length state.now.counters }
     requires value { in_state_range value ≡ true }
-    ensures reads { IfOk result (λ s. reads s ≡ with_count (reads state.now) balance key.now value) }
+    ensures reads { IfOk result
+        (λ s. reads s ≡ with_count (reads state.now) balance key.now value) }
     ensures fits { IfOk result
         (λ s. (d : Specification) (w : WorldValue) → is_state d w state.now ≡ true
         → fits_places w (counter_keys d balance) key.now ≡ true → is_state d w s ≡ true) }
@@ -88,13 +90,18 @@ fn change_balance(
         (λ s. reads s
         ≡ with_count (reads state.now) balance key.now
         ((reads state.now).count balance key.now +ℤ change)) }
-    ensures in_range { OnOk result (in_state_range ((reads state.now).count balance key.now +ℤ change) ≡ true) }
+    ensures in_range { OnOk result
+        (in_state_range ((reads state.now).count balance key.now +ℤ change) ≡ true) }
     ensures fits { IfOk result
         (λ s. (d : Specification) (w : WorldValue) → is_state d w state.now ≡ true
         → fits_places w (counter_keys d balance) key.now ≡ true → is_state d w s ≡ true) }
     ensures range { (b : Beyond) → result ≡ Err (ApplyRefused.Range b.counter b.key b.value)
         → (b
-        ≡ record { counter = balance; key = key.now; value = (reads state.now).count balance key.now +ℤ change })
+        ≡ record {
+          counter = balance;
+          key = key.now;
+          value = (reads state.now).count balance key.now +ℤ change;
+        })
         × (in_state_range ((reads state.now).count balance key.now +ℤ change) ≡ false) }
 {
     let value = value_after(state, key, change);

@@ -5,7 +5,8 @@ ghost use Rattle.spec_core.specs.declared.world.World.{World as WorldValue};
 ghost use Rattle.spec_core.specs.State.{reads};
 ghost use Rattle.replica_host.specs.Native.{IsGuard};
 ghost use Rattle.bank_host.specs.Bank.{bank, balance};
-ghost use Rattle.bank_host.specs.Calls.{FitIn, Fit, account_of as account_of_call, amount_of as amount_of_call, false_line as false_line_of};
+ghost use Rattle.bank_host.specs.Calls.{FitIn, Fit, account_of as account_of_call};
+ghost use Rattle.bank_host.specs.Calls.{amount_of as amount_of_call, false_line as false_line_of};
 
 use crate::effect::{BALANCE, BankCode, account_of, amount_of};
 use replica_host::Guard;
@@ -18,7 +19,9 @@ const WITHDRAW: u8 = 1;
 /// Whether the balance of the account of a call is less than its amount.
 fn is_overdrawn(state: &State, call: &Call) -> bool
     requires { account_of_call call.now < 2 ^ 32 }
-    ensures { result ≡ int_lt ((reads state.now).count balance (account_of_call call.now ∷ [])) (amount_of_call call.now) }
+    ensures { result
+        ≡ int_lt ((reads state.now).count balance (account_of_call call.now ∷ []))
+        (amount_of_call call.now) }
 {
     state.count(BALANCE, &[account_of(call)]) < amount_of(call) as i128
 }

@@ -74,8 +74,10 @@ fn carried_out(
 ) -> Result<Answer, AllocError>
     requires spec { spec.now ≡ bank }
     requires schedule { IsScheduleOf spec.now schedule.now }
-    ensures text { IfOk result (λ report. report.text.items ≡ text_read command spec.now (Ok schedule.now)) }
-    ensures status { IfOk result (λ report. report.status ≡ status_read command spec.now (Ok schedule.now)) }
+    ensures text { IfOk result
+        (λ report. report.text.items ≡ text_read command spec.now (Ok schedule.now)) }
+    ensures status { IfOk result
+        (λ report. report.status ≡ status_read command spec.now (Ok schedule.now)) }
 {
     match command {
         Command::Replay => replayed(alloc, spec, schedule),
@@ -92,7 +94,8 @@ pub fn answer_bytes(
 ) -> Result<Answer, AllocError>
     requires spec { spec.now ≡ bank }
     requires within { length bytes.now ≤ most_schedule_bytes }
-    ensures { IfOk result (λ answer. IsAnswer (Some command) bytes.now answer.status answer.text.items) }
+    ensures { IfOk result
+        (λ answer. IsAnswer (Some command) bytes.now answer.status answer.text.items) }
 {
     match read_schedule(alloc, spec, bytes) {
         Ok(schedule) => {

@@ -28,7 +28,8 @@ fn run_command<S: Source, K: Sink>(
         (port_of K.held K.faults out.old) (port_of K.held K.faults out.new) }
     ensures read_fault { result ≡ 6 → IsFault (S.faults schedule.old) (S.faults schedule.new) }
     ensures unwritten { result ≡ 6 → out.new ≡ out.old }
-    ensures end { result < 6 → IsReadWithin most_schedule_bytes (S.left schedule.old) (S.left schedule.new) }
+    ensures end { result < 6
+        → IsReadWithin most_schedule_bytes (S.left schedule.old) (S.left schedule.new) }
 {
     let Ok(spec) = bank_spec(alloc) else {
         return MEMORY;

@@ -4,7 +4,14 @@ ghost use Rattle.std.specs.Prelude.{◌≡◌, ℤ, pos, negsuc, [], ◌∷◌, 
 ghost use Rattle.spec_core.specs.declared.formula.Elem.{Elem as Element};
 ghost use Rattle.spec_core.specs.Form.{form_of, compare_form};
 ghost use Rattle.spec_core.specs.declared.formula.Cmp.TheVariants.{AtLeast};
-ghost use Rattle.bank_host.specs.Bank.{the_counter, the_token, pattern as pattern_of, the_rule, nothing as nothing_of, amount_times as amount_times_of, balance_of as balance_of_element, plain as plain_of, solvent as solvent_of, no_debt as no_debt_line, covered as covered_line, params as params_of, add_to_balance as add_to_balance_of, takes_purse as takes_purse_of, deposit as deposit_of, withdraw as withdraw_of, bank};
+ghost use Rattle.bank_host.specs.Bank.{the_counter, the_token, pattern as pattern_of, the_rule};
+ghost use Rattle.bank_host.specs.Bank.{nothing as nothing_of, amount_times as amount_times_of};
+ghost use Rattle.bank_host.specs.Bank.{balance_of as balance_of_element, plain as plain_of};
+ghost use Rattle.bank_host.specs.Bank.{solvent as solvent_of, no_debt as no_debt_line};
+ghost use Rattle.bank_host.specs.Bank.{covered as covered_line, params as params_of};
+ghost use Rattle.bank_host.specs.Bank.{add_to_balance as add_to_balance_of};
+ghost use Rattle.bank_host.specs.Bank.{takes_purse as takes_purse_of, deposit as deposit_of};
+ghost use Rattle.bank_host.specs.Bank.{withdraw as withdraw_of, bank};
 
 use items::Items;
 use spec_core::{

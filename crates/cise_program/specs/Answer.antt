@@ -119,7 +119,8 @@ IsStopped job spec extra held_before held_after =
 abbrev pub AgreeOf : Task → ℕ → List ℕ → ℕ → List ℕ → Type 0
 AgreeOf (Check budget) status text other_status other_text =
     IsOne status text other_status other_text
-    ⊎ ((d : Specification) × IsReport budget d status text × IsReport budget d other_status other_text)
+    ⊎ ((d : Specification) × IsReport budget d status text
+    × IsReport budget d other_status other_text)
 AgreeOf Suggest status text other_status other_text =
     IsOne status text other_status other_text
     ⊎ ((d : Specification) × IsSuggested d status text × IsSuggested d other_status other_text)

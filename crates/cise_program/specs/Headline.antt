@@ -154,7 +154,8 @@ IsVerifiedAs bytes text status =
 abbrev pub VerifiesAlike : Option (List ℕ) → Option (List ℕ) → Option (List ℕ) → ℕ → Type 0
 VerifiesAlike spec held_before held_after status =
     IfSome spec
-    (λ bytes. (text : List ℕ) × Appends held_before held_after text × IsVerifiedAs bytes text status)
+    (λ bytes. (text : List ℕ) × Appends held_before held_after text
+    × IsVerifiedAs bytes text status)
 
 -- ---- simulations
 
@@ -182,7 +183,8 @@ pub record IsSuggestedRightly (bytes text : List ℕ) (status : ℕ) : Type 0 wh
 abbrev pub SuggestsRightly : Option (List ℕ) → ℕ → Option (List ℕ) → Option (List ℕ) → Type 0
 SuggestsRightly spec status held_before held_after =
     IfSome spec
-    (λ bytes. (text : List ℕ) × Appends held_before held_after text × IsSuggestedRightly bytes text status)
+    (λ bytes. (text : List ℕ) × Appends held_before held_after text
+    × IsSuggestedRightly bytes text status)
 
 -- ---- refused specifications
 
@@ -196,7 +198,8 @@ IsLeastOf bytes why =
 abbrev pub RefusesRightly : Option (List ℕ) → Option (List ℕ) → Option (List ℕ) → Type 0
 RefusesRightly spec held_before held_after =
     IfSome spec
-    (λ bytes. (why : Refusal) × IsRefusal bytes why × Appends held_before held_after (refusal_text why) × IsLeastOf bytes why)
+    (λ bytes. (why : Refusal) × IsRefusal bytes why
+    × Appends held_before held_after (refusal_text why) × IsLeastOf bytes why)
 
 -- ---- completeness
 

@@ -53,7 +53,8 @@ job_of_two command word =
     if bytes_eq command (codes "check") then Some (OfSpec (Check default_budget))
     else (if bytes_eq command (codes "suggest") then Some (OfSpec Suggest)
     else (if bytes_eq command (codes "spell") then Some (OfSpec Spell)
-    else (if bytes_eq command (codes "sample") then sample_of (number_in most_sample word) else None)))
+    else (if bytes_eq command (codes "sample")
+    then sample_of (number_in most_sample word) else None)))
 
 -- the job of a command with two inputs
 abbrev pub job_of_three : List ℕ → Option Job
@@ -129,7 +130,8 @@ abbrev pub AreRead : Option Job → ℕ → Option (List ℕ) → Option (List �
     → Option (List ℕ) → Type 0
 AreRead (Some (OfSpec task)) status spec_before spec_after extra_before extra_after =
     IsReadWithin most_specification_bytes spec_before spec_after
-    × (takes_extra task ≡ true → (status ≡ 3 → ⊥) → IsReadWithin (most_extra_bytes task) extra_before extra_after)
+    × (takes_extra task ≡ true → (status ≡ 3 → ⊥)
+    → IsReadWithin (most_extra_bytes task) extra_before extra_after)
 AreRead _ status spec_before spec_after extra_before extra_after = Unit {0}
 
 -- An input that is read for the job has failed, by the faults of the specification's source and then of the second one.

@@ -29,7 +29,8 @@ pub fn law_checked_is_verified()
 pub fn law_checked_has_one_answer()
     ensures { (d : Specification) (budget : ℕ) (tally : Tally) (text : List ℕ)
         (x : Result Tally VerifyRefused) → is_specification d ≡ true → 1 ≤ budget → budget ≤ 1000000
-        → IsChecked d budget tally text → length text ≤ most_report_bytes → IsVerified d text x → IsOnAll x → x ≡ Ok tally }
+        → IsChecked d budget tally text → length text ≤ most_report_bytes → IsVerified d text x
+        → IsOnAll x → x ≡ Ok tally }
 {
     law_checked_is_verified();
     law_one_answer();

@@ -8,7 +8,8 @@ ghost use Rattle.cise_program.specs.declared.words.Task.TheVariants.{Suggest};
 ghost use Rattle.cise_program.specs.declared.words.Job.TheVariants.{OfSpec};
 ghost use Rattle.cise_program.specs.Words.{job_of, reads_spec, is_judging, judges, writes_report};
 ghost use Rattle.cise_program.specs.Answer.{IsAnswer, IsAnswerOf, IsStopped, Agree};
-ghost use Rattle.cise_program.specs.Headline.{IsProved, is_outcome, Refutes, StopsRightly, VerifiesAlike, SuggestsRightly, RefusesRightly};
+ghost use Rattle.cise_program.specs.Headline.{IsProved, is_outcome, Refutes, StopsRightly};
+ghost use Rattle.cise_program.specs.Headline.{VerifiesAlike, SuggestsRightly, RefusesRightly};
 
 use crate::checked::law_checked_is_verified;
 use check_run::{law_checked_is_read, law_good_verdicts, law_safe};
@@ -25,18 +26,23 @@ use typing_rules::law_typed_is_well_formed;
 /// stopped run has written. And what is answered to a suggestion is right.
 pub fn law_headline()
     ensures proved { (words : List (List ℕ)) (spec extra : Option (List ℕ)) (text : List ℕ)
-        → judges (job_of words) ≡ true → IsAnswer (job_of words) spec extra 0 text → IfSome spec IsProved }
-    ensures refuted { (words : List (List ℕ)) (spec extra : Option (List ℕ)) (status : ℕ) (text : List ℕ)
+        → judges (job_of words) ≡ true → IsAnswer (job_of words) spec extra 0 text
+        → IfSome spec IsProved }
+    ensures refuted { (words : List (List ℕ)) (spec extra : Option (List ℕ))
+        (status : ℕ) (text : List ℕ)
         (held_before held_after : Option (List ℕ))
         → is_outcome status ≡ true → IsAnswer (job_of words) spec extra status text
         → Appends held_before held_after text
         → Refutes (job_of words) spec extra held_before held_after }
     ensures stopped { (words : List (List ℕ)) (spec extra held_before held_after : Option (List ℕ))
-        → writes_report (job_of words) ≡ true → IsStopped (job_of words) spec extra held_before held_after
+        → writes_report (job_of words) ≡ true
+        → IsStopped (job_of words) spec extra held_before held_after
         → StopsRightly spec held_before held_after }
-    ensures suggested { (words : List (List ℕ)) (spec extra : Option (List ℕ)) (status : ℕ) (text : List ℕ)
+    ensures suggested { (words : List (List ℕ)) (spec extra : Option (List ℕ))
+        (status : ℕ) (text : List ℕ)
         (held_before held_after : Option (List ℕ))
-        → job_of words ≡ Some (OfSpec Suggest) → is_outcome status ≡ true → IsAnswer (job_of words) spec extra status text
+        → job_of words ≡ Some (OfSpec Suggest) → is_outcome status ≡ true
+        → IsAnswer (job_of words) spec extra status text
         → Appends held_before held_after text
         → SuggestsRightly spec status held_before held_after }
 {
@@ -53,7 +59,8 @@ pub fn law_headline()
 /// Two answers to the same words and bytes agree: they are the same, but for the verdicts of a report, the blocks of a suggestion and the
 /// counts of a sample of which some verdict is undecided.
 pub fn law_answers_agree()
-    ensures { (words : List (List ℕ)) (spec extra : List ℕ) (status other_status : ℕ) (text other_text : List ℕ)
+    ensures { (words : List (List ℕ)) (spec extra : List ℕ) (status other_status : ℕ)
+        (text other_text : List ℕ)
         → IsAnswer (job_of words) (Some spec) (Some extra) status text
         → IsAnswer (job_of words) (Some spec) (Some extra) other_status other_text
         → Agree (job_of words) status text other_status other_text }
@@ -84,7 +91,8 @@ pub fn law_verdicts_never_contradict()
 /// Where a specification is refused, every answer to every task refuses it so.
 pub fn law_refused_for_all()
     ensures { (task : Task) (bytes more : List ℕ) (why : Refusal) (status : ℕ) (text : List ℕ)
-        → IsRefusal bytes why → IsAnswerOf task bytes more status text → IsOne 3 (refusal_text why) status text }
+        → IsRefusal bytes why → IsAnswerOf task bytes more status text
+        → IsOne 3 (refusal_text why) status text }
 {}
 
 /// Where a check or an upgrade wrote a report, it is verified with the same status, where it has at most 64 MiB.

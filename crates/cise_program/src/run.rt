@@ -1,5 +1,6 @@
 // The program but for its edge: from words, sources and a sink to a status.
-ghost use Rattle.std.specs.Prelude.{◌≡◌, ◌⊎◌, ◌<◌, true, false, List, ℕ, Option, Some, map, string_bytes, IfSome};
+ghost use Rattle.std.specs.Prelude.{◌≡◌, ◌⊎◌, ◌<◌, true, false, List, ℕ, Option, Some, map};
+ghost use Rattle.std.specs.Prelude.{string_bytes, IfSome};
 ghost use Rattle.byte_ports.specs.Faults.{IsFault};
 ghost use Rattle.byte_ports.specs.Ports.{port_of};
 ghost use Rattle.byte_ports.specs.Told.{Tells, IsReadWithin};
@@ -8,9 +9,15 @@ ghost use Rattle.spec_trees.specs.Form.{tree_of};
 ghost use Rattle.spec_from_bytes.specs.Reading.{IsReadingOf};
 ghost use Rattle.cise_program.specs.declared.words.Task.TheVariants.{Replay, Simulate, Suggest};
 ghost use Rattle.cise_program.specs.declared.words.Job.TheVariants.{OfSpec};
-ghost use Rattle.cise_program.specs.Words.{job_of, is_task, judges, writes_report, takes_extra, reads_spec, reads_extra, most_extra_bytes, AreRead, IsInputFault};
-ghost use Rattle.cise_program.specs.Answer.{IsOutcome, IsOutcomeFront, IsAnswerOf, IsFrontOfAnswer, IsAnswer, IsAnswerFront, EndsWith, IsAnswered, IsStopped};
-ghost use Rattle.cise_program.specs.Headline.{IsProved, is_outcome, Refutes, StopsRightly, IsReplayedSafely, IsSimulatedSafely, VerifiesAlike, SuggestsRightly, RefusesRightly, IsComplete};
+ghost use Rattle.cise_program.specs.Words.{job_of, is_task, judges, writes_report, takes_extra};
+ghost use Rattle.cise_program.specs.Words.{reads_spec, reads_extra, most_extra_bytes, AreRead};
+ghost use Rattle.cise_program.specs.Words.{IsInputFault};
+ghost use Rattle.cise_program.specs.Answer.{IsOutcome, IsOutcomeFront, IsAnswerOf, IsFrontOfAnswer};
+ghost use Rattle.cise_program.specs.Answer.{IsAnswer, IsAnswerFront, EndsWith, IsAnswered};
+ghost use Rattle.cise_program.specs.Answer.{IsStopped};
+ghost use Rattle.cise_program.specs.Headline.{IsProved, is_outcome, Refutes, StopsRightly};
+ghost use Rattle.cise_program.specs.Headline.{IsReplayedSafely, IsSimulatedSafely, VerifiesAlike};
+ghost use Rattle.cise_program.specs.Headline.{SuggestsRightly, RefusesRightly, IsComplete};
 
 use crate::commands::check::check;
 use crate::commands::replay::replay_schedule;
@@ -41,7 +48,8 @@ fn do_task<E: Source, K: Sink>(
     ensures ends { EndsWith (E.left extra.old) (IsOutcome task (tree_of tree.now) spec.now)
         (IsOutcomeFront task (tree_of tree.now) spec.now) result
         (port_of K.held K.faults out.old) (port_of K.held K.faults out.new) }
-    ensures read_fault { result ≡ 6 → (takes_extra task ≡ true) × IsFault (E.faults extra.old) (E.faults extra.new) }
+    ensures read_fault { result ≡ 6
+        → (takes_extra task ≡ true) × IsFault (E.faults extra.old) (E.faults extra.new) }
     ensures unwritten { result ≡ 6 → out.new ≡ out.old }
     ensures unread { takes_extra task ≡ false → extra.new ≡ extra.old }
     ensures end { result < 6 → takes_extra task ≡ true
@@ -70,7 +78,8 @@ fn answer_reading<E: Source, K: Sink>(
     ensures ends { (bytes : List ℕ) → IsReadingOf bytes reading.now
         → EndsWith (E.left extra.old) (IsAnswerOf task bytes) (IsFrontOfAnswer task bytes) result
         (port_of K.held K.faults out.old) (port_of K.held K.faults out.new) }
-    ensures read_fault { result ≡ 6 → (takes_extra task ≡ true) × IsFault (E.faults extra.old) (E.faults extra.new) }
+    ensures read_fault { result ≡ 6
+        → (takes_extra task ≡ true) × IsFault (E.faults extra.old) (E.faults extra.new) }
     ensures unwritten { result ≡ 6 → out.new ≡ out.old }
     ensures unread { takes_extra task ≡ false → extra.new ≡ extra.old }
     ensures end { result < 6 → takes_extra task ≡ true → (result ≡ 3 → ⊥)
@@ -184,8 +193,10 @@ pub fn run<S: Source, E: Source, K: Sink>(
     ensures read { result < 6
         → AreRead (job_of (map string_bytes words.now)) result (S.left spec.old) (S.left spec.new)
         (E.left extra.old) (E.left extra.new) }
-    ensures unread { reads_spec (job_of (map string_bytes words.now)) ≡ false → spec.new ≡ spec.old }
-    ensures unread_extra { reads_extra (job_of (map string_bytes words.now)) ≡ false → extra.new ≡ extra.old }
+    ensures unread { reads_spec (job_of (map string_bytes words.now)) ≡ false
+        → spec.new ≡ spec.old }
+    ensures unread_extra { reads_extra (job_of (map string_bytes words.now)) ≡ false
+        → extra.new ≡ extra.old }
 {
     law_headline();
     law_reports_are_verified();

@@ -1,7 +1,8 @@
 // The words behind the program's name, and what they ask for.
 ghost use Rattle.std.specs.Prelude.{◌≡◌, map, string_bytes};
 ghost use Rattle.report_lines.specs.Heads.{most_budget};
-ghost use Rattle.cise_program.specs.Words.{most_sample, number_in, check_within, sample_of, job_of_two, job_of_three, job_of_four, job_of};
+ghost use Rattle.cise_program.specs.Words.{most_sample, number_in, check_within, sample_of};
+ghost use Rattle.cise_program.specs.Words.{job_of_two, job_of_three, job_of_four, job_of};
 
 use word_cut::read_number;
 

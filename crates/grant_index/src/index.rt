@@ -27,7 +27,8 @@ impl Model for GrantIndex {
 
 // A list for each operation up to this one.
 fn reach(lists: &mut Vec<Candidates>, alloc: Global, op: u8) -> Result<(), AllocError>
-    ensures kept { (granted : List Grant) → AreUpTo granted lists.old.items → AreUpTo granted lists.new.items }
+    ensures kept { (granted : List Grant) → AreUpTo granted lists.old.items
+        → AreUpTo granted lists.new.items }
     ensures reached { OnOk result (op < length lists.new.items) }
 {
     while lists.len() <= op as usize {
@@ -71,7 +72,8 @@ impl GrantIndex {
     ) -> Result<(), AllocError>
         requires index { AreUpTo granted.now self.old }
         ensures index { AreUpTo granted.now self.new }
-        ensures numbers { OnOk result (numbers_at self.new op ≡ numbers_from rivals.now 0 granted.now) }
+        ensures numbers { OnOk result
+            (numbers_at self.new op ≡ numbers_from rivals.now 0 granted.now) }
     {
         reach(&mut self.lists, alloc, op)?;
         bring_up(&mut self.lists[op as usize], alloc, rivals, granted)

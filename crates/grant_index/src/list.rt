@@ -70,7 +70,9 @@ fn note(
     number: usize,
     granted: &Granted,
 ) -> Result<(), AllocError>
-    ensures ok { OnOk result (numbers.new ≡ numbers.old ++ cond (can_conflict rivals.now granted.now.call.op) (number ∷ []) []) }
+    ensures ok { OnOk result
+        (numbers.new ≡ numbers.old
+        ++ cond (can_conflict rivals.now granted.now.call.op) (number ∷ []) []) }
     ensures err { OnErr result (numbers.new ≡ numbers.old) }
 {
     if can_conflict(rivals, granted.call.op) {
@@ -113,7 +115,8 @@ impl Candidates {
         requires list { IsUpTo granted.now self.old }
         ensures list { IsUpTo granted.now self.new }
         ensures rivals { self.new.rivals ≡ self.old.rivals }
-        ensures numbers { OnOk result (self.new.numbers ≡ numbers_from self.old.rivals 0 granted.now) }
+        ensures numbers { OnOk result
+            (self.new.numbers ≡ numbers_from self.old.rivals 0 granted.now) }
     {
         for number in self.gone_through..granted.len() {
             note(

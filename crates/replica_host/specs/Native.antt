@@ -28,7 +28,9 @@ pub record IsEffect (d : Specification) (w : World) (s : Listing) (call : Call)
 -- or want of memory.
 pub record IsGuard {E : Type 0} (d : Specification) (w : World) (s : Listing) (call : Call)
     (answer : Result (Option ℕ) E) : Type 0 where
-  pub line : IfOk answer (λ line. line ≡ option_map (λ place. place + 1) (first_false w (reads s) call.args (op_of d call.op).requires_))
+  pub line : IfOk answer
+      (λ line. line ≡ option_map (λ place. place + 1)
+      (first_false w (reads s) call.args (op_of d call.op).requires_))
 
 -- ---- code
 

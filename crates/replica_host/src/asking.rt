@@ -1,11 +1,13 @@
 // Which calls and takings a runner refuses, and the states after those that it doesn't.
 
-ghost use Rattle.std.specs.Prelude.{◌≡◌, ◌<◌, ◌^◌, ◌⊎◌, true, length, Option, None, Some, IfOk, IfErr, OnOk};
+ghost use Rattle.std.specs.Prelude.{◌≡◌, ◌<◌, ◌^◌, ◌⊎◌, true, length, Option, None, Some, IfOk};
+ghost use Rattle.std.specs.Prelude.{IfErr, OnOk};
 ghost use Rattle.std.specs.Option.{option_or};
 ghost use Rattle.spec_core.specs.State.{reads};
 ghost use Rattle.spec_core.specs.Fits.{world_fits, call_fits, is_state};
 ghost use Rattle.effectors.specs.Effect.{after};
-ghost use Rattle.replica_replay.specs.Refusals.{call_asked, call_refused, taking_refused, effect_refused};
+ghost use Rattle.replica_replay.specs.Refusals.{call_asked, call_refused, taking_refused};
+ghost use Rattle.replica_replay.specs.Refusals.{effect_refused};
 ghost use Rattle.replica_replay.specs.Steps.{operation_named as operation_named_of};
 ghost use Rattle.replica_replay.specs.Holding.{calls_of};
 ghost use Rattle.token_rules.specs.Rivals.{rivals_of as rivals_with};
@@ -113,7 +115,8 @@ fn state_after_effect<R: Runner>(
     ensures reads { IfOk result
         (λ s. reads s
         ≡ after (R.specification runner.now) (R.setting runner.now) call.now (reads state.now)) }
-    ensures fits { IfOk result (λ s. is_state (R.specification runner.now) (R.setting runner.now) s ≡ true) }
+    ensures fits { IfOk result
+        (λ s. is_state (R.specification runner.now) (R.setting runner.now) s ≡ true) }
     ensures ok { OnOk result
         (effect_refused (R.specification runner.now) (R.setting runner.now) (reads state.now)
         call.now
@@ -156,7 +159,8 @@ pub fn state_after_call<R: Runner>(
     ensures reads { IfOk result
         (λ s. reads s
         ≡ after (R.specification runner.now) (R.setting runner.now) call.now (reads state.now)) }
-    ensures fits { IfOk result (λ s. is_state (R.specification runner.now) (R.setting runner.now) s ≡ true) }
+    ensures fits { IfOk result
+        (λ s. is_state (R.specification runner.now) (R.setting runner.now) s ≡ true) }
     ensures ok { OnOk result
         (call_refused (R.specification runner.now) (R.setting runner.now) (calls_of happened.now)
         taken.now (reads state.now) call.now
@@ -188,7 +192,8 @@ pub fn state_after_taking<R: Runner>(
     ensures reads { IfOk result
         (λ s. reads s
         ≡ after (R.specification runner.now) (R.setting runner.now) call.now (reads state.now)) }
-    ensures fits { IfOk result (λ s. is_state (R.specification runner.now) (R.setting runner.now) s ≡ true) }
+    ensures fits { IfOk result
+        (λ s. is_state (R.specification runner.now) (R.setting runner.now) s ≡ true) }
     ensures ok { OnOk result
         (taking_refused (R.specification runner.now) (R.setting runner.now) taken.now
         (reads state.now) event seen.now call.now

@@ -1,6 +1,7 @@
 // A host: steps, taken one after the other, with the application's own effect and guard.
 
-ghost use Rattle.std.specs.Prelude.{◌≡◌, ◌<◌, ◌⊎◌, true, [], length, map, get_or, slice_get, Some, Err, IfOk, OnOk, OnErr};
+ghost use Rattle.std.specs.Prelude.{◌≡◌, ◌<◌, ◌⊎◌, true, [], length, map, get_or, slice_get, Some};
+ghost use Rattle.std.specs.Prelude.{Err, IfOk, OnOk, OnErr};
 ghost use Rattle.spec_core.specs.State.{reads};
 ghost use Rattle.spec_core.specs.Fits.{world_fits, is_state};
 ghost use Rattle.replica_replay.specs.Held.{IsHeld, none_held};
@@ -115,11 +116,15 @@ impl<'a, E: Effect, G: Guard> Host<'a, E, G> {
     fn call(&mut self, replica: u32, name: &[u8], args: &[i64]) -> Result<Taken, StepRefused>
         ensures answer { (result ≡ Err StepRefused.Memory)
             ⊎ (result
-            ≡ answer (called self.old.spec self.old.world self.old.held replica name.now args.now (slice_get self.old.held.taken replica))) }
+            ≡ answer (called self.old.spec self.old.world self.old.held replica name.now args.now
+            (slice_get self.old.held.taken replica))) }
         ensures ok { OnOk result
             (self.new
-            ≡ record self.old
-            { held = held_after self.old.held (called self.old.spec self.old.world self.old.held replica name.now args.now (slice_get self.old.held.taken replica)) }) }
+            ≡ record self.old {
+              held = held_after self.old.held
+                  (called self.old.spec self.old.world self.old.held replica name.now args.now
+                  (slice_get self.old.held.taken replica));
+            }) }
         ensures err { OnErr result (self.new ≡ self.old) }
     {
         let Some(at) = self.replicas.get(replica as usize) else {
@@ -147,11 +152,15 @@ impl<'a, E: Effect, G: Guard> Host<'a, E, G> {
     fn take(&mut self, replica: u32, event: u32) -> Result<Taken, StepRefused>
         ensures answer { (result ≡ Err StepRefused.Memory)
             ⊎ (result
-            ≡ answer (took self.old.spec self.old.world self.old.held replica event (slice_get self.old.held.taken replica))) }
+            ≡ answer (took self.old.spec self.old.world self.old.held replica event
+            (slice_get self.old.held.taken replica))) }
         ensures ok { OnOk result
             (self.new
-            ≡ record self.old
-            { held = held_after self.old.held (took self.old.spec self.old.world self.old.held replica event (slice_get self.old.held.taken replica)) }) }
+            ≡ record self.old {
+              held = held_after self.old.held
+                  (took self.old.spec self.old.world self.old.held replica event
+                  (slice_get self.old.held.taken replica));
+            }) }
         ensures err { OnErr result (self.new ≡ self.old) }
     {
         let Some(at) = self.replicas.get(replica as usize) else {
@@ -175,8 +184,10 @@ impl<'a, E: Effect, G: Guard> Host<'a, E, G> {
             ⊎ (result ≡ answer (outcome self.old.spec self.old.world self.old.held step.now)) }
         ensures ok { OnOk result
             (self.new
-            ≡ record self.old
-            { held = held_after self.old.held (outcome self.old.spec self.old.world self.old.held step.now) }) }
+            ≡ record self.old {
+              held = held_after self.old.held
+                  (outcome self.old.spec self.old.world self.old.held step.now);
+            }) }
         ensures err { OnErr result (self.new ≡ self.old) }
     {
         match step {

@@ -1,6 +1,7 @@
 // What a host holds before the first step, and how it grows by a step.
 
-ghost use Rattle.std.specs.Prelude.{◌≡◌, ◌+◌, ◌<◌, ◌^◌, true, [], ◌∷◌, ◌++◌, length, set, get_or, replicate, All, OnOk, OnErr, IfOk, IfErr};
+ghost use Rattle.std.specs.Prelude.{◌≡◌, ◌+◌, ◌<◌, ◌^◌, true, [], ◌∷◌, ◌++◌, length, set, get_or};
+ghost use Rattle.std.specs.Prelude.{replicate, All, OnOk, OnErr, IfOk, IfErr};
 ghost use Rattle.spec_core.specs.State.{reads};
 ghost use Rattle.spec_core.specs.Meaning.{initial as initial_of};
 ghost use Rattle.spec_core.specs.Fits.{world_fits, is_state};
@@ -28,14 +29,22 @@ pub fn keep_call(
     ensures happened { OnOk result
         (happened.new.items
         ≡ happened.old.items
-        ++ record
-        { call = call; replica = replica; before = length (get_or (orders_of replicas.old.items) replica []) }
+        ++ record {
+          call = call;
+          replica = replica;
+          before = length (get_or (orders_of replicas.old.items) replica []);
+        }
         ∷ []) }
     ensures replicas { OnOk result
         (replicas.new.items
         ≡ set replicas.old.items replica
-        (record { order = get_or (orders_of replicas.old.items) replica [] ++ length happened.old.items ∷ []; state = state })) }
-    ensures err { OnErr result ((happened.new.items ≡ happened.old.items) × (replicas.new.items ≡ replicas.old.items)) }
+        (record {
+          order = get_or (orders_of replicas.old.items) replica []
+              ++ length happened.old.items ∷ [];
+          state = state;
+        })) }
+    ensures err { OnErr result
+        ((happened.new.items ≡ happened.old.items) × (replicas.new.items ≡ replicas.old.items)) }
     ensures memory { IfErr result (λ why. why ≡ StepRefused.Memory) }
 {
     let event = happened.len() as u32;
@@ -57,7 +66,10 @@ pub fn keep_taking(
     ensures ok { OnOk result
         (replicas.new.items
         ≡ set replicas.old.items replica
-        (record { order = get_or (orders_of replicas.old.items) replica [] ++ event ∷ []; state = state })) }
+        (record {
+          order = get_or (orders_of replicas.old.items) replica [] ++ event ∷ [];
+          state = state;
+        })) }
     ensures err { OnErr result (replicas.new.items ≡ replicas.old.items) }
     ensures memory { IfErr result (λ why. why ≡ StepRefused.Memory) }
 {
@@ -77,7 +89,8 @@ pub fn replicas_of<R: Runner>(
     ensures orders { IfOk result (λ replicas. orders_of replicas.items ≡ replicate count []) }
     ensures states { IfOk result
         (λ replicas. All
-        (λ replica. (is_state (R.specification runner.now) (R.setting runner.now) replica.state ≡ true)
+        (λ replica. (is_state (R.specification runner.now) (R.setting runner.now)
+        replica.state ≡ true)
         × (reads replica.state
         ≡ reads (initial_of (R.specification runner.now) (R.setting runner.now))))
         replicas.items) }

@@ -74,8 +74,10 @@ impl<'a, E: Effect, G: Guard> Native<'a, E, G> {
     /// Keeps the code beside the facts about it.
     pub fn new(spec: &'a Spec, world: &'a World, effect: E, guard: G) -> Native<'a, E, G>
         requires world { world_fits spec.now world.now ≡ true }
-        requires effect { Meets spec.now world.now (IsEffect spec.now world.now) (E.may_run effect) (E.gives effect) }
-        requires guard { Meets spec.now world.now (IsGuard spec.now world.now) (G.may_ask guard) (G.tells guard) }
+        requires effect { Meets spec.now world.now (IsEffect spec.now world.now) (E.may_run effect)
+            (E.gives effect) }
+        requires guard { Meets spec.now world.now (IsGuard spec.now world.now) (G.may_ask guard)
+            (G.tells guard) }
         ensures spec { result.spec ≡ spec.now }
         ensures world { result.world ≡ world.now }
     {

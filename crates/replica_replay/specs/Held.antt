@@ -26,4 +26,5 @@ is_taken taken e = list_any (eqb e) taken
 pub record IsHeld (d : Specification) (w : World) (held : Held) : Type 0 where
   pub calls : list_all (λ event. call_fits d w event.call) held.events ≡ true
   pub run : IsExecution (system_of d w) held.events
-  pub orders : (replica : ℕ) (taken : List ℕ) → slice_get held.taken replica ≡ Some taken → IsOrder held.events taken
+  pub orders : (replica : ℕ) (taken : List ℕ) → slice_get held.taken replica ≡ Some taken
+      → IsOrder held.events taken

@@ -31,20 +31,28 @@ calls_of happened = map (λ h. h.call) happened
 
 -- what is held so
 abbrev pub held_by : List Happened → List Replica → Held
-held_by happened replicas = record { events = map (event_of (orders_of replicas)) happened; taken = orders_of replicas }
+held_by happened replicas = record {
+  events = map (event_of (orders_of replicas)) happened;
+  taken = orders_of replicas;
+}
 
 -- Each event's front is one, and each replica's state is the state after what it has taken.
-pub record IsKept (d : Specification) (w : World) (happened : List Happened) (replicas : List Replica) : Type 0 where
+pub record IsKept (d : Specification) (w : World) (happened : List Happened)
+    (replicas : List Replica) : Type 0 where
   pub world : world_fits d w ≡ true
   pub few : length happened < 2 ^ 32
   pub held : IsHeld d w (held_by happened replicas)
-  pub fronts : (k : ℕ) (h : Happened) → slice_get happened k ≡ Some h → h.before ≤ length (get_or (orders_of replicas) h.replica [])
+  pub fronts : (k : ℕ) (h : Happened) → slice_get happened k ≡ Some h
+      → h.before ≤ length (get_or (orders_of replicas) h.replica [])
   pub fit : (k : ℕ) (r : Replica) → slice_get replicas k ≡ Some r → is_state d w r.state ≡ true
-  pub states : (k : ℕ) (r : Replica) → slice_get replicas k ≡ Some r → reads r.state ≡ state_of d w (held_by happened replicas) r.order
+  pub states : (k : ℕ) (r : Replica) → slice_get replicas k ≡ Some r
+      → reads r.state ≡ state_of d w (held_by happened replicas) r.order
 
 -- A replica's second state, where there is one, reads as its state.
 abbrev pub AreSpares : Specification → World → List Replica → List (Option Listing) → Type 0
-AreSpares d w replicas spares = (k : ℕ) (r : Replica) → slice_get replicas k ≡ Some r → IsSpare d w r.state (get_or spares k None)
+AreSpares d w replicas spares =
+    (k : ℕ) (r : Replica) → slice_get replicas k ≡ Some r
+    → IsSpare d w r.state (get_or spares k None)
 
 -- A call leads from one state to another.
 pub record Leads (d : Specification) (w : World) (call : Call) (s next : Listing) : Type 0 where
@@ -52,6 +60,7 @@ pub record Leads (d : Specification) (w : World) (call : Call) (s next : Listing
   pub reads_so : reads next ≡ after d w call (reads s)
 
 -- What the fields of a replay keep.
-pub record IsReplay (d : Specification) (w : World) (happened : List Happened) (replicas : List Replica) (others : List (Option Listing)) : Type 0 where
+pub record IsReplay (d : Specification) (w : World) (happened : List Happened)
+    (replicas : List Replica) (others : List (Option Listing)) : Type 0 where
   pub kept : IsKept d w happened replicas
   pub spares : AreSpares d w replicas others

@@ -19,7 +19,8 @@ abbrev pub need : Bool → StepRefused → Option StepRefused → Option StepRef
 need test why next = cond test next (Some why)
 
 -- refused where something is found, else for what comes next
-abbrev pub unless : {A : Type 0} → Option A → (A → StepRefused) → Option StepRefused → Option StepRefused
+abbrev pub unless : {A : Type 0} → Option A → (A → StepRefused) → Option StepRefused
+    → Option StepRefused
 unless None why next = next
 unless (Some found) why next = Some (why found)
 
@@ -27,7 +28,9 @@ unless (Some found) why next = Some (why found)
 -- from here
 abbrev pub least_unseen : Specification → World → List ℕ → Call → ℕ → List Call → Option ℕ
 least_unseen d w taken call n [] = None
-least_unseen d w taken call n (other ∷ others) = cond (conflicts d w other call && not (is_taken taken n)) (Some n) (least_unseen d w taken call (suc n) others)
+least_unseen d w taken call n (other ∷ others) =
+    cond (conflicts d w other call && not (is_taken taken n)) (Some n)
+    (least_unseen d w taken call (suc n) others)
 
 -- the first of these events that isn't among those taken
 abbrev pub first_untaken : List ℕ → List ℕ → Option ℕ
@@ -47,10 +50,12 @@ beyond_range b = Range b.counter b.key b.value
 
 -- an effect that leads beyond the range of a state
 abbrev pub effect_refused : Specification → World → Reads → Call → Option StepRefused
-effect_refused d w r call = unless (first_beyond 0 (after_call d w call r).counters) beyond_range None
+effect_refused d w r call =
+    unless (first_beyond 0 (after_call d w call r).counters) beyond_range None
 
 -- What is asked of a call before its effect, at a replica that has taken these of the events, in this state.
-abbrev pub call_asked : Specification → World → List Call → List ℕ → Reads → Call → Option StepRefused → Option StepRefused
+abbrev pub call_asked : Specification → World → List Call → List ℕ → Reads → Call
+    → Option StepRefused → Option StepRefused
 call_asked d w calls taken r call next =
     need (call_fits d w call) Arguments
     (unless (least_unseen d w taken call 0 calls) Conflict
@@ -59,7 +64,8 @@ call_asked d w calls taken r call next =
     next)))
 
 -- Why a call is refused at such a replica: what is asked of it, and then its effect.
-abbrev pub call_refused : Specification → World → List Call → List ℕ → Reads → Call → Option StepRefused
+abbrev pub call_refused : Specification → World → List Call → List ℕ → Reads → Call
+    → Option StepRefused
 call_refused d w calls taken r call = call_asked d w calls taken r call (effect_refused d w r call)
 
 -- What is asked of an event that has seen these, at a replica that has taken those.
@@ -70,5 +76,6 @@ taking_asked taken e seen next =
     next)
 
 -- Why a taking is refused at such a replica: what is asked of the event, and then its effect.
-abbrev pub taking_refused : Specification → World → List ℕ → Reads → ℕ → List ℕ → Call → Option StepRefused
+abbrev pub taking_refused : Specification → World → List ℕ → Reads → ℕ → List ℕ → Call
+    → Option StepRefused
 taking_refused d w taken r e seen call = taking_asked taken e seen (effect_refused d w r call)

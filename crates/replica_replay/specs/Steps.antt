@@ -42,8 +42,12 @@ with_taken all replica taken e = set all replica (taken ++ e ∷ [])
 -- An accepted call makes the next event, which has seen what its replica had taken, and the replica takes it.
 abbrev pub call_outcome : Specification → World → Held → ℕ → List ℕ → Call → Outcome
 call_outcome d w held replica taken call =
-    decided (call_refused d w (map (λ event. event.call) held.events) taken (state_of d w held taken) call) (length held.events)
-    (record { events = held.events ++ record { call = call; seen = taken } ∷ []; taken = with_taken held.taken replica taken (length held.events) })
+    decided (call_refused d w (map (λ event. event.call) held.events) taken
+    (state_of d w held taken) call) (length held.events)
+    (record {
+      events = held.events ++ record { call = call; seen = taken } ∷ [];
+      taken = with_taken held.taken replica taken (length held.events);
+    })
 
 -- An accepted taking puts the event behind what the replica has taken.
 abbrev pub taking_outcome : Specification → World → Held → ℕ → List ℕ → ℕ → Event Call → Outcome
@@ -54,26 +58,31 @@ taking_outcome d w held replica taken e event =
 -- what a call gives at such a replica, where its operation is there
 abbrev pub named_outcome : Specification → World → Held → ℕ → List ℕ → List ℤ → Option ℕ → Outcome
 named_outcome d w held replica taken args None = refused refusal.Operation
-named_outcome d w held replica taken args (Some op) = call_outcome d w held replica taken (record { op = op; args = args })
+named_outcome d w held replica taken args (Some op) =
+    call_outcome d w held replica taken (record { op = op; args = args })
 
 -- what a taking gives at such a replica, where its event is there
-abbrev pub found_outcome : Specification → World → Held → ℕ → List ℕ → ℕ → Option (Event Call) → Outcome
+abbrev pub found_outcome : Specification → World → Held → ℕ → List ℕ → ℕ
+    → Option (Event Call) → Outcome
 found_outcome d w held replica taken e None = refused refusal.NoEvent
 found_outcome d w held replica taken e (Some event) = taking_outcome d w held replica taken e event
 
 -- what a call gives, where the replica is there
 abbrev pub called : Specification → World → Held → ℕ → List ℕ → List ℤ → Option (List ℕ) → Outcome
 called d w held replica name args None = refused refusal.Replica
-called d w held replica name args (Some taken) = named_outcome d w held replica taken args (operation_named d name)
+called d w held replica name args (Some taken) =
+    named_outcome d w held replica taken args (operation_named d name)
 
 -- what a taking gives, where the replica is there
 abbrev pub took : Specification → World → Held → ℕ → ℕ → Option (List ℕ) → Outcome
 took d w held replica e None = refused refusal.Replica
-took d w held replica e (Some taken) = found_outcome d w held replica taken e (slice_get held.events e)
+took d w held replica e (Some taken) =
+    found_outcome d w held replica taken e (slice_get held.events e)
 
 -- The outcome of a step.
 abbrev pub outcome : Specification → World → Held → Step → Outcome
-outcome d w held (step.Call replica name args) = called d w held replica name args (slice_get held.taken replica)
+outcome d w held (step.Call replica name args) =
+    called d w held replica name args (slice_get held.taken replica)
 outcome d w held (step.Take replica e) = took d w held replica e (slice_get held.taken replica)
 
 -- what is held after a step: a refusal changes nothing

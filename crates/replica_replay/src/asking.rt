@@ -4,7 +4,8 @@
 // their tokens, over those whose argument isn't the one that all such rules want, and over those that were taken, before it asks
 // the rules.
 
-ghost use Rattle.std.specs.Prelude.{◌≡◌, ℕ, ◌<◌, ◌≤◌, ◌^◌, ◌⊎◌, ◌&&◌, not, true, length, map, Option, None, Some, IfOk, IfErr, OnOk};
+ghost use Rattle.std.specs.Prelude.{◌≡◌, ℕ, ◌<◌, ◌≤◌, ◌^◌, ◌⊎◌, ◌&&◌, not, true, length, map};
+ghost use Rattle.std.specs.Prelude.{Option, None, Some, IfOk, IfErr, OnOk};
 ghost use Rattle.std.specs.Option.{option_or};
 ghost use Rattle.std.specs.List.{position_from};
 ghost use Rattle.std.specs.Str.{bytes_eq};
@@ -15,7 +16,8 @@ ghost use Rattle.effectors.specs.Effect.{after};
 ghost use Rattle.effectors.specs.Spare.{IsSpare};
 ghost use Rattle.token_rules.specs.Conflict.{conflicts};
 ghost use Rattle.replica_replay.specs.Held.{is_taken};
-ghost use Rattle.replica_replay.specs.Refusals.{least_unseen, call_asked, taking_asked, effect_refused};
+ghost use Rattle.replica_replay.specs.Refusals.{least_unseen, call_asked, taking_asked};
+ghost use Rattle.replica_replay.specs.Refusals.{effect_refused};
 ghost use Rattle.replica_replay.specs.Holding.{calls_of};
 ghost use Rattle.token_rules.specs.Rivals.{rivals_of};
 ghost use Rattle.replica_replay.specs.Steps.{operation_named as operation_named_of};
@@ -60,7 +62,8 @@ fn is_unseen(
     other: &Call,
 ) -> bool
     requires { rivals.now ≡ rivals_of spec.now call.now.op }
-    ensures { result ≡ (conflicts spec.now world.now other.now call.now && not (is_taken taken.now event)) }
+    ensures { result
+        ≡ (conflicts spec.now world.now other.now call.now && not (is_taken taken.now event)) }
 {
     if !may_conflict(rivals, other, call) {
         return false;
@@ -79,7 +82,8 @@ pub fn least_unseen(
 ) -> Option<u32>
     requires few { length happened.now < 2 ^ 32 }
     requires rivals { rivals.now ≡ rivals_of spec.now call.now.op }
-    ensures { result ≡ least_unseen spec.now world.now taken.now call.now 0 (calls_of happened.now) }
+    ensures { result
+        ≡ least_unseen spec.now world.now taken.now call.now 0 (calls_of happened.now) }
 {
     for (event, other) in happened.iter().enumerate() {
         if is_unseen(spec, world, taken, call, rivals, event as u32, &other.call) {
@@ -102,7 +106,9 @@ pub fn asked(
     requires world { world_fits spec.now world.now ≡ true }
     requires few { length happened.now < 2 ^ 32 }
     requires rivals { rivals.now ≡ rivals_of spec.now call.now.op }
-    ensures refusal { (next : Option StepRefused) → call_asked spec.now world.now (calls_of happened.now) taken.now (reads state.now) call.now next ≡ option_or result next }
+    ensures refusal { (next : Option StepRefused)
+        → call_asked spec.now world.now (calls_of happened.now) taken.now (reads state.now)
+        call.now next ≡ option_or result next }
     ensures fits { result ≡ None → call_fits spec.now world.now call.now ≡ true }
 {
     spec.well_formed();
@@ -127,7 +133,8 @@ pub fn asked(
 
 /// Why a taking is refused before its effect is tried.
 pub fn taking_asked(taken: &Order, event: u32, seen: &[u32]) -> Option<StepRefused>
-    ensures { (next : Option StepRefused) → taking_asked taken.now event seen.now next ≡ option_or result next }
+    ensures { (next : Option StepRefused)
+        → taking_asked taken.now event seen.now next ≡ option_or result next }
 {
     if taken.has(event) {
         return Some(StepRefused::Seen);
@@ -151,10 +158,13 @@ pub fn state_after_call(
     requires state { is_state spec.now world.now state.now ≡ true }
     requires call { call_fits spec.now world.now call.now ≡ true }
     requires spare { IsSpare spec.now world.now state.now spare }
-    ensures reads { IfOk result (λ s. reads s ≡ after spec.now world.now call.now (reads state.now)) }
+    ensures reads { IfOk result
+        (λ s. reads s ≡ after spec.now world.now call.now (reads state.now)) }
     ensures fits { IfOk result (λ s. is_state spec.now world.now s ≡ true) }
     ensures ok { OnOk result (effect_refused spec.now world.now (reads state.now) call.now ≡ None) }
-    ensures err { IfErr result (λ why. (why ≡ StepRefused.Memory) ⊎ (effect_refused spec.now world.now (reads state.now) call.now ≡ Some why)) }
+    ensures err { IfErr result
+        (λ why. (why ≡ StepRefused.Memory)
+        ⊎ (effect_refused spec.now world.now (reads state.now) call.now ≡ Some why)) }
 {
     match apply_over(alloc, spec, world, state, spare, call) {
         Ok(next) => Ok(next),

@@ -3,7 +3,9 @@
 // What an event has seen is a front of what its replica had taken, so it is kept as the replica and a length. Beside the state of
 // each replica a second one is kept that reads alike, so that a step writes what it changes and copies nothing else.
 
-ghost use Rattle.std.specs.Prelude.{◌≡◌, ◌+◌, ◌<◌, ◌^◌, true, [], ◌∷◌, ◌++◌, length, take, set, get_or, slice_get, replicate, None, Some, All, List, OnOk, OnErr, IfOk, IfErr};
+ghost use Rattle.std.specs.Prelude.{◌≡◌, ◌+◌, ◌<◌, ◌^◌, true, [], ◌∷◌, ◌++◌, length, take, set};
+ghost use Rattle.std.specs.Prelude.{get_or, slice_get, replicate, None, Some, All, List, OnOk};
+ghost use Rattle.std.specs.Prelude.{OnErr, IfOk, IfErr};
 ghost use Rattle.spec_core.specs.State.{reads};
 ghost use Rattle.spec_core.specs.Meaning.{initial as initial_of};
 ghost use Rattle.spec_core.specs.Fits.{world_fits, call_fits, is_state};
@@ -53,7 +55,9 @@ pub fn first_replicas(
 ) -> Result<Vec<Replica>, AllocError>
     requires { world_fits spec.now world.now ≡ true }
     ensures orders { IfOk result (λ replicas. orders_of replicas.items ≡ replicate count []) }
-    ensures states { IfOk result (λ replicas. All (λ replica. (is_state spec.now world.now replica.state ≡ true) × (reads replica.state ≡ reads (initial_of spec.now world.now))) replicas.items) }
+    ensures states { IfOk result
+        (λ replicas. All (λ replica. (is_state spec.now world.now replica.state ≡ true)
+        × (reads replica.state ≡ reads (initial_of spec.now world.now))) replicas.items) }
 {
     let mut replicas = Vec::new(alloc);
     for _i in 0..count {
@@ -96,6 +100,7 @@ fn put_spare(spares: &mut Vec<Option<State>>, replica: usize, spare: Option<Stat
     }
 }
 
+/// How many replicas there are. A replay has as many at its end as at its start.
 pub fn count(replicas: &[Replica]) -> usize
     ensures { result ≡ length replicas.now }
 {
@@ -130,8 +135,14 @@ pub fn note_taking(
     state: State,
 ) -> Result<State, AllocError>
     requires { replica < length replicas.old.items }
-    ensures before { IfOk result (λ s. (r : Replica) → slice_get replicas.old.items replica ≡ Some r → s ≡ r.state) }
-    ensures ok { OnOk result (replicas.new.items ≡ set replicas.old.items replica (record { order = get_or (orders_of replicas.old.items) replica [] ++ event ∷ []; state = state })) }
+    ensures before { IfOk result
+        (λ s. (r : Replica) → slice_get replicas.old.items replica ≡ Some r → s ≡ r.state) }
+    ensures ok { OnOk result
+        (replicas.new.items ≡ set replicas.old.items replica
+        (record {
+          order = get_or (orders_of replicas.old.items) replica [] ++ event ∷ [];
+          state = state;
+        })) }
     ensures err { OnErr result (replicas.new.items ≡ replicas.old.items) }
 {
     replicas[replica].take(event, state)
@@ -148,10 +159,24 @@ pub fn note_call(
     requires replica { replica < length replicas.old.items }
     requires few { length happened.old.items < 2 ^ 32 }
     ensures few { OnOk result (length happened.old.items + 1 < 2 ^ 32) }
-    ensures happened { OnOk result (happened.new.items ≡ happened.old.items ++ record { call = call; replica = replica; before = length (get_or (orders_of replicas.old.items) replica []) } ∷ []) }
-    ensures replicas { OnOk result (replicas.new.items ≡ set replicas.old.items replica (record { order = get_or (orders_of replicas.old.items) replica [] ++ length happened.old.items ∷ []; state = state })) }
-    ensures before { IfOk result (λ s. (r : Replica) → slice_get replicas.old.items replica ≡ Some r → s ≡ r.state) }
-    ensures err { OnErr result ((happened.new.items ≡ happened.old.items) × (replicas.new.items ≡ replicas.old.items)) }
+    ensures happened { OnOk result
+        (happened.new.items ≡ happened.old.items
+        ++ record {
+          call = call;
+          replica = replica;
+          before = length (get_or (orders_of replicas.old.items) replica []);
+        } ∷ []) }
+    ensures replicas { OnOk result
+        (replicas.new.items ≡ set replicas.old.items replica
+        (record {
+          order = get_or (orders_of replicas.old.items) replica []
+              ++ length happened.old.items ∷ [];
+          state = state;
+        })) }
+    ensures before { IfOk result
+        (λ s. (r : Replica) → slice_get replicas.old.items replica ≡ Some r → s ≡ r.state) }
+    ensures err { OnErr result
+        ((happened.new.items ≡ happened.old.items) × (replicas.new.items ≡ replicas.old.items)) }
 {
     let event = happened.len() as u32;
     if event == u32::MAX {
@@ -186,8 +211,11 @@ fn keep_spare(
     requires replica { replica < length replicas.now }
     requires world { world_fits spec.now world.now ≡ true }
     requires call { call_fits spec.now world.now call.now ≡ true }
-    requires leads { (r : Replica) → slice_get replicas.now replica ≡ Some r → Leads spec.now world.now call.now before r.state }
-    ensures { (rs : List Replica) (x : Replica) → replicas.now ≡ set rs replica x → AreSpares spec.now world.now rs spares.old.items → AreSpares spec.now world.now replicas.now spares.new.items }
+    requires leads { (r : Replica) → slice_get replicas.now replica ≡ Some r
+        → Leads spec.now world.now call.now before r.state }
+    ensures { (rs : List Replica) (x : Replica) → replicas.now ≡ set rs replica x
+        → AreSpares spec.now world.now rs spares.old.items
+        → AreSpares spec.now world.now replicas.now spares.new.items }
 {
     let latest = &replicas[replica].state;
     let spare = caught_up(alloc, spec, world, call, latest, before);
@@ -209,11 +237,18 @@ pub fn keep_taking(
     requires replica { replica < length replicas.old.items }
     requires world { world_fits spec.now world.now ≡ true }
     requires call { call_fits spec.now world.now call.now ≡ true }
-    requires leads { (r : Replica) → slice_get replicas.old.items replica ≡ Some r → Leads spec.now world.now call.now r.state state }
+    requires leads { (r : Replica) → slice_get replicas.old.items replica ≡ Some r
+        → Leads spec.now world.now call.now r.state state }
     ensures taken { IfOk result (λ t. t.event ≡ event) }
-    ensures ok { OnOk result (replicas.new.items ≡ set replicas.old.items replica (record { order = get_or (orders_of replicas.old.items) replica [] ++ event ∷ []; state = state })) }
+    ensures ok { OnOk result
+        (replicas.new.items ≡ set replicas.old.items replica
+        (record {
+          order = get_or (orders_of replicas.old.items) replica [] ++ event ∷ [];
+          state = state;
+        })) }
     ensures err { OnErr result (replicas.new.items ≡ replicas.old.items) }
-    ensures spares { AreSpares spec.now world.now replicas.old.items spares.old.items → AreSpares spec.now world.now replicas.new.items spares.new.items }
+    ensures spares { AreSpares spec.now world.now replicas.old.items spares.old.items
+        → AreSpares spec.now world.now replicas.new.items spares.new.items }
     ensures memory { IfErr result (λ why. why ≡ StepRefused.Memory) }
 {
     let Ok(before) = note_taking(replicas, replica, event, state) else {
@@ -239,13 +274,28 @@ pub fn keep_call(
     requires few { length happened.old.items < 2 ^ 32 }
     requires world { world_fits spec.now world.now ≡ true }
     requires call { call_fits spec.now world.now call ≡ true }
-    requires leads { (r : Replica) → slice_get replicas.old.items replica ≡ Some r → Leads spec.now world.now call r.state state }
+    requires leads { (r : Replica) → slice_get replicas.old.items replica ≡ Some r
+        → Leads spec.now world.now call r.state state }
     ensures taken { IfOk result (λ t. t.event ≡ length happened.old.items) }
     ensures few { OnOk result (length happened.old.items + 1 < 2 ^ 32) }
-    ensures happened { OnOk result (happened.new.items ≡ happened.old.items ++ record { call = call; replica = replica; before = length (get_or (orders_of replicas.old.items) replica []) } ∷ []) }
-    ensures replicas { OnOk result (replicas.new.items ≡ set replicas.old.items replica (record { order = get_or (orders_of replicas.old.items) replica [] ++ length happened.old.items ∷ []; state = state })) }
-    ensures err { OnErr result ((happened.new.items ≡ happened.old.items) × (replicas.new.items ≡ replicas.old.items)) }
-    ensures spares { AreSpares spec.now world.now replicas.old.items spares.old.items → AreSpares spec.now world.now replicas.new.items spares.new.items }
+    ensures happened { OnOk result
+        (happened.new.items ≡ happened.old.items
+        ++ record {
+          call = call;
+          replica = replica;
+          before = length (get_or (orders_of replicas.old.items) replica []);
+        } ∷ []) }
+    ensures replicas { OnOk result
+        (replicas.new.items ≡ set replicas.old.items replica
+        (record {
+          order = get_or (orders_of replicas.old.items) replica []
+              ++ length happened.old.items ∷ [];
+          state = state;
+        })) }
+    ensures err { OnErr result
+        ((happened.new.items ≡ happened.old.items) × (replicas.new.items ≡ replicas.old.items)) }
+    ensures spares { AreSpares spec.now world.now replicas.old.items spares.old.items
+        → AreSpares spec.now world.now replicas.new.items spares.new.items }
     ensures memory { IfErr result (λ why. why ≡ StepRefused.Memory) }
 {
     let event = happened.len();

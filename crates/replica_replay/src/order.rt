@@ -1,6 +1,7 @@
 // What a replica has taken: the events in their order, with a mark for each, so that one look-up says whether an event was taken.
 
-ghost use Rattle.std.specs.Prelude.{◌≡◌, ℕ, ◌<◌, Bool, false, [], ◌∷◌, ◌++◌, length, get_or, OnOk, OnErr};
+ghost use Rattle.std.specs.Prelude.{◌≡◌, ℕ, ◌<◌, Bool, false, [], ◌∷◌, ◌++◌, length, get_or, OnOk};
+ghost use Rattle.std.specs.Prelude.{OnErr};
 ghost use Rattle.std.specs.List.{find};
 ghost use Rattle.replica_replay.specs.Held.{is_taken};
 ghost use Rattle.replica_replay.specs.Refusals.{first_untaken};
@@ -37,6 +38,7 @@ fn mark_up_to(marks: &mut Vec<bool>, event: usize) -> Result<(), AllocError>
 }
 
 impl Order {
+    /// Of a replica that has taken nothing. It asks for no memory before the first event.
     pub fn new(alloc: Global) -> Order
         ensures { result ≡ [] }
     {
@@ -46,6 +48,7 @@ impl Order {
         }
     }
 
+    /// The events by their numbers, the oldest first.
     pub fn as_slice(&self) -> &[u32]
         ensures { result.now ≡ self.now }
     {

@@ -1,6 +1,7 @@
 // A replay: steps, taken one after the other.
 
-ghost use Rattle.std.specs.Prelude.{◌≡◌, ℕ, ◌<◌, ◌≤◌, ◌⊎◌, true, [], length, map, replicate, get_or, slice_get, List, Some, Result, Err, IfOk, OnOk, OnErr};
+ghost use Rattle.std.specs.Prelude.{◌≡◌, ℕ, ◌<◌, ◌≤◌, ◌⊎◌, true, [], length, map, replicate};
+ghost use Rattle.std.specs.Prelude.{get_or, slice_get, List, Some, Result, Err, IfOk, OnOk, OnErr};
 ghost use Rattle.spec_core.specs.State.{reads};
 ghost use Rattle.spec_core.specs.Fits.{world_fits, is_state};
 ghost use Rattle.replica_replay.specs.Held.{IsHeld, none_held};
@@ -91,7 +92,9 @@ impl<'a> Replay<'a> {
     /// The state of a replica: that after the events that it has taken.
     pub fn state_of(&self, replica: u32) -> &State
         requires { replica < length self.now.held.taken }
-        ensures reads { reads result.now ≡ state_of self.now.spec self.now.world self.now.held (get_or self.now.held.taken replica []) }
+        ensures reads { reads result.now
+            ≡ state_of self.now.spec self.now.world self.now.held
+            (get_or self.now.held.taken replica []) }
         ensures fits { is_state self.now.spec self.now.world result.now ≡ true }
     {
         &self.replicas[replica as usize].state
@@ -121,8 +124,15 @@ impl<'a> Replay<'a> {
     }
 
     fn call(&mut self, replica: u32, name: &[u8], args: &[i64]) -> Result<Taken, StepRefused>
-        ensures answer { (result ≡ Err StepRefused.Memory) ⊎ (result ≡ answer (called self.old.spec self.old.world self.old.held replica name.now args.now (slice_get self.old.held.taken replica))) }
-        ensures ok { OnOk result (self.new ≡ record self.old { held = held_after self.old.held (called self.old.spec self.old.world self.old.held replica name.now args.now (slice_get self.old.held.taken replica)) }) }
+        ensures answer { (result ≡ Err StepRefused.Memory)
+            ⊎ (result ≡ answer (called self.old.spec self.old.world self.old.held replica name.now
+            args.now (slice_get self.old.held.taken replica))) }
+        ensures ok { OnOk result
+            (self.new ≡ record self.old {
+              held = held_after self.old.held
+                  (called self.old.spec self.old.world self.old.held replica name.now args.now
+                  (slice_get self.old.held.taken replica));
+            }) }
         ensures err { OnErr result (self.new ≡ self.old) }
     {
         let Some(at) = self.replicas.get(replica as usize) else {
@@ -172,8 +182,15 @@ impl<'a> Replay<'a> {
     }
 
     fn take(&mut self, replica: u32, event: u32) -> Result<Taken, StepRefused>
-        ensures answer { (result ≡ Err StepRefused.Memory) ⊎ (result ≡ answer (took self.old.spec self.old.world self.old.held replica event (slice_get self.old.held.taken replica))) }
-        ensures ok { OnOk result (self.new ≡ record self.old { held = held_after self.old.held (took self.old.spec self.old.world self.old.held replica event (slice_get self.old.held.taken replica)) }) }
+        ensures answer { (result ≡ Err StepRefused.Memory)
+            ⊎ (result ≡ answer (took self.old.spec self.old.world self.old.held replica event
+            (slice_get self.old.held.taken replica))) }
+        ensures ok { OnOk result
+            (self.new ≡ record self.old {
+              held = held_after self.old.held
+                  (took self.old.spec self.old.world self.old.held replica event
+                  (slice_get self.old.held.taken replica));
+            }) }
         ensures err { OnErr result (self.new ≡ self.old) }
     {
         let Some(at) = self.replicas.get(replica as usize) else {
@@ -217,8 +234,13 @@ impl<'a> Replay<'a> {
     /// answered: of a call replica, operation, arguments, conflict, precondition, observation, range; of a taking replica, no
     /// event, seen, missing, range. A refusal changes nothing.
     pub fn step(&mut self, step: &Step) -> Result<Taken, StepRefused>
-        ensures answer { (result ≡ Err StepRefused.Memory) ⊎ (result ≡ answer (outcome self.old.spec self.old.world self.old.held step.now)) }
-        ensures ok { OnOk result (self.new ≡ record self.old { held = held_after self.old.held (outcome self.old.spec self.old.world self.old.held step.now) }) }
+        ensures answer { (result ≡ Err StepRefused.Memory)
+            ⊎ (result ≡ answer (outcome self.old.spec self.old.world self.old.held step.now)) }
+        ensures ok { OnOk result
+            (self.new ≡ record self.old {
+              held = held_after self.old.held
+                  (outcome self.old.spec self.old.world self.old.held step.now);
+            }) }
         ensures err { OnErr result (self.new ≡ self.old) }
     {
         match step {

@@ -1,6 +1,7 @@
 // Whatever carries steps out as a replay does.
 
-ghost use Rattle.std.specs.Prelude.{◌≡◌, ◌<◌, ◌⊎◌, true, [], length, map, get_or, slice_get, Some, Err, OnOk, OnErr};
+ghost use Rattle.std.specs.Prelude.{◌≡◌, ◌<◌, ◌⊎◌, true, [], length, map, get_or, slice_get, Some};
+ghost use Rattle.std.specs.Prelude.{Err, OnOk, OnErr};
 ghost use Rattle.spec_core.specs.State.{reads};
 ghost use Rattle.spec_core.specs.Fits.{world_fits, is_state};
 ghost use Rattle.replica_replay.specs.Held.{IsHeld};
@@ -28,7 +29,9 @@ pub trait Steps {
     /// The state of a replica: that after the events that it has taken.
     fn state_of(&self, replica: u32) -> &State
         requires { replica < length (replayed self.now).held.taken }
-        ensures reads { reads result.now ≡ state_of (replayed self.now).spec (replayed self.now).world (replayed self.now).held (get_or (replayed self.now).held.taken replica []) }
+        ensures reads { reads result.now
+            ≡ state_of (replayed self.now).spec (replayed self.now).world (replayed self.now).held
+            (get_or (replayed self.now).held.taken replica []) }
         ensures fits { is_state (replayed self.now).spec (replayed self.now).world result.now ≡ true };
 
     /// The events that a replica has taken, in that order.
@@ -39,16 +42,25 @@ pub trait Steps {
     /// The call of an event.
     fn call_of(&self, event: u32) -> &Call
         requires { event < length (replayed self.now).held.events }
-        ensures { slice_get (map (λ e. e.call) (replayed self.now).held.events) event ≡ Some result.now };
+        ensures { slice_get (map (λ e. e.call) (replayed self.now).held.events) event
+            ≡ Some result.now };
 
     /// A fact for proofs: the events form an execution, and what each replica has taken is a delivery order of it.
     fn is_held(&self)
-        ensures { IsHeld (replayed self.now).spec (replayed self.now).world (replayed self.now).held };
+        ensures { IsHeld (replayed self.now).spec (replayed self.now).world
+            (replayed self.now).held };
 
     /// Carries a step out, or says why not. A refusal changes nothing.
     fn step(&mut self, step: &Step) -> Result<Taken, StepRefused>
-        ensures answer { (result ≡ Err StepRefused.Memory) ⊎ (result ≡ answer (outcome (replayed self.old).spec (replayed self.old).world (replayed self.old).held step.now)) }
-        ensures ok { OnOk result (replayed self.new ≡ record (replayed self.old) { held = held_after (replayed self.old).held (outcome (replayed self.old).spec (replayed self.old).world (replayed self.old).held step.now) }) }
+        ensures answer { (result ≡ Err StepRefused.Memory)
+            ⊎ (result ≡ answer (outcome (replayed self.old).spec (replayed self.old).world
+            (replayed self.old).held step.now)) }
+        ensures ok { OnOk result
+            (replayed self.new ≡ record (replayed self.old) {
+              held = held_after (replayed self.old).held
+                  (outcome (replayed self.old).spec (replayed self.old).world
+                  (replayed self.old).held step.now);
+            }) }
         ensures err { OnErr result (replayed self.new ≡ replayed self.old) };
 }
 

@@ -31,7 +31,8 @@ verdict_of ended.Lines log = verdicts.Undecided (causes.Lines log)
 verdict_of (ended.Rows used steps) log =
     verdicts.Undecided (causes.Rows (record { log = log; used = used; steps = steps }))
 verdict_of (ended.Range used steps what) log =
-    verdicts.Undecided (causes.Range (record { log = log; used = used; steps = steps; what = what }))
+    verdicts.Undecided
+    (causes.Range (record { log = log; used = used; steps = steps; what = what }))
 
 -- the number of a verdict's first line, where one begins
 abbrev pub with_begin : ℕ → Option VerdictWord → Collected → Collected

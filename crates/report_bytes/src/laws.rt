@@ -14,24 +14,30 @@ ghost use Rattle.report_bytes.specs.Bytes.{report_bytes, lines_of, unended};
 ghost use Rattle.obligation_list.specs.declared.obligation.Obligation.{Obligation};
 ghost use Rattle.obligation_list.specs.declared.witness.Witness.{Witness};
 ghost use Rattle.report_lines.specs.Heads.{title_format, budget_format};
-ghost use Rattle.report_bytes.specs.Showing.{AllStand, AllFit, CanBeShown, shown_by, report_on, written_text};
+ghost use Rattle.report_bytes.specs.Showing.{AllStand, AllFit, CanBeShown, shown_by, report_on};
+ghost use Rattle.report_bytes.specs.Showing.{written_text};
 ghost use Rattle.report_bytes.specs.Reading.{first_fault};
 
 /// Bytes that end with a line feed, and whose lines are fed to the end without a fault, are those of the report that they say.
 pub fn law_bytes_are_text()
-    ensures { (d : Specification) (bytes : List ℕ) (es : List Event) → is_specification d ≡ true → unended bytes ≡ []
-        → IsFed d (map parts (lines_of bytes)) es → (bytes ≡ report_bytes d (report_of es)) × (is_report d (report_of es) ≡ true) }
+    ensures { (d : Specification) (bytes : List ℕ) (es : List Event) → is_specification d ≡ true
+        → unended bytes ≡ []
+        → IsFed d (map parts (lines_of bytes)) es
+        → (bytes ≡ report_bytes d (report_of es)) × (is_report d (report_of es) ≡ true) }
 {}
 
 /// The bytes of a report end with a line feed, and their lines are fed to the end without a fault.
 pub fn law_text_bytes_are_fed()
-    ensures { (d : Specification) (r : ReportForm) → is_specification d ≡ true → is_report d r ≡ true
-        → (unended (report_bytes d r) ≡ []) × IsFed d (map parts (lines_of (report_bytes d r))) (report_lines d r) }
+    ensures { (d : Specification) (r : ReportForm) → is_specification d ≡ true
+        → is_report d r ≡ true
+        → (unended (report_bytes d r) ≡ [])
+        × IsFed d (map parts (lines_of (report_bytes d r))) (report_lines d r) }
 {}
 
 /// Bytes are those of one report.
 pub fn law_one_report_of_bytes()
-    ensures { (d : Specification) (r q : ReportForm) → is_specification d ≡ true → is_report d r ≡ true → is_report d q ≡ true
+    ensures { (d : Specification) (r q : ReportForm) → is_specification d ≡ true
+        → is_report d r ≡ true → is_report d q ≡ true
         → report_bytes d r ≡ report_bytes d q → r ≡ q }
 {}
 
@@ -55,8 +61,10 @@ pub fn law_report_has_no_fault()
 
 /// What is written of verdicts that fit, one for each obligation, is the bytes of a report that can stand, and has no fault.
 pub fn law_written_is_read()
-    ensures { (d : Specification) (version budget : ℕ) (vs : List Verdict) → is_specification d ≡ true → title_format.fits version ≡ true
+    ensures { (d : Specification) (version budget : ℕ) (vs : List Verdict)
+        → is_specification d ≡ true → title_format.fits version ≡ true
         → budget_format.fits budget ≡ true → AllFit d version 0 vs
-        → (is_report d (report_on d version budget vs) ≡ true) × (written_text d version budget vs ≡ report_bytes d (report_on d version budget vs))
+        → (is_report d (report_on d version budget vs) ≡ true)
+        × (written_text d version budget vs ≡ report_bytes d (report_on d version budget vs))
         × (first_fault d (written_text d version budget vs) ≡ None) }
 {}

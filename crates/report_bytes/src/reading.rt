@@ -2,7 +2,9 @@
 
 ghost use Rattle.std.specs.Prelude.{◌≡◌, OnOk, IfOk, IfErr, Some};
 ghost use Rattle.proof_report.specs.Reader.{first_reader};
-ghost use Rattle.report_bytes.specs.Collecting.{verdict_of, with_line, with_end, collect, IsTaken, AreTaken, IsRefused, IsEnded, AreRead, IsFaulty, Holds, nothing_kept, budget_in};
+ghost use Rattle.report_bytes.specs.Collecting.{verdict_of, with_line, with_end, collect, IsTaken};
+ghost use Rattle.report_bytes.specs.Collecting.{AreTaken, IsRefused, IsEnded, AreRead, IsFaulty};
+ghost use Rattle.report_bytes.specs.Collecting.{Holds, nothing_kept, budget_in};
 ghost use Rattle.report_bytes.specs.Reading.{IsRead};
 
 use crate::lines::next_line;
@@ -109,7 +111,8 @@ fn take_lines<'b>(
     bytes: &'b [u8],
 ) -> Result<&'b [u8], ReportRefused>
     requires { Holds reader.old.spec nothing_kept collected.old }
-    ensures ok { IfOk result (λ rest. AreTaken reader.old nothing_kept bytes.now reader.new collected.new rest.now) }
+    ensures ok { IfOk result
+        (λ rest. AreTaken reader.old nothing_kept bytes.now reader.new collected.new rest.now) }
     ensures refused { IfErr result (λ error. IsRefused reader.old bytes.now error) }
 {
     let mut rest = bytes;

@@ -10,7 +10,8 @@ abbrev pub IsUnended : List ℕ → Type 0
 IsUnended bytes = list_all (λ b. not (b == 10)) bytes ≡ true
 
 -- A source gave some bytes, no more than a report has. All their lines are fed, and what stands behind them is kept.
-pub record AreTaken (left_then left_now : Option (List ℕ)) (v w : VerifierForm) (line : List ℕ) : Type 0 where
+pub record AreTaken (left_then left_now : Option (List ℕ)) (v w : VerifierForm)
+    (line : List ℕ) : Type 0 where
   pub bytes : List ℕ
   pub given : Consumes left_then left_now bytes
   pub few : length bytes ≤ most_report_bytes

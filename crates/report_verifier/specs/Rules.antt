@@ -57,7 +57,9 @@ has_many d ob = nat_lt most_formulas (length (formulas_of d ob))
 
 -- a witness, with these elements, refutes an obligation in the state that it shows
 abbrev pub refutes_shown : Specification → Obligation → PartialWitness → List ℕ → Bool
-refutes_shown d ob p es = (world_fits d p.world && fits_places p.world (elements_of d ob) es) && refutes_in d ob p.world (reads_of p) p.calls es
+refutes_shown d ob p es =
+    (world_fits d p.world && fits_places p.world (elements_of d ob) es)
+    && refutes_in d ob p.world (reads_of p) p.calls es
 
 -- The first line of a log that breaks a rule is a fault, the log standing behind this line; else what is said of the state after the
 -- log.
@@ -67,30 +69,47 @@ log_fault line behind (Err e) = fault_at (line + 1 + e.0) (kind_of e.1)
 
 -- The fault of a verdict that begins at a line, on an obligation with this problem. A proved log needs an empty clause, a witness
 -- has to break the obligation, and an undecided verdict needs its evidence; too many formulas aren't there.
-abbrev pub problem_fault : Specification → ℕ → PlainProblem → ℕ → Obligation → VerdictForm → Option Fault
-problem_fault d budget problem line ob (proved log) = log_fault line (λ s. unless s.empty (fault_at line kinds.NoEmpty)) (run problem log)
-problem_fault d budget problem line ob (refuted p es) = unless (refutes_shown d ob p es) (fault_at line kinds.Witness)
+abbrev pub problem_fault : Specification → ℕ → PlainProblem → ℕ → Obligation
+    → VerdictForm → Option Fault
+problem_fault d budget problem line ob (proved log) =
+    log_fault line (λ s. unless s.empty (fault_at line kinds.NoEmpty)) (run problem log)
+problem_fault d budget problem line ob (refuted p es) =
+    unless (refutes_shown d ob p es) (fault_at line kinds.Witness)
 problem_fault d budget problem line ob instances = fault_at line kinds.Evidence
-problem_fault d budget problem line ob (lines log) = log_fault line (λ s. unless ((length log == budget) && is_fresh s) (fault_at line kinds.Evidence)) (run problem log)
-problem_fault d budget problem line ob (rows log r) = log_fault line (λ s. unless (is_fresh s && rows_hold s r.used r.steps) (fault_at line kinds.Evidence)) (run problem log)
-problem_fault d budget problem line ob (range log r) = log_fault line (λ s. unless (is_fresh s && range_holds s r.used r.steps r.what) (fault_at line kinds.Evidence)) (run problem log)
+problem_fault d budget problem line ob (lines log) =
+    log_fault line
+    (λ s. unless ((length log == budget) && is_fresh s) (fault_at line kinds.Evidence))
+    (run problem log)
+problem_fault d budget problem line ob (rows log r) =
+    log_fault line
+    (λ s. unless (is_fresh s && rows_hold s r.used r.steps) (fault_at line kinds.Evidence))
+    (run problem log)
+problem_fault d budget problem line ob (range log r) =
+    log_fault line
+    (λ s. unless (is_fresh s && range_holds s r.used r.steps r.what) (fault_at line kinds.Evidence))
+    (run problem log)
 
 -- The fault of one on an obligation with too many formulas: that they are too many is good, and so is a witness that breaks it.
 abbrev pub many_fault : Specification → ℕ → Obligation → VerdictForm → Option Fault
-many_fault d line ob (refuted p es) = unless (refutes_shown d ob p es) (fault_at line kinds.Evidence)
+many_fault d line ob (refuted p es) =
+    unless (refutes_shown d ob p es) (fault_at line kinds.Evidence)
 many_fault d line ob instances = None
 many_fault d line ob v = fault_at line kinds.Evidence
 
 -- The fault of a verdict that begins at a line, if it has one.
 abbrev pub rule_fault : Specification → ℕ → ℕ → Obligation → VerdictForm → Option Fault
-rule_fault d budget line ob v = cond (has_many d ob) (many_fault d line ob v) (problem_fault d budget (problem_of d ob) line ob v)
+rule_fault d budget line ob v =
+    cond (has_many d ob) (many_fault d line ob v)
+    (problem_fault d budget (problem_of d ob) line ob v)
 
 -- ---- reports
 
 -- the first fault of some blocks, on the obligations from a place of the list on
 abbrev pub blocks_fault : Specification → ℕ → ℕ → List BlockForm → Option Fault
 blocks_fault d budget i [] = None
-blocks_fault d budget i (b ∷ bs) = or_else (rule_fault d budget b.line (obligation_at d i) b.verdict) (blocks_fault d budget (suc i) bs)
+blocks_fault d budget i (b ∷ bs) =
+    or_else (rule_fault d budget b.line (obligation_at d i) b.verdict)
+    (blocks_fault d budget (suc i) bs)
 
 -- The first fault of the verdicts of a report, if it has one.
 abbrev pub verdict_fault : Specification → ReportForm → Option Fault

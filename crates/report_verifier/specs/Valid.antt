@@ -34,13 +34,15 @@ pub record IsProof (d : Specification) (ob : Obligation) (log : List Line) : Typ
   pub empty : state.empty ≡ true
 
 -- A witness refutes an obligation: it breaks it in a state that reads as is shown.
-pub record IsBroken (d : Specification) (ob : Obligation) (p : PartialWitness) (es : List ℕ) : Type 0 where
+pub record IsBroken (d : Specification) (ob : Obligation) (p : PartialWitness)
+    (es : List ℕ) : Type 0 where
   pub state : Listing
   pub reads_so : reads state ≡ reads_of p
   pub breaks : IsRefutation d ob p.world state p.calls es
 
 -- A fresh log has as many lines as the budget allows.
-pub record IsSpent (d : Specification) (ob : Obligation) (budget : ℕ) (log : List Line) : Type 0 where
+pub record IsSpent (d : Specification) (ob : Obligation) (budget : ℕ)
+    (log : List Line) : Type 0 where
   pub few : HasFew d ob
   pub state : State
   pub leads : Leads d ob log state
@@ -53,8 +55,12 @@ IsValid d budget ob (proved log) = IsProof d ob log
 IsValid d budget ob (refuted p es) = IsBroken d ob p es
 IsValid d budget ob instances = HasMany d ob
 IsValid d budget ob (lines log) = IsSpent d ob budget log
-IsValid d budget ob (rows log r) = HasFew d ob × (s : State) × Leads d ob log s × (is_fresh s ≡ true) × (rows_hold s r.used r.steps ≡ true)
-IsValid d budget ob (range log r) = HasFew d ob × (s : State) × Leads d ob log s × (is_fresh s ≡ true) × (range_holds s r.used r.steps r.what ≡ true)
+IsValid d budget ob (rows log r) =
+    HasFew d ob × (s : State) × Leads d ob log s × (is_fresh s ≡ true)
+    × (rows_hold s r.used r.steps ≡ true)
+IsValid d budget ob (range log r) =
+    HasFew d ob × (s : State) × Leads d ob log s × (is_fresh s ≡ true)
+    × (range_holds s r.used r.steps r.what ≡ true)
 
 -- Each of some verdicts is valid, on the obligations from a place of the list on.
 abbrev pub AreValid : Specification → ℕ → ℕ → List VerdictForm → Type 0

@@ -35,12 +35,15 @@ pub record IsAccepted (d : Specification) (bytes : List ℕ) (tally : Tally) : T
 
 -- They have this fault: as a text, or else, being those of a report, in its verdicts.
 abbrev pub IsFaultOf : Specification → List ℕ → Fault → Type 0
-IsFaultOf d bytes fault = (first_fault d bytes ≡ Some fault) ⊎ ((r : ReportForm) × AreBytesOf d bytes r × (verdict_fault d r ≡ Some fault))
+IsFaultOf d bytes fault =
+    (first_fault d bytes ≡ Some fault)
+    ⊎ ((r : ReportForm) × AreBytesOf d bytes r × (verdict_fault d r ≡ Some fault))
 
 -- What is answered to bytes.
 abbrev pub IsVerified : Specification → List ℕ → Result Tally VerifyRefused → Type 0
 IsVerified d bytes (Ok tally) = (length bytes ≤ most_report_bytes) × IsAccepted d bytes tally
-IsVerified d bytes (Err (refused.Line n k)) = (length bytes ≤ most_report_bytes) × IsFaultOf d bytes (record { number = n; kind = k })
+IsVerified d bytes (Err (refused.Line n k)) =
+    (length bytes ≤ most_report_bytes) × IsFaultOf d bytes (record { number = n; kind = k })
 IsVerified d bytes (Err refused.Long) = most_report_bytes < length bytes
 IsVerified d bytes (Err refused.Fault) = Unit {0}
 IsVerified d bytes (Err refused.Memory) = Unit {0}

@@ -29,7 +29,14 @@ use Rattle.report_verifier.specs.declared.refused.VerifyRefused.TheVariants as r
 -- What is kept of the verdicts so far is a `Judgement`. Nothing stands in its kernel outside a log, where an obligation has too many
 -- formulas, and behind a fault.
 abbrev pub no_judgement : Judgement
-no_judgement = record { tally = no_verdicts; line = 0; many = false; kernel = None; log = 0; fault = None }
+no_judgement = record {
+  tally = no_verdicts;
+  line = 0;
+  many = false;
+  kernel = None;
+  log = 0;
+  fault = None;
+}
 
 -- the obligation of the next verdict
 abbrev pub obligation_due : Specification → Judgement → Obligation
@@ -53,11 +60,25 @@ posed d ob false = None
 
 -- on this obligation; or behind a fault, where no problem is posed
 abbrev pub begun_in : Specification → Obligation → ℕ → Bool → Judgement → Judgement
-begun_in d ob n logs j = record { tally = j.tally; line = n; many = has_many d ob; kernel = posed d ob logs; log = 0; fault = j.fault }
+begun_in d ob n logs j = record {
+  tally = j.tally;
+  line = n;
+  many = has_many d ob;
+  kernel = posed d ob logs;
+  log = 0;
+  fault = j.fault;
+}
 
 -- after a fault no problem is made
 abbrev pub begun_behind : Specification → ℕ → VerdictWord → Judgement → Option Fault → Judgement
-begun_behind d n b j (Some fault) = record { tally = j.tally; line = n; many = false; kernel = None; log = 0; fault = j.fault }
+begun_behind d n b j (Some fault) = record {
+  tally = j.tally;
+  line = n;
+  many = false;
+  kernel = None;
+  log = 0;
+  fault = j.fault;
+}
 begun_behind d n b j None = begun_in d (obligation_due d j) n (has_log b) j
 
 -- what is kept where a verdict begins, if one does
@@ -69,12 +90,33 @@ begun d n (Some b) j = begun_behind d n b j j.fault
 
 -- what is kept after a line that the kernel took or refused
 abbrev pub after_line : ℕ → Judgement → Result State Why → Judgement
-after_line n j (Ok s) = record { tally = j.tally; line = j.line; many = j.many; kernel = Some s; log = suc j.log; fault = j.fault }
-after_line n j (Err why) = record { tally = j.tally; line = j.line; many = j.many; kernel = None; log = suc j.log; fault = or_else j.fault (fault_at n (kind_of why)) }
+after_line n j (Ok s) = record {
+  tally = j.tally;
+  line = j.line;
+  many = j.many;
+  kernel = Some s;
+  log = suc j.log;
+  fault = j.fault;
+}
+after_line n j (Err why) = record {
+  tally = j.tally;
+  line = j.line;
+  many = j.many;
+  kernel = None;
+  log = suc j.log;
+  fault = or_else j.fault (fault_at n (kind_of why));
+}
 
 -- a line outside a kernel is counted alone
 abbrev pub logged_in : ℕ → Line → Judgement → Option State → Judgement
-logged_in n l j None = record { tally = j.tally; line = j.line; many = j.many; kernel = None; log = suc j.log; fault = j.fault }
+logged_in n l j None = record {
+  tally = j.tally;
+  line = j.line;
+  many = j.many;
+  kernel = None;
+  log = suc j.log;
+  fault = j.fault;
+}
 logged_in n l j (Some s) = after_line n j (next s l)
 
 -- what is kept after a line of a log, if it is one
@@ -95,12 +137,22 @@ unrefuted many = cond many kinds.Evidence kinds.Witness
 
 -- what is wrong with a verdict that ends so
 abbrev pub end_fault : Specification → ℕ → Judgement → EndForm → Option Fault
-end_fault d budget j end_proved = kernel_fault j.line (λ s. unless s.empty (fault_at j.line kinds.NoEmpty)) j.kernel
-end_fault d budget j (end_refuted p es) = unless (refutes_shown d (obligation_due d j) p es) (fault_at j.line (unrefuted j.many))
+end_fault d budget j end_proved =
+    kernel_fault j.line (λ s. unless s.empty (fault_at j.line kinds.NoEmpty)) j.kernel
+end_fault d budget j (end_refuted p es) =
+    unless (refutes_shown d (obligation_due d j) p es) (fault_at j.line (unrefuted j.many))
 end_fault d budget j end_instances = unless j.many (fault_at j.line kinds.Evidence)
-end_fault d budget j end_lines = kernel_fault j.line (λ s. unless ((j.log == budget) && is_fresh s) (fault_at j.line kinds.Evidence)) j.kernel
-end_fault d budget j (end_rows r) = kernel_fault j.line (λ s. unless (is_fresh s && rows_hold s r.used r.steps) (fault_at j.line kinds.Evidence)) j.kernel
-end_fault d budget j (end_range r) = kernel_fault j.line (λ s. unless (is_fresh s && range_holds s r.used r.steps r.what) (fault_at j.line kinds.Evidence)) j.kernel
+end_fault d budget j end_lines =
+    kernel_fault j.line
+    (λ s. unless ((j.log == budget) && is_fresh s) (fault_at j.line kinds.Evidence)) j.kernel
+end_fault d budget j (end_rows r) =
+    kernel_fault j.line
+    (λ s. unless (is_fresh s && rows_hold s r.used r.steps)
+    (fault_at j.line kinds.Evidence)) j.kernel
+end_fault d budget j (end_range r) =
+    kernel_fault j.line
+    (λ s. unless (is_fresh s && range_holds s r.used r.steps r.what)
+    (fault_at j.line kinds.Evidence)) j.kernel
 
 -- one more verdict of this kind
 abbrev pub with_ended : EndForm → Tally → Tally
@@ -114,13 +166,21 @@ with_ended (end_range r) t = with_undecided t
 -- what is kept after a block, if one ends
 abbrev pub ended : Specification → ℕ → Option EndForm → Judgement → Judgement
 ended d budget None j = j
-ended d budget (Some e) j = record { tally = with_ended e j.tally; line = j.line; many = j.many; kernel = None; log = j.log; fault = or_else j.fault (end_fault d budget j e) }
+ended d budget (Some e) j = record {
+  tally = with_ended e j.tally;
+  line = j.line;
+  many = j.many;
+  kernel = None;
+  log = j.log;
+  fault = or_else j.fault (end_fault d budget j e);
+}
 
 -- ---- a line
 
 -- what is kept behind the line of this number, which says this at a place of the text
 abbrev pub judge : Specification → ℕ → ℕ → Place → Event → Judgement → Judgement
-judge d budget n s e j = ended d budget (ended_by s e) (logged n (log_of_event e) (begun d n (begin_of e) j))
+judge d budget n s e j =
+    ended d budget (ended_by s e) (logged n (log_of_event e) (begun d n (begin_of e) j))
 
 -- What a verifier has read: the text, what is kept of its verdicts, and whether a line was refused for want of memory.
 pub record VerifierForm : Type 0 where
@@ -134,8 +194,16 @@ first_verifier d = record { reader = first_reader d; judgement = no_judgement; f
 
 -- the verifier behind a line that says something, or at the first fault of the text, which stays
 abbrev pub behind : VerifierForm → Result (Event × ReaderForm) Fault → VerifierForm
-behind v (Ok x) = record { reader = x.1; judgement = judge v.reader.spec (budget_in x.1.budget) x.1.number v.reader.state x.0 v.judgement; failed = false }
-behind v (Err fault) = record { reader = record v.reader { fault = Some fault }; judgement = v.judgement; failed = false }
+behind v (Ok x) = record {
+  reader = x.1;
+  judgement = judge v.reader.spec (budget_in x.1.budget) x.1.number v.reader.state x.0 v.judgement;
+  failed = false;
+}
+behind v (Err fault) = record {
+  reader = record v.reader { fault = Some fault };
+  judgement = v.judgement;
+  failed = false;
+}
 
 -- The verifier behind the next line.
 abbrev pub next_verifier : VerifierForm → List ℕ → VerifierForm
@@ -147,7 +215,8 @@ verifier_after v [] = v
 verifier_after v (line ∷ lines) = verifier_after (next_verifier v line) lines
 
 -- What is answered to a line: it is taken, where no line before was refused; or else the verifier has failed.
-abbrev pub IsTaken : {E : Type 0} → VerifierForm → List ℕ → VerifierForm → Result (Unit {0}) E → Type 0
+abbrev pub IsTaken : {E : Type 0} → VerifierForm → List ℕ → VerifierForm
+    → Result (Unit {0}) E → Type 0
 IsTaken v line w (Ok x) = (v.failed ≡ false) × (w ≡ next_verifier v line)
 IsTaken v line w (Err error) = w.failed ≡ true
 
@@ -160,7 +229,8 @@ final_fault v = or_else (fault_at_end v.reader) v.judgement.fault
 -- What is answered at the end of the lines.
 abbrev pub IsFinished : VerifierForm → Result Tally VerifyRefused → Type 0
 IsFinished v (Ok tally) = (v.failed ≡ false) × (final_fault v ≡ None) × (tally ≡ v.judgement.tally)
-IsFinished v (Err (refused.Line n k)) = (v.failed ≡ false) × (final_fault v ≡ Some (record { number = n; kind = k }))
+IsFinished v (Err (refused.Line n k)) =
+    (v.failed ≡ false) × (final_fault v ≡ Some (record { number = n; kind = k }))
 IsFinished v (Err refused.Long) = ⊥
 IsFinished v (Err refused.Fault) = ⊥
 IsFinished v (Err refused.Memory) = Unit {0}
@@ -189,7 +259,8 @@ unended_fault v = or_else v.reader.fault (fault_at (suc v.reader.number) kinds.F
 -- What is answered where bytes without a line feed stand last.
 abbrev pub IsCutOff : VerifierForm → Result Tally VerifyRefused → Type 0
 IsCutOff v (Ok tally) = ⊥
-IsCutOff v (Err (refused.Line n k)) = (v.failed ≡ false) × (unended_fault v ≡ Some (record { number = n; kind = k }))
+IsCutOff v (Err (refused.Line n k)) =
+    (v.failed ≡ false) × (unended_fault v ≡ Some (record { number = n; kind = k }))
 IsCutOff v (Err refused.Long) = ⊥
 IsCutOff v (Err refused.Fault) = ⊥
 IsCutOff v (Err refused.Memory) = Unit {0}
@@ -198,9 +269,12 @@ IsCutOff v (Err refused.Memory) = Unit {0}
 
 -- behind many lines of a text, with the budget that was stated before them and so many lines before them: where the reader stands, and
 -- what is kept of the verdicts
-unfoldable pub judge_all : Specification → Option ℕ → ℕ → Place → Judgement → List Event → Place × Judgement
+unfoldable pub judge_all : Specification → Option ℕ → ℕ → Place → Judgement → List Event
+    → Place × Judgement
 judge_all d o n s j [] = (s, j)
-judge_all d o n s j (e ∷ es) = judge_all d (stated (budget_of e) o) (suc n) (after d s e) (judge d (budget_in (stated (budget_of e) o)) (suc n) s e j) es
+judge_all d o n s j (e ∷ es) =
+    judge_all d (stated (budget_of e) o) (suc n) (after d s e)
+    (judge d (budget_in (stated (budget_of e) o)) (suc n) s e j) es
 
 -- What is answered at the end of bytes, of which these stand behind the last line.
 abbrev pub IsEnded : VerifierForm → List ℕ → Result Tally VerifyRefused → Type 0

@@ -41,7 +41,10 @@ fn missing(line: u32) -> Option<Fault>
 }
 
 fn proof_fault(judgement: &Judgement) -> Option<Fault>
-    ensures { result ≡ kernel_fault judgement.now.line (λ s. unless s.empty (fault_at judgement.now.line ReportKind.NoEmpty)) judgement.now.kernel }
+    ensures { result
+        ≡ kernel_fault judgement.now.line
+        (λ s. unless s.empty (fault_at judgement.now.line ReportKind.NoEmpty))
+        judgement.now.kernel }
 {
     match &judgement.kernel {
         Some(kernel) => unless(kernel.has_empty(), judgement.line, ReportKind::NoEmpty),
@@ -50,7 +53,10 @@ fn proof_fault(judgement: &Judgement) -> Option<Fault>
 }
 
 fn spent_fault(judgement: &Judgement, budget: u32) -> Option<Fault>
-    ensures { result ≡ kernel_fault judgement.now.line (λ s. unless ((judgement.now.log == budget) && is_fresh s) (fault_at judgement.now.line ReportKind.Evidence)) judgement.now.kernel }
+    ensures { result
+        ≡ kernel_fault judgement.now.line
+        (λ s. unless ((judgement.now.log == budget) && is_fresh s)
+        (fault_at judgement.now.line ReportKind.Evidence)) judgement.now.kernel }
 {
     match &judgement.kernel {
         Some(kernel) => {
@@ -66,7 +72,10 @@ fn rows_fault(
     used: &[Lit],
     steps: &[RowStep],
 ) -> Result<Option<Fault>, AllocError>
-    ensures { IfOk result (λ fault. fault ≡ kernel_fault judgement.now.line (λ s. unless (is_fresh s && rows_hold s used.now steps.now) (fault_at judgement.now.line ReportKind.Evidence)) judgement.now.kernel) }
+    ensures { IfOk result
+        (λ fault. fault ≡ kernel_fault judgement.now.line
+        (λ s. unless (is_fresh s && rows_hold s used.now steps.now)
+        (fault_at judgement.now.line ReportKind.Evidence)) judgement.now.kernel) }
 {
     match &judgement.kernel {
         Some(kernel) => {
@@ -83,7 +92,10 @@ fn range_fault(
     steps: &[RowStep],
     what: &RangeWhat,
 ) -> Result<Option<Fault>, AllocError>
-    ensures { IfOk result (λ fault. fault ≡ kernel_fault judgement.now.line (λ s. unless (is_fresh s && range_holds s used.now steps.now what.now) (fault_at judgement.now.line ReportKind.Evidence)) judgement.now.kernel) }
+    ensures { IfOk result
+        (λ fault. fault ≡ kernel_fault judgement.now.line
+        (λ s. unless (is_fresh s && range_holds s used.now steps.now what.now)
+        (fault_at judgement.now.line ReportKind.Evidence)) judgement.now.kernel) }
 {
     match &judgement.kernel {
         Some(kernel) => {
@@ -101,7 +113,9 @@ fn refuted_fault(
     witness: &Witness,
 ) -> Option<Fault>
     requires { IsObligation spec.now ob.now }
-    ensures { result ≡ unless (witness_refutes spec.now ob.now witness.now) (fault_at judgement.now.line (unrefuted judgement.now.many)) }
+    ensures { result
+        ≡ unless (witness_refutes spec.now ob.now witness.now)
+        (fault_at judgement.now.line (unrefuted judgement.now.many)) }
 {
     let kind = if judgement.many {
         ReportKind::Evidence
@@ -120,7 +134,8 @@ pub fn end_fault(
     ended: &Ended,
 ) -> Result<Option<Fault>, AllocError>
     requires { IsObligation spec.now ob.now }
-    ensures { IfOk result (λ fault. fault ≡ end_fault_of spec.now ob.now budget judgement.now ended.now) }
+    ensures { IfOk result
+        (λ fault. fault ≡ end_fault_of spec.now ob.now budget judgement.now ended.now) }
 {
     match ended {
         Ended::Proved => Ok(proof_fault(judgement)),

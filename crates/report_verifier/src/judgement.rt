@@ -144,7 +144,7 @@ fn begin(
     begin_on(alloc, spec, ob, number, has_log(word), judgement)
 }
 
-// A line of a log. The kernel takes it where it stands, since to move a kernel is dearer than most lines.
+/// A line of a log. The kernel takes it where it stands, since to move a kernel is dearer than most lines.
 pub fn log_line(number: u32, line: &Line, judgement: &mut Judgement) -> Result<(), AllocError>
     ensures { OnOk result (judgement.new ≡ logged number (Some line.now) judgement.old) }
 {
@@ -201,7 +201,8 @@ fn end(
 ) -> Result<(), AllocError>
     requires list { obligations.now ≡ obligations_of spec.now }
     requires members { (ob : Obligation) → Contains obligations.now ob → IsObligation spec.now ob }
-    ensures { OnOk result (judgement.new ≡ ended_as spec.now budget (Some ended.now) judgement.old) }
+    ensures { OnOk result
+        (judgement.new ≡ ended_as spec.now budget (Some ended.now) judgement.old) }
 {
     let ob = obligation_due(obligations, &judgement.tally)?;
     let tally = with_ended(ended, judgement.tally)?;

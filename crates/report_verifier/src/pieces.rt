@@ -1,5 +1,6 @@
 // The lines of a report that comes in pieces. A line that no line feed has ended yet is kept until a later piece ends it.
-ghost use Rattle.std.specs.Prelude.{◌≡◌, ℕ, ◌≤◌, ◌<◌, ◌++◌, [], List, length, IfSome, OnOk, IsErrOf};
+ghost use Rattle.std.specs.Prelude.{◌≡◌, ℕ, ◌≤◌, ◌<◌, ◌++◌, [], List, length, IfSome, OnOk};
+ghost use Rattle.std.specs.Prelude.{IsErrOf};
 ghost use Rattle.std.specs.Io.KnownBytes.{IsAtEnd, Consumes};
 ghost use Rattle.byte_ports.specs.Faults.{IsFault};
 ghost use Rattle.report_verifier.specs.Verifier.{next_verifier, AreFed};
@@ -19,7 +20,8 @@ const PIECE: usize = 4096;
 
 // Feeds the line that was begun, with these bytes behind it, and begins the next one. Most lines stand in one piece and aren't copied.
 fn end_line(verifier: &mut Verifier<'_>, line: &mut Vec<u8>, bytes: &[u8]) -> Result<(), AllocError>
-    ensures fed { OnOk result (verifier.new ≡ next_verifier verifier.old (line.old.items ++ bytes.now)) }
+    ensures fed { OnOk result
+        (verifier.new ≡ next_verifier verifier.old (line.old.items ++ bytes.now)) }
     ensures begun { OnOk result (line.new.items ≡ []) }
 {
     if line.is_empty() {
@@ -38,7 +40,8 @@ fn feed_piece(
     piece: &[u8],
 ) -> Result<(), AllocError>
     requires { IsUnended line.old.items }
-    ensures { OnOk result (AreFed verifier.old (line.old.items ++ piece.now) verifier.new line.new.items) }
+    ensures { OnOk result
+        (AreFed verifier.old (line.old.items ++ piece.now) verifier.new line.new.items) }
 {
     let mut rest = piece;
     'lines: for taken in 0..piece.len() {
@@ -60,10 +63,14 @@ pub fn read_pieces<E: Source>(
     line: &mut Vec<u8>,
 ) -> Result<(), ReadRefused>
     requires { line.old.items ≡ [] }
-    ensures taken { OnOk result (AreTaken (E.left report.old) (E.left report.new) verifier.old verifier.new line.new.items) }
+    ensures taken { OnOk result
+        (AreTaken (E.left report.old) (E.left report.new) verifier.old verifier.new
+        line.new.items) }
     ensures end { OnOk result (IsAtEnd (E.left report.new)) }
-    ensures too_long { IsErrOf result ReadRefused.TooLong → IfSome (E.left report.old) (λ bytes. most_report_bytes < length bytes) }
-    ensures fault { IsErrOf result ReadRefused.Fault → IsFault (E.faults report.old) (E.faults report.new) }
+    ensures too_long { IsErrOf result ReadRefused.TooLong
+        → IfSome (E.left report.old) (λ bytes. most_report_bytes < length bytes) }
+    ensures fault { IsErrOf result ReadRefused.Fault
+        → IsFault (E.faults report.old) (E.faults report.new) }
     ensures given_up { (given : List ℕ) × Consumes (E.left report.old) (E.left report.new) given }
     ensures never_falls { E.faults report.old ≤ E.faults report.new }
 {

@@ -3,7 +3,8 @@ ghost use Rattle.std.specs.Prelude.{◌≡◌, ◌≤◌, IfOk, IsErr, true, fal
 ghost use Rattle.proof_report.specs.Resolving.{resolve_told};
 ghost use Rattle.report_bytes.specs.Collecting.{budget_in};
 ghost use Rattle.report_verifier.specs.Taking.{IsTold};
-ghost use Rattle.report_verifier.specs.Verifier.{first_verifier, IsTaken, IsFinished, IsCutOff, IsJudgement, IsMissing, clauses_in, most_kept};
+ghost use Rattle.report_verifier.specs.Verifier.{first_verifier, IsTaken, IsFinished, IsCutOff};
+ghost use Rattle.report_verifier.specs.Verifier.{IsJudgement, IsMissing, clauses_in, most_kept};
 
 use crate::judgement::{Judgement, log_line, no_judgement, take};
 use crate::refused::VerifyRefused;

@@ -35,8 +35,10 @@ fn verify_lines<E: Source>(
     line: &mut Vec<u8>,
 ) -> Result<Tally, VerifyRefused>
     requires { line.old.items ≡ [] }
-    ensures verified { (d : Specification) → is_specification d ≡ true → verifier.old ≡ first_verifier d → IsVerifiedFrom d (E.left report.old) result }
-    ensures fault { IsErrOf result VerifyRefused.Fault → IsFault (E.faults report.old) (E.faults report.new) }
+    ensures verified { (d : Specification) → is_specification d ≡ true
+        → verifier.old ≡ first_verifier d → IsVerifiedFrom d (E.left report.old) result }
+    ensures fault { IsErrOf result VerifyRefused.Fault
+        → IsFault (E.faults report.old) (E.faults report.new) }
     ensures end { IsOnAll result → IsAtEnd (E.left report.new) }
     ensures given_up { (given : List ℕ) × Consumes (E.left report.old) (E.left report.new) given }
     ensures never_falls { E.faults report.old ≤ E.faults report.new }
@@ -58,7 +60,8 @@ pub fn verify_all<E: Source>(
     report: &mut E,
 ) -> Result<Tally, VerifyRefused>
     ensures verified { IsVerifiedFrom spec.now (E.left report.old) result }
-    ensures fault { IsErrOf result VerifyRefused.Fault → IsFault (E.faults report.old) (E.faults report.new) }
+    ensures fault { IsErrOf result VerifyRefused.Fault
+        → IsFault (E.faults report.old) (E.faults report.new) }
     ensures end { IsOnAll result → IsAtEnd (E.left report.new) }
     ensures given_up { (given : List ℕ) × Consumes (E.left report.old) (E.left report.new) given }
     ensures never_falls { E.faults report.old ≤ E.faults report.new }

@@ -58,8 +58,10 @@ taking_from replica taken =
 -- A step: an object with exactly the keys of a call, or with exactly those of a taking.
 abbrev pub step_of : Data → Option Step
 step_of v =
-    if has_exactly call_keys v then call_from (get (codes "replica") v) (get (codes "call") v) (get (codes "args") v)
-    else (if has_exactly taking_keys v then taking_from (get (codes "replica") v) (get (codes "take") v) else None)
+    if has_exactly call_keys v
+    then call_from (get (codes "replica") v) (get (codes "call") v) (get (codes "args") v)
+    else (if has_exactly taking_keys v
+    then taking_from (get (codes "replica") v) (get (codes "take") v) else None)
 
 -- the step of this number, or the fault there
 abbrev pub at_step : ℕ → Option Step → Checked Step

@@ -64,4 +64,5 @@ world_from sizes elements = Ok (record { sizes = sizes; consts = elements })
 abbrev pub world_of : Specification → Data → Checked World
 world_of d v =
     and_then (sizes_of d (get (codes "sizes") v))
-    (λ sizes. and_then (elements_of d sizes (get (codes "constants") v)) (λ elements. world_from sizes elements))
+    (λ sizes. and_then (elements_of d sizes (get (codes "constants") v))
+    (λ elements. world_from sizes elements))

@@ -5,7 +5,8 @@ ghost use Rattle.std.specs.List.{list_all};
 ghost use Rattle.std.specs.Str.{is_utf8};
 ghost use Rattle.serde_json.specs.Find.{get};
 ghost use Rattle.serde_json.specs.View.{view};
-ghost use Rattle.schedule_json.specs.Parts.{whole, natural as natural_of, is_count, member_count, has_each, has_exactly};
+ghost use Rattle.schedule_json.specs.Parts.{whole, natural as natural_of, is_count, member_count};
+ghost use Rattle.schedule_json.specs.Parts.{has_each, has_exactly};
 ghost use Rattle.schedule_json.specs.Worlds.{const_names};
 
 use serde_json::Value;

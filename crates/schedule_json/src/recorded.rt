@@ -1,10 +1,14 @@
 // The steps of a schedule.
 
-ghost use Rattle.std.specs.Prelude.{◌≡◌, ◌⊎◌, ◌≤◌, length, option_map, option_and_then, Ok, Err, IfOk, IfErr, codes};
+ghost use Rattle.std.specs.Prelude.{◌≡◌, ◌⊎◌, ◌≤◌, length, option_map, option_and_then, Ok, Err};
+ghost use Rattle.std.specs.Prelude.{IfOk, IfErr, codes};
 ghost use Rattle.serde_json.specs.View.{view, items_view};
 ghost use Rattle.serde_json.specs.Find.{as_array};
 ghost use Rattle.schedule_json.specs.Parts.{has_exactly};
-ghost use Rattle.schedule_json.specs.Recorded.{number as number_of, name as name_of, wholes, arguments, call_keys, taking_keys, call_from, taking_from, step_of, most_steps, steps_at, steps_of};
+ghost use Rattle.schedule_json.specs.Recorded.{number as number_of, name as name_of, wholes};
+ghost use Rattle.schedule_json.specs.Recorded.{arguments, call_keys, taking_keys, call_from};
+ghost use Rattle.schedule_json.specs.Recorded.{taking_from, step_of, most_steps, steps_at};
+ghost use Rattle.schedule_json.specs.Recorded.{steps_of};
 
 use crate::parts::{has_members, natural};
 use crate::refusal::{Path, ScheduleRefused};
@@ -103,7 +107,9 @@ fn read_call(
 
 /// A taking, from what stands at its keys.
 fn read_taking(replica: Option<&Value>, taken: Option<&Value>) -> Option<Step>
-    ensures { result ≡ taking_from (option_map (λ v. view v.now) replica.entry) (option_map (λ v. view v.now) taken.entry) }
+    ensures { result
+        ≡ taking_from (option_map (λ v. view v.now) replica.entry)
+        (option_map (λ v. view v.now) taken.entry) }
 {
     let replica = replica.and_then(number)?;
     let event = taken.and_then(number)?;
@@ -132,7 +138,8 @@ fn read_step(alloc: Global, value: &Value) -> Result<Option<Step>, AllocError>
 fn read_each_step(alloc: Global, list: &[Value]) -> Result<Items<Step>, ScheduleRefused>
     requires { length list.now ≤ most_steps }
     ensures ok { IfOk result (λ steps. steps_at 0 (items_view list.now) ≡ Ok steps) }
-    ensures err { IfErr result (λ why. (why ≡ ScheduleRefused.Memory) ⊎ (steps_at 0 (items_view list.now) ≡ Err why)) }
+    ensures err { IfErr result
+        (λ why. (why ≡ ScheduleRefused.Memory) ⊎ (steps_at 0 (items_view list.now) ≡ Err why)) }
 {
     let mut steps = Items::new(alloc);
     for (place, value) in list.iter().enumerate() {
@@ -161,7 +168,8 @@ fn elements(value: Option<&Value>) -> Option<&[Value]>
 
 /// The steps of a schedule.
 pub fn read_steps(alloc: Global, value: Option<&Value>) -> Result<Items<Step>, ScheduleRefused>
-    ensures ok { IfOk result (λ steps. steps_of (option_map (λ v. view v.now) value.entry) ≡ Ok steps) }
+    ensures ok { IfOk result
+        (λ steps. steps_of (option_map (λ v. view v.now) value.entry) ≡ Ok steps) }
     ensures err { IfErr result
         (λ why. (why ≡ ScheduleRefused.Memory)
         ⊎ (steps_of (option_map (λ v. view v.now) value.entry) ≡ Err why)) }

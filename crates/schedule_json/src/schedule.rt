@@ -1,10 +1,12 @@
 // Schedules, and reading them.
 
-ghost use Rattle.std.specs.Prelude.{◌≡◌, ◌⊎◌, length, option_map, option_and_then, Ok, Err, IfOk, IfErr, codes};
+ghost use Rattle.std.specs.Prelude.{◌≡◌, ◌⊎◌, length, option_map, option_and_then, Ok, Err, IfOk};
+ghost use Rattle.std.specs.Prelude.{IfErr, codes};
 ghost use Rattle.serde_json.specs.View.{view};
 ghost use Rattle.serde_json.specs.Find.{get};
 ghost use Rattle.schedule_json.specs.Parts.{whole, has_exactly};
-ghost use Rattle.schedule_json.specs.Schedules.{count_of, schedule_keys, schedule_of, schedule_from};
+ghost use Rattle.schedule_json.specs.Schedules.{count_of, schedule_keys, schedule_of};
+ghost use Rattle.schedule_json.specs.Schedules.{schedule_from};
 ghost use Rattle.schedule_json.specs.Fitting.{IsScheduleOf};
 
 use crate::parts::has_members;
@@ -57,7 +59,9 @@ fn is_keyed(value: &Value) -> bool
 /// The schedule that a value is.
 fn from_value(alloc: Global, spec: &Spec, value: &Value) -> Result<Schedule, ScheduleRefused>
     ensures ok { IfOk result (λ schedule. schedule_of spec.now (view value.now) ≡ Ok schedule) }
-    ensures err { IfErr result (λ why. (why ≡ ScheduleRefused.Memory) ⊎ (schedule_of spec.now (view value.now) ≡ Err why)) }
+    ensures err { IfErr result
+        (λ why. (why ≡ ScheduleRefused.Memory)
+        ⊎ (schedule_of spec.now (view value.now) ≡ Err why)) }
 {
     if !is_keyed(value) {
         return Err(ScheduleRefused::Shape { path: Path::Top });
@@ -79,7 +83,8 @@ fn from_value(alloc: Global, spec: &Spec, value: &Value) -> Result<Schedule, Sch
 /// `replicas` and `steps`.
 pub fn read_schedule(alloc: Global, spec: &Spec, bytes: &[u8]) -> Result<Schedule, ScheduleRefused>
     ensures ok { IfOk result (λ schedule. schedule_from spec.now bytes.now ≡ Ok schedule) }
-    ensures err { IfErr result (λ why. (why ≡ ScheduleRefused.Memory) ⊎ (schedule_from spec.now bytes.now ≡ Err why)) }
+    ensures err { IfErr result
+        (λ why. (why ≡ ScheduleRefused.Memory) ⊎ (schedule_from spec.now bytes.now ≡ Err why)) }
     ensures fits { IfOk result (IsScheduleOf spec.now) }
 {
     match Value::from_slice(alloc, bytes) {

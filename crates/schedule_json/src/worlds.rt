@@ -5,7 +5,8 @@ ghost use Rattle.std.specs.List.{list_all};
 ghost use Rattle.std.specs.Str.{is_utf8};
 ghost use Rattle.serde_json.specs.View.{view};
 ghost use Rattle.serde_json.specs.Find.{get};
-ghost use Rattle.schedule_json.specs.Worlds.{number_below as number_below_of, sizes_at, sizes_of, elements_at, elements_of, const_names, world_of};
+ghost use Rattle.schedule_json.specs.Worlds.{number_below as number_below_of, sizes_at, sizes_of};
+ghost use Rattle.schedule_json.specs.Worlds.{elements_at, elements_of, const_names, world_of};
 
 use crate::parts::{is_keyed_by_constants, is_keyed_by_names, member, natural};
 use crate::refusal::{Fault, Path, ScheduleRefused};
@@ -41,7 +42,8 @@ fn read_each_size(
 ) -> Result<Items<u32>, ScheduleRefused>
     requires { list_all is_utf8 names.now ≡ true }
     ensures ok { IfOk result (λ sizes. sizes_at names.now (view value.now) ≡ Ok sizes) }
-    ensures err { IfErr result (λ why. (why ≡ ScheduleRefused.Memory) ⊎ (sizes_at names.now (view value.now) ≡ Err why)) }
+    ensures err { IfErr result
+        (λ why. (why ≡ ScheduleRefused.Memory) ⊎ (sizes_at names.now (view value.now) ≡ Err why)) }
 {
     let mut sizes = Items::new(alloc);
     for name in names {
@@ -61,7 +63,8 @@ fn read_each_element(
     value: &Value,
 ) -> Result<Items<u32>, ScheduleRefused>
     requires { list_all is_utf8 (const_names consts.now) ≡ true }
-    ensures ok { IfOk result (λ elements. elements_at sizes.now consts.now (view value.now) ≡ Ok elements) }
+    ensures ok { IfOk result
+        (λ elements. elements_at sizes.now consts.now (view value.now) ≡ Ok elements) }
     ensures err { IfErr result
         (λ why. (why ≡ ScheduleRefused.Memory)
         ⊎ (elements_at sizes.now consts.now (view value.now) ≡ Err why)) }
@@ -85,7 +88,8 @@ fn read_sizes(
     spec: &Spec,
     value: Option<&Value>,
 ) -> Result<Items<u32>, ScheduleRefused>
-    ensures ok { IfOk result (λ sizes. sizes_of spec.now (option_map (λ v. view v.now) value.entry) ≡ Ok sizes) }
+    ensures ok { IfOk result
+        (λ sizes. sizes_of spec.now (option_map (λ v. view v.now) value.entry) ≡ Ok sizes) }
     ensures err { IfErr result
         (λ why. (why ≡ ScheduleRefused.Memory)
         ⊎ (sizes_of spec.now (option_map (λ v. view v.now) value.entry) ≡ Err why)) }
@@ -127,7 +131,8 @@ fn read_elements(
 /// The world of a schedule.
 pub fn read_world(alloc: Global, spec: &Spec, value: &Value) -> Result<World, ScheduleRefused>
     ensures ok { IfOk result (λ world. world_of spec.now (view value.now) ≡ Ok world) }
-    ensures err { IfErr result (λ why. (why ≡ ScheduleRefused.Memory) ⊎ (world_of spec.now (view value.now) ≡ Err why)) }
+    ensures err { IfErr result
+        (λ why. (why ≡ ScheduleRefused.Memory) ⊎ (world_of spec.now (view value.now) ≡ Err why)) }
 {
     let sizes = read_sizes(alloc, spec, value.get("sizes"))?;
     let consts = read_elements(alloc, spec, sizes.as_slice(), value.get("constants"))?;

@@ -90,7 +90,11 @@ after_ran lists taken event done = record {
 abbrev pub after_void : Lists → List ℕ → WhyVoid → Message → Left
 after_void lists taken cause told = record {
   did = did.Void cause (length lists.messages);
-  lists = record { requests = lists.requests; messages = lists.messages ++ told ∷ []; happened = lists.happened };
+  lists = record {
+    requests = lists.requests;
+    messages = lists.messages ++ told ∷ [];
+    happened = lists.happened;
+  };
   taken = taken;
 }
 
@@ -98,7 +102,11 @@ after_void lists taken cause told = record {
 abbrev pub after_asked : Lists → List ℕ → Request → Left
 after_asked lists taken request = record {
   did = did.Asked (length lists.requests);
-  lists = record { requests = lists.requests ++ request ∷ []; messages = lists.messages; happened = lists.happened };
+  lists = record {
+    requests = lists.requests ++ request ∷ [];
+    messages = lists.messages;
+    happened = lists.happened;
+  };
   taken = taken;
 }
 

@@ -13,7 +13,9 @@ pub record IsStepped (old new : HeldNet) (step : NetStep)
     (result : Result NetDid NetRefused) : Type 0 where
   pub answer : (result ≡ Err unable.Memory)
       ⊎ (result ≡ answer (outcome old.spec old.world (network_held old) step))
-  pub ok : OnOk result (network_held new ≡ network_after (network_held old) (outcome old.spec old.world (network_held old) step))
+  pub ok : OnOk result
+      (network_held new ≡ network_after (network_held old)
+      (outcome old.spec old.world (network_held old) step))
   pub spec : new.spec ≡ old.spec
   pub world : new.world ≡ old.world
   pub steps : new.steps ≡ old.steps

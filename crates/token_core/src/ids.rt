@@ -47,12 +47,14 @@ fn make_room(members: &mut HashSet<(u32, u32)>) -> Result<(), AllocError>
 
 fn note(members: &mut HashSet<(u32, u32)>, id: EventId)
     requires { 0 < room members.old }
-    ensures { (other : Id) → has_id members.new other ≡ (has_id members.old other || same_id other id) }
+    ensures { (other : Id)
+        → has_id members.new other ≡ (has_id members.old other || same_id other id) }
 {
     let _ = members.insert((id.replica, id.turn));
 }
 
 impl Ids {
+    /// No id yet. It asks for no memory before the first one.
     pub fn new(alloc: Global) -> Ids
         ensures { result ≡ [] }
     {

@@ -1,6 +1,7 @@
 // What was sent in a network, and what happened.
 
-ghost use Rattle.std.specs.Prelude.{◌≡◌, ◌<◌, ◌^◌, false, [], ◌∷◌, ◌++◌, length, vec_len, vec_capacity, OnOk};
+ghost use Rattle.std.specs.Prelude.{◌≡◌, ◌<◌, ◌^◌, false, [], ◌∷◌, ◌++◌, length, vec_len};
+ghost use Rattle.std.specs.Prelude.{vec_capacity, OnOk};
 ghost use Rattle.token_protocol.specs.Network.{number_of};
 ghost use Rattle.token_core.specs.Log.{lists_of, no_lists, HasRoom};
 

@@ -4,10 +4,12 @@
 // the ones whose argument isn't the one that all rules want, before it asks the rules. A manager in one world goes on from the grant of
 // an earlier call that takes the same tokens: it names all before it that conflict, so only those from it on are met.
 
-ghost use Rattle.std.specs.Prelude.{◌≡◌, [], ◌∷◌, ◌++◌, cond, map, filter, drop, slice_get, OnOk, OnErr, IfOk, IfSome};
+ghost use Rattle.std.specs.Prelude.{◌≡◌, [], ◌∷◌, ◌++◌, cond, map, filter, drop, slice_get, OnOk};
+ghost use Rattle.std.specs.Prelude.{OnErr, IfOk, IfSome};
 ghost use Rattle.std.specs.List.{find};
 ghost use Rattle.std.specs.Option.{option_copied, option_map};
-ghost use Rattle.token_protocol.specs.Manager.{conflicting, grant_of, grant_message, new_grant, asked};
+ghost use Rattle.token_protocol.specs.Manager.{conflicting, grant_of, grant_message, new_grant};
+ghost use Rattle.token_protocol.specs.Manager.{asked};
 ghost use Rattle.token_rules.specs.Conflict.{conflicts};
 ghost use Rattle.token_rules.specs.Rivals.{rivals_of};
 ghost use Rattle.grant_index.specs.Index.{numbers_from};
@@ -110,7 +112,8 @@ fn add_numbered(
     number: usize,
 ) -> Result<(), AllocError>
     requires { rivals.now ≡ rivals_of spec.now call.now.op }
-    ensures { OnOk result (ids.new ≡ ids.old ++ id_if spec.now world.now call.now (slice_get granted.now number)) }
+    ensures { OnOk result
+        (ids.new ≡ ids.old ++ id_if spec.now world.now call.now (slice_get granted.now number)) }
 {
     match granted.get(number) {
         Some(earlier) => add_conflicting(spec, world, rivals, call, ids, earlier),
@@ -150,7 +153,8 @@ fn add_from(
     from: usize,
 ) -> Result<(), AllocError>
     requires { rivals.now ≡ rivals_of spec.now call.now.op }
-    ensures { OnOk result (ids.new ≡ ids.old ++ conflicting spec.now world.now (drop from granted.now) call.now) }
+    ensures { OnOk result
+        (ids.new ≡ ids.old ++ conflicting spec.now world.now (drop from granted.now) call.now) }
 {
     for number in from..granted.len() {
         add_conflicting(spec, world, rivals, call, ids, &granted[number])?;
@@ -278,8 +282,10 @@ impl Manager {
         after: SharedList<EventId>,
     ) -> Result<Message, AllocError>
         requires { after ≡ conflicting spec.now world.now self.old request.now.call }
-        ensures message { IfOk result (λ m. m ≡ grant_message (new_grant spec.now world.now self.old request.now)) }
-        ensures granted { OnOk result (self.new ≡ self.old ++ new_grant spec.now world.now self.old request.now ∷ []) }
+        ensures message { IfOk result
+            (λ m. m ≡ grant_message (new_grant spec.now world.now self.old request.now)) }
+        ensures granted { OnOk result
+            (self.new ≡ self.old ++ new_grant spec.now world.now self.old request.now ∷ []) }
         ensures err { OnErr result (self.new ≡ self.old) }
     {
         let call = copy_call(self.alloc, &request.call)?;
@@ -305,8 +311,10 @@ impl Manager {
         world: &World,
         request: &Request,
     ) -> Result<Message, AllocError>
-        ensures message { IfOk result (λ m. m ≡ (asked spec.now world.now self.old request.now).message) }
-        ensures granted { OnOk result (self.new ≡ (asked spec.now world.now self.old request.now).granted) }
+        ensures message { IfOk result
+            (λ m. m ≡ (asked spec.now world.now self.old request.now).message) }
+        ensures granted { OnOk result
+            (self.new ≡ (asked spec.now world.now self.old request.now).granted) }
         ensures err { OnErr result (self.new ≡ self.old) }
     {
         if let Some(message) = self.told_again(request.id)? {
@@ -325,8 +333,10 @@ impl Manager {
         request: &Request,
     ) -> Result<Message, AllocError>
         requires { AreGrants spec.now world.now self.old }
-        ensures message { IfOk result (λ m. m ≡ (asked spec.now world.now self.old request.now).message) }
-        ensures granted { OnOk result (self.new ≡ (asked spec.now world.now self.old request.now).granted) }
+        ensures message { IfOk result
+            (λ m. m ≡ (asked spec.now world.now self.old request.now).message) }
+        ensures granted { OnOk result
+            (self.new ≡ (asked spec.now world.now self.old request.now).granted) }
         ensures err { OnErr result (self.new ≡ self.old) }
     {
         if let Some(message) = self.told_again(request.id)? {

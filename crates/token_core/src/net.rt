@@ -1,6 +1,7 @@
 // A network: its replicas, its manager, and what was sent.
 
-ghost use Rattle.std.specs.Prelude.{◌≡◌, ℕ, ◌+◌, ◌<◌, ◌⊎◌, true, [], Some, Err, List, length, map, get_or, slice_get, All, IfOk, OnOk, OnErr};
+ghost use Rattle.std.specs.Prelude.{◌≡◌, ℕ, ◌+◌, ◌<◌, ◌⊎◌, true, [], Some, Err, List, length, map};
+ghost use Rattle.std.specs.Prelude.{get_or, slice_get, All, IfOk, OnOk, OnErr};
 ghost use Rattle.std.specs.Option.{is_some};
 ghost use Rattle.spec_core.specs.State.{reads};
 ghost use Rattle.spec_core.specs.Fits.{is_state};
@@ -59,7 +60,9 @@ fn first_replicas<R: Runner>(
     runner: &R,
     count: u32,
 ) -> Result<Vec<Replica>, AllocError>
-    ensures { IfOk result (λ replicas. IsFirst (R.specification runner.now) (R.setting runner.now) count replicas.items) }
+    ensures { IfOk result
+        (λ replicas. IsFirst (R.specification runner.now) (R.setting runner.now) count
+        replicas.items) }
 {
     let mut replicas = Vec::new(alloc);
     for number in 0..count {
@@ -78,7 +81,8 @@ impl<R: Runner + Drop> Net<R> {
     pub fn new(alloc: Global, runner: R, replicas: u32) -> Result<Net<R>, AllocError>
         ensures spec { IfOk result (λ net. net.spec ≡ R.specification runner) }
         ensures world { IfOk result (λ net. net.world ≡ R.setting runner) }
-        ensures network { IfOk result (λ net. network_held net ≡ first_network net.spec net.world replicas) }
+        ensures network { IfOk result
+            (λ net. network_held net ≡ first_network net.spec net.world replicas) }
         ensures steps { IfOk result (λ net. net.steps ≡ 0) }
     {
         let replicas = first_replicas(alloc, &runner, replicas)?;
@@ -131,7 +135,8 @@ impl<R: Runner + Drop> Net<R> {
     /// The events that a replica has taken, in that order.
     pub fn taken(&self, replica: u32) -> &[u32]
         requires { replica < length self.now.replicas }
-        ensures { (at : HeldReplica) → slice_get self.now.replicas replica ≡ Some at → result.now ≡ at.taken }
+        ensures { (at : HeldReplica) → slice_get self.now.replicas replica ≡ Some at
+            → result.now ≡ at.taken }
     {
         self.replicas[replica as usize].taken.as_slice()
     }
@@ -139,7 +144,8 @@ impl<R: Runner + Drop> Net<R> {
     /// The state of a replica: that after the events that it has taken.
     pub fn state_of(&self, replica: u32) -> &State
         requires { replica < length self.now.replicas }
-        ensures state { (at : HeldReplica) → slice_get self.now.replicas replica ≡ Some at → result.now ≡ at.node.state }
+        ensures state { (at : HeldReplica) → slice_get self.now.replicas replica ≡ Some at
+            → result.now ≡ at.node.state }
         ensures fits { is_state self.now.spec self.now.world result.now ≡ true }
     {
         self.replicas[replica as usize].node.state()
@@ -148,7 +154,8 @@ impl<R: Runner + Drop> Net<R> {
     /// Whether a call of a replica waits for a grant.
     pub fn is_waiting(&self, replica: u32) -> bool
         requires { replica < length self.now.replicas }
-        ensures { (at : HeldReplica) → slice_get self.now.replicas replica ≡ Some at → result ≡ is_some at.node.waiting }
+        ensures { (at : HeldReplica) → slice_get self.now.replicas replica ≡ Some at
+            → result ≡ is_some at.node.waiting }
     {
         self.replicas[replica as usize].node.waiting().is_some()
     }
@@ -209,7 +216,8 @@ impl<R: Runner + Drop> Net<R> {
             (outcome self.old.spec self.old.world (network_held self.old) step.now)) }
         ensures spec { self.new.spec ≡ self.old.spec }
         ensures world { self.new.world ≡ self.old.world }
-        ensures steps { OnOk result ((self.old.steps < 4000000000) × (self.new.steps ≡ self.old.steps + 1)) }
+        ensures steps { OnOk result
+            ((self.old.steps < 4000000000) × (self.new.steps ≡ self.old.steps + 1)) }
         ensures err { OnErr result (self.new ≡ self.old) }
     {
         if self.steps >= MOST_STEPS {
@@ -238,7 +246,8 @@ impl<R: Runner + Drop> Net<R> {
             (outcome self.old.spec self.old.world (network_held self.old) step.now)) }
         ensures spec { self.new.spec ≡ self.old.spec }
         ensures world { self.new.world ≡ self.old.world }
-        ensures steps { OnOk result ((self.old.steps < 4000000000) × (self.new.steps ≡ self.old.steps + 1)) }
+        ensures steps { OnOk result
+            ((self.old.steps < 4000000000) × (self.new.steps ≡ self.old.steps + 1)) }
         ensures err { OnErr result (self.new ≡ self.old) }
         ensures executed { IsExecuted self.new.spec self.new.world (network_held self.new) }
     {

@@ -1,13 +1,19 @@
 // A node, which runs calls and takes the events of others.
 
-ghost use Rattle.std.specs.Prelude.{◌≡◌, ◌<◌, ◌⊎◌, ◌||◌, not, true, None, Some, Err, IfOk, OnOk, OnErr, List};
+ghost use Rattle.std.specs.Prelude.{◌≡◌, ◌<◌, ◌⊎◌, ◌||◌, not, true, None, Some, Err, IfOk, OnOk};
+ghost use Rattle.std.specs.Prelude.{OnErr, List};
 ghost use Rattle.std.specs.Option.{option_copied};
 ghost use Rattle.spec_core.specs.State.{reads};
 ghost use Rattle.spec_core.specs.Fits.{call_fits, is_state};
 ghost use Rattle.effectors.specs.Effect.{after_call};
 ghost use Rattle.effectors.specs.Beyond.{first_beyond};
 ghost use Rattle.token_protocol.specs.Ids.{is_among};
-ghost use Rattle.token_protocol.specs.Node.{waits, with_waiting, with_turn, takes_none, turn_of, begin_with, run, node_after_run, first_node, begin, begin_answer, node_after_begin, hear, hear_grant, grant_open, hear_done, take_within, hear_void, hear_answer, node_after_hear, first_open as first_open_of};
+ghost use Rattle.token_protocol.specs.Node.{waits, with_waiting, with_turn, takes_none, turn_of};
+ghost use Rattle.token_protocol.specs.Node.{begin_with, run, node_after_run, first_node, begin};
+ghost use Rattle.token_protocol.specs.Node.{begin_answer, node_after_begin, hear, hear_grant};
+ghost use Rattle.token_protocol.specs.Node.{grant_open, hear_done, take_within, hear_void};
+ghost use Rattle.token_protocol.specs.Node.{hear_answer, node_after_hear};
+ghost use Rattle.token_protocol.specs.Node.{first_open as first_open_of};
 ghost use Rattle.token_core.specs.Held.{node_of, waiting_fits, message_fits};
 ghost use Rattle.token_core.specs.Tried.{IsTried};
 ghost use Rattle.token_core.specs.Ended.{ended_of, begun_of, heard_of, refused_effect};
@@ -91,7 +97,9 @@ impl Node {
         ensures node { IfOk result
             (λ node. node_of node
             ≡ first_node (R.specification runner.now) (R.setting runner.now) replica) }
-        ensures fits { IfOk result (λ node. is_state (R.specification runner.now) (R.setting runner.now) node.state ≡ true) }
+        ensures fits { IfOk result
+            (λ node. is_state (R.specification runner.now) (R.setting runner.now)
+            node.state ≡ true) }
     {
         let state = State::initial(alloc, runner.spec(), runner.world())?;
         Ok(Node {
@@ -135,14 +143,18 @@ impl Node {
         tried: Tried,
     ) -> Result<Ended, AllocError>
         requires state { is_state (R.specification runner.now) (R.setting runner.now) self.old.state ≡ true }
-        requires tried { IsTried (R.specification runner.now) (R.setting runner.now) (reads self.old.state) call tried }
+        requires tried { IsTried (R.specification runner.now) (R.setting runner.now)
+            (reads self.old.state) call tried }
         ensures ended { IfOk result
             (λ ended. ended
-            ≡ ended_of (run (R.specification runner.now) (R.setting runner.now) (node_of self.old) id call)) }
+            ≡ ended_of (run (R.specification runner.now) (R.setting runner.now)
+            (node_of self.old) id call)) }
         ensures node { OnOk result
             (node_of self.new
-            ≡ node_after_run (run (R.specification runner.now) (R.setting runner.now) (node_of self.old) id call)) }
-        ensures fits { OnOk result (is_state (R.specification runner.now) (R.setting runner.now) self.new.state ≡ true) }
+            ≡ node_after_run
+            (run (R.specification runner.now) (R.setting runner.now) (node_of self.old) id call)) }
+        ensures fits { OnOk result
+            (is_state (R.specification runner.now) (R.setting runner.now) self.new.state ≡ true) }
         ensures err { OnErr result (self.new ≡ self.old) }
     {
         match tried {
@@ -165,11 +177,14 @@ impl Node {
         requires call { call_fits (R.specification runner.now) (R.setting runner.now) call ≡ true }
         ensures ended { IfOk result
             (λ ended. ended
-            ≡ ended_of (run (R.specification runner.now) (R.setting runner.now) (node_of self.old) id call)) }
+            ≡ ended_of (run (R.specification runner.now) (R.setting runner.now)
+            (node_of self.old) id call)) }
         ensures node { OnOk result
             (node_of self.new
-            ≡ node_after_run (run (R.specification runner.now) (R.setting runner.now) (node_of self.old) id call)) }
-        ensures fits { OnOk result (is_state (R.specification runner.now) (R.setting runner.now) self.new.state ≡ true) }
+            ≡ node_after_run
+            (run (R.specification runner.now) (R.setting runner.now) (node_of self.old) id call)) }
+        ensures fits { OnOk result
+            (is_state (R.specification runner.now) (R.setting runner.now) self.new.state ≡ true) }
         ensures err { OnErr result (self.new ≡ self.old) }
     {
         let tried = try_call(runner, &self.state, &call)?;
@@ -189,13 +204,16 @@ impl Node {
         requires free { takes_none (R.specification runner.now) call.now ≡ true }
         ensures answer { (result ≡ Err NodeRefused.Memory)
             ⊎ (result
-            ≡ begin_answer (turn_of (R.specification runner.now) (R.setting runner.now) (node_of self.old) id call.now)) }
+            ≡ begin_answer
+            (turn_of (R.specification runner.now) (R.setting runner.now)
+            (node_of self.old) id call.now)) }
         ensures ok { OnOk result
             (node_of self.new
             ≡ node_after_begin (node_of self.old)
             (turn_of (R.specification runner.now) (R.setting runner.now) (node_of self.old) id
             call.now)) }
-        ensures fits { OnOk result (is_state (R.specification runner.now) (R.setting runner.now) self.new.state ≡ true) }
+        ensures fits { OnOk result
+            (is_state (R.specification runner.now) (R.setting runner.now) self.new.state ≡ true) }
         ensures err { OnErr result (self.new ≡ self.old) }
     {
         let call = copy_call(self.alloc, call)?;
@@ -230,13 +248,16 @@ impl Node {
         requires state { is_state (R.specification runner.now) (R.setting runner.now) self.old.state ≡ true }
         ensures answer { (result ≡ Err NodeRefused.Memory)
             ⊎ (result
-            ≡ begin_answer (begin (R.specification runner.now) (R.setting runner.now) (node_of self.old) call.now)) }
+            ≡ begin_answer
+            (begin (R.specification runner.now) (R.setting runner.now)
+            (node_of self.old) call.now)) }
         ensures ok { OnOk result
             (node_of self.new
             ≡ node_after_begin (node_of self.old)
             (begin (R.specification runner.now) (R.setting runner.now) (node_of self.old)
             call.now)) }
-        ensures fits { OnOk result (is_state (R.specification runner.now) (R.setting runner.now) self.new.state ≡ true) }
+        ensures fits { OnOk result
+            (is_state (R.specification runner.now) (R.setting runner.now) self.new.state ≡ true) }
         ensures err { OnErr result (self.new ≡ self.old) }
     {
         if !call.fits(runner.spec(), runner.world()) {
@@ -286,13 +307,16 @@ impl Node {
         requires call { call_fits (R.specification runner.now) (R.setting runner.now) call ≡ true }
         ensures answer { (result ≡ Err NodeRefused.Memory)
             ⊎ (result
-            ≡ hear_answer (grant_open (R.specification runner.now) (R.setting runner.now) (node_of self.old) (record { id = id; call = call }) None)) }
+            ≡ hear_answer
+            (grant_open (R.specification runner.now) (R.setting runner.now) (node_of self.old)
+            (record { id = id; call = call }) None)) }
         ensures ok { OnOk result
             (node_of self.new
             ≡ node_after_hear (node_of self.old)
             (grant_open (R.specification runner.now) (R.setting runner.now) (node_of self.old)
             (record { id = id; call = call }) None)) }
-        ensures fits { OnOk result (is_state (R.specification runner.now) (R.setting runner.now) self.new.state ≡ true) }
+        ensures fits { OnOk result
+            (is_state (R.specification runner.now) (R.setting runner.now) self.new.state ≡ true) }
         ensures err { OnErr result (self.new ≡ self.old) }
     {
         let ended = self.run(runner, id, call)?;
@@ -308,16 +332,20 @@ impl Node {
         after: &[EventId],
     ) -> Result<Heard, NodeRefused>
         requires state { is_state (R.specification runner.now) (R.setting runner.now) self.old.state ≡ true }
-        requires waiting { waiting_fits (R.specification runner.now) (R.setting runner.now) self.old.waiting ≡ true }
+        requires waiting { waiting_fits (R.specification runner.now) (R.setting runner.now)
+            self.old.waiting ≡ true }
         ensures answer { (result ≡ Err NodeRefused.Memory)
             ⊎ (result
-            ≡ hear_answer (hear_grant (R.specification runner.now) (R.setting runner.now) (node_of self.old) id after.now self.old.waiting)) }
+            ≡ hear_answer
+            (hear_grant (R.specification runner.now) (R.setting runner.now) (node_of self.old) id
+            after.now self.old.waiting)) }
         ensures ok { OnOk result
             (node_of self.new
             ≡ node_after_hear (node_of self.old)
             (hear_grant (R.specification runner.now) (R.setting runner.now) (node_of self.old) id
             after.now self.old.waiting)) }
-        ensures fits { OnOk result (is_state (R.specification runner.now) (R.setting runner.now) self.new.state ≡ true) }
+        ensures fits { OnOk result
+            (is_state (R.specification runner.now) (R.setting runner.now) self.new.state ≡ true) }
         ensures err { OnErr result (self.new ≡ self.old) }
     {
         let Some(waiting) = &self.waiting else {
@@ -345,15 +373,21 @@ impl Node {
         requires call { call_fits (R.specification runner.now) (R.setting runner.now) call.now ≡ true }
         ensures answer { (result ≡ Err NodeRefused.Memory)
             ⊎ (result
-            ≡ hear_answer (take_within (R.specification runner.now) (R.setting runner.now) (node_of self.old) id call.now (first_beyond 0 (after_call (R.specification runner.now) (R.setting runner.now) call.now (reads self.old.state)).counters))) }
+            ≡ hear_answer
+            (take_within (R.specification runner.now) (R.setting runner.now) (node_of self.old) id
+            call.now (first_beyond 0
+            (after_call (R.specification runner.now) (R.setting runner.now) call.now
+            (reads self.old.state)).counters))) }
         ensures ok { OnOk result
             (node_of self.new
             ≡ node_after_hear (node_of self.old)
             (take_within (R.specification runner.now) (R.setting runner.now) (node_of self.old) id
             call.now
             (first_beyond 0
-            (after_call (R.specification runner.now) (R.setting runner.now) call.now (reads self.old.state)).counters))) }
-        ensures fits { OnOk result (is_state (R.specification runner.now) (R.setting runner.now) self.new.state ≡ true) }
+            (after_call (R.specification runner.now) (R.setting runner.now) call.now
+            (reads self.old.state)).counters))) }
+        ensures fits { OnOk result
+            (is_state (R.specification runner.now) (R.setting runner.now) self.new.state ≡ true) }
         ensures err { OnErr result (self.new ≡ self.old) }
     {
         match runner.effect(&self.state, call) {
@@ -378,13 +412,16 @@ impl Node {
         requires call { call_fits (R.specification runner.now) (R.setting runner.now) call.now ≡ true }
         ensures answer { (result ≡ Err NodeRefused.Memory)
             ⊎ (result
-            ≡ hear_answer (hear_done (R.specification runner.now) (R.setting runner.now) (node_of self.old) id call.now seen.now)) }
+            ≡ hear_answer
+            (hear_done (R.specification runner.now) (R.setting runner.now) (node_of self.old) id
+            call.now seen.now)) }
         ensures ok { OnOk result
             (node_of self.new
             ≡ node_after_hear (node_of self.old)
             (hear_done (R.specification runner.now) (R.setting runner.now) (node_of self.old) id
             call.now seen.now)) }
-        ensures fits { OnOk result (is_state (R.specification runner.now) (R.setting runner.now) self.new.state ≡ true) }
+        ensures fits { OnOk result
+            (is_state (R.specification runner.now) (R.setting runner.now) self.new.state ≡ true) }
         ensures err { OnErr result (self.new ≡ self.old) }
     {
         if self.taken.has(id) {
@@ -398,8 +435,11 @@ impl Node {
 
     // The node gets a Void.
     fn hear_void(&mut self, id: EventId) -> Result<Heard, NodeRefused>
-        ensures answer { (result ≡ Err NodeRefused.Memory) ⊎ (result ≡ hear_answer (hear_void (node_of self.old) id)) }
-        ensures ok { OnOk result (node_of self.new ≡ node_after_hear (node_of self.old) (hear_void (node_of self.old) id)) }
+        ensures answer { (result ≡ Err NodeRefused.Memory)
+            ⊎ (result ≡ hear_answer (hear_void (node_of self.old) id)) }
+        ensures ok { OnOk result
+            (node_of self.new ≡ node_after_hear (node_of self.old)
+            (hear_void (node_of self.old) id)) }
         ensures state { self.new.state ≡ self.old.state }
         ensures err { OnErr result (self.new ≡ self.old) }
     {
@@ -415,17 +455,21 @@ impl Node {
     /// range of a state. A Void is noted once. Whatever else it gets is old. A refusal changes nothing.
     pub fn hear<R: Runner>(&mut self, runner: &R, message: &Message) -> Result<Heard, NodeRefused>
         requires state { is_state (R.specification runner.now) (R.setting runner.now) self.old.state ≡ true }
-        requires waiting { waiting_fits (R.specification runner.now) (R.setting runner.now) self.old.waiting ≡ true }
+        requires waiting { waiting_fits (R.specification runner.now) (R.setting runner.now)
+            self.old.waiting ≡ true }
         requires message { message_fits (R.specification runner.now) (R.setting runner.now) message.now ≡ true }
         ensures answer { (result ≡ Err NodeRefused.Memory)
             ⊎ (result
-            ≡ hear_answer (hear (R.specification runner.now) (R.setting runner.now) (node_of self.old) message.now)) }
+            ≡ hear_answer
+            (hear (R.specification runner.now) (R.setting runner.now) (node_of self.old)
+            message.now)) }
         ensures ok { OnOk result
             (node_of self.new
             ≡ node_after_hear (node_of self.old)
             (hear (R.specification runner.now) (R.setting runner.now) (node_of self.old)
             message.now)) }
-        ensures fits { OnOk result (is_state (R.specification runner.now) (R.setting runner.now) self.new.state ≡ true) }
+        ensures fits { OnOk result
+            (is_state (R.specification runner.now) (R.setting runner.now) self.new.state ≡ true) }
         ensures err { OnErr result (self.new ≡ self.old) }
     {
         match message {

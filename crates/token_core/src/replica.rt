@@ -1,15 +1,21 @@
 // A replica of a network, and its steps.
 
-ghost use Rattle.std.specs.Prelude.{◌≡◌, ℕ, ◌<◌, ◌⊎◌, true, [], ◌∷◌, ◌++◌, ◌^◌, Option, Some, Err, List, bytes_eq, length, set, slice_get, vec_len, vec_capacity, IfOk, OnOk, OnErr};
+ghost use Rattle.std.specs.Prelude.{◌≡◌, ℕ, ◌<◌, ◌⊎◌, true, [], ◌∷◌, ◌++◌, ◌^◌, Option, Some, Err};
+ghost use Rattle.std.specs.Prelude.{List, bytes_eq, length, set, slice_get, vec_len, vec_capacity};
+ghost use Rattle.std.specs.Prelude.{IfOk, OnOk, OnErr};
 ghost use Rattle.std.specs.Option.{option_map};
 ghost use Rattle.spec_core.specs.Fits.{is_state};
 ghost use Rattle.token_protocol.specs.declared.message.Request.{Request as Waiting};
 ghost use Rattle.token_protocol.specs.declared.message.Message.{Message as Sent};
 ghost use Rattle.token_protocol.specs.declared.granted.Granted.{Granted};
 ghost use Rattle.token_protocol.specs.Node.{begin};
-ghost use Rattle.token_protocol.specs.Network.{Replica as ReplicaOf, number_of as number_of_call, node_refused, begin_at, hears_message, asks, network_after, answer};
+ghost use Rattle.token_protocol.specs.Network.{Replica as ReplicaOf, number_of as number_of_call};
+ghost use Rattle.token_protocol.specs.Network.{node_refused, begin_at, hears_message, asks};
+ghost use Rattle.token_protocol.specs.Network.{network_after, answer};
 ghost use Rattle.token_core.specs.Held.{node_of, waiting_fits, message_fits};
-ghost use Rattle.token_core.specs.Log.{lists_of, HasRoom, network_with, id_of, event_of, event_for, after_begun, IsAfterHeard, IsPrepared, Left, after_ran, after_void};
+ghost use Rattle.token_core.specs.Log.{lists_of, HasRoom, network_with, id_of, event_of, event_for};
+ghost use Rattle.token_core.specs.Log.{after_begun, IsAfterHeard, IsPrepared, Left, after_ran};
+ghost use Rattle.token_core.specs.Log.{after_void};
 ghost use Rattle.token_core.specs.Fields.{held_replica, replica_at};
 ghost use Rattle.token_core.specs.Grants.{AreGrants};
 
@@ -92,7 +98,9 @@ fn waiting_event(
     front: &mut SharedList<u32>,
     taken: &[u32],
 ) -> Result<Option<CallEvent>, AllocError>
-    ensures { IfOk result (λ event. event ≡ option_map (λ (q : Waiting). event_of q.call taken.now) node.now.waiting) }
+    ensures { IfOk result
+        (λ event. event ≡ option_map (λ (q : Waiting). event_of q.call taken.now)
+        node.now.waiting) }
 {
     match node.waiting() {
         Some(waiting) => {
@@ -124,7 +132,11 @@ fn event_for(
 fn keep_ran(log: &mut Log, taken: &mut Vec<u32>, event: CallEvent, done: Message) -> NetDid
     requires room { HasRoom log.old }
     requires place { vec_len taken.old < vec_capacity taken.old }
-    ensures { (let left : Left = record { did = result; lists = lists_of log.new; taken = taken.new.items } in left)
+    ensures { (let left : Left = record {
+      did = result;
+      lists = lists_of log.new;
+      taken = taken.new.items;
+    } in left)
         ≡ after_ran (lists_of log.old) taken.old.items event done }
 {
     let id = id_of(&done);
@@ -139,7 +151,11 @@ fn keep_ran(log: &mut Log, taken: &mut Vec<u32>, event: CallEvent, done: Message
 fn keep_void(log: &mut Log, why: WhyVoid, told: Message) -> NetDid
     requires room { HasRoom log.old }
     ensures { (taken : List ℕ)
-        → (let left : Left = record { did = result; lists = lists_of log.new; taken = taken } in left)
+        → (let left : Left = record {
+          did = result;
+          lists = lists_of log.new;
+          taken = taken;
+        } in left)
         ≡ after_void (lists_of log.old) taken why told }
 {
     let number = log.messages.len() as u32;
@@ -154,7 +170,11 @@ fn keep_void(log: &mut Log, why: WhyVoid, told: Message) -> NetDid
 fn keep_begun(log: &mut Log, taken: &mut Vec<u32>, event: CallEvent, begun: Begun) -> NetDid
     requires room { HasRoom log.old }
     requires place { vec_len taken.old < vec_capacity taken.old }
-    ensures { (let left : Left = record { did = result; lists = lists_of log.new; taken = taken.new.items } in left)
+    ensures { (let left : Left = record {
+      did = result;
+      lists = lists_of log.new;
+      taken = taken.new.items;
+    } in left)
         ≡ after_begun (lists_of log.old) taken.old.items event begun }
 {
     match begun {
@@ -239,16 +259,20 @@ pub fn begin_at<R: Runner>(
     ensures answer { (replicas : List ReplicaOf) (granted : List Granted) (r : ℕ)
         → (result ≡ Err NetRefused.Memory)
         ⊎ (result
-        ≡ answer (begin_at (network_with replicas granted (lists_of log.old)) r (replica_at at.old) (begin (R.specification runner.now) (R.setting runner.now) (node_of at.old.node) call.now))) }
+        ≡ answer (begin_at (network_with replicas granted (lists_of log.old)) r (replica_at at.old)
+        (begin (R.specification runner.now) (R.setting runner.now)
+        (node_of at.old.node) call.now))) }
     ensures ok { (replicas : List ReplicaOf) (granted : List Granted) (r : ℕ)
         → slice_get replicas r ≡ Some (replica_at at.old)
         → OnOk result
         (network_with (set replicas r (replica_at at.new)) granted (lists_of log.new)
         ≡ network_after (network_with replicas granted (lists_of log.old))
         (begin_at (network_with replicas granted (lists_of log.old)) r (replica_at at.old)
-        (begin (R.specification runner.now) (R.setting runner.now) (node_of at.old.node) call.now))) }
+        (begin (R.specification runner.now) (R.setting runner.now)
+        (node_of at.old.node) call.now))) }
     ensures fits { is_state (R.specification runner.now) (R.setting runner.now) at.new.node.state ≡ true }
-    ensures err { OnErr result ((held_replica at.new ≡ held_replica at.old) × (lists_of log.new ≡ lists_of log.old)) }
+    ensures err { OnErr result
+        ((held_replica at.new ≡ held_replica at.old) × (lists_of log.new ≡ lists_of log.old)) }
 {
     if at.node.turn() >= MOST_TURNS {
         return Err(NetRefused::Memory);
@@ -271,14 +295,17 @@ pub fn hear_at<R: Runner>(
     message: u32,
 ) -> Result<NetDid, NetRefused>
     requires state { is_state (R.specification runner.now) (R.setting runner.now) at.old.node.state ≡ true }
-    requires waiting { waiting_fits (R.specification runner.now) (R.setting runner.now) at.old.node.waiting ≡ true }
+    requires waiting { waiting_fits (R.specification runner.now) (R.setting runner.now)
+        at.old.node.waiting ≡ true }
     requires message { (m : Sent) → slice_get log.old.messages.items message ≡ Some m
         → message_fits (R.specification runner.now) (R.setting runner.now) m ≡ true }
     ensures answer { (replicas : List ReplicaOf) (granted : List Granted) (r : ℕ)
         → slice_get replicas r ≡ Some (replica_at at.old)
         → (result ≡ Err NetRefused.Memory)
         ⊎ (result
-        ≡ answer (hears_message (R.specification runner.now) (R.setting runner.now) (network_with replicas granted (lists_of log.old)) r (replica_at at.old) (slice_get log.old.messages.items message))) }
+        ≡ answer (hears_message (R.specification runner.now) (R.setting runner.now)
+        (network_with replicas granted (lists_of log.old)) r (replica_at at.old)
+        (slice_get log.old.messages.items message))) }
     ensures ok { (replicas : List ReplicaOf) (granted : List Granted) (r : ℕ)
         → slice_get replicas r ≡ Some (replica_at at.old)
         → OnOk result
@@ -288,7 +315,8 @@ pub fn hear_at<R: Runner>(
         (network_with replicas granted (lists_of log.old)) r (replica_at at.old)
         (slice_get log.old.messages.items message))) }
     ensures fits { is_state (R.specification runner.now) (R.setting runner.now) at.new.node.state ≡ true }
-    ensures err { OnErr result ((held_replica at.new ≡ held_replica at.old) × (lists_of log.new ≡ lists_of log.old)) }
+    ensures err { OnErr result
+        ((held_replica at.new ≡ held_replica at.old) × (lists_of log.new ≡ lists_of log.old)) }
 {
     if message as usize >= log.messages.len() {
         return Err(NetRefused::NoMessage);
@@ -315,7 +343,9 @@ pub fn ask_at<R: Runner>(
     ensures answer { (replicas : List ReplicaOf)
         → (result ≡ Err NetRefused.Memory)
         ⊎ (result
-        ≡ answer (asks (R.specification runner.now) (R.setting runner.now) (network_with replicas manager.old (lists_of log.old)) (slice_get log.old.requests.items request))) }
+        ≡ answer (asks (R.specification runner.now) (R.setting runner.now)
+        (network_with replicas manager.old (lists_of log.old))
+        (slice_get log.old.requests.items request))) }
     ensures ok { (replicas : List ReplicaOf)
         → OnOk result
         (network_with replicas manager.new (lists_of log.new)
@@ -323,7 +353,8 @@ pub fn ask_at<R: Runner>(
         (asks (R.specification runner.now) (R.setting runner.now)
         (network_with replicas manager.old (lists_of log.old))
         (slice_get log.old.requests.items request))) }
-    ensures err { OnErr result ((manager.new ≡ manager.old) × (lists_of log.new ≡ lists_of log.old)) }
+    ensures err { OnErr result
+        ((manager.new ≡ manager.old) × (lists_of log.new ≡ lists_of log.old)) }
 {
     if request as usize >= log.requests.len() {
         return Err(NetRefused::NoMessage);

@@ -47,9 +47,11 @@ pub trait Runner {
         ensures reads { IfOk result
             (λ s. reads s
             ≡ after (specification self.now) (setting self.now) call.now (reads state.now)) }
-        ensures fits { IfOk result (λ s. is_state (specification self.now) (setting self.now) s ≡ true) }
+        ensures fits { IfOk result
+            (λ s. is_state (specification self.now) (setting self.now) s ≡ true) }
         ensures in_range { OnOk result
-            (AllInRange (after_call (specification self.now) (setting self.now) call.now (reads state.now))) }
+            (AllInRange (after_call (specification self.now) (setting self.now) call.now
+            (reads state.now))) }
         ensures range { (b : Beyond) → result ≡ Err (ApplyRefused.Range b.counter b.key b.value)
             → IsFirstBeyond
             (after_call (specification self.now) (setting self.now) call.now (reads state.now)) b };
@@ -65,6 +67,7 @@ pub struct Plain<'a> {
 }
 
 impl<'a> Plain<'a> {
+    /// It borrows both and copies neither. The allocator is asked for each state that an effect makes.
     pub fn new(alloc: Global, spec: &'a Spec, world: &'a World) -> Plain<'a>
         requires { world_fits spec.now world.now ≡ true }
         ensures spec { result.spec.now ≡ spec.now }

@@ -34,7 +34,8 @@ fn try_effect<R: Runner>(runner: &R, state: &State, call: &Call) -> Result<Tried
         ≡ option_map (λ place. place + 1)
         (first_false (R.setting runner.now) (reads state.now) call.now.args
         (op_of (R.specification runner.now) call.now.op).observes) }
-    ensures { IfOk result (IsTried (R.specification runner.now) (R.setting runner.now) (reads state.now) call.now) }
+    ensures { IfOk result
+        (IsTried (R.specification runner.now) (R.setting runner.now) (reads state.now) call.now) }
 {
     match runner.effect(state, call) {
         Ok(next) => Ok(Tried::Ready(next)),
@@ -57,7 +58,8 @@ fn try_effect<R: Runner>(runner: &R, state: &State, call: &Call) -> Result<Tried
 pub fn try_call<R: Runner>(runner: &R, state: &State, call: &Call) -> Result<Tried, AllocError>
     requires state { is_state (R.specification runner.now) (R.setting runner.now) state.now ≡ true }
     requires call { call_fits (R.specification runner.now) (R.setting runner.now) call.now ≡ true }
-    ensures { IfOk result (IsTried (R.specification runner.now) (R.setting runner.now) (reads state.now) call.now) }
+    ensures { IfOk result
+        (IsTried (R.specification runner.now) (R.setting runner.now) (reads state.now) call.now) }
 {
     if let Some(line) = runner.line_broken(state, call)? {
         return Ok(Tried::Never(WhyVoid::Precondition { line }));

@@ -64,6 +64,8 @@ pub record AreInOneState (d : Specification) (w : World) (one other : Replica) :
 -- invariant.
 abbrev pub NetworksConverge : Specification → Type 0
 NetworksConverge d =
-    (w : World) → is_world d w ≡ true → (replicas : ℕ) (steps : List NetStep) (r s : ℕ) (one other : Replica) →
-    slice_get (network_of d w replicas steps).replicas r ≡ Some one → slice_get (network_of d w replicas steps).replicas s ≡ Some other →
-    AreIn one.taken other.taken → AreIn other.taken one.taken → AreInOneState d w one other
+    (w : World) → is_world d w ≡ true
+    → (replicas : ℕ) (steps : List NetStep) (r s : ℕ) (one other : Replica)
+    → slice_get (network_of d w replicas steps).replicas r ≡ Some one
+    → slice_get (network_of d w replicas steps).replicas s ≡ Some other
+    → AreIn one.taken other.taken → AreIn other.taken one.taken → AreInOneState d w one other

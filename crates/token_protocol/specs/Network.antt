@@ -71,7 +71,10 @@ number_of (h ∷ hs) id = cond (same_id h.id id) 0 (suc (number_of hs id))
 -- its replica of this number has another node, and has taken these events
 abbrev pub with_replica : Network → ℕ → Node → List ℕ → Network
 with_replica net r node taken =
-    record net { replicas = set net.replicas r (let replica : Replica = record { node = node; taken = taken } in replica) }
+    record net {
+      replicas = set net.replicas r
+          (let replica : Replica = record { node = node; taken = taken } in replica);
+    }
 
 -- one message more
 abbrev pub with_message : Network → Message → Network
@@ -84,7 +87,10 @@ with_request net request = record net { requests = net.requests ++ request ∷ [
 -- one event more
 abbrev pub with_event : Network → EventId → Event Call → Network
 with_event net id event =
-    record net { happened = net.happened ++ (let h : Happened = record { id = id; event = event } in h) ∷ [] }
+    record net {
+      happened = net.happened
+          ++ (let h : Happened = record { id = id; event = event } in h) ∷ [];
+    }
 
 -- ---- steps
 
@@ -106,7 +112,8 @@ abbrev pub run_at : Network → ℕ → Replica → Run → Outcome
 run_at net r at (ran id call seen node) =
     accepted (did.Ran (length net.happened))
     (with_replica
-    (with_event (with_message net (message.Done id call seen)) id (record { call = call; seen = at.taken }))
+    (with_event (with_message net (message.Done id call seen)) id
+    (record { call = call; seen = at.taken }))
     r node (at.taken ++ length net.happened ∷ []))
 run_at net r at (void cause id node) =
     accepted (did.Void cause (length net.messages))

@@ -16,7 +16,8 @@ use std::alloc::{AllocError, Global};
 /// The answer to the bytes of a schedule, of which there aren't too many.
 fn replayed(alloc: Global, spec: &Spec, bytes: &[u8]) -> Result<Answer, AllocError>
     requires { length bytes.now ≤ most_schedule_bytes }
-    ensures { IfOk result (λ answer. IsReplayed spec.now bytes.now answer.status answer.text.items) }
+    ensures { IfOk result
+        (λ answer. IsReplayed spec.now bytes.now answer.status answer.text.items) }
 {
     let report = replay_bytes(alloc, spec, bytes)?;
     Ok(report)
@@ -34,7 +35,8 @@ pub fn replay_schedule<E: Source, K: Sink>(
         (port_of K.held K.faults out.old) (port_of K.held K.faults out.new) }
     ensures read_fault { result ≡ 6 → IsFault (E.faults extra.old) (E.faults extra.new) }
     ensures unwritten { result ≡ 6 → out.new ≡ out.old }
-    ensures end { result < 6 → IsReadWithin most_schedule_bytes (E.left extra.old) (E.left extra.new) }
+    ensures end { result < 6
+        → IsReadWithin most_schedule_bytes (E.left extra.old) (E.left extra.new) }
 {
     write_answer_from(alloc, extra, out, MOST_SCHEDULE_BYTES, LONG, |bytes| {
         replayed(alloc, spec, bytes)

@@ -2,7 +2,8 @@
 ghost use Rattle.std.specs.Prelude.{◌≡◌, ◌≢◌};
 ghost use Rattle.byte_ports.specs.Ports.{port_of};
 ghost use Rattle.byte_ports.specs.Ending.{Ends};
-ghost use Rattle.cise_program.specs.commands.Suggest.{IsSuggested, IsSuggestionFront, status_by as status_by_of};
+ghost use Rattle.cise_program.specs.commands.Suggest.{IsSuggested, IsSuggestionFront};
+ghost use Rattle.cise_program.specs.commands.Suggest.{status_by as status_by_of};
 
 use crate::words::DEFAULT_BUDGET;
 use byte_ports::{MEMORY, Sink, WRITE_FAULT};

@@ -37,7 +37,8 @@ pub fn upgrade<E: Source, K: Sink>(alloc: Global, spec: &Spec, extra: &mut E, ou
         result (port_of K.held K.faults out.old) (port_of K.held K.faults out.new) }
     ensures read_fault { result ≡ 6 → IsFault (E.faults extra.old) (E.faults extra.new) }
     ensures unwritten { result ≡ 6 → out.new ≡ out.old }
-    ensures end { result < 6 → IsReadWithin most_report_bytes (E.left extra.old) (E.left extra.new) }
+    ensures end { result < 6
+        → IsReadWithin most_report_bytes (E.left extra.old) (E.left extra.new) }
 {
     match upgrade_all(alloc, spec, extra, out) {
         Ok(tally) => status_of(tally),

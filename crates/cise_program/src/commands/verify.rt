@@ -6,7 +6,9 @@ ghost use Rattle.byte_ports.specs.Told.{IsReadWithin};
 ghost use Rattle.report_verifier.specs.Verified.{most_report_bytes};
 ghost use Rattle.report_verifier.specs.declared.refused.VerifyRefused.TheVariants as refused;
 ghost use Rattle.cise_program.specs.Answer.{EndsWith};
-ghost use Rattle.cise_program.specs.commands.Verify.{kind_word, verified_text, refused_report, status_said, text_said, IsVerdict, IsVerdictFront};
+ghost use Rattle.cise_program.specs.commands.Verify.{kind_word, verified_text, refused_report};
+ghost use Rattle.cise_program.specs.commands.Verify.{status_said, text_said, IsVerdict};
+ghost use Rattle.cise_program.specs.commands.Verify.{IsVerdictFront};
 
 use crate::outcome::status_of;
 use byte_ports::{MEMORY, READ_FAULT, REFUSED, Sink, Source, Stopped, write_answer};
@@ -50,7 +52,9 @@ fn verified_text(alloc: Global, tally: Tally) -> Result<Vec<u8>, AllocError>
 
 /// The line that says which line of a report breaks which rule.
 fn line_text(alloc: Global, number: u32, kind: ReportKind) -> Result<Vec<u8>, AllocError>
-    ensures { IfOk result (λ text. text.items ≡ refused_report (codes "line" ∷ decimal number ∷ kind_word kind ∷ [])) }
+    ensures { IfOk result
+        (λ text. text.items ≡ refused_report
+        (codes "line" ∷ decimal number ∷ kind_word kind ∷ [])) }
 {
     let digits = number.to_string(alloc)?;
     let mut text = Vec::from_slice(alloc, b"refused report line ")?;
@@ -93,7 +97,8 @@ pub fn verify<E: Source, K: Sink>(alloc: Global, spec: &Spec, extra: &mut E, out
         (port_of K.held K.faults out.old) (port_of K.held K.faults out.new) }
     ensures read_fault { result ≡ 6 → IsFault (E.faults extra.old) (E.faults extra.new) }
     ensures unwritten { result ≡ 6 → out.new ≡ out.old }
-    ensures end { result < 6 → IsReadWithin most_report_bytes (E.left extra.old) (E.left extra.new) }
+    ensures end { result < 6
+        → IsReadWithin most_report_bytes (E.left extra.old) (E.left extra.new) }
 {
     let said = verify_all(alloc, spec, extra);
     match text_said(alloc, said) {
