@@ -10,19 +10,21 @@
 // that is settled for all of them. These are ten to twenty times as many clauses. Here only the steps of a chain are noted. Where the
 // empty clause is reached, the chains that it needs are written as lines, and no others; so the log is shorter, too.
 //
-// Where a log would be longer than the budget, the search is tried once more in another style, since there is a refutation, and the next
-// may be shorter.
+// Where a log would be longer than the budget, there is a refutation, and another may be shorter. So the search is tried in other styles:
+// first by lookahead, whose conflicts are few, then by activity with earlier restarts.
 //
 // A literal of level 0 gets a clause of its own, of that literal alone. A chain resolves such literals away by these, each by one line.
 //
 // The parts, in the order in which a reader needs them: `codes` (literals as numbers), `assignment` (the trail), `watching` (the clauses
-// and what they watch), `chains` (the steps by which clauses were learned, and their lines), `analysis` (a conflict), `searching`.
+// and what they watch), `chains` (the steps by which clauses were learned, and their lines), `analysis` (a conflict), `lookahead` (what
+// is tried before a decision), `searching`.
 #![tactic(auto)]
 
 mod analysis;
 mod assignment;
 mod chains;
 mod codes;
+mod lookahead;
 mod searching;
 mod watching;
 

@@ -3,6 +3,7 @@ use crate::analysis::Analysis;
 use crate::assignment::{Assignment, Truth};
 use crate::chains::Chains;
 use crate::codes::{code, opposite};
+use crate::lookahead::{Lookahead, score};
 use crate::watching::Clauses;
 use decision_queue::{DecisionQueue, Order};
 use items::Items;
@@ -24,23 +25,37 @@ pub enum Proposal {
 const MOST_ATOMS: usize = 1 << 30;
 
 // In which style a search is tried: it begins anew after a multiple of so many conflicts, and what older conflicts added to the activity of
-// an atom counts for less so many times with each.
+// an atom counts for less so many times with each. One that looks ahead doesn't decide by activity.
 #[derive(Clone, Copy)]
 struct Style {
     restart: u32,
     fades: u32,
+    looks: bool,
 }
 
-const STYLES: [Style; 2] = [
+const STYLES: [Style; 3] = [
     Style {
         restart: 100,
         fades: 1,
+        looks: false,
+    },
+    Style {
+        restart: u32::MAX,
+        fades: 1,
+        looks: true,
     },
     Style {
         restart: 20,
         fades: 2,
+        looks: false,
     },
 ];
+
+// How many atoms are tried before one is decided by lookahead.
+const LOOKS: u32 = 8;
+
+// How many clauses lookahead may visit for each line of the budget.
+const VISITS: usize = 256;
 
 // Of so many members of the restart sequence one is looked for.
 const LUBY_STEPS: u32 = 32;
@@ -50,7 +65,7 @@ const LUBY_STEPS: u32 = 32;
 enum Tried {
     /// It proposes this.
     Ended(Proposal),
-    /// There is a log, but it is longer than the budget.
+    /// The log is longer than the budget, or lookahead visited as many clauses as it may.
     Long,
 }
 
@@ -61,6 +76,16 @@ enum Progress {
     Refuted,
     Found,
     Stuck,
+    Spent,
+}
+
+// What the literals of an atom do.
+#[derive(Clone, Copy)]
+enum Look {
+    /// A conflict follows from this one.
+    Fails(u32),
+    /// This one does less than the other, and how good a decision the atom is.
+    Scores(u32, u64),
 }
 
 #[derive(Drop)]
@@ -70,6 +95,7 @@ struct Search {
     analysis: Analysis,
     chains: Chains,
     queue: DecisionQueue,
+    lookahead: Lookahead,
     noted: usize,
     style: Style,
     conflicts: u32,
@@ -119,12 +145,14 @@ impl Search {
         let clauses = Clauses::new(alloc, atoms)?;
         let assignment = Assignment::new(alloc, atoms)?;
         let analysis = Analysis::new(alloc, atoms)?;
+        let lookahead = Lookahead::new(alloc, atoms)?;
         Ok(Search {
             clauses,
             assignment,
             analysis,
             chains: Chains::new(alloc, problem.clauses.len()),
             queue: DecisionQueue::new(alloc, Order::Activity),
+            lookahead,
             noted: 0,
             style,
             conflicts: 0,
@@ -241,14 +269,85 @@ impl Search {
         };
         self.assignment.cut(level, &mut self.queue)?;
         let clause = self.clauses.add(self.analysis.lits.as_slice())?;
+        self.lookahead.learn(clause, self.analysis.lits.len())?;
         if let Some(lit) = self.analysis.lits.first() {
             self.assignment.assign(*lit, Some(clause))?;
         }
         Ok(Progress::Goes)
     }
 
-    // Decides an atom, where one has no value.
+    // How much a literal does, unless a conflict follows from it.
+    fn probe(&mut self, lit: u32) -> Result<Option<u64>, AllocError> {
+        let level = self.assignment.level();
+        let start = self.assignment.trail.len();
+        self.assignment.decide(lit)?;
+        let conflict = self.propagate()?;
+        let done = self
+            .lookahead
+            .done_by(self.assignment.trail.as_slice(), start);
+        self.assignment.cut(level, &mut self.queue)?;
+        match conflict {
+            Some(_) => Ok(None),
+            None => Ok(Some(done)),
+        }
+    }
+
+    // Tries both literals of an atom.
+    fn look_at(&mut self, atom: u32) -> Result<Look, AllocError> {
+        let negative = atom.saturating_mul(2);
+        let positive = negative.saturating_add(1);
+        let Some(left) = self.probe(negative)? else {
+            return Ok(Look::Fails(negative));
+        };
+        let Some(right) = self.probe(positive)? else {
+            return Ok(Look::Fails(positive));
+        };
+        let less = if left > right { positive } else { negative };
+        Ok(Look::Scores(less, score(left, right)))
+    }
+
+    // The literal that is decided by lookahead, where an atom has no value.
+    fn look(&mut self) -> Result<Option<u32>, AllocError> {
+        self.lookahead
+            .weigh(&self.clauses, self.assignment.truths.as_slice());
+        let mut best = None;
+        let mut most = 0;
+        for _ in 0..LOOKS {
+            let Some(atom) = self.lookahead.take(self.assignment.truths.as_slice()) else {
+                break;
+            };
+            match self.look_at(atom)? {
+                Look::Fails(lit) => return Ok(Some(lit)),
+                Look::Scores(lit, score) => {
+                    if best.is_none() || score > most {
+                        best = Some(lit);
+                        most = score;
+                    }
+                }
+            }
+        }
+        Ok(best)
+    }
+
+    // Decides by lookahead.
+    fn decide_ahead(&mut self) -> Result<Progress, AllocError> {
+        if self.lookahead.is_spent() {
+            return Ok(Progress::Spent);
+        }
+        match self.look()? {
+            Some(lit) => {
+                self.assignment.decide(lit)?;
+                Ok(Progress::Goes)
+            }
+            None => Ok(Progress::Found),
+        }
+    }
+
+    // Decides the most active atom, where one has no value.
     fn decide(&mut self) -> Result<Progress, AllocError> {
+        if self.style.looks {
+            return self.decide_ahead();
+        }
         for _ in 0..self.assignment.truths.len() {
             let Some(atom) = self.queue.first() else {
                 return Ok(Progress::Found);
@@ -302,6 +401,18 @@ impl Search {
         }
     }
 
+    // Lets all atoms be decided, or all clauses count.
+    fn prepare(&mut self, atoms: u32, budget: u32) -> Result<(), AllocError> {
+        if self.style.looks {
+            let visits = (budget as usize).saturating_mul(VISITS);
+            return self.lookahead.begin(&self.clauses, visits);
+        }
+        for atom in 0..atoms {
+            self.queue.insert(atom, false)?;
+        }
+        Ok(())
+    }
+
     // Searches until there is an answer, or there were so many conflicts.
     fn run(
         &mut self,
@@ -314,9 +425,7 @@ impl Search {
             self.learn(conflict)?;
             return self.log(alloc, budget);
         }
-        for atom in 0..atoms {
-            self.queue.insert(atom, false)?;
-        }
+        self.prepare(atoms, budget)?;
         for _ in 0..budget {
             for _ in 0..self.assignment.truths.len().saturating_add(1) {
                 let conflicts = self.conflicts;
@@ -328,6 +437,7 @@ impl Search {
                         return Ok(Tried::Ended(Proposal::Values(values)));
                     },
                     Progress::Stuck => return Ok(Tried::Ended(Proposal::Nothing)),
+                    Progress::Spent => return Ok(Tried::Long),
                 }
                 if self.conflicts != conflicts {
                     break;
