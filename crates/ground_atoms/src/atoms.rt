@@ -3,7 +3,7 @@ ghost use Rattle.std.specs.Prelude.{◌≡◌, ◌++◌, IfOk, OnOk, slice_get, 
 ghost use Rattle.std.specs.Option.{option_map};
 ghost use Rattle.ground_numbers.specs.Numbers as numbers;
 ghost use Rattle.ground_atoms.specs.Symbols.{atom_of, integer_of, reading_of};
-ghost use Rattle.ground_atoms.specs.Known.{Known, nothing, know_atom, know_integer, unless_known, reading_of_atom};
+ghost use Rattle.ground_atoms.specs.Known.{Known, nothing, know_atom, know_integer, reading_of_atom};
 ghost use Rattle.ground_problem.specs.Definitions.{reading_of_integer};
 
 use crate::atom::{Atom, IntName, NamedReading};
@@ -53,8 +53,10 @@ impl Atoms {
         ensures known { OnOk result (self.new ≡ know_atom self.old (atom_of atom)) }
         ensures number { IfOk result (λ n. n ≡ numbers.number_of self.old.table (atom_of atom)) }
     {
-        let is_known = self.atoms.contains(&atom);
-        note_atom(self.alloc, is_known, &atom, &mut self.named)?;
+        if let Some(index) = self.atoms.get_index_of(&atom) {
+            return as_number(index);
+        }
+        note_atom(self.alloc, &atom, &mut self.named)?;
         let Ok((index, _)) = self.atoms.insert_full(atom) else {
             return Err(AllocError);
         };
@@ -67,8 +69,10 @@ impl Atoms {
         ensures known { OnOk result (self.new ≡ know_integer self.old (integer_of name)) }
         ensures number { IfOk result (λ n. n ≡ numbers.integer_of self.old.table (integer_of name)) }
     {
-        let is_known = self.ints.contains(&name);
-        note_integer(self.alloc, is_known, &name, &mut self.named)?;
+        if let Some(index) = self.ints.get_index_of(&name) {
+            return as_number(index);
+        }
+        note_integer(self.alloc, &name, &mut self.named)?;
         let Ok((index, _)) = self.ints.insert_full(name) else {
             return Err(AllocError);
         };
@@ -107,23 +111,17 @@ fn as_number(place: usize) -> Result<u32, AllocError>
     }
 }
 
-// Appends the reading that an atom names, if any, unless the atom is known.
-fn note_atom(
-    alloc: Global,
-    is_known: bool,
-    atom: &Atom,
-    named: &mut Items<NamedReading>,
-) -> Result<(), AllocError>
+// Appends the reading that an atom names, if any.
+fn note_atom(alloc: Global, atom: &Atom, named: &mut Items<NamedReading>) -> Result<(), AllocError>
     ensures { OnOk result
-        (map reading_of named.new
-        ≡ unless_known is_known (map reading_of named.old) (reading_of_atom (atom_of atom.now))) }
+        (map reading_of named.new ≡ map reading_of named.old ++ reading_of_atom (atom_of atom.now)) }
 {
     match atom {
         Atom::Has {
             stage,
             relation,
             tuple,
-        } if !is_known => named.push(NamedReading {
+        } => named.push(NamedReading {
             stage: *stage,
             thing: Thing::Relation(*relation),
             tuple: tuple.copy(alloc)?,
@@ -132,17 +130,14 @@ fn note_atom(
     }
 }
 
-// Appends the reading that an integer name names, if any, unless the name is known.
+// Appends the reading that an integer name names, if any.
 fn note_integer(
     alloc: Global,
-    is_known: bool,
     name: &IntName,
     named: &mut Items<NamedReading>,
 ) -> Result<(), AllocError>
     ensures { OnOk result
-        (map reading_of named.new
-        ≡ unless_known is_known (map reading_of named.old)
-        (reading_of_integer (integer_of name.now))) }
+        (map reading_of named.new ≡ map reading_of named.old ++ reading_of_integer (integer_of name.now)) }
 {
     match name {
         IntName::Count {
@@ -150,7 +145,7 @@ fn note_integer(
             part: 0,
             counter,
             key,
-        } if !is_known => named.push(NamedReading {
+        } => named.push(NamedReading {
             stage: *stage,
             thing: Thing::Counter(*counter),
             tuple: key.copy(alloc)?,

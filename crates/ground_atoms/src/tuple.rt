@@ -5,46 +5,69 @@ ghost use Rattle.std.specs.Cmp.Lexicographic.{pointwise};
 ghost use Rattle.std.specs.Cmp.Rules.{comparing, hashing};
 ghost use Rattle.std.proofs.Common.{rules};
 
-use items::Items;
 use std::alloc::{AllocError, Global};
 use std::hash::{Hash, Hasher};
 use std::marker::Model;
 
-/// The constants at the places of a relation or at the keys of a counter.
+/// The constants at the places of a relation or at the keys of a counter: three at most, which stand in the tuple itself, so that it
+/// takes no memory of its own. Those behind the first `count` have no meaning.
 #[derive(Drop)]
 pub struct Tuple {
-    consts: Items<u32>,
+    consts: [u32; 3],
+    count: u8,
 }
 
 impl Model for Tuple {
-    ghost use Rattle.std.specs.Prelude.{List, ℕ};
+    ghost use Rattle.std.specs.Prelude.{List, ℕ, ◌≤◌, take};
 
     ghost Value = { List ℕ };
 
-    ghost view = { λ t. t.consts };
+    ghost view = { λ t. take t.count t.consts };
+
+    ghost invariant = { λ t. t.count ≤ 3 };
 }
 
 impl Tuple {
-    /// The tuple of these constants.
-    pub fn of(alloc: Global, consts: &[u32]) -> Result<Tuple, AllocError>
+    /// The tuple of these constants. It is refused where they are more than a relation may have places.
+    pub fn of(_alloc: Global, consts: &[u32]) -> Result<Tuple, AllocError>
         ensures { IfOk result (λ t. t ≡ consts.now) }
     {
-        let consts = Items::from_slice(alloc, consts)?;
-        Ok(Tuple { consts })
+        match consts {
+            [] => Ok(Tuple {
+                consts: [0, 0, 0],
+                count: 0,
+            }),
+            [a] => Ok(Tuple {
+                consts: [*a, 0, 0],
+                count: 1,
+            }),
+            [a, b] => Ok(Tuple {
+                consts: [*a, *b, 0],
+                count: 2,
+            }),
+            [a, b, c] => Ok(Tuple {
+                consts: [*a, *b, *c],
+                count: 3,
+            }),
+            _ => Err(AllocError),
+        }
     }
 
     /// The constants, by place.
     pub fn consts(&self) -> &[u32]
         ensures { result.now ≡ self.now }
     {
-        self.consts.as_slice()
+        &self.consts[..self.count as usize]
     }
 
     /// A tuple equal to this one.
-    pub fn copy(&self, alloc: Global) -> Result<Tuple, AllocError>
+    pub fn copy(&self, _alloc: Global) -> Result<Tuple, AllocError>
         ensures { IfOk result (λ t. t ≡ self.now) }
     {
-        Tuple::of(alloc, self.consts.as_slice())
+        Ok(Tuple {
+            consts: self.consts,
+            count: self.count,
+        })
     }
 }
 
@@ -54,7 +77,7 @@ impl PartialEq for Tuple {
     ghost laws = { Prim.search (comparing, rules) };
 
     fn eq(&self, other: &Tuple) -> bool {
-        self.consts.as_slice() == other.consts.as_slice()
+        self.consts() == other.consts()
     }
 }
 
@@ -68,6 +91,6 @@ impl Hash for Tuple {
     ghost respects_eq = { Prim.search (hashing, rules) };
 
     fn hash<H: Hasher>(&self, state: &mut H) {
-        self.consts.as_slice().hash(state);
+        self.consts().hash(state);
     }
 }
