@@ -8,7 +8,7 @@ use Rattle.proof_lines.specs.Problems.{PlainProblem}
 use Rattle.proof_kernel.specs.Rules.{State, run}
 use Rattle.ground_problem.specs.Problem.{formulas_of}
 use Rattle.ground_numbers.specs.Problem.{problem_of}
-use Rattle.ground_groups.specs.Limited.{most_formulas}
+use Rattle.ground_problem.specs.Problem.{most_formulas}
 use Rattle.sat_core.specs.Answers.{IsSpent, IsTooLong, IsTooLarge}
 use Rattle.proof_report.specs.Verdicts.{VerdictForm, proved, refuted, instances, lines, rows, range}
 use Rattle.check_run.specs.Shown.{listing_of}

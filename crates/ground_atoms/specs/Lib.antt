@@ -3,3 +3,4 @@ pub mod Symbols
 pub mod Known
 pub mod Making
 pub mod Formulas
+pub mod Calls

@@ -21,7 +21,7 @@ use Rattle.ground_atoms.specs.Formulas.{consts_of_args}
 use Rattle.ground_atoms.specs.declared.atom.NamedReading.{NamedReading}
 use Rattle.ground_atoms.specs.declared.call.GroundCall.{GroundCall}
 use Rattle.stage_defs.specs.Settings.{caller_at}
-use Rattle.ground_groups.specs.Calls.{calls_from, calls_of}
+use Rattle.ground_atoms.specs.Calls.{calls_from, calls_of}
 use Rattle.ground_groups.specs.Defined.{no_call, call_at, defined_at, defined_by}
 use Rattle.ground_groups.proofs.Gathered.{calls-params}
 

@@ -10,7 +10,8 @@ use Rattle.ground_problem.specs.Constants.{constants_of, sorts_of_params, params
 use Rattle.ground_atoms.specs.declared.call.GroundCall.{GroundCall}
 use Rattle.ground_atoms.specs.declared.call.GroundArg.TheVariants.{Elem, Int}
 use Rattle.ground_atoms.specs.Formulas.{consts_of_args}
-use Rattle.ground_groups.specs.Calls.{args_from, calls_from, constants_in}
+use Rattle.ground_atoms.specs.Calls.{args_from, calls_from}
+use Rattle.ground_groups.specs.Calls.{constants_in}
 
 args-params : (n i : ℕ) (ps : List Parameter) → consts_of_args (args_from n i ps) ≡ params_from n ps
 args-params n i [] = refl

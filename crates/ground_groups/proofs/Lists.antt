@@ -12,7 +12,8 @@ use Rattle.ground_problem.specs.Symbols.{Symbolic}
 use Rattle.ground_numbers.specs.Numbered.{Numbered}
 use Rattle.ground_atoms.specs.Known.{Known}
 use Rattle.ground_atoms.specs.Making.{MadeList, make, make_all}
-use Rattle.ground_groups.specs.Limited.{most_formulas, make_upto, Appends, HasRoomFor, IsWithin}
+use Rattle.ground_problem.specs.Problem.{most_formulas}
+use Rattle.ground_groups.specs.Limited.{make_upto, Appends, HasRoomFor, IsWithin}
 use Rattle.ground_groups.specs.declared.refused.GroundRefused.{GroundRefused}
 use Rattle.ground_groups.specs.declared.refused.GroundRefused.TheVariants.{TooMany, Memory}
 

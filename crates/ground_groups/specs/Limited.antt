@@ -1,6 +1,7 @@
 -- Lists of formulas that are made up to a limit.
 use Rattle.std.specs.Prelude.{◌≡◌, ℕ, ◌<◌, ◌≤◌, ltb, true, false, cond, Option, Some, None, Result, Ok, Err, List, [], ◌∷◌, ◌++◌, length, map}
 use Rattle.ground_problem.specs.Symbols.{Symbolic}
+use Rattle.ground_problem.specs.Problem.{most_formulas}
 use Rattle.ground_numbers.specs.Numbered.{Numbered}
 use Rattle.ground_atoms.specs.Known.{Known}
 use Rattle.ground_atoms.specs.Making.{MadeList, make}
@@ -8,10 +9,6 @@ use Rattle.ground_atoms.specs.Formulas.{form_of}
 use Rattle.ground_atoms.specs.declared.formula.GroundFormula.{GroundFormula}
 use Rattle.ground_groups.specs.declared.refused.GroundRefused.{GroundRefused}
 use Rattle.ground_groups.specs.declared.refused.GroundRefused.TheVariants.{TooMany, Memory}
-
--- the greatest number of formulas of an obligation
-abbrev pub most_formulas : ℕ
-most_formulas = 20000
 
 -- these formulas, after those so far, where there are no more than that together
 abbrev pub make_upto : List Numbered → Known → List Symbolic → Option MadeList

@@ -8,7 +8,7 @@ ghost use Rattle.ground_numbers.specs.Stages.{stage_of};
 ghost use Rattle.ground_atoms.specs.Symbols.{reading_of};
 ghost use Rattle.stage_defs.specs.Settings.{has_definition, count_definition};
 ghost use Rattle.ground_groups.specs.Limited.{Appends};
-ghost use Rattle.ground_groups.specs.Calls.{calls_of};
+ghost use Rattle.ground_atoms.specs.Calls.{calls_of};
 ghost use Rattle.ground_groups.specs.Defined.{defined_at, defined_by};
 
 use crate::adding::within_limit;

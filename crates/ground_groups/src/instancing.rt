@@ -3,7 +3,8 @@ ghost use Rattle.std.specs.Prelude.{◌-◌, map, length};
 ghost use Rattle.spec_core.specs.Form as forms;
 ghost use Rattle.ground_problem.specs.Formulas as formulas;
 ghost use Rattle.stage_defs.specs.Settings.{readings_in, caller_in};
-ghost use Rattle.ground_groups.specs.Limited.{most_formulas, Appends, HasRoomFor};
+ghost use Rattle.ground_problem.specs.Problem.{most_formulas};
+ghost use Rattle.ground_groups.specs.Limited.{Appends, HasRoomFor};
 ghost use Rattle.ground_problem.specs.Constants.{of_sort, choices};
 ghost use Rattle.ground_groups.specs.Calls.{constants_in};
 

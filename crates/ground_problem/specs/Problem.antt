@@ -1,5 +1,5 @@
 -- The problem of an obligation: a list of formulas that some interpretation makes true exactly where something breaks it.
-use Rattle.std.specs.Prelude.{List, ◌++◌}
+use Rattle.std.specs.Prelude.{ℕ, List, ◌++◌}
 use Rattle.spec_core.specs.Specification.{Specification}
 use Rattle.obligation_list.specs.declared.obligation.Obligation.{Obligation}
 use Rattle.obligation_list.specs.Obligations.{things}
@@ -26,3 +26,7 @@ formulas_of d ob =
     let z = constants_of d ob in
     let list = defined d ob z in
     list ++ (equality 0 z.sorts ++ congruence (readings_after 0 list) (things d))
+
+-- The greatest number of formulas with which an obligation is decided.
+abbrev pub most_formulas : ℕ
+most_formulas = 20000

@@ -13,7 +13,8 @@ use Rattle.ground_numbers.specs.Problem.{table_of, numbered_of}
 use Rattle.ground_atoms.specs.Known.{Known}
 use Rattle.ground_atoms.specs.Making.{MadeList, make_all}
 use Rattle.ground_atoms.proofs.Numbering.{make_all-is, readings_after-made}
-use Rattle.ground_groups.specs.Limited.{most_formulas, make_upto, Appends}
+use Rattle.ground_problem.specs.Problem.{most_formulas}
+use Rattle.ground_groups.specs.Limited.{make_upto, Appends}
 use Rattle.instances.specs.Ground.{IsGround}
 use Rattle.ground_groups.specs.declared.refused.GroundRefused.{GroundRefused}
 use Rattle.ground_groups.specs.declared.refused.GroundRefused.TheVariants.{TooMany, Memory}

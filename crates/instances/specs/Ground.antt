@@ -6,8 +6,8 @@ use Rattle.ground_problem.specs.Constants.{constants_of}
 use Rattle.ground_problem.specs.Problem.{formulas_of}
 use Rattle.ground_numbers.specs.Problem.{table_of, numbered_of}
 use Rattle.ground_atoms.specs.Formulas.{form_of}
-use Rattle.ground_groups.specs.Calls.{calls_of}
-use Rattle.ground_groups.specs.Limited.{most_formulas}
+use Rattle.ground_atoms.specs.Calls.{calls_of}
+use Rattle.ground_problem.specs.Problem.{most_formulas}
 use Rattle.instances.specs.declared.grounding.Grounded.{Grounded}
 use Rattle.ground_groups.specs.declared.refused.GroundRefused.{GroundRefused}
 use Rattle.ground_groups.specs.declared.refused.GroundRefused.TheVariants.{TooMany, Memory}

@@ -7,7 +7,8 @@ ghost use Rattle.ground_problem.specs.Equality as equality;
 ghost use Rattle.ground_problem.specs.Problem.{formulas_of};
 ghost use Rattle.ground_atoms.specs.Symbols.{reading_of};
 ghost use Rattle.ground_groups.specs.Limited.{Appends};
-ghost use Rattle.ground_groups.specs.Calls.{constants_in, calls_of, numbered_arguments};
+ghost use Rattle.ground_atoms.specs.Calls.{calls_of};
+ghost use Rattle.ground_groups.specs.Calls.{constants_in, numbered_arguments};
 ghost use Rattle.instances.specs.Ground.{IsGround};
 
 use crate::listing::add_all_defined;

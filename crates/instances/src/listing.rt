@@ -7,7 +7,8 @@ ghost use Rattle.ground_problem.specs.Problem.{stated, defined};
 ghost use Rattle.ground_problem.specs.Definitions.{with_definitions};
 ghost use Rattle.ground_problem.specs.Constants.{constants_of};
 ghost use Rattle.ground_groups.specs.Limited.{Appends};
-ghost use Rattle.ground_groups.specs.Calls.{constants_in, calls_of, numbered_arguments};
+ghost use Rattle.ground_atoms.specs.Calls.{calls_of};
+ghost use Rattle.ground_groups.specs.Calls.{constants_in, numbered_arguments};
 
 use crate::concluding::add_conclusion;
 use ground_atoms::{Atoms, GroundFormula};

@@ -25,7 +25,7 @@ use Rattle.ground_numbers.proofs.Growing.{naming_all-extends}
 use Rattle.model_back.proofs.Numbered.{no_integer}
 use Rattle.ground_numbers.proofs.Sameness.{same_integers-refl}
 use Rattle.ground_atoms.specs.declared.call.GroundArg.TheVariants as arg
-use Rattle.ground_groups.specs.Calls.{args_from, ints_among, calls_from, calls_of}
+use Rattle.ground_atoms.specs.Calls.{args_from, ints_among, calls_from, calls_of}
 use Rattle.model_back.specs.Calls.{argument_by, call_by}
 use Rattle.model_back.proofs.Places.{any-at, Apart, added-apart}
 

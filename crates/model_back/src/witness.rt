@@ -11,7 +11,7 @@ ghost use Rattle.ground_problem.specs.Constants.{constants_of};
 ghost use Rattle.ground_problem.specs.Problem.{formulas_of};
 ghost use Rattle.ground_numbers.specs.Numbered.{all_hold};
 ghost use Rattle.ground_numbers.specs.Problem.{kind_of, table_of, numbered_of, interpretation_of};
-ghost use Rattle.ground_groups.specs.Calls.{calls_of};
+ghost use Rattle.ground_atoms.specs.Calls.{calls_of};
 ghost use Rattle.instances.specs.Ground.{IsGrounded};
 ghost use Rattle.model_back.specs.Witnesses.{IsGivenBy, IsStateFor};
 

@@ -14,7 +14,7 @@ use Rattle.proof_kernel.specs.Rules.{State, run}
 use Rattle.proof_kernel.specs.Evidence.{is_fresh, rows_hold, range_holds}
 use Rattle.ground_problem.specs.Problem.{formulas_of}
 use Rattle.ground_numbers.specs.Problem.{problem_of}
-use Rattle.ground_groups.specs.Limited.{most_formulas}
+use Rattle.ground_problem.specs.Problem.{most_formulas}
 use Rattle.proof_report.specs.declared.kind.Fault.{Fault}
 use Rattle.proof_report.specs.declared.place.PartialWitness.{PartialWitness}
 use Rattle.proof_report.specs.Verdicts.{VerdictForm, proved, refuted, instances, lines, rows, range, obligation_at, obligation_count, is_verdict, is_witness, are_verdicts}

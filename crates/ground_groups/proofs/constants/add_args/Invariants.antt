@@ -1,6 +1,6 @@
 use Rattle.std.proofs.Common.{◌≡◌, ◌++◌, ◌+◌, drop, length}
 use Rattle.ground_problem.specs.Constants.{sorts_of_params}
-use Rattle.ground_groups.specs.Calls.{args_from, ints_among}
+use Rattle.ground_atoms.specs.Calls.{args_from, ints_among}
 use Rattle.ground_groups.proofs.constants.add_args.Given as goal
 
 abbrev pub invariant-loop-param : goal.invariant-loop-param

@@ -2,7 +2,7 @@ use Rattle.std.proofs.Common.{◌≡◌, ◌++◌, drop, length, map}
 use Rattle.std.specs.List.{flat_map}
 use Rattle.spec_core.specs.Specification.{op_of}
 use Rattle.ground_problem.specs.Constants.{sorts_of_params}
-use Rattle.ground_groups.specs.Calls.{calls_from}
+use Rattle.ground_atoms.specs.Calls.{calls_from}
 use Rattle.ground_groups.proofs.constants.add_calls.Given as goal
 
 abbrev pub invariant-loop-op : goal.invariant-loop-op

@@ -4,7 +4,8 @@ use Rattle.ground_problem.specs.Symbols.{negated}
 use Rattle.ground_problem.specs.Formulas.{formula}
 use Rattle.ground_problem.specs.Constants.{of_sort, choices}
 use Rattle.stage_defs.specs.Settings.{readings_in, caller_in}
-use Rattle.ground_groups.specs.Limited.{most_formulas, HasRoomFor}
+use Rattle.ground_problem.specs.Problem.{most_formulas}
+use Rattle.ground_groups.specs.Limited.{HasRoomFor}
 use Rattle.ground_groups.proofs.Lists.{refused_beyond_false}
 use Rattle.ground_groups.proofs.failing.add_false_instances.Goals as goal
 

@@ -3,7 +3,8 @@ use Rattle.spec_core.specs.Form as forms
 use Rattle.ground_problem.specs.Formulas.{formula}
 use Rattle.ground_problem.specs.Constants.{of_sort, choices}
 use Rattle.stage_defs.specs.Settings.{readings_in, caller_in}
-use Rattle.ground_groups.specs.Limited.{most_formulas, HasRoomFor}
+use Rattle.ground_problem.specs.Problem.{most_formulas}
+use Rattle.ground_groups.specs.Limited.{HasRoomFor}
 use Rattle.ground_groups.proofs.Lists.{refused_beyond}
 use Rattle.ground_groups.proofs.instancing.add_instances.Goals as goal
 

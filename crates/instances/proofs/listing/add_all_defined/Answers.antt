@@ -2,7 +2,7 @@ use Rattle.std.proofs.Common.{◌≡◌, rules}
 use Rattle.ground_problem.specs.Constants.{constants_of}
 use Rattle.ground_problem.specs.Problem.{stated}
 use Rattle.ground_problem.specs.Definitions.{with_definitions}
-use Rattle.ground_groups.specs.Calls.{calls_of}
+use Rattle.ground_atoms.specs.Calls.{calls_of}
 use Rattle.ground_groups.proofs.Lists.{seq_refused}
 use Rattle.ground_groups.proofs.Started.{defined_then}
 use Rattle.instances.proofs.listing.add_all_defined.Goals as goal
