@@ -6,14 +6,19 @@ ghost use Rattle.report_lines.specs.Formats.{number, both, behind};
 ghost use Rattle.report_lines.specs.Fields.{count_format, integer_format, value_format, element_format};
 ghost use Rattle.report_lines.specs.Words.{left, Gives};
 
-use crate::digits::word_number;
-use crate::words::{ReadError, Words, keyword, next};
-use word_cut::read_whole;
+use crate::digits::{word_integer, word_number};
+use crate::words::{ReadError, Words, keyword, next, next_number};
 
 /// A number up to a bound.
 pub fn number(words: Words<'_>, most: u32) -> Result<(u32, Words<'_>), ReadError>
     ensures { Gives (λ x. (x.0, left x.1)) result ((number most).get (left words.entry)) }
 {
+    if let Some((number, rest)) = next_number(words) {
+        if number > most as u64 {
+            return Err(ReadError::Form);
+        }
+        return Ok((number as u32, rest));
+    }
     let (word, rest) = next(words)?;
     let Some(number) = word_number(word) else {
         return Err(ReadError::Form);
@@ -36,7 +41,7 @@ pub fn integer(words: Words<'_>) -> Result<(i128, Words<'_>), ReadError>
     ensures { Gives (λ x. (x.0, left x.1)) result (integer_format.get (left words.entry)) }
 {
     let (word, rest) = next(words)?;
-    match read_whole(word) {
+    match word_integer(word) {
         Some(number) => Ok((number, rest)),
         None => Err(ReadError::Form),
     }
@@ -47,7 +52,7 @@ pub fn value(words: Words<'_>) -> Result<(i64, Words<'_>), ReadError>
     ensures { Gives (λ x. (x.0, left x.1)) result (value_format.get (left words.entry)) }
 {
     let (word, rest) = next(words)?;
-    let Some(number) = read_whole(word) else {
+    let Some(number) = word_integer(word) else {
         return Err(ReadError::Form);
     };
     if number.unsigned_abs() > 1_000_000_000_000_000 {

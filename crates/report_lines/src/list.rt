@@ -1,6 +1,6 @@
 // Lists behind their number.
 
-ghost use Rattle.std.specs.Prelude.{◌≡◌, ◌++◌, OnOk};
+ghost use Rattle.std.specs.Prelude.{◌≡◌, ◌++◌, [], IfOk, OnOk};
 ghost use Rattle.report_lines.specs.Formats.{Format, counted, times_at};
 ghost use Rattle.report_lines.specs.Fields.{most_count};
 ghost use Rattle.report_lines.specs.Words.{left, spaced, Gives};
@@ -23,6 +23,18 @@ pub trait Entry: Drop {
         ensures { OnOk result (out.new.items ≡ out.old.items ++ spaced (format.put self.now)) };
 }
 
+/// The room for so many values that is asked for at once. Most lists are short; the number of a longer one may be wrong, so for those room is
+/// asked for as they are read.
+const MOST_AT_ONCE: usize = 64;
+
+// A list without values, with room for so many.
+fn list_for<T: Entry>(alloc: Global, count: u32) -> Result<Items<T>, AllocError>
+    ensures { IfOk result (λ list. list ≡ []) }
+{
+    let entries = Vec::with_capacity(alloc, MOST_AT_ONCE.min(count as usize))?;
+    Ok(Items::from_vec(entries))
+}
+
 /// So many values.
 pub fn times<'a, T: Entry>(
     alloc: Global,
@@ -31,7 +43,7 @@ pub fn times<'a, T: Entry>(
 ) -> Result<(Items<T>, Words<'a>), ReadError>
     ensures { Gives (λ x. (x.0, left x.1)) result (times_at T.format count (left words.entry)) }
 {
-    let mut entries = Items::new(alloc);
+    let mut entries = list_for(alloc, count)?;
     let mut rest = words;
     'entries: for _ in 0..count {
         let (entry, after) = T::read(rest)?;

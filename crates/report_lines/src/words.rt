@@ -1,11 +1,13 @@
 // The words of a line, without a copy of them.
 
-ghost use Rattle.std.specs.Prelude.{◌≡◌, ◌==◌, ◌≤◌, length, map};
+ghost use Rattle.std.specs.Prelude.{◌≡◌, ◌==◌, ◌≤◌, ℕ, List, length, map, take, false, Some, IfSome};
+ghost use Rattle.word_cut.specs.Whole.{size_read};
 ghost use Rattle.std.specs.List.{position_or_len};
 ghost use Rattle.report_lines.specs.Formats.{key_at, these_at, is_empty};
 ghost use Rattle.report_lines.specs.Words.{left, parts, next_of, Gives};
 ghost use Rattle.report_lines.specs.declared.words.ReadError.TheVariants.{Memory};
 
+use crate::digits::front_number;
 use std::alloc::{AllocError, AllocFailed};
 
 /// Why words are not read.
@@ -70,6 +72,25 @@ fn word_len(bytes: &[u8]) -> usize
     bytes.len()
 }
 
+// The words behind the next word, which is so long.
+fn behind(words: Words<'_>, len: usize) -> Words<'_>
+    requires open { words.over ≡ false }
+    requires len { len ≡ position_or_len (λ b. b == 32) words.rest.now }
+    requires within { len ≤ length words.rest.now }
+    ensures { next_of (left words.entry) ≡ Some (take len words.entry.rest.now, left result) }
+{
+    if len == words.rest.len() {
+        return Words {
+            rest: words.rest,
+            over: true,
+        };
+    }
+    Words {
+        rest: &words.rest[len + 1..],
+        over: false,
+    }
+}
+
 /// The next word, and the words behind it.
 pub fn next(words: Words<'_>) -> Result<(&[u8], Words<'_>), ReadError>
     ensures { Gives (λ x. (x.0.now, left x.1)) result (next_of (left words.entry)) }
@@ -78,22 +99,18 @@ pub fn next(words: Words<'_>) -> Result<(&[u8], Words<'_>), ReadError>
         return Err(ReadError::Form);
     }
     let len = word_len(words.rest);
-    if len == words.rest.len() {
-        return Ok((
-            words.rest,
-            Words {
-                rest: words.rest,
-                over: true,
-            },
-        ));
+    Ok((&words.rest[..len], behind(words, len)))
+}
+
+/// The number that the next word spells, where it is a short one, and the words behind it. None says nothing.
+pub(crate) fn next_number(words: Words<'_>) -> Option<(u64, Words<'_>)>
+    ensures { IfSome result (λ x. (w : List ℕ) × (next_of (left words.entry) ≡ Some (w, left x.1)) × (size_read w ≡ Some x.0)) }
+{
+    if words.over {
+        return None;
     }
-    Ok((
-        &words.rest[..len],
-        Words {
-            rest: &words.rest[len + 1..],
-            over: false,
-        },
-    ))
+    let (number, len) = front_number(words.rest)?;
+    Some((number, behind(words, len)))
 }
 
 /// The words behind a word that must be next.

@@ -5,11 +5,11 @@ use Rattle.report_lines.proofs.Loops.{begins, goes_on, ends, is_done}
 use Rattle.report_lines.proofs.list.times.Goals as goal
 
 pub entries-init : goal.entries-init
-entries-init g c = begins g.T.Entry.format c.new-entries.result c.args.count (left c.args.words) c.new-entries.ensures
+entries-init g c = begins g.T.Entry.format c.in_ok-entries.entries c.args.count (left c.args.words) c.in_ok-entries.ensures
 
 pub returns-in_err-entry : goal.returns-in_err-entry
 returns-in_err-entry g c =
-    let p = err_from_is_err_and c.from_residual.result c.from_residual.ensures.1 in
+    let p = err_from_is_err_and c.from_residual-in_err-entry.result c.from_residual-in_err-entry.ensures.1 in
     rw (p.1, p.2) (ends g.T.Entry.format c.in_err-entry.field-0.0 c.entries.entries c.args.count c.entries.counter (left c.entries.rest) (times_at g.T.Entry.format c.args.count (left c.args.words)) c.entries-test.true c.in_err-entry.ensures c.entries.invariant)
 
 pub entries-preserved : goal.entries-preserved
