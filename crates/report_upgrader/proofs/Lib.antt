@@ -1,5 +1,10 @@
 mod Reports
 mod Passes
+mod Follows
+mod FirstWords
+mod LineKinds
+mod LastLines
+mod LogBytes
 mod Texts
 mod Steps
 mod Room

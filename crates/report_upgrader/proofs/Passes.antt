@@ -18,8 +18,7 @@ use Rattle.proof_report.specs.Verdicts.{VerdictForm, proved, refuted, instances,
 use Rattle.proof_report.specs.Events.{told, no_verdicts, with_verdict, log_lines, size_lines, const_lines, fact_lines, reading_lines, call_lines, witness_lines, verdict_lines, block_lines}
 use Rattle.log_drops.specs.Upgraded.{upgraded}
 use Rattle.report_upgrader.specs.Reports.{upgraded_verdict, upgraded_report}
-use Rattle.report_upgrader.specs.declared.passing.Held.{Held}
-use Rattle.report_upgrader.specs.Passing.{held_on, whole_lines, passed}
+use Rattle.report_upgrader.specs.Passing.{Held, held_on, whole_lines, passed, begins_proof}
 
 -- ---- lines that aren't held
 
@@ -66,13 +65,35 @@ witness_passed p xs es =
     ∙ ap (reading_lines p.readings) (calls_passed p.calls _
     ∙ ap (call_lines p.calls) (end_passed xs es)))))
 
+-- a line that begins no proved verdict is passed on as it is
+pub line_passed : (e : Event) (es : List Event) → begins_proof e ≡ false → passed None (e ∷ es) ≡ e ∷ passed None es
+unfolding passed
+line_passed (events.Begin (word.Proved n)) es h = absurd (let t : true ≡ false = h in cc)
+line_passed (events.Begin word.Refuted) es h = refl
+line_passed (events.Begin word.Instances) es h = refl
+line_passed (events.Begin (word.Lines n)) es h = refl
+line_passed (events.Begin (word.Rows n)) es h = refl
+line_passed (events.Begin (word.Range n)) es h = refl
+line_passed (events.Title v) es h = refl
+line_passed (events.Budget n) es h = refl
+line_passed (events.Count n) es h = refl
+line_passed (events.Opened i) es h = refl
+line_passed (events.Log l) es h = refl
+line_passed (events.Size i n) es h = refl
+line_passed (events.Const j x) es h = refl
+line_passed (events.Shown x) es h = refl
+line_passed (events.Rows r) es h = refl
+line_passed (events.Range r) es h = refl
+line_passed (events.Summary t) es h = refl
+line_passed (events.Last o) es h = refl
+
 -- ---- a log that is held
 
 log_before : (ls : List Line) (es : List Event) → log_lines ls [] ++ es ≡ log_lines ls es
 log_before [] es = refl
 log_before (l ∷ ls) es = ap (λ (x : List Event). events.Log l ∷ x) (log_before ls es)
 
-verdict_before : (log : List Line) (es : List Event) → verdict_lines (proved log) [] ++ es ≡ verdict_lines (proved log) es
+pub verdict_before : (log : List Line) (es : List Event) → verdict_lines (proved log) [] ++ es ≡ verdict_lines (proved log) es
 verdict_before log es = ap (λ (x : List Event). events.Begin (word.Proved (length log)) ∷ x) (log_before log es)
 
 abbrev holding : ℕ → List Line → Held
@@ -109,7 +130,7 @@ log_held n done (l ∷ ls) es e =
 
 -- ---- a whole report
 
-verdict_passed : (v : VerdictForm) (es : List Event) → passed None (verdict_lines v es) ≡ verdict_lines (upgraded_verdict v) (passed None es)
+pub verdict_passed : (v : VerdictForm) (es : List Event) → passed None (verdict_lines v es) ≡ verdict_lines (upgraded_verdict v) (passed None es)
 unfolding passed
 verdict_passed (proved log) es = log_held (length log) [] log es (let e : length log ≡ 0 + length log = omega arith in e)
 verdict_passed (refuted p xs) es = ap (λ (x : List Event). events.Begin word.Refuted ∷ x) (witness_passed p xs es)

@@ -1,3 +1,4 @@
 pub mod Reports
+pub mod LastLines
 pub mod Passing
 pub mod Upgrading

@@ -1,29 +1,31 @@
 -- How a report that stands is upgraded line by line: what is held of the log of a proved verdict, and what is written behind each line.
 -- It mirrors the code.
-use Rattle.std.specs.Prelude.{◌≡◌, ℕ, nat_lt, Bool, if◌then◌else◌, List, [], ◌∷◌, ◌++◌, map, take, length, Option, Some, None, Ok}
+use Rattle.std.specs.Prelude.{◌≡◌, ℕ, ◌≤◌, nat_lt, Bool, true, false, if◌then◌else◌, List, [], ◌∷◌, ◌++◌, map, length, Option, Some, None}
 use Rattle.std.specs.Io.KnownBytes.{Appends}
-use Rattle.std.specs.List.{flat_map}
+use Rattle.std.specs.List.{flat_map, list_all}
 use Rattle.spec_core.specs.Specification.{Specification}
 use Rattle.proof_lines.specs.declared.line.Line.{Line}
 use Rattle.report_lines.specs.declared.verdict.VerdictWord.{VerdictWord}
 use Rattle.report_lines.specs.declared.verdict.VerdictWord.TheVariants as word
 use Rattle.report_lines.specs.Words.{parts, line_text}
-use Rattle.report_lines.specs.Heads.{title_format}
+use Rattle.report_lines.specs.Fields.{most_count}
+use Rattle.report_lines.specs.Logs.{line_format}
 use Rattle.report_lines.specs.Blocks.{verdict_format}
 use Rattle.proof_report.specs.declared.event.Event.{Event}
-use Rattle.proof_report.specs.declared.place.State.{State}
-use Rattle.proof_report.specs.declared.verdict.Fed.{Fed}
+use Rattle.proof_report.specs.declared.event.Event.TheVariants as events
 use Rattle.proof_report.specs.Verdicts.{proved}
-use Rattle.proof_report.specs.Events.{words, verdict_lines}
-use Rattle.proof_report.specs.Feeding.{fed_all}
-use Rattle.proof_report.specs.Reader.{begin_of, log_of_event, ReaderForm, read_line}
+use Rattle.proof_report.specs.Events.{words, log_lines, verdict_lines}
+use Rattle.proof_report.specs.Reader.{begin_of, log_of_event}
 use Rattle.proof_report.specs.Texts.{log_text}
 use Rattle.report_bytes.specs.Bytes.{lines_of}
 use Rattle.log_drops.specs.Upgraded.{upgraded}
-use Rattle.report_upgrader.specs.Reports.{upgraded_version}
-use Rattle.report_upgrader.specs.declared.passing.Held.{Held}
 
 -- ---- the log that is held
+
+-- The log of a proved verdict: how many lines it has, and those that have come.
+pub record Held : Type 0 where
+  pub due : ℕ
+  pub log : List Line
 
 -- Behind a line that begins a proved verdict or is a line of its log: so many lines of the log are due, and these have come. Nothing is
 -- held behind any other line.
@@ -72,41 +74,89 @@ text_of d es = flat_map line_text (map (words d) es)
 abbrev pub proved_text : List Line → List ℕ
 proved_text log = line_text (verdict_format.put (word.Proved (length log))) ++ log_text log
 
--- the text of a whole log with its verdict, upgraded; nothing while lines are due
-abbrev pub whole_text : Held → List ℕ
-whole_text h = if is_due h then [] else proved_text (upgraded h.log)
+-- ---- the lines that are left
 
--- the text that is written behind a line: the line itself, where no log is held
-abbrev pub text_out : List ℕ → Option Held → List ℕ
-text_out line None = line ++ 10 ∷ []
-text_out line (Some h) = whole_text h
+-- a text is that of this line of a log
+abbrev pub IsText : Line → List ℕ → Type 0
+IsText l text = (parts text ≡ line_format.put l) × (line_format.fits l ≡ true)
+
+-- Lines between line feeds begin with those of this log.
+unfoldable pub say_log : List Line → List (List ℕ) → Type 0
+say_log [] texts = Unit {0}
+say_log (l ∷ ls) [] = ⊥
+say_log (l ∷ ls) (text ∷ texts) = IsText l text × say_log ls texts
+
+-- The lines of a log, so many, come first, and these behind them.
+pub record IsLogAhead (n : ℕ) (es : List Event) : Type 0 where
+  pub log : List Line
+  pub behind : List Event
+  pub long : length log ≡ n
+  pub few : n ≤ most_count
+  pub fits : list_all line_format.fits log ≡ true
+  pub are : es ≡ log_lines log behind
+
+-- where a verdict is proved, its log follows
+abbrev pub begins_log : VerdictWord → List Event → Type 0
+begins_log (word.Proved n) es = IsLogAhead n es
+begins_log b es = Unit {0}
+
+-- the same of a line of any kind
+abbrev pub is_followed : Event → List Event → Type 0
+is_followed (events.Begin b) es = begins_log b es
+is_followed e es = Unit {0}
+
+-- all lines of each log that proves follow its verdict
+unfoldable pub logs_follow : List Event → Type 0
+logs_follow [] = Unit {0}
+logs_follow (e ∷ es) = is_followed e es × logs_follow es
+
+-- The lines of these bytes say this.
+pub record IsLeft (d : Specification) (rest : List ℕ) (es : List Event) : Type 0 where
+  pub said : map parts (lines_of rest) ≡ map (words d) es
+  pub whole : logs_follow es
 
 -- ---- steps
 
--- a reader has taken a line, and this is told of it
-abbrev pub IsTold : ReaderForm → List ℕ → ReaderForm → Fed → Type 0
-IsTold r line q f = (e : Event) × (read_line r line ≡ Ok (e, q)) × (f.begin ≡ begin_of e) × (f.log ≡ log_of_event e)
+-- a verdict that is proved
+abbrev pub proves : VerdictWord → Bool
+proves (word.Proved n) = true
+proves b = false
 
--- a line was taken, and what is written behind it added to a text
-abbrev pub IsPassed : ReaderForm → Option Held → List ℕ → List ℕ → ReaderForm → Option Held → List ℕ → Type 0
-IsPassed r h line t q g u = (e : Event) × (read_line r line ≡ Ok (e, q)) × (g ≡ held_on (held_at h e)) × (u ≡ t ++ text_out line (held_at h e))
+-- a line that begins a proved verdict
+abbrev pub begins_proof : Event → Bool
+begins_proof (events.Begin b) = proves b
+begins_proof e = false
 
--- the first line was taken, and that of the upgraded report added to a text
-abbrev pub IsTitled : ReaderForm → List ℕ → List ℕ → ReaderForm → List ℕ → Type 0
-IsTitled r line t q u = (e : Event) × (read_line r line ≡ Ok (e, q)) × (u ≡ t ++ line_text (title_format.put upgraded_version))
+-- a line begins a proved verdict with a log of so many lines, or none
+abbrev pub IsBegun : Option ℕ → Event → Type 0
+IsBegun (Some n) e = e ≡ events.Begin (word.Proved n)
+IsBegun None e = begins_proof e ≡ false
 
--- A reader can take the lines of these bytes, which say this.
-pub record IsLeft (d : Specification) (r : ReaderForm) (rest : List ℕ) (es : List Event) : Type 0 where
-  pub spec : r.spec ≡ d
-  pub no_fault : r.fault ≡ None
-  pub last : State
-  pub taken : fed_all d r.state (map parts (lines_of rest)) ≡ Ok (es, last)
-  pub said : map parts (lines_of rest) ≡ map (words d) es
+-- How far lines were passed on: the bytes that are left, and the text that is gathered.
+pub record Progress : Type 0 where
+  pub rest : List ℕ
+  pub text : List ℕ
 
--- Of a whole text a front was written, more is gathered, and what is left comes of the lines of these bytes.
-pub record IsUnderway (d : Specification) (whole : List ℕ) (r : ReaderForm) (h : Option Held) (rest gathered : List ℕ) (before after : Option (List ℕ)) : Type 0 where
+-- Of what was left to say, this is left; and what is gathered and what will be come to the same.
+pub record IsOnward (d : Specification) (es : List Event) (before after : Progress) : Type 0 where
+  pub more : List Event
+  pub left : IsLeft d after.rest more
+  pub same : after.text ++ text_of d (passed None more) ≡ before.text ++ text_of d (passed None es)
+
+-- lines of a report were passed on
+abbrev pub IsPassed : Progress → Progress → Type 0
+IsPassed before after = (d : Specification) (es : List Event) → IsLeft d before.rest es → IsOnward d es before after
+
+-- What is written of a report on a specification, and what the sink held before.
+pub record Task : Type 0 where
+  pub spec : Specification
+  pub whole : List ℕ
+  pub before : Option (List ℕ)
+
+-- A front of a whole text was written, more is gathered, and what is left comes of the lines that are left.
+pub record IsUnderway (task : Task) (at : Progress) (after : Option (List ℕ)) : Type 0 where
   pub events : List Event
-  pub left : IsLeft d r rest events
+  pub left : IsLeft task.spec at.rest events
   pub front : List ℕ
-  pub written : Appends before after front
-  pub sum : front ++ (gathered ++ text_of d (passed h events)) ≡ whole
+  pub written : Appends task.before after front
+  pub sum : front ++ (at.text ++ text_of task.spec (passed None events)) ≡ task.whole

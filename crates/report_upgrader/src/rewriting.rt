@@ -1,19 +1,18 @@
 // A report that stands, written line by line in version 2.
-ghost use Rattle.std.specs.Prelude.{◌≡◌, true, ℕ, ◌≤◌, ◌∷◌, [], List, take, Option, None, IfOk, IfErr, OnOk, OnErr};
+ghost use Rattle.std.specs.Prelude.{◌≡◌, true, ℕ, ◌≤◌, ◌∷◌, [], List, take, length, IfOk, IfErr, OnOk, OnErr};
 ghost use Rattle.std.specs.Io.KnownBytes.{Appends};
 ghost use Rattle.byte_ports.specs.Faults.{IsFault};
 ghost use Rattle.byte_ports.specs.Written.{IsFrontWritten};
 ghost use Rattle.byte_ports.specs.declared.text.WriteOut.TheVariants.{Fault};
-ghost use Rattle.spec_core.specs.Specification.{Specification};
 ghost use Rattle.proof_report.specs.Verdicts.{ReportForm, is_report};
 ghost use Rattle.report_bytes.specs.Bytes.{pieces, report_bytes};
 ghost use Rattle.report_upgrader.specs.Reports.{upgraded_report};
-ghost use Rattle.report_upgrader.specs.Passing.{IsUnderway};
+ghost use Rattle.report_upgrader.specs.Passing.{Task, IsUnderway};
 
-use crate::passing::{Held, pass_line, pass_title};
+use crate::passing::pass_line;
 use byte_ports::{Sink, WriteOut, write_text};
-use proof_report::ReportReader;
 use report_bytes::next_line;
+use report_lines::head::write_title;
 use spec_core::Spec;
 use std::alloc::Global;
 
@@ -33,29 +32,29 @@ fn write_out<K: Sink>(text: &mut Vec<u8>, out: &mut K) -> Result<(), WriteOut>
     Ok(())
 }
 
-// Passes a line on, and writes what is gathered where it is much.
-fn take_line<K: Sink>(
+// Passes a line on, and writes what is gathered where it is much. Answers the bytes that are left.
+fn take_line<'a, K: Sink>(
     alloc: Global,
-    reader: &mut ReportReader<'_>,
-    held: Option<Held>,
     line: &[u8],
+    behind: &'a [u8],
     text: &mut Vec<u8>,
     out: &mut K,
-) -> Result<Option<Held>, WriteOut>
-    ensures ok { (d : Specification) (whole rest behind : List ℕ) (before : Option (List ℕ)) → pieces rest ≡ line.now ∷ pieces behind → IsUnderway d whole reader.old held rest text.old.items before (K.held out.old) → IfOk result (λ h. IsUnderway d whole reader.new h behind text.new.items before (K.held out.new)) }
-    ensures front { (d : Specification) (whole rest behind : List ℕ) (before : Option (List ℕ)) → pieces rest ≡ line.now ∷ pieces behind → IsUnderway d whole reader.old held rest text.old.items before (K.held out.old) → OnErr result (IsFrontWritten whole before (K.held out.new)) }
+) -> Result<&'a [u8], WriteOut>
+    ensures ok { (task : Task) (rest : List ℕ) → pieces rest ≡ line.now ∷ pieces behind.now → IsUnderway task (record { rest = rest; text = text.old.items }) (K.held out.old) → IfOk result (λ left. IsUnderway task (record { rest = left.now; text = text.new.items }) (K.held out.new)) }
+    ensures front { (task : Task) (rest : List ℕ) → pieces rest ≡ line.now ∷ pieces behind.now → IsUnderway task (record { rest = rest; text = text.old.items }) (K.held out.old) → OnErr result (IsFrontWritten task.whole task.before (K.held out.new)) }
     ensures fault { IfErr result (λ why. why ≡ Fault → IsFault (K.faults out.old) (K.faults out.new)) }
+    ensures fewer { IfOk result (λ left. length left.now ≤ length behind.now) }
     ensures never_falls { K.faults out.old ≤ K.faults out.new }
 {
-    let held = match pass_line(alloc, reader, held, line, text) {
-        Ok(held) => held,
+    let left = match pass_line(alloc, line, behind, text) {
+        Ok(left) => left,
         Err(_) => return Err(WriteOut::Memory),
     };
     if text.len() < MANY {
-        return Ok(held);
+        return Ok(left);
     }
     match write_out(text, out) {
-        Ok(()) => Ok(held),
+        Ok(()) => Ok(left),
         Err(why) => Err(why),
     }
 }
@@ -63,26 +62,21 @@ fn take_line<K: Sink>(
 // Passes all lines on.
 fn take_lines<K: Sink>(
     alloc: Global,
-    reader: &mut ReportReader<'_>,
     bytes: &[u8],
     text: &mut Vec<u8>,
     out: &mut K,
 ) -> Result<(), WriteOut>
-    ensures ok { (d : Specification) (whole : List ℕ) (before : Option (List ℕ)) → IsUnderway d whole reader.old None bytes.now text.old.items before (K.held out.old) → OnOk result (Appends before (K.held out.new) whole) }
-    ensures front { (d : Specification) (whole : List ℕ) (before : Option (List ℕ)) → IsUnderway d whole reader.old None bytes.now text.old.items before (K.held out.old) → OnErr result (IsFrontWritten whole before (K.held out.new)) }
+    ensures ok { (task : Task) → IsUnderway task (record { rest = bytes.now; text = text.old.items }) (K.held out.old) → OnOk result (Appends task.before (K.held out.new) task.whole) }
+    ensures front { (task : Task) → IsUnderway task (record { rest = bytes.now; text = text.old.items }) (K.held out.old) → OnErr result (IsFrontWritten task.whole task.before (K.held out.new)) }
     ensures fault { IfErr result (λ why. why ≡ Fault → IsFault (K.faults out.old) (K.faults out.new)) }
     ensures never_falls { K.faults out.old ≤ K.faults out.new }
 {
-    let mut held = None;
     let mut rest = bytes;
     'lines: for taken in 0..bytes.len() {
         match next_line(rest) {
             None => return write_out(text, out),
-            Some((line, behind)) => match take_line(alloc, reader, held, line, text, out) {
-                Ok(next) => {
-                    held = next;
-                    rest = behind;
-                }
+            Some((line, behind)) => match take_line(alloc, line, behind, text, out) {
+                Ok(left) => rest = left,
                 Err(why) => return Err(why),
             },
         }
@@ -104,15 +98,12 @@ pub fn write_upgraded<K: Sink>(
     ensures never_falls { K.faults out.old ≤ K.faults out.new }
 {
     spec.well_formed();
-    let Ok(mut reader) = ReportReader::new(alloc, spec) else {
-        return Err(WriteOut::Memory);
-    };
     let mut text = Vec::new(alloc);
-    let Some((line, behind)) = next_line(bytes) else {
+    let Some((_, behind)) = next_line(bytes) else {
         return Err(WriteOut::Memory);
     };
-    match pass_title(&mut reader, line, &mut text) {
-        Ok(()) => take_lines(alloc, &mut reader, behind, &mut text, out),
+    match write_title(&mut text, 2) {
+        Ok(()) => take_lines(alloc, behind, &mut text, out),
         Err(_) => Err(WriteOut::Memory),
     }
 }
