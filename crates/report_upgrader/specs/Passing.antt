@@ -1,6 +1,7 @@
--- How a report that stands is upgraded line by line: what is held of the log of a proved verdict, and what is written behind each line.
--- It mirrors the code.
-use Rattle.std.specs.Prelude.{◌≡◌, ℕ, ◌≤◌, nat_lt, Bool, true, false, if◌then◌else◌, List, [], ◌∷◌, ◌++◌, map, length, Option, Some, None}
+-- How a report that stands is upgraded line by line: what is held of the log of a proved verdict, and
+-- what is written behind each line. It mirrors the code.
+use Rattle.std.specs.Prelude.{◌≡◌, ℕ, ◌≤◌, nat_lt, Bool, true, false, if◌then◌else◌, List, [], ◌∷◌}
+use Rattle.std.specs.Prelude.{◌++◌, map, length, Option, Some, None}
 use Rattle.std.specs.Io.KnownBytes.{Appends}
 use Rattle.std.specs.List.{flat_map, list_all}
 use Rattle.spec_core.specs.Specification.{Specification}
@@ -27,8 +28,8 @@ pub record Held : Type 0 where
   pub due : ℕ
   pub log : List Line
 
--- Behind a line that begins a proved verdict or is a line of its log: so many lines of the log are due, and these have come. Nothing is
--- held behind any other line.
+-- Behind a line that begins a proved verdict or is a line of its log: so many lines of the log are due,
+-- and these have come. Nothing is held behind any other line.
 abbrev pub held_with : Option Held → Option VerdictWord → Option Line → Option Held
 held_with None (Some (word.Proved n)) l = Some (record { due = n; log = [] })
 held_with None b l = None
@@ -145,7 +146,8 @@ pub record IsOnward (d : Specification) (es : List Event) (before after : Progre
 
 -- lines of a report were passed on
 abbrev pub IsPassed : Progress → Progress → Type 0
-IsPassed before after = (d : Specification) (es : List Event) → IsLeft d before.rest es → IsOnward d es before after
+IsPassed before after =
+    (d : Specification) (es : List Event) → IsLeft d before.rest es → IsOnward d es before after
 
 -- What is written of a report on a specification, and what the sink held before.
 pub record Task : Type 0 where
@@ -153,7 +155,8 @@ pub record Task : Type 0 where
   pub whole : List ℕ
   pub before : Option (List ℕ)
 
--- A front of a whole text was written, more is gathered, and what is left comes of the lines that are left.
+-- A front of a whole text was written, more is gathered, and what is left comes of the lines that are
+-- left.
 pub record IsUnderway (task : Task) (at : Progress) (after : Option (List ℕ)) : Type 0 where
   pub events : List Event
   pub left : IsLeft task.spec at.rest events

@@ -1,10 +1,12 @@
 // The log of a proved verdict, upgraded from its bytes.
 //
-// The lines of a report that stands aren't built anew: all that upgrading has to know of a line is which clauses it names, and only lines
-// that resolve two clauses name some. So the bytes of a log are gone through twice: a table has for each clause the last line that names
-// it, and then each line is copied, with a Drop line behind it where it names clauses last. Besides the table, of four bytes for each
-// clause, nothing is kept of a line.
-ghost use Rattle.std.specs.Prelude.{◌≡◌, ℕ, ◌+◌, ◌==◌, ◌<◌, ◌≤◌, ◌++◌, ◌∷◌, [], List, true, codes, cond, drop, filter, length, slice_index_or, IfOk, OnOk};
+// The lines of a report that stands aren't built anew: all that upgrading has to know of a line is
+// which clauses it names, and only lines that resolve two clauses name some. So the bytes of a log are
+// gone through twice: a table has for each clause the last line that names it, and then each line is
+// copied, with a Drop line behind it where it names clauses last. Besides the table, of four bytes for
+// each clause, nothing is kept of a line.
+ghost use Rattle.std.specs.Prelude.{◌≡◌, ℕ, ◌+◌, ◌==◌, ◌<◌, ◌≤◌, ◌++◌, ◌∷◌, [], List, true, codes};
+ghost use Rattle.std.specs.Prelude.{cond, drop, filter, length, slice_index_or, IfOk, OnOk};
 ghost use Rattle.std.specs.Str.{bytes_eq};
 ghost use Rattle.proof_lines.specs.declared.line.Line.{Line as Given};
 ghost use Rattle.proof_lines.specs.declared.line.Line.TheVariants.{Drop as DropLine};
@@ -14,7 +16,8 @@ ghost use Rattle.report_bytes.specs.Bytes.{pieces};
 ghost use Rattle.report_lines.specs.Logs.{line_format};
 ghost use Rattle.report_lines.specs.Words.{left};
 ghost use Rattle.report_upgrader.specs.declared.log_bytes.LogLine.TheVariants.{Resolve};
-ghost use Rattle.report_upgrader.specs.LastLines.{IsKind, last_naming, is_last, with_drops, IsWritten};
+ghost use Rattle.report_upgrader.specs.LastLines.{IsKind, last_naming, is_last, with_drops};
+ghost use Rattle.report_upgrader.specs.LastLines.{IsWritten};
 ghost use Rattle.report_upgrader.specs.Passing.{proved_text, say_log, IsText};
 
 use report_bytes::next_line;
@@ -34,7 +37,9 @@ pub enum LogLine {
 
 // The two clauses behind the first word of a line that resolves them.
 fn resolve_line(word: &[u8], rest: Words<'_>) -> Result<LogLine, AllocError>
-    ensures { (l : Given) → word.now ∷ left rest.entry ≡ line_format.put l → line_format.fits l ≡ true → bytes_eq word.now (codes "r") ≡ true → IfOk result (λ k. IsKind k l) }
+    ensures { (l : Given) → word.now ∷ left rest.entry ≡ line_format.put l
+        → line_format.fits l ≡ true → bytes_eq word.now (codes "r") ≡ true
+        → IfOk result (λ k. IsKind k l) }
 {
     let Ok((left, rest)) = count(rest) else {
         return Err(AllocError);
@@ -64,7 +69,8 @@ fn kind_of(line: &[u8]) -> Result<LogLine, AllocError>
 
 // A table that has a place for a clause. It has 0 where no line names it.
 fn make_room(table: &mut Vec<u32>, number: u32) -> Result<(), AllocError>
-    ensures same { OnOk result ((n : ℕ) → slice_index_or table.new.items n 0 ≡ slice_index_or table.old.items n 0) }
+    ensures same { OnOk result ((n : ℕ) → slice_index_or table.new.items n 0
+        ≡ slice_index_or table.old.items n 0) }
     ensures room { OnOk result (number < length table.new.items) }
 {
     let place = number as usize;
@@ -76,7 +82,8 @@ fn make_room(table: &mut Vec<u32>, number: u32) -> Result<(), AllocError>
 
 // Notes in a table that this line names a clause.
 fn note(table: &mut Vec<u32>, number: u32, at: u32) -> Result<(), AllocError>
-    ensures { OnOk result ((n : ℕ) → slice_index_or table.new.items n 0 ≡ cond (number == n) at (slice_index_or table.old.items n 0)) }
+    ensures { OnOk result ((n : ℕ) → slice_index_or table.new.items n 0
+        ≡ cond (number == n) at (slice_index_or table.old.items n 0)) }
 {
     make_room(table, number)?;
     table[number as usize] = at;
@@ -85,7 +92,9 @@ fn note(table: &mut Vec<u32>, number: u32, at: u32) -> Result<(), AllocError>
 
 // Notes in a table which clauses this line names.
 fn note_line(table: &mut Vec<u32>, line: &[u8], at: u32) -> Result<(), AllocError>
-    ensures { (l : Given) → IsText l line.now → OnOk result ((n : ℕ) → slice_index_or table.new.items n 0 ≡ cond (stands_in (named l) n) at (slice_index_or table.old.items n 0)) }
+    ensures { (l : Given) → IsText l line.now
+        → OnOk result ((n : ℕ) → slice_index_or table.new.items n 0
+        ≡ cond (stands_in (named l) n) at (slice_index_or table.old.items n 0)) }
 {
     match kind_of(line)? {
         LogLine::Resolve(left, right) => {
@@ -98,7 +107,8 @@ fn note_line(table: &mut Vec<u32>, line: &[u8], at: u32) -> Result<(), AllocErro
 
 // For each clause the last of so many lines that names it.
 fn last_lines(alloc: Global, count: u32, lines: &[u8]) -> Result<Vec<u32>, AllocError>
-    ensures { (ls : List Given) → length ls ≡ count → say_log ls (pieces lines.now) → IfOk result (λ table. (n : ℕ) → slice_index_or table.items n 0 ≡ last_naming ls n) }
+    ensures { (ls : List Given) → length ls ≡ count → say_log ls (pieces lines.now)
+        → IfOk result (λ table. (n : ℕ) → slice_index_or table.items n 0 ≡ last_naming ls n) }
 {
     let mut table = Vec::new(alloc);
     let mut rest = lines;
@@ -124,7 +134,8 @@ fn is_last(last: &[u32], at: u32, number: u32) -> bool
 
 // Adds a Drop line of some clauses.
 fn write_drop(clauses: &[u32], out: &mut Vec<u8>) -> Result<u32, AllocError>
-    ensures { IfOk result (λ n. IsWritten (DropLine clauses.now ∷ []) out.old.items out.new.items n) }
+    ensures { IfOk result
+        (λ n. IsWritten (DropLine clauses.now ∷ []) out.old.items out.new.items n) }
 {
     out.push(b'd')?;
     put_list(out, clauses)?;
@@ -134,7 +145,8 @@ fn write_drop(clauses: &[u32], out: &mut Vec<u8>) -> Result<u32, AllocError>
 
 // Adds a Drop line where this line names one clause last.
 fn write_one(last: &[u32], at: u32, number: u32, out: &mut Vec<u8>) -> Result<u32, AllocError>
-    ensures { IfOk result (λ n. IsWritten (drop_line (filter (is_last last.now at) (number ∷ []))) out.old.items out.new.items n) }
+    ensures { IfOk result (λ n. IsWritten (drop_line (filter (is_last last.now at) (number ∷ [])))
+        out.old.items out.new.items n) }
 {
     if is_last(last, at, number) {
         return write_drop(&[number], out);
@@ -150,7 +162,9 @@ fn write_two(
     second: u32,
     out: &mut Vec<u8>,
 ) -> Result<u32, AllocError>
-    ensures { IfOk result (λ n. IsWritten (drop_line (filter (is_last last.now at) (first ∷ second ∷ []))) out.old.items out.new.items n) }
+    ensures { IfOk result
+        (λ n. IsWritten (drop_line (filter (is_last last.now at) (first ∷ second ∷ [])))
+        out.old.items out.new.items n) }
 {
     if !is_last(last, at, first) {
         return write_one(last, at, second, out);
@@ -169,7 +183,9 @@ fn write_drops(
     right: u32,
     out: &mut Vec<u8>,
 ) -> Result<u32, AllocError>
-    ensures { IfOk result (λ n. IsWritten (drop_line (filter (is_last last.now at) (rising left right))) out.old.items out.new.items n) }
+    ensures { IfOk result
+        (λ n. IsWritten (drop_line (filter (is_last last.now at) (rising left right)))
+        out.old.items out.new.items n) }
 {
     if left == right {
         return write_one(last, at, left, out);
@@ -200,7 +216,8 @@ fn sum(count: u32, more: u32) -> Result<u32, AllocError>
     }
 }
 
-// Adds a line as it is, and a Drop line of the clauses that it names last. Answers how many lines these are.
+// Adds a line as it is, and a Drop line of the clauses that it names last. Answers how many lines
+// these are.
 fn write_resolve(
     last: &[u32],
     at: u32,
@@ -209,7 +226,9 @@ fn write_resolve(
     right: u32,
     out: &mut Vec<u8>,
 ) -> Result<u32, AllocError>
-    ensures { (l : Given) → IsText l line.now → IsKind (Resolve left right) l → IfOk result (λ n. IsWritten (with_drops last.now at l) out.old.items out.new.items n) }
+    ensures { (l : Given) → IsText l line.now → IsKind (Resolve left right) l
+        → IfOk result
+        (λ n. IsWritten (with_drops last.now at l) out.old.items out.new.items n) }
 {
     copy_line(line, out)?;
     let dropped = write_drops(last, at, left, right, out)?;
@@ -217,10 +236,13 @@ fn write_resolve(
     Ok(written)
 }
 
-// Adds a line as it is, unless it drops clauses, and a Drop line of the clauses that it names last. Answers how many lines these are.
+// Adds a line as it is, unless it drops clauses, and a Drop line of the clauses that it names last.
+// Answers how many lines these are.
 #[tactic(auto, using(crate::proofs::LastLines::drop_written))]
 fn write_line(last: &[u32], at: u32, line: &[u8], out: &mut Vec<u8>) -> Result<u32, AllocError>
-    ensures { (l : Given) → IsText l line.now → IfOk result (λ n. IsWritten (with_drops last.now at l) out.old.items out.new.items n) }
+    ensures { (l : Given) → IsText l line.now
+        → IfOk result
+        (λ n. IsWritten (with_drops last.now at l) out.old.items out.new.items n) }
 {
     match kind_of(line)? {
         LogLine::Resolve(left, right) => write_resolve(last, at, line, left, right, out),
@@ -239,7 +261,9 @@ fn write_lines<'a>(
     lines: &'a [u8],
     out: &mut Vec<u8>,
 ) -> Result<(u32, &'a [u8]), AllocError>
-    ensures written { (ls : List Given) → length ls ≡ count → say_log ls (pieces lines.now) → ((n : ℕ) → slice_index_or last.now n 0 ≡ last_naming ls n) → IfOk result (λ x. IsWritten (upgraded ls) out.old.items out.new.items x.0) }
+    ensures written { (ls : List Given) → length ls ≡ count → say_log ls (pieces lines.now)
+        → ((n : ℕ) → slice_index_or last.now n 0 ≡ last_naming ls n)
+        → IfOk result (λ x. IsWritten (upgraded ls) out.old.items out.new.items x.0) }
     ensures behind { IfOk result (λ x. drop count (pieces lines.now) ≡ pieces x.1.now) }
     ensures fewer { IfOk result (λ x. length x.1.now ≤ length lines.now) }
 {
@@ -256,15 +280,16 @@ fn write_lines<'a>(
     Ok((written, rest))
 }
 
-/// Adds a proved verdict with the upgraded log of so many lines, and answers the bytes behind the log. Where these lines aren't there, want of
-/// memory is answered.
+/// Adds a proved verdict with the upgraded log of so many lines, and answers the bytes behind the log.
+/// Where these lines aren't there, want of memory is answered.
 pub fn pass_log<'a>(
     alloc: Global,
     count: u32,
     lines: &'a [u8],
     text: &mut Vec<u8>,
 ) -> Result<&'a [u8], AllocError>
-    ensures written { (ls : List Given) → length ls ≡ count → say_log ls (pieces lines.now) → OnOk result (text.new.items ≡ text.old.items ++ proved_text (upgraded ls)) }
+    ensures written { (ls : List Given) → length ls ≡ count → say_log ls (pieces lines.now)
+        → OnOk result (text.new.items ≡ text.old.items ++ proved_text (upgraded ls)) }
     ensures behind { IfOk result (λ behind. drop count (pieces lines.now) ≡ pieces behind.now) }
     ensures fewer { IfOk result (λ behind. length behind.now ≤ length lines.now) }
 {

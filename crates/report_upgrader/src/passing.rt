@@ -12,10 +12,12 @@ use report_lines::fields::count;
 use report_lines::words::{ReadError, Words, keyword};
 use std::alloc::{AllocError, Global};
 
-// How many lines the log has that a line begins with the word of a proved verdict; nothing where it begins none.
+// How many lines the log has that a line begins with the word of a proved verdict; nothing where it
+// begins none.
 #[tactic(auto, using(crate::proofs::FirstWords::proved_word, crate::proofs::FirstWords::other_word))]
 fn log_begun(line: &[u8]) -> Result<Option<u32>, AllocError>
-    ensures { (d : Specification) (e : Event) (es : List Event) → parts line.now ≡ words d e → is_followed e es → IfOk result (λ begun. IsBegun begun e) }
+    ensures { (d : Specification) (e : Event) (es : List Event) → parts line.now ≡ words d e
+        → is_followed e es → IfOk result (λ begun. IsBegun begun e) }
 {
     match keyword(Words::of(line), b"proved") {
         Ok(rest) => match count(rest) {
@@ -27,14 +29,17 @@ fn log_begun(line: &[u8]) -> Result<Option<u32>, AllocError>
     }
 }
 
-/// Adds what is written for a line to a text, and answers the bytes that are left to pass on. A proved verdict is passed on with its log.
+/// Adds what is written for a line to a text, and answers the bytes that are left to pass on. A proved
+/// verdict is passed on with its log.
 pub fn pass_line<'a>(
     alloc: Global,
     line: &[u8],
     behind: &'a [u8],
     text: &mut Vec<u8>,
 ) -> Result<&'a [u8], AllocError>
-    ensures passed { (rest : List ℕ) → pieces rest ≡ line.now ∷ pieces behind.now → IfOk result (λ left. IsPassed (record { rest = rest; text = text.old.items }) (record { rest = left.now; text = text.new.items })) }
+    ensures passed { (rest : List ℕ) → pieces rest ≡ line.now ∷ pieces behind.now
+        → IfOk result (λ left. IsPassed (record { rest = rest; text = text.old.items })
+        (record { rest = left.now; text = text.new.items })) }
     ensures fewer { IfOk result (λ left. length left.now ≤ length behind.now) }
 {
     match log_begun(line)? {

@@ -1,5 +1,6 @@
 // A report that stands, written line by line in version 2.
-ghost use Rattle.std.specs.Prelude.{◌≡◌, true, ℕ, ◌≤◌, ◌∷◌, [], List, take, length, IfOk, IfErr, OnOk, OnErr};
+ghost use Rattle.std.specs.Prelude.{◌≡◌, true, ℕ, ◌≤◌, ◌∷◌, [], List, take, length};
+ghost use Rattle.std.specs.Prelude.{IfOk, IfErr, OnOk, OnErr};
 ghost use Rattle.std.specs.Io.KnownBytes.{Appends};
 ghost use Rattle.byte_ports.specs.Faults.{IsFault};
 ghost use Rattle.byte_ports.specs.Written.{IsFrontWritten};
@@ -40,9 +41,15 @@ fn take_line<'a, K: Sink>(
     text: &mut Vec<u8>,
     out: &mut K,
 ) -> Result<&'a [u8], WriteOut>
-    ensures ok { (task : Task) (rest : List ℕ) → pieces rest ≡ line.now ∷ pieces behind.now → IsUnderway task (record { rest = rest; text = text.old.items }) (K.held out.old) → IfOk result (λ left. IsUnderway task (record { rest = left.now; text = text.new.items }) (K.held out.new)) }
-    ensures front { (task : Task) (rest : List ℕ) → pieces rest ≡ line.now ∷ pieces behind.now → IsUnderway task (record { rest = rest; text = text.old.items }) (K.held out.old) → OnErr result (IsFrontWritten task.whole task.before (K.held out.new)) }
-    ensures fault { IfErr result (λ why. why ≡ Fault → IsFault (K.faults out.old) (K.faults out.new)) }
+    ensures ok { (task : Task) (rest : List ℕ) → pieces rest ≡ line.now ∷ pieces behind.now
+        → IsUnderway task (record { rest = rest; text = text.old.items }) (K.held out.old)
+        → IfOk result (λ left. IsUnderway task (record { rest = left.now; text = text.new.items })
+        (K.held out.new)) }
+    ensures front { (task : Task) (rest : List ℕ) → pieces rest ≡ line.now ∷ pieces behind.now
+        → IsUnderway task (record { rest = rest; text = text.old.items }) (K.held out.old)
+        → OnErr result (IsFrontWritten task.whole task.before (K.held out.new)) }
+    ensures fault { IfErr result
+        (λ why. why ≡ Fault → IsFault (K.faults out.old) (K.faults out.new)) }
     ensures fewer { IfOk result (λ left. length left.now ≤ length behind.now) }
     ensures never_falls { K.faults out.old ≤ K.faults out.new }
 {
@@ -66,9 +73,14 @@ fn take_lines<K: Sink>(
     text: &mut Vec<u8>,
     out: &mut K,
 ) -> Result<(), WriteOut>
-    ensures ok { (task : Task) → IsUnderway task (record { rest = bytes.now; text = text.old.items }) (K.held out.old) → OnOk result (Appends task.before (K.held out.new) task.whole) }
-    ensures front { (task : Task) → IsUnderway task (record { rest = bytes.now; text = text.old.items }) (K.held out.old) → OnErr result (IsFrontWritten task.whole task.before (K.held out.new)) }
-    ensures fault { IfErr result (λ why. why ≡ Fault → IsFault (K.faults out.old) (K.faults out.new)) }
+    ensures ok { (task : Task)
+        → IsUnderway task (record { rest = bytes.now; text = text.old.items }) (K.held out.old)
+        → OnOk result (Appends task.before (K.held out.new) task.whole) }
+    ensures front { (task : Task)
+        → IsUnderway task (record { rest = bytes.now; text = text.old.items }) (K.held out.old)
+        → OnErr result (IsFrontWritten task.whole task.before (K.held out.new)) }
+    ensures fault { IfErr result
+        (λ why. why ≡ Fault → IsFault (K.faults out.old) (K.faults out.new)) }
     ensures never_falls { K.faults out.old ≤ K.faults out.new }
 {
     let mut rest = bytes;
@@ -84,17 +96,24 @@ fn take_lines<K: Sink>(
     write_out(text, out)
 }
 
-/// Writes the upgraded report of bytes that are those of a report. Whether its verdicts rest on what they say isn't asked. What is written
-/// for other bytes isn't promised.
+/// Writes the upgraded report of bytes that are those of a report. Whether its verdicts rest on what they
+/// say isn't asked. What is written for other bytes isn't promised.
 pub fn write_upgraded<K: Sink>(
     alloc: Global,
     spec: &Spec,
     bytes: &[u8],
     out: &mut K,
 ) -> Result<(), WriteOut>
-    ensures ok { (r : ReportForm) → is_report spec.now r ≡ true → bytes.now ≡ report_bytes spec.now r → OnOk result (Appends (K.held out.old) (K.held out.new) (report_bytes spec.now (upgraded_report r))) }
-    ensures front { (r : ReportForm) → is_report spec.now r ≡ true → bytes.now ≡ report_bytes spec.now r → OnErr result (IsFrontWritten (report_bytes spec.now (upgraded_report r)) (K.held out.old) (K.held out.new)) }
-    ensures fault { IfErr result (λ why. why ≡ Fault → IsFault (K.faults out.old) (K.faults out.new)) }
+    ensures ok { (r : ReportForm) → is_report spec.now r ≡ true
+        → bytes.now ≡ report_bytes spec.now r
+        → OnOk result (Appends (K.held out.old) (K.held out.new)
+        (report_bytes spec.now (upgraded_report r))) }
+    ensures front { (r : ReportForm) → is_report spec.now r ≡ true
+        → bytes.now ≡ report_bytes spec.now r
+        → OnErr result (IsFrontWritten (report_bytes spec.now (upgraded_report r))
+        (K.held out.old) (K.held out.new)) }
+    ensures fault { IfErr result
+        (λ why. why ≡ Fault → IsFault (K.faults out.old) (K.faults out.new)) }
     ensures never_falls { K.faults out.old ≤ K.faults out.new }
 {
     spec.well_formed();
