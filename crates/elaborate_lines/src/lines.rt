@@ -5,7 +5,7 @@ ghost use Rattle.spec_trees.specs.Form.{guard_of as guard_form, line_of, sentenc
 ghost use Rattle.typing_rules.specs.Lines.{spot_of as spot_of_tree, spots_of as spots_of_tree, relation_target as relation_target_of, counter_target as counter_target_of, update_of as update_of_tree, is_shared as is_shared_mode, take_of as take_of_tree, with_update, with_line};
 ghost use Rattle.find_faults.specs.Views.{scope_of};
 
-use crate::making::{elems_of, guard_of, sentence_of, term_of};
+use crate::formulas::{elems_of, guard_of, sentence_of, term_of};
 use find_faults::{Scope, elem_of};
 use items::Items;
 use spec_core::{Change, Operation, Spot, Take, Thing, Update};

@@ -1,7 +1,7 @@
 use Rattle.std.proofs.Common.{◌≡◌, ◌++◌, take, map}
 use Rattle.typing_rules.specs.Terms.{signed_of}
 use Rattle.find_faults.specs.Views.{scope_of}
-use Rattle.spec_types.proofs.making.add_signeds.Given as goal
+use Rattle.elaborate_lines.proofs.formulas.add_signeds.Given as goal
 
 -- the summands so far
 abbrev pub invariant-loop-signed : goal.invariant-loop-signed
