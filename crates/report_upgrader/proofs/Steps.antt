@@ -17,7 +17,7 @@ use Rattle.proof_report.specs.Verdicts.{ReportForm, is_report}
 use Rattle.proof_report.specs.Events.{words, report_lines}
 use Rattle.proof_report.specs.Feeding
 use Rattle.proof_report.specs.Feeding.{fed, fed_all}
-use Rattle.proof_report.specs.Reader.{budget_of, stated, ReaderForm, read_on, read_behind, read_line, first_reader}
+use Rattle.report_reader.specs.Reader.{budget_of, stated, ReaderForm, read_on, read_behind, read_line, first_reader}
 use Rattle.proof_report.proofs.Whole.{all_ok}
 use Rattle.report_bytes.specs.Bytes.{report_bytes, pieces, before_last, lines_of}
 use Rattle.report_bytes.proofs.BytesOfReports.{text_bytes_are_fed}

@@ -7,10 +7,11 @@ ghost use Rattle.report_upgrader.specs.Passing.{held_with, held_on, proved_text,
 use items::Items;
 use log_drops::upgrade_log;
 use proof_lines::Line;
-use proof_report::{Fed, ReportReader};
+use proof_report::Fed;
 use report_lines::head::write_title;
 use report_lines::log::write_log_line;
 use report_lines::verdict::{VerdictWord, write_verdict_word};
+use report_reader::ReportReader;
 use std::alloc::{AllocError, Global};
 
 /// The log of a proved verdict: how many lines it has, and those that have come.

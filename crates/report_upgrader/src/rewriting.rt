@@ -12,8 +12,8 @@ ghost use Rattle.report_upgrader.specs.Passing.{IsUnderway};
 
 use crate::passing::{Held, pass_line, pass_title};
 use byte_ports::{Sink, WriteOut, write_text};
-use proof_report::ReportReader;
 use report_bytes::next_line;
+use report_reader::ReportReader;
 use spec_core::Spec;
 use std::alloc::Global;
 
