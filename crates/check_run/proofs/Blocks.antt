@@ -18,7 +18,7 @@ use Rattle.byte_ports.specs.declared.text.WriteOut.{WriteOut}
 use Rattle.byte_ports.specs.declared.text.WriteOut.TheVariants.{Fault, Memory}
 use Rattle.check_run.specs.Good.{IsGood, AreGood, AreGoodSoFar}
 use Rattle.check_run.specs.Reports.{tally_of, forms_of, AreDecided, written_version}
-use Rattle.check_run.specs.Checking.{IsCounted, IsBlock, AreFit, AreWritten, AreBlocks}
+use Rattle.check_run.specs.Checking.{IsCounted, progress, IsBlock, AreFit, AreWritten, AreBlocks}
 
 -- ---- tallies
 
@@ -130,7 +130,7 @@ module _ (d : Specification) (budget : ℕ) where
     text_with v = text_next 0 w.verdicts v ∙ ap (λ n. so_far ++ block_text d (obligation_at d n) v) (from_first (length w.verdicts) i w.many)
 
     -- one more was
-    pub next_written : (now : Tally) → IsBlock d budget ob told now mid after (Ok tt) → AreWritten d budget (i + 1) now before after
+    pub next_written : (now : Tally) → IsBlock d budget ob (progress told mid) (progress now after) (Ok tt) → AreWritten d budget (i + 1) now before after
     next_written now b =
         let v = b.0 in
         record {
@@ -143,7 +143,7 @@ module _ (d : Specification) (budget : ℕ) where
         }
 
     -- a front of one more was, or nothing more
-    pub stopped_written : (now : Tally) (why : WriteOut) → IsBlock d budget ob told now mid after (Err why) → AreBlocks d budget before after (Err why)
+    pub stopped_written : (now : Tally) (why : WriteOut) → IsBlock d budget ob (progress told mid) (progress now after) (Err why) → AreBlocks d budget before after (Err why)
     stopped_written now Fault b =
         let v = b.0 in
         let front : so_far ++ take b.1 (block_text d ob v) ≡ take (length so_far + b.1) (blocks_text d 0 (w.verdicts ++ v ∷ [])) = sym (take-append-add so_far (block_text d ob v) b.1) ∙ ap (take (length so_far + b.1)) (sym (text_with v)) in (

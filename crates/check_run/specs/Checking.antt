@@ -26,16 +26,26 @@ pub record IsWritable (d : Specification) (budget : ℕ) (ob : Obligation)
   pub good : IsGood d budget ob (shown_verdict d v)
   pub fit : IsFit d written_version ob v
 
+-- How far a text was written: what was counted so far, and what the sink holds.
+pub record Progress (T : Type 0) : Type 0 where
+  pub tally : T
+  pub held : Option (List ℕ)
+
+-- the progress with this tally and a sink that holds this
+abbrev pub progress : {T : Type 0} → T → Option (List ℕ) → Progress T
+progress tally held = record { tally = tally; held = held }
+
 -- the block of such a verdict was written, and the verdict counted; or a front of the block was written; or nothing
-abbrev pub IsBlock : Specification → ℕ → Obligation → Tally → Tally → Option (List ℕ)
-    → Option (List ℕ) → Result (Unit {0}) WriteOut → Type 0
-IsBlock d budget ob told counted before after (Ok x) =
-    (v : Verdict) × IsWritable d budget ob v × (counted ≡ with_verdict (shown_verdict d v) told)
-    × Appends before after (block_text d ob v)
-IsBlock d budget ob told counted before after (Err Fault) =
+abbrev pub IsBlock : Specification → ℕ → Obligation → Progress Tally → Progress Tally
+    → Result (Unit {0}) WriteOut → Type 0
+IsBlock d budget ob before after (Ok x) =
+    (v : Verdict) × IsWritable d budget ob v
+    × (after.tally ≡ with_verdict (shown_verdict d v) before.tally)
+    × Appends before.held after.held (block_text d ob v)
+IsBlock d budget ob before after (Err Fault) =
     (v : Verdict) × (n : ℕ) × IsWritable d budget ob v
-    × Appends before after (take n (block_text d ob v))
-IsBlock d budget ob told counted before after (Err Memory) = Appends before after []
+    × Appends before.held after.held (take n (block_text d ob v))
+IsBlock d budget ob before after (Err Memory) = Appends before.held after.held []
 
 -- each of some verdicts, on the obligations from a place on, can stand in a report
 abbrev pub AreFit : Specification → ℕ → List Verdict → Type 0

@@ -45,7 +45,8 @@ IsGood d budget ob (rows log r) =
     × IsTooLong true (problem_of d ob) budget (record { log = log; used = r.used; steps = r.steps })
 IsGood d budget ob (range log r) =
     HasFew d ob
-    × IsTooLarge true (problem_of d ob) budget (record { log = log; used = r.used; steps = r.steps; what = r.what })
+    × IsTooLarge true (problem_of d ob) budget
+    (record { log = log; used = r.used; steps = r.steps; what = r.what })
 
 -- There is a good verdict on each of these obligations, in their order.
 abbrev pub AreGood : Specification → ℕ → List Obligation → List VerdictForm → Type 0

@@ -63,6 +63,7 @@ pub record IsChecked (d : Specification) (budget : ℕ) (tally : Tally) (text : 
 -- Nothing is said of verdicts that it didn't reach.
 abbrev pub IsFront : Specification → ℕ → List ℕ → Type 0
 IsFront d budget front =
-    ((tally : Tally) × (text : List ℕ) × (n : ℕ) × IsChecked d budget tally text × (front ≡ take n text))
+    ((tally : Tally) × (text : List ℕ) × (n : ℕ) × IsChecked d budget tally text
+    × (front ≡ take n text))
     ⊎ ((vs : List Verdict) × (n : ℕ) × AreGoodSoFar d budget (obligations_of d) (forms_of d vs)
     × (front ≡ take n (opening_text d budget vs)))

@@ -11,7 +11,7 @@ ghost use Rattle.proof_report.specs.Verdicts.{obligation_count};
 ghost use Rattle.proof_report.specs.Texts.{head_text, end_text};
 ghost use Rattle.proof_report.specs.Events.{told};
 ghost use Rattle.check_run.specs.Reports.{written_version};
-ghost use Rattle.check_run.specs.Checking.{IsBlock, AreBlocks, IsReport};
+ghost use Rattle.check_run.specs.Checking.{progress, IsBlock, AreBlocks, IsReport};
 
 use crate::counting::counted;
 use crate::deciding::decide;
@@ -34,8 +34,10 @@ fn check_one<K: Sink>(
     requires member { IsObligation spec.now ob.now }
     requires budget { 1 ≤ budget }
     requires few { told tally.old < 2 ^ 31 }
-    ensures block { IsBlock spec.now budget ob.now tally.old tally.new (K.held out.old) (K.held out.new) result }
-    ensures fault { IfErr result (λ why. why ≡ Fault → IsFault (K.faults out.old) (K.faults out.new)) }
+    ensures block { IsBlock spec.now budget ob.now (progress tally.old (K.held out.old))
+        (progress tally.new (K.held out.new)) result }
+    ensures fault { IfErr result
+        (λ why. why ≡ Fault → IsFault (K.faults out.old) (K.faults out.new)) }
     ensures never_falls { K.faults out.old ≤ K.faults out.new }
 {
     let Ok(verdict) = decide(alloc, spec, ob, budget) else {
@@ -73,7 +75,8 @@ fn check_each<K: Sink>(
     requires budget { 1 ≤ budget }
     requires few { length obligations.now ≤ 12208 }
     ensures blocks { AreBlocks spec.now budget (K.held out.old) (K.held out.new) result }
-    ensures fault { IfErr result (λ why. why ≡ Fault → IsFault (K.faults out.old) (K.faults out.new)) }
+    ensures fault { IfErr result
+        (λ why. why ≡ Fault → IsFault (K.faults out.old) (K.faults out.new)) }
     ensures never_falls { K.faults out.old ≤ K.faults out.new }
 {
     let mut tally = Tally {
@@ -99,8 +102,10 @@ fn write_opening<K: Sink>(
     out: &mut K,
 ) -> Result<(), WriteOut>
     requires { obligations ≡ obligation_count spec.now }
-    ensures text { IsText (head_text spec.now written_version budget) (K.held out.old) (K.held out.new) result }
-    ensures fault { IfErr result (λ why. why ≡ Fault → IsFault (K.faults out.old) (K.faults out.new)) }
+    ensures text { IsText (head_text spec.now written_version budget) (K.held out.old)
+        (K.held out.new) result }
+    ensures fault { IfErr result
+        (λ why. why ≡ Fault → IsFault (K.faults out.old) (K.faults out.new)) }
     ensures never_falls { K.faults out.old ≤ K.faults out.new }
 {
     let mut text = Vec::new(alloc);
@@ -113,7 +118,8 @@ fn write_opening<K: Sink>(
 // The lines behind the blocks.
 fn write_closing<K: Sink>(alloc: Global, tally: Tally, out: &mut K) -> Result<(), WriteOut>
     ensures text { IsText (end_text tally) (K.held out.old) (K.held out.new) result }
-    ensures fault { IfErr result (λ why. why ≡ Fault → IsFault (K.faults out.old) (K.faults out.new)) }
+    ensures fault { IfErr result
+        (λ why. why ≡ Fault → IsFault (K.faults out.old) (K.faults out.new)) }
     ensures never_falls { K.faults out.old ≤ K.faults out.new }
 {
     let mut text = Vec::new(alloc);
@@ -136,7 +142,8 @@ fn check_listed<K: Sink>(
     requires budget { 1 ≤ budget }
     requires few { length obligations.now ≤ 12208 }
     ensures report { IsReport spec.now budget (K.held out.old) (K.held out.new) result }
-    ensures fault { IfErr result (λ why. why ≡ Fault → IsFault (K.faults out.old) (K.faults out.new)) }
+    ensures fault { IfErr result
+        (λ why. why ≡ Fault → IsFault (K.faults out.old) (K.faults out.new)) }
     ensures never_falls { K.faults out.old ≤ K.faults out.new }
 {
     match write_opening(alloc, spec, budget, obligations.len() as u32, out) {
@@ -164,7 +171,8 @@ pub fn check_all<K: Sink>(
     requires least { 1 ≤ budget }
     requires most { budget ≤ 1000000 }
     ensures report { IsReport spec.now budget (K.held out.old) (K.held out.new) result }
-    ensures fault { IfErr result (λ why. why ≡ Fault → IsFault (K.faults out.old) (K.faults out.new)) }
+    ensures fault { IfErr result
+        (λ why. why ≡ Fault → IsFault (K.faults out.old) (K.faults out.new)) }
     ensures never_falls { K.faults out.old ≤ K.faults out.new }
 {
     let Ok(obligations) = list(alloc, spec) else {

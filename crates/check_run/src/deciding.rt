@@ -53,7 +53,8 @@ fn refute(
     requires member { IsObligation spec.now ob.now }
     requires ground { IsGrounded spec.now ob.now ground.now }
     requires found { IsModelOf (problem_of spec.now ob.now) found.now }
-    ensures good { (budget : ℕ) → IfOk result (λ v. IsGood spec.now budget ob.now (shown_verdict spec.now v)) }
+    ensures good { (budget : ℕ)
+        → IfOk result (λ v. IsGood spec.now budget ob.now (shown_verdict spec.now v)) }
     ensures shown { IfOk result (λ v. HasShown spec.now ob.now v) }
     ensures decided { (atoms budget : ℕ) → IfOk result (λ v. IsDecided atoms budget v) }
 {
@@ -67,7 +68,8 @@ fn refute(
 /// The verdict that values give of themselves, where they refute the obligation, wherever they are from.
 pub fn refuted_by(spec: &Spec, ob: &Obligation, witness: Witness) -> Option<Verdict>
     requires { IsObligation spec.now ob.now }
-    ensures good { (budget : ℕ) → IfSome result (λ v. IsGood spec.now budget ob.now (shown_verdict spec.now v)) }
+    ensures good { (budget : ℕ)
+        → IfSome result (λ v. IsGood spec.now budget ob.now (shown_verdict spec.now v)) }
     ensures fit { IfSome result (λ v. IsFit spec.now written_version ob.now v) }
 {
     if !breaks(spec, ob, &witness) {

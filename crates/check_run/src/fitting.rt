@@ -128,14 +128,20 @@ fn holds_log(lines: &[Line]) -> bool
 // ---- evidence
 
 fn holds_rows_evidence(evidence: &RowsEvidence) -> bool
-    ensures { result ≡ rows_format.fits (record { used = evidence.now.used; steps = evidence.now.steps }) }
+    ensures { result
+        ≡ rows_format.fits (record { used = evidence.now.used; steps = evidence.now.steps }) }
 {
     holds_rows(evidence.used.as_slice(), evidence.steps.as_slice())
 }
 
 fn holds_range_evidence(evidence: &RangeEvidence) -> bool
     ensures { result
-        ≡ range_format.fits (record { used = evidence.now.used; steps = evidence.now.steps; what = evidence.now.what }) }
+        ≡ range_format.fits
+        (record {
+          used = evidence.now.used;
+          steps = evidence.now.steps;
+          what = evidence.now.what;
+        }) }
 {
     let rows = holds_rows(evidence.used.as_slice(), evidence.steps.as_slice());
     match &evidence.what {

@@ -51,10 +51,12 @@ pub fn law_safe()
 
 /// What a check wrote is the bytes of a report that can stand, which shows its verdicts; and they have no fault.
 pub fn law_checked_is_read()
-    ensures { (d : Specification) (budget : ℕ) (tally : Tally) (text : List ℕ) → is_specification d ≡ true → 1 ≤ budget → budget ≤ 1000000
+    ensures { (d : Specification) (budget : ℕ) (tally : Tally) (text : List ℕ)
+        → is_specification d ≡ true → 1 ≤ budget → budget ≤ 1000000
         → (checked : IsChecked d budget tally text)
         → (is_report d (report_on d written_version budget checked.verdicts) ≡ true)
-        × (text ≡ report_bytes d (report_on d written_version budget checked.verdicts)) × (first_fault d text ≡ None) }
+        × (text ≡ report_bytes d (report_on d written_version budget checked.verdicts))
+        × (first_fault d text ≡ None) }
 {
     law_written_is_read();
 }

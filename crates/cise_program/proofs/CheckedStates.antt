@@ -15,7 +15,7 @@ use Rattle.obligation_list.specs.declared.witness.Witness.{Witness}
 use Rattle.report_lines.specs.declared.witness.Fact.{Fact}
 use Rattle.report_lines.specs.declared.witness.Reading.{Reading}
 use Rattle.report_lines.specs.Witnesses.{is_other}
-use Rattle.proof_report.specs.Reader.{with_facts, with_readings, reads_of}
+use Rattle.report_reader.specs.Reader.{with_facts, with_readings, reads_of}
 use Rattle.report_bytes.specs.Showing.{fact_of, reading_of, facts_from, readings_from, shown_by}
 use Rattle.check_run.specs.Shown.{tuples_among, values_among, relations_from, counters_from, listing_of}
 

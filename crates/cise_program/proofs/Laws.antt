@@ -15,7 +15,7 @@ use Rattle.report_lines.specs.declared.head.Outcome.TheVariants.{Accepted}
 use Rattle.proof_report.specs.declared.place.PartialWitness.{PartialWitness}
 use Rattle.proof_report.specs.Verdicts.{VerdictForm, refuted, obligation_at, ReportForm, is_report}
 use Rattle.proof_report.specs.Events.{outcome_of}
-use Rattle.proof_report.specs.Reader.{reads_of}
+use Rattle.report_reader.specs.Reader.{reads_of}
 use Rattle.report_bytes.specs.Bytes.{report_bytes}
 use Rattle.report_bytes.specs.Showing.{report_on}
 use Rattle.report_bytes.specs.Reading.{first_fault}

@@ -13,7 +13,7 @@ use Rattle.executions.specs.Convergence.{Converges}
 use Rattle.proof_report.specs.declared.place.PartialWitness.{PartialWitness}
 use Rattle.proof_report.specs.declared.verdict.Verdict.{Verdict}
 use Rattle.proof_report.specs.Verdicts.{VerdictForm, refuted, obligation_at, ReportForm}
-use Rattle.proof_report.specs.Reader.{reads_of}
+use Rattle.report_reader.specs.Reader.{reads_of}
 use Rattle.typing_rules.specs.Fault.{Fault}
 use Rattle.fault_rules.specs.Faults.{IsLeastFault}
 use Rattle.spec_from_bytes.specs.Lines.{line}

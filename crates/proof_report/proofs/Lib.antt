@@ -2,9 +2,3 @@ pub mod Sound
 pub mod Complete
 pub mod Lines
 pub mod Whole
-pub mod Ordered
-pub mod FewElements
-pub mod States
-pub mod Kept
-pub mod Answering
-pub mod ResolveLines

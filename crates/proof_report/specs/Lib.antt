@@ -3,5 +3,3 @@ pub mod Events
 pub mod Texts
 pub mod Feeding
 pub mod Gathering
-pub mod Reader
-pub mod Resolving

@@ -2,7 +2,7 @@
 //
 // It knows lines and verdicts and decides nothing: whether a log is good, and whether a witness breaks its obligation, is asked
 // elsewhere. It stands on `report_lines`, which has the formats of single lines, and on what verdicts are made of: `obligation_list`
-// for obligations and witnesses, `proof_lines` for logs and evidence.
+// for obligations and witnesses, `proof_lines` for logs and evidence. `writing` appends the text; `report_reader` reads it.
 //
 // Definitions, in the order in which a reader needs them: specs/Verdicts (verdicts as plain data, and which may stand in a report),
 // specs/Texts (the text of a report, block by block), specs/Events (what its lines say), specs/Feeding (reading line by line: the
@@ -10,24 +10,16 @@
 // say).
 #![tactic(auto)]
 
-mod elements;
 pub mod event;
-mod feeding;
 pub mod kind;
 mod laws;
-mod moving;
+mod names;
 pub mod place;
-mod reader;
-mod reading;
-pub mod resolving;
-mod saying;
-mod showing;
 pub mod verdict;
 mod writing;
 
 pub use kind::{Fault, ReportKind, ReportRefused};
 pub use laws::{law_fed_is_text, law_one_report, law_text_is_fed};
-pub use reader::ReportReader;
-pub use resolving::ResolveLine;
+pub use names::{const_name, sort_name};
 pub use verdict::{Block, Cause, Ended, Fed, Report, Verdict};
-pub use writing::{write_end, write_head, write_verdict};
+pub use writing::{outcome, write_end, write_head, write_verdict};

@@ -6,16 +6,16 @@ ghost use Rattle.spec_core.specs.StateText.{state_text};
 ghost use Rattle.spec_core.specs.Fits.{is_state};
 ghost use Rattle.obligation_list.specs.Obligations.{IsObligation};
 ghost use Rattle.proof_report.specs.Verdicts.{obligation_count};
+ghost use Rattle.proof_report.specs.Events.{outcome_of};
 ghost use Rattle.proof_report.specs.Texts.{log_text, sizes_text, consts_text, calls_text, witness_text, rows_text, range_text, cause_text, verdict_text, block_text, head_text, end_text, CanStand};
 
-use crate::reading::{const_name, sort_name};
-use crate::saying::outcome;
+use crate::names::{const_name, sort_name};
 use crate::verdict::{Cause, Verdict};
 use obligation_list::{Obligation, Witness};
 use proof_lines::{Line, RangeEvidence, RowsEvidence};
 use report_lines::evidence::{write_range, write_rows};
 use report_lines::head::{
-    Tally, write_budget, write_obligations, write_outcome, write_summary, write_title,
+    Outcome, Tally, write_budget, write_obligations, write_outcome, write_summary, write_title,
 };
 use report_lines::log::write_log_line;
 use report_lines::verdict::{VerdictWord, write_obligation, write_verdict_word};
@@ -66,6 +66,19 @@ pub fn write_head(
     write_budget(out, budget)?;
     write_obligations(out, obligations)?;
     Ok(())
+}
+
+/// What the verdicts come to.
+pub fn outcome(tally: &Tally) -> Outcome
+    ensures { result ≡ outcome_of tally.now }
+{
+    if tally.refuted > 0 {
+        Outcome::Rejected
+    } else if tally.undecided > 0 {
+        Outcome::Undecided
+    } else {
+        Outcome::Accepted
+    }
 }
 
 /// Appends the lines behind the blocks. After a refusal a front is appended.

@@ -22,7 +22,7 @@ use Rattle.proof_report.specs.Verdicts.{ReportForm, is_report}
 use Rattle.proof_report.specs.Events.{report_lines}
 use Rattle.proof_report.specs.Feeding.{line_at, says, judged, after, fed, fed_all, start, is_over}
 use Rattle.proof_report.specs.Gathering.{report_of}
-use Rattle.proof_report.specs.Reader.{EndForm, end_proved, end_refuted, end_instances, end_lines, end_rows, end_range, IsEnd, begin_of, log_of_event, ended_by, budget_of, stated, ReaderForm, read_on, read_behind, read_line, first_reader, fault_at_end, end_fault, Tells}
+use Rattle.report_reader.specs.Reader.{EndForm, end_proved, end_refuted, end_instances, end_lines, end_rows, end_range, IsEnd, begin_of, log_of_event, ended_by, budget_of, stated, ReaderForm, read_on, read_behind, read_line, first_reader, fault_at_end, end_fault, Tells}
 use Rattle.proof_report.proofs.Whole.{all_ok}
 use Rattle.proof_report.proofs.Sound.{admitted_is_report}
 use Rattle.report_bytes.specs.declared.reading.Collected.{Collected}

@@ -14,7 +14,7 @@ use Rattle.proof_report.specs.Verdicts.{ReportForm, is_report, is_verdict, are_v
 use Rattle.obligation_list.specs.declared.obligation.Obligation.{Obligation}
 use Rattle.proof_report.specs.Feeding
 use Rattle.proof_report.specs.Feeding.{fed, fed_all, is_over}
-use Rattle.proof_report.specs.Reader.{budget_of, stated, ReaderForm, read_on, read_behind, first_reader, end_fault}
+use Rattle.report_reader.specs.Reader.{budget_of, stated, ReaderForm, read_on, read_behind, first_reader, end_fault}
 use Rattle.proof_report.specs.Texts.{CanStand}
 use Rattle.report_bytes.specs.Bytes.{lines_of, report_bytes}
 use Rattle.report_bytes.specs.Reading.{read_lines, fault_behind, first_fault}

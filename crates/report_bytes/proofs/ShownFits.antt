@@ -29,7 +29,7 @@ use Rattle.report_lines.specs.declared.witness.Reading.{Reading}
 use Rattle.report_lines.specs.Fields.{most_count, element_format}
 use Rattle.report_lines.specs.Witnesses.{tuple_words, relation_names, counter_names, operation_names, call_format, is_other, argument_format, arguments_words}
 use Rattle.proof_report.specs.Verdicts.{call_count, are_sizes, are_consts, are_facts, are_readings, are_calls, const_at, no_const, fact_behind, relation_due, reading_behind, counter_due, is_witness}
-use Rattle.proof_report.proofs.Ordered.{first_agrees, first_differs}
+use Rattle.report_reader.proofs.Ordered.{first_agrees, first_differs}
 use Rattle.report_bytes.specs.Showing.{fact_of, reading_of, facts_from, readings_from, shown_by, CanBeShown}
 
 -- ---- elements

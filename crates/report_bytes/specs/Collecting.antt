@@ -17,7 +17,7 @@ use Rattle.proof_report.specs.declared.kind.Fault.{Fault}
 use Rattle.proof_report.specs.declared.place.State.{State}
 use Rattle.proof_report.specs.Feeding.{after}
 use Rattle.proof_report.specs.Verdicts.{VerdictForm, proved, refuted, instances, lines, rows, range}
-use Rattle.proof_report.specs.Reader.{EndForm, end_proved, end_refuted, end_instances, end_lines, end_rows, end_range, begin_of, log_of_event, ended_by, budget_of, stated, ReaderForm, read_line, first_reader, Tells}
+use Rattle.report_reader.specs.Reader.{EndForm, end_proved, end_refuted, end_instances, end_lines, end_rows, end_range, begin_of, log_of_event, ended_by, budget_of, stated, ReaderForm, read_line, first_reader, Tells}
 use Rattle.report_bytes.specs.Bytes.{lines_of, unended}
 use Rattle.report_bytes.specs.Reading.{◌>>=◌, BlockForm, AreBlocks, IsRead, read_lines, fault_behind}
 use Rattle.report_bytes.specs.declared.reading.Collected.{Collected}

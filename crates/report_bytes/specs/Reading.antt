@@ -13,7 +13,7 @@ use Rattle.proof_report.specs.declared.verdict.Cause.{Cause}
 use Rattle.proof_report.specs.declared.verdict.Cause.TheVariants as causes
 use Rattle.proof_report.specs.Verdicts.{VerdictForm, proved, refuted, instances, lines, rows, range, ReportForm, is_report}
 use Rattle.proof_report.specs.Events.{verdict_lines}
-use Rattle.proof_report.specs.Reader.{ReaderForm, read_line, first_reader, fault_at_end, IsShownBy}
+use Rattle.report_reader.specs.Reader.{ReaderForm, read_line, first_reader, fault_at_end, IsShownBy}
 use Rattle.report_bytes.specs.Bytes.{report_bytes, lines_of, unended}
 
 -- ---- the first fault

@@ -1,7 +1,7 @@
 // The bytes of a report: what is written is read back, and what is read is what was written.
 //
-// It stands on `proof_report`, which has the text of a report as lines, and reads it line by line. Here the same is said of bytes, and
-// of a whole report at once.
+// It stands on `proof_report`, which has the text of a report as lines, and on `report_reader`, which reads it line by line. Here the same
+// is said of bytes, and of a whole report at once.
 //
 // Definitions, in the order in which a reader needs them: specs/Bytes (the bytes of a report, and the lines of bytes), specs/Showing
 // (what a report shows of verdicts, and its text as it is written), specs/Reading (a report that is read from bytes, and their first

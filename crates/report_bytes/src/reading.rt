@@ -1,7 +1,7 @@
 // Reading a whole report.
 
 ghost use Rattle.std.specs.Prelude.{◌≡◌, OnOk, IfOk, IfErr, Some};
-ghost use Rattle.proof_report.specs.Reader.{first_reader};
+ghost use Rattle.report_reader.specs.Reader.{first_reader};
 ghost use Rattle.report_bytes.specs.Collecting.{verdict_of, with_line, with_end, collect, IsTaken};
 ghost use Rattle.report_bytes.specs.Collecting.{AreTaken, IsRefused, IsEnded, AreRead, IsFaulty};
 ghost use Rattle.report_bytes.specs.Collecting.{Holds, nothing_kept, budget_in};
@@ -10,9 +10,8 @@ ghost use Rattle.report_bytes.specs.Reading.{IsRead};
 use crate::lines::next_line;
 use items::Items;
 use proof_lines::{Line, RangeEvidence, RowsEvidence};
-use proof_report::{
-    Block, Cause, Ended, Fed, Report, ReportKind, ReportReader, ReportRefused, Verdict,
-};
+use proof_report::{Block, Cause, Ended, Fed, Report, ReportKind, ReportRefused, Verdict};
+use report_reader::ReportReader;
 use spec_core::Spec;
 use std::alloc::{AllocError, Global};
 use std::mem;

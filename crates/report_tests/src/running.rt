@@ -1,7 +1,8 @@
 // What is done with a report in the tests. What isn't a specification, and what lacks memory, ends the test.
 
 use byte_ports::{MemSink, MemSource};
-use proof_report::{ReportKind, ReportReader, ReportRefused};
+use proof_report::{ReportKind, ReportRefused};
+use report_reader::ReportReader;
 use report_upgrader::{UpgradeRefused, upgrade_all};
 use report_verifier::{VerifyRefused, verify_all};
 use spec_core::Spec;

@@ -16,7 +16,7 @@ use Rattle.proof_report.specs.declared.event.Event.{Event}
 use Rattle.proof_report.specs.declared.event.Event.TheVariants as events
 use Rattle.proof_report.specs.Verdicts.{proved}
 use Rattle.proof_report.specs.Events.{words, log_lines, verdict_lines}
-use Rattle.proof_report.specs.Reader.{begin_of, log_of_event}
+use Rattle.report_reader.specs.Reader.{begin_of, log_of_event}
 use Rattle.proof_report.specs.Texts.{log_text}
 use Rattle.report_bytes.specs.Bytes.{lines_of}
 use Rattle.log_drops.specs.Upgraded.{upgraded}

@@ -36,7 +36,7 @@ use Rattle.proof_report.specs.declared.place.State.{State}
 use Rattle.proof_report.specs.Verdicts.{VerdictForm, proved, refuted, instances, lines, rows, range, obligation_at, obligation_count, const_at, are_sizes, are_consts, is_verdict, are_verdicts, ReportForm, is_report}
 use Rattle.proof_report.specs.Events.{told, no_verdicts, with_refuted, with_verdict, log_lines, size_lines, const_lines, fact_lines, reading_lines, call_lines, witness_lines, verdict_lines, block_lines, report_lines}
 use Rattle.proof_report.specs.Feeding.{log_ended, no_witness, no_world, at_consts, at_sizes, with_size, with_const, with_fact, with_reading, with_call, closed, start}
-use Rattle.proof_report.specs.Reader.{EndForm, end_proved, end_refuted, end_instances, end_lines, end_rows, end_range, log_end}
+use Rattle.report_reader.specs.Reader.{EndForm, end_proved, end_refuted, end_instances, end_lines, end_rows, end_range, log_end}
 use Rattle.proof_report.proofs.Sound.{at, one_more, one_told}
 use Rattle.report_bytes.specs.Reading.{blocks_behind}
 use Rattle.report_bytes.specs.Collecting.{budget_in}

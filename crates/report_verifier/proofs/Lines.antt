@@ -18,7 +18,7 @@ use Rattle.proof_report.specs.Feeding.{line_at, says, judged, after, fed, fed_al
 use Rattle.proof_report.specs.Gathering.{report_of}
 use Rattle.report_verifier.specs.Taking.{taken_as, IsTold}
 use Rattle.report_verifier.proofs.Taken.{taken_same}
-use Rattle.proof_report.specs.Reader.{Tells, IsAnswered, budget_of, stated, ReaderForm, read_on, read_behind, read_line, first_reader, fault_at_end, end_fault}
+use Rattle.report_reader.specs.Reader.{Tells, IsAnswered, budget_of, stated, ReaderForm, read_on, read_behind, read_line, first_reader, fault_at_end, end_fault}
 use Rattle.proof_report.proofs.Whole.{all_ok}
 use Rattle.proof_report.proofs.Sound.{admitted_is_report}
 use Rattle.report_bytes.specs.Bytes.{lines_of, unended}

@@ -20,7 +20,7 @@ use Rattle.report_lines.specs.Witnesses.{tuple_words, fact_format, reading_forma
 use Rattle.proof_report.specs.declared.place.PartialWitness.{PartialWitness}
 use Rattle.obligation_list.specs.declared.obligation.Obligation.{Obligation}
 use Rattle.proof_report.specs.Verdicts.{are_sizes, are_consts, are_facts, are_readings, are_calls, are_elements, fact_behind, reading_behind, relation_due, counter_due, is_witness}
-use Rattle.proof_report.specs.Reader.{with_facts, with_readings, reads_of}
+use Rattle.report_reader.specs.Reader.{with_facts, with_readings, reads_of}
 
 -- ---- lists of lists with one element more
 

@@ -14,7 +14,7 @@ use Rattle.obligation_list.proofs.Refuted.{refuted as refutes-refutes, refuting 
 use Rattle.report_lines.specs.Heads.{title_format, budget_format}
 use Rattle.proof_report.specs.declared.place.PartialWitness.{PartialWitness}
 use Rattle.proof_report.specs.Verdicts.{VerdictForm, obligation_at, obligation_count, is_verdict, are_verdicts, ReportForm, is_report}
-use Rattle.proof_report.specs.Reader.{IsShownBy}
+use Rattle.report_reader.specs.Reader.{IsShownBy}
 use Rattle.report_verifier.specs.Rules.{refutes_shown}
 use Rattle.report_verifier.specs.Taking.{witness_refutes}
 

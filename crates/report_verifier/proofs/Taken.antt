@@ -9,7 +9,7 @@ use Rattle.proof_report.specs.declared.place.State.{State as Place}
 use Rattle.proof_report.specs.declared.verdict.Ended.{Ended}
 use Rattle.proof_report.specs.declared.verdict.Ended.TheVariants as ends
 use Rattle.proof_report.specs.declared.verdict.Fed.{Fed}
-use Rattle.proof_report.specs.Reader.{EndForm, end_proved, end_refuted, end_instances, end_lines, end_rows, end_range, IsEnd, begin_of, log_of_event, ended_by, Tells}
+use Rattle.report_reader.specs.Reader.{EndForm, end_proved, end_refuted, end_instances, end_lines, end_rows, end_range, IsEnd, begin_of, log_of_event, ended_by, Tells}
 use Rattle.report_verifier.specs.declared.judgement.Judgement.{Judgement}
 use Rattle.report_verifier.specs.Rules.{fault_at, unless, or_else}
 use Rattle.report_verifier.specs.Verifier.{obligation_due, begun, logged, ended, kernel_fault, unrefuted, end_fault, with_ended, judge}

@@ -19,7 +19,7 @@ use Rattle.proof_report.specs.declared.kind.Fault.{Fault}
 use Rattle.proof_report.specs.declared.place.PartialWitness.{PartialWitness}
 use Rattle.proof_report.specs.Verdicts.{VerdictForm, proved, refuted, instances, lines, rows, range, obligation_at, obligation_count, is_verdict, is_witness, are_verdicts}
 use Rattle.proof_report.specs.Events.{verdict_lines}
-use Rattle.proof_report.specs.Reader.{reads_of}
+use Rattle.report_reader.specs.Reader.{reads_of}
 use Rattle.report_bytes.specs.Reading.{blocks_behind}
 use Rattle.report_verifier.specs.Rules.{unless, or_else, has_many, refutes_shown, log_fault, problem_fault, many_fault, rule_fault, blocks_fault}
 use Rattle.report_verifier.specs.Valid.{HasFew, HasMany, IsBroken, IsValid, AreValid}

@@ -28,7 +28,7 @@ use Rattle.proof_report.specs.declared.verdict.Fed.{Fed}
 use Rattle.report_verifier.specs.declared.judgement.Judgement.{Judgement}
 use Rattle.report_verifier.specs.Rules.{has_many}
 use Rattle.report_verifier.specs.Verifier.{obligation_due, has_log, posed, begun_behind, begun, after_line, logged_in, logged, clauses_in, most_kept, IsWithin, VerifierForm}
-use Rattle.proof_report.specs.Reader.{ReaderForm}
+use Rattle.report_reader.specs.Reader.{ReaderForm}
 use Rattle.report_bytes.specs.Collecting.{budget_in}
 use Rattle.report_verifier.specs.Taking.{ended_as, taken_as}
 

@@ -18,7 +18,7 @@ use Rattle.proof_report.specs.declared.kind.ReportKind.{ReportKind}
 use Rattle.proof_report.specs.declared.kind.ReportKind.TheVariants as kinds
 use Rattle.proof_report.specs.declared.place.PartialWitness.{PartialWitness}
 use Rattle.proof_report.specs.Verdicts.{VerdictForm, proved, refuted, instances, lines, rows, range, obligation_at, ReportForm}
-use Rattle.proof_report.specs.Reader.{reads_of}
+use Rattle.report_reader.specs.Reader.{reads_of}
 use Rattle.report_bytes.specs.Reading.{BlockForm, blocks_of}
 
 -- ---- faults

@@ -12,7 +12,7 @@ use Rattle.ground_numbers.specs.Problem.{problem_of}
 use Rattle.ground_problem.specs.Problem.{most_formulas}
 use Rattle.proof_report.specs.declared.place.PartialWitness.{PartialWitness}
 use Rattle.proof_report.specs.Verdicts.{VerdictForm, proved, refuted, instances, lines, rows, range, obligation_at}
-use Rattle.proof_report.specs.Reader.{reads_of}
+use Rattle.report_reader.specs.Reader.{reads_of}
 
 -- the obligation has few enough formulas to be decided
 abbrev pub HasFew : Specification → Obligation → Type 0

@@ -17,7 +17,7 @@ use Rattle.proof_report.specs.declared.kind.ReportKind.TheVariants as kinds
 use Rattle.proof_report.specs.declared.place.State.{State as Place}
 use Rattle.proof_report.specs.Verdicts.{obligation_at}
 use Rattle.proof_report.specs.Events.{told, no_verdicts, with_proved, with_refuted, with_undecided}
-use Rattle.proof_report.specs.Reader.{EndForm, end_proved, end_refuted, end_instances, end_lines, end_rows, end_range, begin_of, log_of_event, ended_by, budget_of, stated, ReaderForm, read_line, first_reader, fault_at_end}
+use Rattle.report_reader.specs.Reader.{EndForm, end_proved, end_refuted, end_instances, end_lines, end_rows, end_range, begin_of, log_of_event, ended_by, budget_of, stated, ReaderForm, read_line, first_reader, fault_at_end}
 use Rattle.proof_report.specs.Feeding.{after}
 use Rattle.report_bytes.specs.Bytes.{lines_of, unended}
 use Rattle.report_bytes.specs.Collecting.{budget_in}

@@ -15,7 +15,7 @@ ghost use Rattle.proof_report.specs.declared.place.PartialWitness.{PartialWitnes
 ghost use Rattle.proof_report.specs.Verdicts.{VerdictForm, proved, refuted, is_verdict};
 ghost use Rattle.proof_report.specs.Verdicts.{obligation_at, ReportForm, is_report};
 ghost use Rattle.proof_report.specs.Events.{outcome_of};
-ghost use Rattle.proof_report.specs.Reader.{reads_of};
+ghost use Rattle.report_reader.specs.Reader.{reads_of};
 ghost use Rattle.report_bytes.specs.Bytes.{lines_of, unended};
 ghost use Rattle.report_verifier.specs.Verifier.{first_verifier, verifier_after, IsFinished};
 ghost use Rattle.report_verifier.specs.Rules.{rule_fault, verdict_fault};

@@ -1,6 +1,6 @@
 // A verifier of a report, line by line.
 ghost use Rattle.std.specs.Prelude.{◌≡◌, ◌≤◌, IfOk, IsErr, true, false};
-ghost use Rattle.proof_report.specs.Resolving.{resolve_told};
+ghost use Rattle.report_reader.specs.Resolving.{resolve_told};
 ghost use Rattle.report_bytes.specs.Collecting.{budget_in};
 ghost use Rattle.report_verifier.specs.Taking.{IsTold};
 ghost use Rattle.report_verifier.specs.Verifier.{first_verifier, IsTaken, IsFinished, IsCutOff};
@@ -11,8 +11,9 @@ use crate::refused::VerifyRefused;
 use items::Items;
 use obligation_list::{Obligation, list};
 use proof_lines::Line;
-use proof_report::{Fed, ReportKind, ReportReader, ReportRefused, ResolveLine};
+use proof_report::{Fed, ReportKind, ReportRefused};
 use report_lines::head::Tally;
+use report_reader::{ReportReader, ResolveLine};
 use spec_core::Spec;
 use std::alloc::{AllocError, Global};
 use std::marker::Model;

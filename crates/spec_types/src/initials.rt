@@ -9,8 +9,8 @@ ghost use Rattle.find_faults.specs.Views.{faulted};
 ghost use Rattle.spec_types.specs.Views.{known_of};
 
 use crate::known::Known;
-use crate::making::literal_of;
 use crate::refusal::Stop;
+use elaborate_lines::literal_of;
 use find_faults::{Draft, Fault, literal_fault};
 use items::Items;
 use spec_core::{Counter, Relation};

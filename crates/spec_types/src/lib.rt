@@ -1,8 +1,8 @@
 // From trees to specifications.
 //
 // It stands on `typing_rules`, whose definitions say which specification a tree is and what is wrong with one that is none, on
-// `fault_rules`, which says it by rules, and on `find_faults`, which looks for what is wrong. `known` is what is known after some items.
-// `making` and `making_lines` copy the parts of a tree that have no fault; `declaring`, `initials`, `rules` and `operations` have the items,
+// `fault_rules`, which says it by rules, on `find_faults`, which looks for what is wrong, and on `elaborate_lines`, which makes the lines
+// that have no fault. `known` is what is known after some items; `declaring`, `initials`, `rules` and `operations` have the items,
 // `refusal` the answer with a fault, and `typing` the whole.
 #![tactic(auto)]
 
@@ -23,8 +23,6 @@ macro_rules! or_drop {
 mod declaring;
 mod initials;
 mod known;
-mod making;
-mod making_lines;
 mod operations;
 mod refusal;
 mod rules;

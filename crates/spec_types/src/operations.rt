@@ -11,9 +11,8 @@ ghost use Rattle.find_faults.specs.Views.{faulted, scope_of};
 ghost use Rattle.spec_types.specs.Views.{known_of};
 
 use crate::known::{Known, heading_fault, scope_in};
-use crate::making::sentence_of;
-use crate::making_lines::add_line;
 use crate::refusal::Stop;
+use elaborate_lines::{add_line, sentence_of};
 use find_faults::{
     Fault, Names, Scope, declared_fault, limit_at, line_fault, sentence_fault, sort_fault,
     sort_number,

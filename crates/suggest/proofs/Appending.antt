@@ -11,7 +11,7 @@ use Rattle.conflict_variants.specs.Keyed.{keyed}
 use Rattle.suggest.specs.Pairs.{keys_of}
 use Rattle.suggest.specs.Answers.{AreKeyAnswers, IsFoundIn, is_refuted, keys_after, with_answer}
 use Rattle.suggest.specs.Texts.{param_name, found_text, pair_word, key_word, key_text}
-use Rattle.suggest.specs.Writing.{IsKeyAppended, AreKeysAppended, IsBareAppended, IsPairAppended}
+use Rattle.suggest.specs.Writing.{IsKeyAppended, AreKeysAppended, draft, IsBareAppended, IsPairAppended}
 use Rattle.suggest.specs.declared.answer.Pair.{Pair}
 use Rattle.suggest.specs.declared.answer.Key.{Key}
 use Rattle.suggest.specs.declared.answer.Found.{Found}
@@ -98,7 +98,7 @@ module _ (d : Specification) (budget : ℕ) (pair : Pair) where
   needed ks old new h (found.Undecided ob cause) e = absurd cc
 
   pub bare_written : (e : Specification) (f : Found) (told now : SuggestTally) (is : Bool) (old mid new : List ℕ) → e ≡ bare d → IsFoundIn e budget pair.first pair.second f → is ≡ is_refuted f → now ≡ with_answer f told
-      → mid ≡ old ++ line_text (pair_word f ∷ operation_name d pair.first ∷ operation_name d pair.second ∷ []) → new ≡ mid ++ found_text e f → IsBareAppended d budget pair told is now old new
+      → mid ≡ old ++ line_text (pair_word f ∷ operation_name d pair.first ∷ operation_name d pair.second ∷ []) → new ≡ mid ++ found_text e f → IsBareAppended d budget pair (draft told old) is (draft now new)
   bare_written e f told now is old mid new same h r t line text = (
     f,
     subst (λ (s : Specification). IsFoundIn s budget pair.first pair.second f) same h,
@@ -108,8 +108,8 @@ module _ (d : Specification) (budget : ℕ) (pair : Pair) where
         (text ∙ ap (λ (s : Specification). mid ++ found_text s f) same),
   )
 
-  pub pair_written : (told now : SuggestTally) (is : Bool) (old mid new : List ℕ) → IsBareAppended d budget pair told is now old mid
-      → ((f : Found) → is ≡ is_refuted f → AreKeysAppended d budget pair (keys_after f (keys_of d pair.first pair.second)) mid new) → IsPairAppended d budget pair told now old new
+  pub pair_written : (told now : SuggestTally) (is : Bool) (old mid new : List ℕ) → IsBareAppended d budget pair (draft told old) is (draft now mid)
+      → ((f : Found) → is ≡ is_refuted f → AreKeysAppended d budget pair (keys_after f (keys_of d pair.first pair.second)) mid new) → IsPairAppended d budget pair (draft told old) (draft now new)
   pair_written told now is old mid new b keys =
       let f = b.0 in
       let k = keys f b.2 in (

@@ -9,10 +9,11 @@ use Rattle.spec_core.specs.Specification.{Specification}
 use Rattle.byte_ports.specs.declared.text.WriteOut.{WriteOut}
 use Rattle.byte_ports.specs.declared.text.WriteOut.TheVariants.{Fault, Memory}
 use Rattle.byte_ports.specs.Written.{IsText}
+use Rattle.check_run.specs.Checking.{progress}
 use Rattle.suggest.specs.Pairs.{pairs_of}
 use Rattle.suggest.specs.Answers.{IsAnswer, AreAnswers, AreAnswersSoFar, no_answers, with_answer, counted_from}
 use Rattle.suggest.specs.Texts.{pair_text, pairs_text}
-use Rattle.suggest.specs.Writing.{IsPairAppended, IsPairWritten, AreWritten, ArePairs}
+use Rattle.suggest.specs.Writing.{draft, IsPairAppended, IsPairWritten, AreWritten, ArePairs}
 use Rattle.suggest.specs.declared.answer.Pair.{Pair}
 use Rattle.suggest.specs.declared.answer.PairAnswer.{PairAnswer}
 use Rattle.suggest.specs.declared.answer.SuggestTally.{SuggestTally}
@@ -50,13 +51,13 @@ module _ (d : Specification) (budget : ℕ) where
   text_next xs x = flat_map-append (pair_text d) xs (x ∷ []) ∙ ap (λ t. pairs_text d xs ++ t) (append-nil (pair_text d x))
 
   -- the text of an answer was written, or a front of it
-  pub text_written : (pair : Pair) (told now : SuggestTally) (old text slice : List ℕ) (before after : Option (List ℕ)) → old ≡ [] → slice ≡ text → IsPairAppended d budget pair told now old text
-      → Appends before after slice → IsPairWritten d budget pair told before after (Ok now)
+  pub text_written : (pair : Pair) (told now : SuggestTally) (old text slice : List ℕ) (before after : Option (List ℕ)) → old ≡ [] → slice ≡ text → IsPairAppended d budget pair (draft told old) (draft now text)
+      → Appends before after slice → IsPairWritten d budget pair (progress told before) after (Ok now)
   text_written pair told now old text slice before after o e b w =
       (b.0, b.1, b.2, subst (λ z. Appends before after z) (e ∙ b.3 ∙ ap (λ z. z ++ pair_text d b.0) o) w)
 
-  pub text_stopped : (pair : Pair) (told now : SuggestTally) (old text slice : List ℕ) (before after : Option (List ℕ)) (why : WriteOut) → old ≡ [] → slice ≡ text → IsPairAppended d budget pair told now old text
-      → why ≡ Fault → IsText {A = Unit {0}} slice before after (Err why) → IsPairWritten d budget pair told before after (Err why)
+  pub text_stopped : (pair : Pair) (told now : SuggestTally) (old text slice : List ℕ) (before after : Option (List ℕ)) (why : WriteOut) → old ≡ [] → slice ≡ text → IsPairAppended d budget pair (draft told old) (draft now text)
+      → why ≡ Fault → IsText {A = Unit {0}} slice before after (Err why) → IsPairWritten d budget pair (progress told before) after (Err why)
   text_stopped pair told now old text slice before after Fault o e b f t =
       (b.0, t.0, b.1, subst (λ z. Appends before after (take t.0 z)) (e ∙ b.3 ∙ ap (λ z. z ++ pair_text d b.0) o) t.1)
   text_stopped pair told now old text slice before after Memory o e b f t = absurd cc
@@ -76,7 +77,7 @@ module _ (d : Specification) (budget : ℕ) where
     good_with x g = subst (λ (ps : List Pair). AreAnswers d budget ps (w.answers ++ x ∷ [])) (sym (one_more (pairs_of d) i default here)) (good_next (take i (pairs_of d)) w.answers pair x w.good g)
 
     -- one more was
-    pub next_written : (now : SuggestTally) → IsPairWritten d budget pair told mid after (Ok now) → AreWritten d budget (i + 1) now before after
+    pub next_written : (now : SuggestTally) → IsPairWritten d budget pair (progress told mid) after (Ok now) → AreWritten d budget (i + 1) now before after
     next_written now b =
         let x = b.0 in
         record {
@@ -87,7 +88,7 @@ module _ (d : Specification) (budget : ℕ) where
         }
 
     -- a front of one more was, or nothing more
-    pub stopped_written : (why : WriteOut) → IsPairWritten d budget pair told mid after (Err why) → ArePairs d budget before after (Err why)
+    pub stopped_written : (why : WriteOut) → IsPairWritten d budget pair (progress told mid) after (Err why) → ArePairs d budget before after (Err why)
     stopped_written Fault b =
         let x = b.0 in
         let front : so_far ++ take b.1 (pair_text d x) ≡ take (length so_far + b.1) (pairs_text d (w.answers ++ x ∷ [])) = sym (take-append-add so_far (pair_text d x) b.1) ∙ ap (take (length so_far + b.1)) (sym (text_next w.answers x)) in (

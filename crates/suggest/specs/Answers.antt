@@ -38,7 +38,8 @@ HasProof d budget ob = HasLog d budget ob ⊎ HasLog (bare d) budget ob
 
 -- an obligation is proved, or undecided with evidence of a cause
 abbrev pub HasNoRefutation : Specification → ℕ → Obligation → Type 0
-HasNoRefutation d budget ob = HasProof d budget ob ⊎ ((cause : Cause) × IsGood d budget ob (shown_cause cause))
+HasNoRefutation d budget ob =
+    HasProof d budget ob ⊎ ((cause : Cause) × IsGood d budget ob (shown_cause cause))
 
 -- The first of these obligations that is refuted, by what is shown of a witness: those before it have verdicts that don't refute them.
 pub record IsFirstRefuted (d : Specification) (budget : ℕ) (obs : List Obligation) (ob : Obligation)
@@ -110,7 +111,8 @@ AreKeyAnswers d budget a b (k ∷ ks) (y ∷ ys) =
 pub record IsAnswer (d : Specification) (budget : ℕ) (pair : Pair) (x : PairAnswer) : Type 0 where
   pub pair_is : x.pair ≡ pair
   pub bare_found : IsFoundIn (bare d) budget pair.first pair.second x.found
-  pub keys : AreKeyAnswers d budget pair.first pair.second (keys_after x.found (keys_of d pair.first pair.second)) x.keys
+  pub keys : AreKeyAnswers d budget pair.first pair.second
+      (keys_after x.found (keys_of d pair.first pair.second)) x.keys
 
 -- an answer for each of these pairs
 abbrev pub AreAnswers : Specification → ℕ → List Pair → List PairAnswer → Type 0

@@ -57,7 +57,8 @@ pairs_of d = flat_map (pairs_from (length d.operations)) (below (length d.operat
 -- the keys of one parameter of the first operation: with each parameter of the second that has the same sort
 abbrev pub keys_from : Specification → ℕ → ℕ → ℕ → List Key
 keys_from d a b p =
-    flat_map (λ q. if same_sort (sort_of_parameter d a p) (sort_of_parameter d b q) then key_at p q ∷ [] else [])
+    flat_map (λ q. if same_sort (sort_of_parameter d a p) (sort_of_parameter d b q)
+    then key_at p q ∷ [] else [])
     (below (length (op_of d b).params))
 
 -- all keys of a pair: two parameters of one sort, by the first one, and then by the second

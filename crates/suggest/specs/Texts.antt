@@ -49,13 +49,15 @@ key_word (found.Undecided ob cause) = codes "openby"
 -- `by P Q`, `notby P Q` and the block, or `openby P Q` and the block
 abbrev pub key_text : Specification → Pair → KeyAnswer → List ℕ
 key_text d pair y =
-    line_text (key_word y.found ∷ param_name d pair.first y.key.p ∷ param_name d pair.second y.key.q ∷ [])
+    line_text (key_word y.found ∷ param_name d pair.first y.key.p
+    ∷ param_name d pair.second y.key.q ∷ [])
     ++ found_text (keyed d pair.first y.key.p pair.second y.key.q) y.found
 
 -- `free A B`; or `needed A B`, the block and the parameters; or `unknown A B` and the block
 abbrev pub pair_text : Specification → PairAnswer → List ℕ
 pair_text d x =
-    (line_text (pair_word x.found ∷ operation_name d x.pair.first ∷ operation_name d x.pair.second ∷ [])
+    (line_text (pair_word x.found ∷ operation_name d x.pair.first
+    ∷ operation_name d x.pair.second ∷ [])
     ++ found_text (bare d) x.found)
     ++ flat_map (key_text d x.pair) x.keys
 

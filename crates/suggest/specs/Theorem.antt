@@ -44,7 +44,8 @@ pub record IsRight (d : Specification) (answers : List PairAnswer) : Type 0 wher
       → IsShownToBreak (bare d) x.pair.first x.pair.second ob w
   pub notby_shown : (x : PairAnswer) (y : KeyAnswer) (ob : Obligation) (w : Witness)
       → Contains answers x → Contains x.keys y → y.found ≡ found.Refuted ob w
-      → IsShownToBreak (keyed d x.pair.first y.key.p x.pair.second y.key.q) x.pair.first x.pair.second ob w
+      → IsShownToBreak (keyed d x.pair.first y.key.p x.pair.second y.key.q) x.pair.first
+      x.pair.second ob w
   -- An obligation of each needed pair is broken where nothing conflicts.
   pub broken : (a b : ℕ) → is_needed answers a b ≡ true → IsBroken (bare d) a b
   -- Each set of pairs that is enough contains all needed ones.

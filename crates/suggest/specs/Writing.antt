@@ -7,6 +7,7 @@ use Rattle.obligation_list.specs.Obligations.{IsObligation}
 use Rattle.proof_report.specs.Texts.{WitnessFits}
 use Rattle.byte_ports.specs.declared.text.WriteOut.{WriteOut}
 use Rattle.byte_ports.specs.declared.text.WriteOut.TheVariants.{Fault, Memory}
+use Rattle.check_run.specs.Checking.{Progress}
 use Rattle.conflict_variants.specs.Bare.{bare}
 use Rattle.conflict_variants.specs.Keyed.{keyed}
 use Rattle.suggest.specs.Pairs.{pairs_of}
@@ -41,33 +42,40 @@ AreKeysAppended d budget pair ks old new =
     (ys : List KeyAnswer) × AreKeyAnswers d budget pair.first pair.second ks ys
     × (new ≡ old ++ flat_map (key_text d pair) ys)
 
--- what a pair comes to in the bare specification was appended and counted
-abbrev pub IsBareAppended : Specification → ℕ → Pair → SuggestTally → Bool → SuggestTally → List ℕ
-    → List ℕ → Type 0
-IsBareAppended d budget pair told needed now old new =
+-- A draft is what was answered so far: the answers counted, and their text.
+pub record Draft : Type 0 where
+  pub tally : SuggestTally
+  pub text : List ℕ
+
+-- the draft with this tally and this text
+abbrev pub draft : SuggestTally → List ℕ → Draft
+draft tally text = record { tally = tally; text = text }
+
+-- what a pair comes to in the bare specification was appended and counted, and this is whether it is needed
+abbrev pub IsBareAppended : Specification → ℕ → Pair → Draft → Bool → Draft → Type 0
+IsBareAppended d budget pair before needed after =
     (f : Found) × IsFoundIn (bare d) budget pair.first pair.second f × (needed ≡ is_refuted f)
-    × (now ≡ with_answer f told)
-    × (new ≡ old
+    × (after.tally ≡ with_answer f before.tally)
+    × (after.text ≡ before.text
     ++ (line_text (pair_word f ∷ operation_name d pair.first ∷ operation_name d pair.second ∷ [])
     ++ found_text (bare d) f))
 
 -- the text of a good answer for a pair was appended, and the answer counted
-abbrev pub IsPairAppended : Specification → ℕ → Pair → SuggestTally → SuggestTally → List ℕ → List ℕ
-    → Type 0
-IsPairAppended d budget pair told now old new =
-    (x : PairAnswer) × IsAnswer d budget pair x × (now ≡ with_answer x.found told)
-    × (new ≡ old ++ pair_text d x)
+abbrev pub IsPairAppended : Specification → ℕ → Pair → Draft → Draft → Type 0
+IsPairAppended d budget pair before after =
+    (x : PairAnswer) × IsAnswer d budget pair x × (after.tally ≡ with_answer x.found before.tally)
+    × (after.text ≡ before.text ++ pair_text d x)
 
 -- the text of a good answer was written, and the answer counted; or a front of it was written; or nothing
-abbrev pub IsPairWritten : Specification → ℕ → Pair → SuggestTally → Option (List ℕ)
-    → Option (List ℕ) → Result SuggestTally WriteOut → Type 0
-IsPairWritten d budget pair told before after (Ok now) =
-    (x : PairAnswer) × IsAnswer d budget pair x × (now ≡ with_answer x.found told)
-    × Appends before after (pair_text d x)
-IsPairWritten d budget pair told before after (Err Fault) =
+abbrev pub IsPairWritten : Specification → ℕ → Pair → Progress SuggestTally → Option (List ℕ)
+    → Result SuggestTally WriteOut → Type 0
+IsPairWritten d budget pair before held_after (Ok now) =
+    (x : PairAnswer) × IsAnswer d budget pair x × (now ≡ with_answer x.found before.tally)
+    × Appends before.held held_after (pair_text d x)
+IsPairWritten d budget pair before held_after (Err Fault) =
     (x : PairAnswer) × (n : ℕ) × IsAnswer d budget pair x
-    × Appends before after (take n (pair_text d x))
-IsPairWritten d budget pair told before after (Err Memory) = Appends before after []
+    × Appends before.held held_after (take n (pair_text d x))
+IsPairWritten d budget pair before held_after (Err Memory) = Appends before.held held_after []
 
 -- the texts of good answers for the first pairs were written
 pub record AreWritten (d : Specification) (budget n : ℕ) (tally : SuggestTally)

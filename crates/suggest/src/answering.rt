@@ -5,7 +5,8 @@ ghost use Rattle.std.specs.List.{Contains};
 ghost use Rattle.conflict_variants.specs.Bare.{bare as bare_of};
 ghost use Rattle.conflict_variants.specs.Keyed.{CanBeKeyed, keyed as keyed_of};
 ghost use Rattle.suggest.specs.Pairs.{IsPair, pairs_of, keys_of};
-ghost use Rattle.suggest.specs.Answers.{HaveLogs, IsFoundIn, AreKeyAnswers, IsAnswer, AreAnswers, is_refuted as is_refuted_of, keys_after};
+ghost use Rattle.suggest.specs.Answers.{HaveLogs, IsFoundIn, AreKeyAnswers, IsAnswer, AreAnswers};
+ghost use Rattle.suggest.specs.Answers.{is_refuted as is_refuted_of, keys_after};
 ghost use Rattle.suggest.specs.declared.answer.Pair.{Pair};
 ghost use Rattle.suggest.specs.declared.answer.Key.{Key};
 
@@ -53,7 +54,8 @@ fn key_answers(
     known: &mut Known,
 ) -> Result<Items<KeyAnswer>, AllocError>
     requires budget { 1 ≤ budget }
-    requires keyed { (k : Key) → Contains keys.now k → CanBeKeyed spec.now pair.first k.p pair.second k.q }
+    requires keyed { (k : Key) → Contains keys.now k
+        → CanBeKeyed spec.now pair.first k.p pair.second k.q }
     requires free { HaveLogs (bare_of spec.now) budget free.now }
     ensures { IfOk result (λ ys. AreKeyAnswers spec.now budget pair.first pair.second keys.now ys) }
 {
@@ -107,8 +109,10 @@ fn pair_answer(
     let mut proved = Items::new(alloc);
     let found =
         or_drop!(find_bare(alloc, bare, budget, pair, &mut known, &mut proved); known, proved);
-    let keys =
-        or_drop!(keys_for(alloc, spec, budget, pair, &found, proved.as_slice(), &mut known); found, known, proved);
+    let keys = or_drop!(
+        keys_for(alloc, spec, budget, pair, &found, proved.as_slice(), &mut known);
+        found, known, proved
+    );
     drop(known);
     drop(proved);
     Ok(PairAnswer { pair, found, keys })

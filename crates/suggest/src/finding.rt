@@ -25,7 +25,8 @@ fn with_undecided(ob: Obligation, cause: Cause, rest: Found) -> Found
     ensures found { (d : Specification) (budget : ℕ) (obs : List Obligation)
         → IsGood d budget ob (shown_cause cause) → IsFound d budget obs rest
         → IsFound d budget (ob ∷ obs) result }
-    ensures fit { (d : Specification) → IsObligation d ob → CanBeWritten d rest → CanBeWritten d result }
+    ensures fit { (d : Specification) → IsObligation d ob → CanBeWritten d rest
+        → CanBeWritten d result }
 {
     match rest {
         Found::Proved => Found::Undecided(ob, cause),
@@ -109,8 +110,10 @@ fn find_pair(
 {
     spec.well_formed();
     let obligations = list_pair(alloc, spec, pair)?;
-    let found =
-        or_drop!(find(alloc, spec, budget, obligations.as_slice(), free, known, proved); obligations);
+    let found = or_drop!(
+        find(alloc, spec, budget, obligations.as_slice(), free, known, proved);
+        obligations
+    );
     drop(obligations);
     Ok(found)
 }

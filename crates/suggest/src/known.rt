@@ -72,7 +72,9 @@ fn verdict_by(
     witnesses: &[Witness],
 ) -> Result<Option<Verdict>, AllocError>
     requires { IsObligation spec.now ob.now }
-    ensures good { (budget : ℕ) → IfOk result (λ o. IfSome o (λ v. IsGood spec.now budget ob.now (shown_verdict spec.now v))) }
+    ensures good { (budget : ℕ)
+        → IfOk result (λ o. IfSome o
+        (λ v. IsGood spec.now budget ob.now (shown_verdict spec.now v))) }
     ensures fit { IfOk result (λ o. IfSome o (λ v. IsFit spec.now written_version ob.now v)) }
 {
     for witness in witnesses {

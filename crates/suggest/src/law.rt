@@ -15,7 +15,8 @@ use check_run::law_good_verdicts;
 pub fn law_least_pairs()
     ensures right { (d : Specification) (budget : ℕ) (answers : List PairAnswer)
         → AreAnswers d budget (pairs_of d) answers → IsRight d answers }
-    ensures complete { (answers : List PairAnswer) → (counted answers).unknown ≡ 0 → (a b : ℕ) → is_unknown answers a b ≡ false }
+    ensures complete { (answers : List PairAnswer) → (counted answers).unknown ≡ 0 → (a b : ℕ)
+        → is_unknown answers a b ≡ false }
     ensures incomplete { (answers : List PairAnswer) → ((a b : ℕ) → is_unknown answers a b ≡ false)
         → (counted answers).unknown ≡ 0 }
 {

@@ -6,8 +6,11 @@ ghost use Rattle.std.specs.List.{filter, Contains};
 ghost use Rattle.spec_core.specs.Typed.{sort_of_kind as sort_of_kind_of, same_sort as same_sort_of};
 ghost use Rattle.obligation_list.specs.declared.obligation.Obligation.{Obligation};
 ghost use Rattle.obligation_list.specs.Obligations.{IsObligation};
-ghost use Rattle.conflict_variants.specs.Keyed.{sort_of_parameter as sort_of_parameter_of, CanBeKeyed};
-ghost use Rattle.suggest.specs.Pairs.{is_of_pair as is_of_pair_in, obligations_of_pair, IsPair, pair_at, key_at, pairs_from, pairs_of as pairs_in, keys_from, keys_of as keys_in};
+ghost use Rattle.conflict_variants.specs.Keyed.{sort_of_parameter as sort_of_parameter_of};
+ghost use Rattle.conflict_variants.specs.Keyed.{CanBeKeyed};
+ghost use Rattle.suggest.specs.Pairs.{is_of_pair as is_of_pair_in, obligations_of_pair, IsPair};
+ghost use Rattle.suggest.specs.Pairs.{pair_at, key_at, pairs_from, pairs_of as pairs_in, keys_from};
+ghost use Rattle.suggest.specs.Pairs.{keys_of as keys_in};
 ghost use Rattle.suggest.specs.declared.answer.Pair.{Pair};
 ghost use Rattle.suggest.specs.declared.answer.Key.{Key};
 
@@ -43,7 +46,8 @@ fn add_obligation(
     ob: &Obligation,
     pair: Pair,
 ) -> Result<(), AllocError>
-    ensures { OnOk result (listed.new ≡ listed.old ++ filter (is_of_pair_in pair.first pair.second) (ob.now ∷ [])) }
+    ensures { OnOk result
+        (listed.new ≡ listed.old ++ filter (is_of_pair_in pair.first pair.second) (ob.now ∷ [])) }
 {
     if is_of_pair(ob, pair) {
         listed.push(*ob)?;
@@ -56,7 +60,8 @@ fn those_of_pair(
     obligations: &[Obligation],
     pair: Pair,
 ) -> Result<Items<Obligation>, AllocError>
-    ensures { IfOk result (λ listed. listed ≡ filter (is_of_pair_in pair.first pair.second) obligations.now) }
+    ensures { IfOk result
+        (λ listed. listed ≡ filter (is_of_pair_in pair.first pair.second) obligations.now) }
 {
     let mut listed = Items::new(alloc);
     for ob in obligations {
@@ -67,8 +72,10 @@ fn those_of_pair(
 
 /// The obligations of a pair, in their order.
 pub fn list_pair(alloc: Global, spec: &Spec, pair: Pair) -> Result<Items<Obligation>, AllocError>
-    ensures list { IfOk result (λ listed. listed ≡ obligations_of_pair spec.now pair.first pair.second) }
-    ensures members { IfOk result (λ listed. (ob : Obligation) → Contains listed ob → IsObligation spec.now ob) }
+    ensures list { IfOk result
+        (λ listed. listed ≡ obligations_of_pair spec.now pair.first pair.second) }
+    ensures members { IfOk result
+        (λ listed. (ob : Obligation) → Contains listed ob → IsObligation spec.now ob) }
 {
     let obligations = list(alloc, spec)?;
     let listed = or_drop!(those_of_pair(alloc, obligations.as_slice(), pair); obligations);
@@ -79,7 +86,8 @@ pub fn list_pair(alloc: Global, spec: &Spec, pair: Pair) -> Result<Items<Obligat
 // ---- pairs
 
 fn add_pair(pairs: &mut Items<Pair>, first: u8, second: u8) -> Result<(), AllocError>
-    ensures { OnOk result (pairs.new ≡ pairs.old ++ (if nat_le first second then pair_at first second ∷ [] else [])) }
+    ensures { OnOk result
+        (pairs.new ≡ pairs.old ++ (if nat_le first second then pair_at first second ∷ [] else [])) }
 {
     if first <= second {
         pairs.push(Pair { first, second })?;
@@ -117,7 +125,8 @@ fn listed_pairs(alloc: Global, spec: &Spec) -> Result<Items<Pair>, AllocError>
 /// All pairs of operations of a specification, by the first one, and then by the second from the first on.
 pub fn list_pairs(alloc: Global, spec: &Spec) -> Result<Items<Pair>, AllocError>
     ensures list { IfOk result (λ pairs. pairs ≡ pairs_in spec.now) }
-    ensures members { IfOk result (λ pairs. (x : Pair) → Contains pairs x → IsPair spec.now x.first x.second) }
+    ensures members { IfOk result
+        (λ pairs. (x : Pair) → Contains pairs x → IsPair spec.now x.first x.second) }
 {
     let pairs = listed_pairs(alloc, spec)?;
     Ok(pairs)
@@ -162,7 +171,8 @@ fn add_key(keys: &mut Items<Key>, spec: &Spec, pair: Pair, p: u8, q: u8) -> Resu
     ensures { OnOk result
         (keys.new
         ≡ keys.old
-        ++ (if same_sort_of (sort_of_parameter_of spec.now pair.first p) (sort_of_parameter_of spec.now pair.second q) then key_at p q ∷ [] else [])) }
+        ++ (if same_sort_of (sort_of_parameter_of spec.now pair.first p)
+        (sort_of_parameter_of spec.now pair.second q) then key_at p q ∷ [] else [])) }
 {
     if same_sort(
         sort_of_parameter(spec, pair.first, p),
@@ -207,7 +217,8 @@ fn listed_keys(alloc: Global, spec: &Spec, pair: Pair) -> Result<Items<Key>, All
 pub fn list_keys(alloc: Global, spec: &Spec, pair: Pair) -> Result<Items<Key>, AllocError>
     requires { IsPair spec.now pair.first pair.second }
     ensures list { IfOk result (λ keys. keys ≡ keys_in spec.now pair.first pair.second) }
-    ensures members { IfOk result (λ keys. (k : Key) → Contains keys k → CanBeKeyed spec.now pair.first k.p pair.second k.q) }
+    ensures members { IfOk result
+        (λ keys. (k : Key) → Contains keys k → CanBeKeyed spec.now pair.first k.p pair.second k.q) }
 {
     let keys = listed_keys(alloc, spec, pair)?;
     Ok(keys)

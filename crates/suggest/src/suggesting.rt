@@ -5,6 +5,7 @@ ghost use Rattle.std.specs.List.{Contains};
 ghost use Rattle.byte_ports.specs.Faults.{IsFault};
 ghost use Rattle.byte_ports.specs.declared.text.WriteOut.TheVariants.{Fault};
 ghost use Rattle.byte_ports.specs.Written.{IsText};
+ghost use Rattle.check_run.specs.Checking.{progress};
 ghost use Rattle.conflict_variants.specs.Bare.{bare as bare_of};
 ghost use Rattle.suggest.specs.Pairs.{IsPair, pairs_of};
 ghost use Rattle.suggest.specs.Texts.{head_text, end_text};
@@ -32,8 +33,11 @@ fn suggest_one<K: Sink>(
     requires budget { 1 ≤ budget }
     requires pair { IsPair spec.now pair.first pair.second }
     requires bare { bare.now ≡ bare_of spec.now }
-    ensures pair { IsPairWritten spec.now budget pair tally (K.held out.old) (K.held out.new) result }
-    ensures fault { IfErr result (λ why. why ≡ Fault → IsFault (K.faults out.old) (K.faults out.new)) }
+    ensures pair { IsPairWritten spec.now budget pair (progress tally (K.held out.old))
+        (K.held out.new)
+        result }
+    ensures fault { IfErr result
+        (λ why. why ≡ Fault → IsFault (K.faults out.old) (K.faults out.new)) }
     ensures never_falls { K.faults out.old ≤ K.faults out.new }
 {
     let mut text = Vec::new(alloc);
@@ -60,7 +64,8 @@ fn suggest_each<K: Sink>(
     requires budget { 1 ≤ budget }
     requires bare { bare.now ≡ bare_of spec.now }
     ensures pairs { ArePairs spec.now budget (K.held out.old) (K.held out.new) result }
-    ensures fault { IfErr result (λ why. why ≡ Fault → IsFault (K.faults out.old) (K.faults out.new)) }
+    ensures fault { IfErr result
+        (λ why. why ≡ Fault → IsFault (K.faults out.old) (K.faults out.new)) }
     ensures never_falls { K.faults out.old ≤ K.faults out.new }
 {
     let mut tally = SuggestTally {
@@ -86,7 +91,8 @@ fn write_opening<K: Sink>(
 ) -> Result<(), WriteOut>
     requires { pairs ≡ length (pairs_of spec.now) }
     ensures text { IsText (head_text spec.now) (K.held out.old) (K.held out.new) result }
-    ensures fault { IfErr result (λ why. why ≡ Fault → IsFault (K.faults out.old) (K.faults out.new)) }
+    ensures fault { IfErr result
+        (λ why. why ≡ Fault → IsFault (K.faults out.old) (K.faults out.new)) }
     ensures never_falls { K.faults out.old ≤ K.faults out.new }
 {
     let mut text = Vec::new(alloc);
@@ -99,7 +105,8 @@ fn write_opening<K: Sink>(
 // The lines behind the pairs.
 fn write_closing<K: Sink>(alloc: Global, tally: SuggestTally, out: &mut K) -> Result<(), WriteOut>
     ensures text { IsText (end_text tally) (K.held out.old) (K.held out.new) result }
-    ensures fault { IfErr result (λ why. why ≡ Fault → IsFault (K.faults out.old) (K.faults out.new)) }
+    ensures fault { IfErr result
+        (λ why. why ≡ Fault → IsFault (K.faults out.old) (K.faults out.new)) }
     ensures never_falls { K.faults out.old ≤ K.faults out.new }
 {
     let mut text = Vec::new(alloc);
@@ -123,7 +130,8 @@ fn suggest_listed<K: Sink>(
     requires budget { 1 ≤ budget }
     requires bare { bare.now ≡ bare_of spec.now }
     ensures suggested { IsSuggested spec.now budget (K.held out.old) (K.held out.new) result }
-    ensures fault { IfErr result (λ why. why ≡ Fault → IsFault (K.faults out.old) (K.faults out.new)) }
+    ensures fault { IfErr result
+        (λ why. why ≡ Fault → IsFault (K.faults out.old) (K.faults out.new)) }
     ensures never_falls { K.faults out.old ≤ K.faults out.new }
 {
     match write_opening(alloc, spec, pairs.len(), out) {
@@ -151,7 +159,8 @@ pub fn suggest_all<K: Sink>(
     requires least { 1 ≤ budget }
     requires most { budget ≤ 1000000 }
     ensures suggested { IsSuggested spec.now budget (K.held out.old) (K.held out.new) result }
-    ensures fault { IfErr result (λ why. why ≡ Fault → IsFault (K.faults out.old) (K.faults out.new)) }
+    ensures fault { IfErr result
+        (λ why. why ≡ Fault → IsFault (K.faults out.old) (K.faults out.new)) }
     ensures never_falls { K.faults out.old ≤ K.faults out.new }
 {
     let Ok(pairs) = list_pairs(alloc, spec) else {

@@ -8,9 +8,13 @@ ghost use Rattle.conflict_variants.specs.Bare.{bare as bare_of};
 ghost use Rattle.conflict_variants.specs.Keyed.{CanBeKeyed};
 ghost use Rattle.report_lines.specs.Words.{line_text};
 ghost use Rattle.suggest.specs.Pairs.{IsPair, pairs_of, keys_of};
-ghost use Rattle.suggest.specs.Answers.{HaveLogs, is_refuted as is_refuted_of, keys_after, with_answer};
-ghost use Rattle.suggest.specs.Texts.{param_name as param_name_of, found_text, pair_word as pair_word_of, key_word as key_word_of, head_text, end_text, last_word as last_word_of};
-ghost use Rattle.suggest.specs.Writing.{CanBeWritten, IsKeyAppended, AreKeysAppended, IsBareAppended, IsPairAppended};
+ghost use Rattle.suggest.specs.Answers.{HaveLogs, is_refuted as is_refuted_of, keys_after};
+ghost use Rattle.suggest.specs.Answers.{with_answer};
+ghost use Rattle.suggest.specs.Texts.{param_name as param_name_of, found_text};
+ghost use Rattle.suggest.specs.Texts.{pair_word as pair_word_of, key_word as key_word_of};
+ghost use Rattle.suggest.specs.Texts.{head_text, end_text, last_word as last_word_of};
+ghost use Rattle.suggest.specs.Writing.{CanBeWritten, IsKeyAppended, AreKeysAppended, draft};
+ghost use Rattle.suggest.specs.Writing.{IsBareAppended, IsPairAppended};
 ghost use Rattle.suggest.specs.declared.answer.Key.{Key};
 ghost use Rattle.suggest.specs.declared.answer.Found.{Found};
 
@@ -139,9 +143,11 @@ fn write_keys(
     text: &mut Vec<u8>,
 ) -> Result<(), AllocError>
     requires budget { 1 ≤ budget }
-    requires keyed { (k : Key) → Contains keys.now k → CanBeKeyed spec.now pair.first k.p pair.second k.q }
+    requires keyed { (k : Key) → Contains keys.now k
+        → CanBeKeyed spec.now pair.first k.p pair.second k.q }
     requires free { HaveLogs (bare_of spec.now) budget free.now }
-    ensures { OnOk result (AreKeysAppended spec.now budget pair keys.now text.old.items text.new.items) }
+    ensures { OnOk result
+        (AreKeysAppended spec.now budget pair keys.now text.old.items text.new.items) }
 {
     for key in keys {
         write_key(alloc, spec, budget, pair, *key, free, known, text)?;
@@ -179,6 +185,8 @@ fn write_keys_after(
 
 // ---- pairs
 
+/// Whether some obligation of a pair was refuted, so that the pair is needed, or its parameters aren't enough. One that is undecided is
+/// not refuted.
 pub fn is_refuted(found: &Found) -> bool
     ensures { result ≡ is_refuted_of found.now }
 {
@@ -228,7 +236,9 @@ fn write_bare(
     requires budget { 1 ≤ budget }
     requires bare { bare.now ≡ bare_of spec.now }
     requires proved { HaveLogs (bare_of spec.now) budget proved.old }
-    ensures text { IfOk result (λ x. IsBareAppended spec.now budget pair tally x.0 x.1 text.old.items text.new.items) }
+    ensures text { IfOk result
+        (λ x. IsBareAppended spec.now budget pair (draft tally text.old.items) x.0
+        (draft x.1 text.new.items)) }
     ensures proved { OnOk result (HaveLogs (bare_of spec.now) budget proved.new) }
 {
     let found = find_bare(alloc, bare, budget, pair, known, proved)?;
@@ -254,13 +264,20 @@ pub fn write_pair(
     requires budget { 1 ≤ budget }
     requires pair { IsPair spec.now pair.first pair.second }
     requires bare { bare.now ≡ bare_of spec.now }
-    ensures { IfOk result (λ now. IsPairAppended spec.now budget pair tally now text.old.items text.new.items) }
+    ensures { IfOk result
+        (λ now. IsPairAppended spec.now budget pair (draft tally text.old.items)
+        (draft now text.new.items)) }
 {
     let mut known = Known::new(alloc);
     let mut proved = Items::new(alloc);
-    let written =
-        or_drop!(write_bare(alloc, spec, bare, budget, pair, tally, &mut known, &mut proved, text); known, proved);
-    or_drop!(write_keys_after(alloc, spec, budget, pair, written.0, proved.as_slice(), &mut known, text); known, proved);
+    let written = or_drop!(
+        write_bare(alloc, spec, bare, budget, pair, tally, &mut known, &mut proved, text);
+        known, proved
+    );
+    or_drop!(
+        write_keys_after(alloc, spec, budget, pair, written.0, proved.as_slice(), &mut known, text);
+        known, proved
+    );
     drop(known);
     drop(proved);
     Ok(written.1)
@@ -298,7 +315,9 @@ fn write_counts(
     ensures { OnOk result
         (text.new.items
         ≡ text.old.items
-        ++ line_text (codes "summary" ∷ codes "needed" ∷ needed.now ∷ codes "free" ∷ free.now ∷ codes "unknown" ∷ unknown.now ∷ [])) }
+        ++ line_text
+        (codes "summary" ∷ codes "needed" ∷ needed.now ∷ codes "free" ∷ free.now ∷ codes "unknown"
+        ∷ unknown.now ∷ [])) }
 {
     write_words(
         text,

@@ -2,7 +2,7 @@ use Rattle.std.proofs.Common.{◌<◌, ◌≤◌, ◌+◌, Ok, Err, length, get_
 use Rattle.obligation_list.specs.declared.obligation.Obligation.TheVariants.{Init}
 use Rattle.proof_report.specs.Events.{told}
 use Rattle.report_bytes.specs.Showing.{shown_verdict}
-use Rattle.check_run.specs.Checking.{IsBlock}
+use Rattle.check_run.specs.Checking.{progress, IsBlock}
 use Rattle.check_run.proofs.Blocks.{none_written, next_written, stopped_written, all_written, told_next}
 use Rattle.check_run.proofs.checking.check_each.Goals as goal
 
@@ -18,7 +18,7 @@ loop-ob-preserved g c =
     let b = c.in-Ok.ensures.block in
     let listed = c.requires.listed in
     let here = subst (λ os. i < length os) listed c.loop-ob-test.true in
-    let block = subst (λ os. IsBlock d c.args.budget (get_or os i (Init 0)) c.loop-ob.tally c.check_one.new.tally mid after (Ok tt)) listed b in
+    let block = subst (λ os. IsBlock d c.args.budget (get_or os i (Init 0)) (progress c.loop-ob.tally mid) (progress c.check_one.new.tally after) (Ok tt)) listed b in
     let before = c.loop-ob.invariant.2 in
     let now = c.in-Ok.ensures.never_falls in (
       next_written d c.args.budget i c.loop-ob.tally (g.K.Sink.held c.args.out.now) mid after here c.loop-ob.invariant.0 c.check_one.new.tally block,
@@ -35,7 +35,7 @@ returns-in-Err-clause-blocks g c =
     let why = c.in-Err.why in
     let listed = c.requires.listed in
     let here = subst (λ os. i < length os) listed c.loop-ob-test.true in
-    let block = subst (λ os. IsBlock d c.args.budget (get_or os i (Init 0)) c.loop-ob.tally c.check_one.new.tally mid after (Err why)) listed c.in-Err.ensures.block in
+    let block = subst (λ os. IsBlock d c.args.budget (get_or os i (Init 0)) (progress c.loop-ob.tally mid) (progress c.check_one.new.tally after) (Err why)) listed c.in-Err.ensures.block in
     stopped_written d c.args.budget i c.loop-ob.tally (g.K.Sink.held c.args.out.now) mid after here c.loop-ob.invariant.0 c.check_one.new.tally why block
 
 pub returns-clause-blocks : goal.returns-clause-blocks

@@ -2,7 +2,7 @@ use Rattle.std.proofs.Common.{◌≡◌, ℕ, ◌+◌, subst, arith}
 use Rattle.spec_core.specs.State.{Listing, reads}
 use Rattle.obligation_list.specs.Breaking.{Breaks}
 use Rattle.proof_report.specs.Verdicts.{obligation_at}
-use Rattle.proof_report.specs.Reader.{reads_of}
+use Rattle.report_reader.specs.Reader.{reads_of}
 use Rattle.report_verifier.proofs.Same.{report_verdicts}
 use Rattle.report_verifier.proofs.Valid.{valid_at}
 use Rattle.proof_report.specs.Verdicts.{refuted}

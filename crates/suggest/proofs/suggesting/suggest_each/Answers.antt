@@ -1,5 +1,6 @@
 use Rattle.std.proofs.Common.{◌<◌, ◌≤◌, Ok, Err, List, length, get_or, subst, arith}
 use Rattle.std.proofs.lemmas.List.Elements.{Contains-get_or}
+use Rattle.check_run.specs.Checking.{progress}
 use Rattle.suggest.specs.Writing.{IsPairWritten}
 use Rattle.suggest.specs.declared.answer.Pair.{Pair}
 use Rattle.suggest.proofs.Written.{none_written, next_written, stopped_written, all_written}
@@ -21,7 +22,7 @@ loop-pair-preserved g c =
     let after = g.K.Sink.held c.suggest_one.new.out in
     let listed = c.requires.listed in
     let here = subst (λ (ps : List Pair). i < length ps) listed c.loop-pair-test.true in
-    let one = subst (λ (ps : List Pair). IsPairWritten d c.args.budget (get_or ps i (record { first = 0; second = 0 })) c.loop-pair.tally mid after (Ok c.in-Ok.now)) listed c.in-Ok.ensures.pair in
+    let one = subst (λ (ps : List Pair). IsPairWritten d c.args.budget (get_or ps i (record { first = 0; second = 0 })) (progress c.loop-pair.tally mid) after (Ok c.in-Ok.now)) listed c.in-Ok.ensures.pair in
     let before = c.loop-pair.invariant.1 in
     let now = c.in-Ok.ensures.never_falls in (
       next_written d c.args.budget i c.loop-pair.tally (g.K.Sink.held c.args.out.now) mid after (record { first = 0; second = 0 }) here c.loop-pair.invariant.0 c.in-Ok.now one,
@@ -37,7 +38,7 @@ returns-in-Err-clause-pairs g c =
     let why = c.in-Err.why in
     let listed = c.requires.listed in
     let here = subst (λ (ps : List Pair). i < length ps) listed c.loop-pair-test.true in
-    let one = subst (λ (ps : List Pair). IsPairWritten d c.args.budget (get_or ps i (record { first = 0; second = 0 })) c.loop-pair.tally mid after (Err why)) listed c.in-Err.ensures.pair in
+    let one = subst (λ (ps : List Pair). IsPairWritten d c.args.budget (get_or ps i (record { first = 0; second = 0 })) (progress c.loop-pair.tally mid) after (Err why)) listed c.in-Err.ensures.pair in
     stopped_written d c.args.budget i c.loop-pair.tally (g.K.Sink.held c.args.out.now) mid after (record { first = 0; second = 0 }) here c.loop-pair.invariant.0 why one
 
 pub returns-clause-pairs : goal.returns-clause-pairs

@@ -1,7 +1,7 @@
 use Rattle.std.proofs.Common.{◌≡◌, ◌∙◌, subst}
 use Rattle.report_verifier.specs.Verifier.{VerifierForm, IsTaken}
 use Rattle.report_verifier.proofs.Lines.{fed_so}
-use Rattle.proof_report.specs.Resolving.{resolve_told}
+use Rattle.report_reader.specs.Resolving.{resolve_told}
 use Rattle.report_verifier.proofs.verifier.Verifier.feed.Goals as goal
 
 pub returns-in-Some : goal.returns-in-Some

@@ -1,5 +1,5 @@
 use Rattle.std.proofs.Common.{sym, refl}
-use Rattle.proof_report.specs.Resolving.{resolve_told}
+use Rattle.report_reader.specs.Resolving.{resolve_told}
 use Rattle.report_bytes.specs.Collecting.{budget_in}
 use Rattle.report_verifier.proofs.Within.{told_so, within_so}
 use Rattle.report_verifier.proofs.verifier.Verifier.take_resolve.Goals as goal

@@ -1,5 +1,0 @@
-use Rattle.std.proofs.Common.{length}
-use Rattle.proof_report.proofs.showing.+add_readings.Given as goal
-
-abbrev pub decreases-add_readings : goal.decreases-add_readings
-decreases-add_readings l = length l.readings.now

@@ -1,0 +1,6 @@
+pub mod Ordered
+pub mod FewElements
+pub mod States
+pub mod Kept
+pub mod Answering
+pub mod ResolveLines

@@ -1,0 +1,22 @@
+// A report is read line by line: what each line says, or the first fault.
+//
+// It stands on `proof_report`, whose definitions say which line may come at each place, what it must say besides, and the place behind
+// it, and on `report_lines`, which has the formats of single lines. It decides nothing: whether a log is good, and whether a witness
+// breaks its obligation, is asked elsewhere.
+//
+// Definitions: specs/Reader (what a reader keeps between two lines, and what it tells of each), specs/Resolving (lines that resolve two
+// clauses). `reading` reads the line that may come, `saying` asks whether it is true, `moving` goes on to the place behind it, `feeding`
+// joins these, and `reader` is the whole.
+#![tactic(auto)]
+
+mod elements;
+mod feeding;
+mod moving;
+mod reader;
+mod reading;
+pub mod resolving;
+mod saying;
+mod showing;
+
+pub use reader::ReportReader;
+pub use resolving::ResolveLine;
