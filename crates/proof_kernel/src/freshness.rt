@@ -1,7 +1,8 @@
 // Fresh logs: no line drops a clause, and the clause of each line contains no earlier one, holds no atom both ways and isn't
 // empty.
 //
-// An index finds the earlier clauses that lie within a clause. A literal has a spot, and each earlier clause stands in the list
+// An index finds the earlier clauses that lie within a clause. The long ones stand in blocks, of which src/blocks.rt speaks, and the
+// others in lists. A literal has a spot, and each of these clauses stands in the list
 // of the spot of one of its literals: the rarest, which fewest of the clauses before it had. A clause that lies within another shares
 // that literal with it, so it stands in a list of the other's spots. Its entry has the spots of the three next rarest literals too, so
 // that a look at some marks passes over nearly all entries, without a look at their clauses. Clauses without literals stand in the list
@@ -13,20 +14,31 @@
 // The spots of a clause are marked while it is looked at. So whether an earlier clause may lie within it is one pass over the earlier
 // one, from where the last such pass ended to a literal without a mark, and whether it may hold an atom both ways is one pass over its own
 // literals. Where all are marked the lists are compared, once for a log that isn't fresh.
-ghost use Rattle.std.specs.Prelude.{◌≡◌, ◌+◌, ◌*◌, ◌^◌, ◌<◌, ◌≤◌, ◌++◌, ◌∷◌, true, cond, is_none, IfOk, OnOk, drop, take, length, is_some, map, slice_index_or, slice_set, Some, None, []};
+ghost use Rattle.std.specs.Prelude.{◌≡◌, ◌+◌, ◌*◌, ◌^◌, ◌<◌, ◌≤◌, ◌||◌, ◌++◌, ◌∷◌, true, cond, is_none, IfOk, OnOk, drop, take, length, is_some, map, slice_index_or, slice_set, Some, None, []};
 ghost use Rattle.std.specs.List.{list_all, list_any};
 ghost use Rattle.proof_lines.specs.Clauses.{sub, holds_both_ways};
 ghost use Rattle.proof_kernel.specs.Rules.{live_of};
 ghost use Rattle.proof_lines.specs.Numbers.{stands_in};
 ghost use Rattle.proof_kernel.specs.Evidence.{is_new, each_new};
-ghost use Rattle.proof_kernel.specs.Index.{HasNoEntry, HasNoMark, slot_new, IsIndex, PutsOne, finds, finds_marked, marked, all_marked, lits_marked, any_opposite_marked, marked_both_ways, marked_within, marked_slot_within, sign_number, spot, spots, with_marks};
+ghost use Rattle.proof_kernel.specs.Index.{HasNoEntry, HasNoMark, slot_new, PutsOne, finds, finds_marked, marked, all_marked, lits_marked, any_opposite_marked, marked_both_ways, marked_within, marked_slot_within, sign_number, spot, spots, with_marks, MarksAre};
+ghost use Rattle.proof_kernel.specs.Blocks.{finds_long, BlocksFit};
+ghost use Rattle.proof_kernel.specs.Puts.{IsIndex, PutsEither};
 
+use crate::blocks::{Blocks, any_long_within, is_long, no_blocks, put_long};
 use items::Items;
 use proof_lines::clause::{Clause, Lit, holds_both_ways, is_within};
 use std::alloc::{AllocError, Global};
 
 // How many places before the last one a search for a literal without a mark begins.
 const MOST_SHIFT: usize = 2;
+
+/// What shortens looks at clauses and decides nothing: the place where the last search for a literal without a mark ended, and spots that
+/// ruled out clauses of blocks.
+#[derive(Drop)]
+struct Hints {
+    place: usize,
+    telling: Vec<usize>,
+}
 
 /// An earlier clause in a list of the index: its number, and the spots of three of its literals, or 0 where it has fewer.
 #[derive(Clone, Copy)]
@@ -45,7 +57,7 @@ fn sign_number(positive: bool) -> usize
 }
 
 // The spot of a literal, of so many spots.
-fn spot(count: usize, lit: Lit) -> usize
+pub fn spot(count: usize, lit: Lit) -> usize
     requires { 0 < count }
     ensures is { result ≡ spot count lit }
     ensures below { result < count }
@@ -58,7 +70,7 @@ fn spot(count: usize, lit: Lit) -> usize
     }
 }
 
-fn is_marked(marks: &[bool], at: usize) -> bool
+pub fn is_marked(marks: &[bool], at: usize) -> bool
     ensures { result ≡ marked marks.now at }
 {
     at == 0 || (at < marks.len() && marks[at])
@@ -131,7 +143,7 @@ fn marked_both_ways(count: usize, marks: &[bool], lits: &[Lit]) -> bool
 }
 
 // Whether the clause of a number has marked spots alone and lies within another.
-fn marked_slot_within(
+pub fn marked_slot_within(
     count: usize,
     marks: &[bool],
     slots: &[Option<Clause>],
@@ -234,24 +246,56 @@ fn finds_at_literals(
     false
 }
 
+// Whether one of the earlier clauses, in a list or in a block, lies within a clause whose spots are marked.
+fn finds_either(
+    count: usize,
+    marks: &[bool],
+    slots: &[Option<Clause>],
+    lists: &[Items<Entry>],
+    long: &Blocks,
+    lits: &[Lit],
+    hints: &mut Hints,
+) -> bool
+    requires some { 0 < count }
+    requires marks { MarksAre count marks.now lits.now }
+    requires fits { BlocksFit count slots.now long.now }
+    ensures { result ≡ (finds count slots.now lists.now lits.now || finds_long slots.now long.now lits.now) }
+{
+    let listed = finds_marked(count, marks, slots, lists, lits, &mut hints.place);
+    if listed {
+        return true;
+    }
+    any_long_within(
+        count,
+        marks,
+        slots,
+        lits,
+        long,
+        &mut hints.place,
+        &mut hints.telling,
+    )
+}
+
 // Whether one of the earlier clauses lies within a clause.
 fn finds(
     count: usize,
     marks: &mut Vec<bool>,
     slots: &[Option<Clause>],
     lists: &[Items<Entry>],
+    long: &Blocks,
     lits: &[Lit],
-    hint: &mut usize,
+    hints: &mut Hints,
 ) -> bool
     requires some { 0 < count }
     requires sized { length marks.old.items ≡ count }
     requires clear { HasNoMark marks.old.items }
-    ensures is { result ≡ finds count slots.now lists.now lits.now }
+    requires fits { BlocksFit count slots.now long.now }
+    ensures is { result ≡ (finds count slots.now lists.now lits.now || finds_long slots.now long.now lits.now) }
     ensures sized { length marks.new.items ≡ count }
     ensures clear { HasNoMark marks.new.items }
 {
     mark(marks, count, lits, true);
-    let found = finds_marked(count, marks.as_slice(), slots, lists, lits, hint);
+    let found = finds_either(count, marks.as_slice(), slots, lists, long, lits, hints);
     mark(marks, count, lits, false);
     found
 }
@@ -355,22 +399,49 @@ fn put(
     put_at(lists, first, entry)
 }
 
+// Puts a clause into the index: into a block where it is long, and else into a list.
+fn put_clause(
+    alloc: Global,
+    count: usize,
+    seen: &mut Vec<usize>,
+    lists: &mut Vec<Items<Entry>>,
+    long: &mut Blocks,
+    number: usize,
+    lits: &[Lit],
+) -> Result<(), AllocError>
+    requires some { 0 < count }
+    requires listed { length lists.old.items ≡ count }
+    requires room { length long.old.last.numbers < 128 }
+    requires sized { length long.old.last.masks.items ≡ count }
+    ensures listed { OnOk result (length lists.new.items ≡ count) }
+    ensures puts { OnOk result (PutsEither count lits.now number lists.old.items lists.new.items long.old long.new) }
+{
+    if is_long(count, lits) {
+        return put_long(alloc, count, long, number, lits);
+    }
+    put(count, seen, lists, number, lits)
+}
+
 // Puts the clause of a number into the index, unless it was dropped.
 fn put_slot(
+    alloc: Global,
     count: usize,
     slots: &[Option<Clause>],
     seen: &mut Vec<usize>,
     lists: &mut Vec<Items<Entry>>,
+    long: &mut Blocks,
     number: usize,
 ) -> Result<(), AllocError>
     requires some { 0 < count }
     requires listed { length lists.old.items ≡ count }
+    requires fits { BlocksFit count slots.now long.old }
     requires there { number < length slots.now }
     ensures listed { OnOk result (length lists.new.items ≡ count) }
-    ensures next { OnOk result (IsIndex count slots.now lists.old.items (live_of (take number slots.now)) → IsIndex count slots.now lists.new.items (live_of (take (number + 1) slots.now))) }
+    ensures fits { OnOk result (BlocksFit count slots.now long.new) }
+    ensures next { OnOk result (IsIndex count slots.now lists.old.items long.old (live_of (take number slots.now)) → IsIndex count slots.now lists.new.items long.new (live_of (take (number + 1) slots.now))) }
 {
     match &slots[number] {
-        Some(clause) => put(count, seen, lists, number, clause.lits()),
+        Some(clause) => put_clause(alloc, count, seen, lists, long, number, clause.lits()),
         None => Ok(()),
     }
 }
@@ -386,24 +457,29 @@ fn empty_lists(alloc: Global, count: usize) -> Result<Vec<Items<Entry>>, AllocEr
     Ok(lists)
 }
 
-// The index of the clauses before a number, which are counted at their spots.
-fn index_before(
+// Puts the clauses before a number into an empty index.
+fn put_before(
     alloc: Global,
     count: usize,
     slots: &[Option<Clause>],
     seen: &mut Vec<usize>,
+    lists: &mut Vec<Items<Entry>>,
+    long: &mut Blocks,
     number: usize,
-) -> Result<Vec<Items<Entry>>, AllocError>
+) -> Result<(), AllocError>
     requires some { 0 < count }
     requires there { number ≤ length slots.now }
-    ensures sized { IfOk result (λ lists. length lists.items ≡ count) }
-    ensures is { IfOk result (λ lists. IsIndex count slots.now lists.items (live_of (take number slots.now))) }
+    requires listed { length lists.old.items ≡ count }
+    requires fits { BlocksFit count slots.now long.old }
+    requires none { IsIndex count slots.now lists.old.items long.old [] }
+    ensures listed { OnOk result (length lists.new.items ≡ count) }
+    ensures fits { OnOk result (BlocksFit count slots.now long.new) }
+    ensures is { OnOk result (IsIndex count slots.now lists.new.items long.new (live_of (take number slots.now))) }
 {
-    let mut lists = empty_lists(alloc, count)?;
     for i in 0..number {
-        put_slot(count, slots, seen, &mut lists, i)?;
+        put_slot(alloc, count, slots, seen, lists, long, i)?;
     }
-    Ok(lists)
+    Ok(())
 }
 
 // Whether the clause of a number, if it wasn't dropped, is new among those before it.
@@ -412,26 +488,67 @@ fn is_slot_new(
     marks: &mut Vec<bool>,
     slots: &[Option<Clause>],
     lists: &[Items<Entry>],
+    long: &Blocks,
     number: usize,
-    hint: &mut usize,
+    hints: &mut Hints,
 ) -> bool
     requires some { 0 < count }
     requires sized { length marks.old.items ≡ count }
     requires clear { HasNoMark marks.old.items }
     requires there { number < length slots.now }
-    requires before { IsIndex count slots.now lists.now (live_of (take number slots.now)) }
+    requires fits { BlocksFit count slots.now long.now }
+    requires before { IsIndex count slots.now lists.now long.now (live_of (take number slots.now)) }
     ensures is { result ≡ slot_new (live_of (take number slots.now)) (slice_index_or slots.now number None) }
     ensures sized { length marks.new.items ≡ count }
     ensures clear { HasNoMark marks.new.items }
 {
     match &slots[number] {
         Some(clause) => {
-            let found = finds(count, marks, slots, lists, clause.lits(), hint);
+            let found = finds(count, marks, slots, lists, long, clause.lits(), hints);
             let both = is_both_ways(count, marks, clause.lits());
             !found && !both && !clause.is_empty()
         }
         None => true,
     }
+}
+
+// Whether each clause from a number on is new, by an index of those before the number.
+fn each_new_after(
+    alloc: Global,
+    count: usize,
+    slots: &[Option<Clause>],
+    seen: &mut Vec<usize>,
+    lists: &mut Vec<Items<Entry>>,
+    long: &mut Blocks,
+    given: usize,
+) -> Result<bool, AllocError>
+    requires some { 0 < count }
+    requires there { given ≤ length slots.now }
+    requires listed { length lists.old.items ≡ count }
+    requires fits { BlocksFit count slots.now long.old }
+    requires before { IsIndex count slots.now lists.old.items long.old (live_of (take given slots.now)) }
+    ensures { IfOk result (λ b. b ≡ each_new (live_of (take given slots.now)) (live_of (drop given slots.now))) }
+{
+    let mut marks = vec![in alloc; false; count]?;
+    let mut hints = Hints {
+        place: 0,
+        telling: Vec::new(alloc),
+    };
+    for i in given..slots.len() {
+        if !is_slot_new(
+            count,
+            &mut marks,
+            slots,
+            lists.as_slice(),
+            long,
+            i,
+            &mut hints,
+        ) {
+            return Ok(false);
+        }
+        put_slot(alloc, count, slots, seen, lists, long, i)?;
+    }
+    Ok(true)
 }
 
 fn each_new_by_index(
@@ -444,17 +561,11 @@ fn each_new_by_index(
     requires there { given ≤ length slots.now }
     ensures { IfOk result (λ b. b ≡ each_new (live_of (take given slots.now)) (live_of (drop given slots.now))) }
 {
-    let mut marks = vec![in alloc; false; count]?;
     let mut seen = vec![in alloc; 0; count]?;
-    let mut lists = index_before(alloc, count, slots, &mut seen, given)?;
-    let mut hint = 0;
-    for i in given..slots.len() {
-        if !is_slot_new(count, &mut marks, slots, lists.as_slice(), i, &mut hint) {
-            return Ok(false);
-        }
-        put_slot(count, slots, &mut seen, &mut lists, i)?;
-    }
-    Ok(true)
+    let mut lists = empty_lists(alloc, count)?;
+    let mut long = no_blocks(alloc, count)?;
+    put_before(alloc, count, slots, &mut seen, &mut lists, &mut long, given)?;
+    each_new_after(alloc, count, slots, &mut seen, &mut lists, &mut long, given)
 }
 
 fn holds_one_within(earlier: &[Option<Clause>], lits: &[Lit]) -> bool

@@ -13,6 +13,7 @@
 
 pub mod answer;
 mod atoms;
+mod blocks;
 mod freshness;
 pub mod kernel;
 pub mod log;

@@ -1,0 +1,342 @@
+// Blocks of long clauses, by which one look tells of many clauses that none of them lies within another clause.
+//
+// A block has up to 128 clauses, and a mask for each spot: the bit of a place is set where the clause at this place has a literal of the
+// spot. While a clause is looked at its spots are marked, and a clause that lies within it has marked spots alone. So the mask of a spot
+// without a mark rules out all its places at once. Clauses that aren't ruled out are looked at one by one; mostly there is none.
+//
+// Of two long clauses each has most literals of the other, and a list of the clauses with a common literal has nearly all of them. But
+// nearly all have each literal that a clause lacks, and so few masks rule out a whole block. Those that did are asked first in the next
+// block, then all. What is asked of a block is at most one mask for each spot, whatever its clauses are.
+//
+// The masks of a block take 16 bytes for each spot. A clause is long only where it has one in 64 of all spots, and so a block's masks
+// take no more than the literals of its clauses.
+ghost use Rattle.std.specs.Prelude.{◌≡◌, ◌++◌, ◌∷◌, ◌<◌, ◌≤◌, ◌||◌, [], true, false, None, Some, IfOk, OnOk, length, slice_index_or};
+ghost use Rattle.std.specs.Int.{bit_at};
+ghost use Rattle.std.specs.List.{list_any};
+ghost use Rattle.proof_kernel.specs.Index.{MarksAre};
+ghost use Rattle.proof_kernel.specs.Blocks.{number_within, block_within, finds_long, AllFit, BlockFits, BlocksFit, RulesOut, AreNotWithin, BitsAre, PutsNumber, PutsLong, MovesLast, IsEmptyBlock, HasNoLong};
+
+use crate::freshness::{is_marked, marked_slot_within, spot};
+use items::Items;
+use proof_lines::clause::{Clause, Lit};
+use std::alloc::{AllocError, Global};
+use std::mem;
+
+// How many clauses a block has at most, one for each bit of a mask.
+const PLACES: usize = 128;
+
+// From so many literals on a clause is long where it has at least one in `MANY_SHARE` of all spots, and below it where it has one in
+// `FEW_SHARE`: of short clauses that have few of the spots the lists leave few to look at.
+const MANY_LITS: usize = 64;
+
+const MANY_SHARE: usize = 64;
+
+const FEW_SHARE: usize = 4;
+
+// How many spots are kept that ruled out places.
+const MOST_TELLING: usize = 64;
+
+/// Some long clauses by their numbers, and for each spot the places of the clauses that have a literal of it, as bits.
+#[derive(Drop)]
+pub struct Block {
+    numbers: Items<usize>,
+    masks: Vec<u128>,
+}
+
+/// All long clauses, in blocks: those that have no room, and one that has.
+#[derive(Drop)]
+pub struct Blocks {
+    full: Vec<Block>,
+    last: Block,
+}
+
+/// Whether a clause is long, of so many spots.
+pub fn is_long(count: usize, lits: &[Lit]) -> bool {
+    let share = if lits.len() < MANY_LITS {
+        FEW_SHARE
+    } else {
+        MANY_SHARE
+    };
+    lits.len().saturating_mul(share) >= count
+}
+
+fn mask_at(masks: &[u128], at: usize) -> u128
+    ensures { result ≡ slice_index_or masks.now at 0 }
+{
+    match masks.get(at) {
+        Some(mask) => *mask,
+        None => 0,
+    }
+}
+
+// The places that a spot rules out: those of its mask, where it isn't marked.
+fn ruled_out_at(marks: &[bool], masks: &[u128], at: usize) -> u128
+    ensures { RulesOut marks.now masks.now result }
+{
+    if is_marked(marks, at) {
+        return 0;
+    }
+    mask_at(masks, at)
+}
+
+// The places that some spots rule out. The spot that completes them comes before others.
+fn ruled_out_first(marks: &[bool], masks: &[u128], telling: &mut Vec<usize>) -> u128
+    ensures { RulesOut marks.now masks.now result }
+{
+    let mut out = 0;
+    for i in 0..telling.len() {
+        out |= ruled_out_at(marks, masks, telling[i]);
+        if out == u128::MAX {
+            telling.swap(i, i / 2);
+            return out;
+        }
+    }
+    out
+}
+
+// Keeps a spot that ruled out places, where there is room.
+fn keep_telling(telling: &mut Vec<usize>, at: usize) {
+    if telling.len() < MOST_TELLING {
+        match telling.push(at) {
+            Ok(()) => (),
+            Err(_) => (),
+        }
+    }
+}
+
+// The places that some spots ruled out, and those that all others do.
+fn ruled_out_by_all(marks: &[bool], masks: &[u128], first: u128, telling: &mut Vec<usize>) -> u128
+    requires { RulesOut marks.now masks.now first }
+    ensures { RulesOut marks.now masks.now result }
+{
+    let mut out = first;
+    for at in 0..masks.len() {
+        let more = out | ruled_out_at(marks, masks, at);
+        if more != out {
+            keep_telling(telling, at);
+        }
+        out = more;
+        if out == u128::MAX {
+            return out;
+        }
+    }
+    out
+}
+
+fn ruled_out(marks: &[bool], masks: &[u128], telling: &mut Vec<usize>) -> u128
+    ensures { RulesOut marks.now masks.now result }
+{
+    let first = ruled_out_first(marks, masks, telling);
+    if first == u128::MAX {
+        return first;
+    }
+    ruled_out_by_all(marks, masks, first, telling)
+}
+
+fn has_bit(mask: u128, place: usize) -> bool
+    requires { place < 128 }
+    ensures yes { result ≡ true → bit_at mask place ≡ 1 }
+{
+    (mask >> place) & 1 == 1
+}
+
+// Whether the clause of a number, which may have been ruled out, lies within another.
+fn is_left_within(
+    count: usize,
+    marks: &[bool],
+    slots: &[Option<Clause>],
+    lits: &[Lit],
+    ruled: bool,
+    number: usize,
+    hint: &mut usize,
+) -> bool
+    requires some { 0 < count }
+    requires marks { MarksAre count marks.now lits.now }
+    requires out { ruled ≡ true → number_within slots.now lits.now number ≡ false }
+    ensures { result ≡ number_within slots.now lits.now number }
+{
+    if ruled {
+        return false;
+    }
+    marked_slot_within(count, marks, slots, number, lits, hint)
+}
+
+// Whether one of the clauses of some numbers, of which those at set bits are ruled out, lies within another.
+fn any_left_within(
+    count: usize,
+    marks: &[bool],
+    slots: &[Option<Clause>],
+    lits: &[Lit],
+    numbers: &[usize],
+    out: u128,
+    hint: &mut usize,
+) -> bool
+    requires some { 0 < count }
+    requires marks { MarksAre count marks.now lits.now }
+    requires few { length numbers.now ≤ 128 }
+    requires out { AreNotWithin slots.now lits.now numbers.now out }
+    ensures { result ≡ list_any (number_within slots.now lits.now) numbers.now }
+{
+    for (i, number) in numbers.iter().enumerate() {
+        let ruled = has_bit(out, i);
+        if is_left_within(count, marks, slots, lits, ruled, *number, hint) {
+            return true;
+        }
+    }
+    false
+}
+
+// Whether one of the clauses of a block lies within another.
+fn any_in_block(
+    count: usize,
+    marks: &[bool],
+    slots: &[Option<Clause>],
+    lits: &[Lit],
+    block: &Block,
+    hint: &mut usize,
+    telling: &mut Vec<usize>,
+) -> bool
+    requires some { 0 < count }
+    requires marks { MarksAre count marks.now lits.now }
+    requires fits { BlockFits count slots.now block.now }
+    ensures { result ≡ block_within slots.now lits.now block.now }
+{
+    let out = ruled_out(marks, block.masks.as_slice(), telling);
+    if out == u128::MAX {
+        return false;
+    }
+    let numbers = block.numbers.as_slice();
+    any_left_within(count, marks, slots, lits, numbers, out, hint)
+}
+
+fn any_in_full(
+    count: usize,
+    marks: &[bool],
+    slots: &[Option<Clause>],
+    lits: &[Lit],
+    full: &[Block],
+    hint: &mut usize,
+    telling: &mut Vec<usize>,
+) -> bool
+    requires some { 0 < count }
+    requires marks { MarksAre count marks.now lits.now }
+    requires fits { AllFit count slots.now full.now }
+    ensures { result ≡ list_any (block_within slots.now lits.now) full.now }
+{
+    for block in full {
+        if any_in_block(count, marks, slots, lits, block, hint, telling) {
+            return true;
+        }
+    }
+    false
+}
+
+/// Whether one of the long clauses lies within another clause.
+pub fn any_long_within(
+    count: usize,
+    marks: &[bool],
+    slots: &[Option<Clause>],
+    lits: &[Lit],
+    long: &Blocks,
+    hint: &mut usize,
+    telling: &mut Vec<usize>,
+) -> bool
+    requires some { 0 < count }
+    requires marks { MarksAre count marks.now lits.now }
+    requires fits { BlocksFit count slots.now long.now }
+    ensures { result ≡ finds_long slots.now long.now lits.now }
+{
+    telling.clear();
+    any_in_full(
+        count,
+        marks,
+        slots,
+        lits,
+        long.full.as_slice(),
+        hint,
+        telling,
+    ) || any_in_block(count, marks, slots, lits, &long.last, hint, telling)
+}
+
+// Sets the bit of a place in the masks of the spots of literals.
+fn set_bits(masks: &mut Vec<u128>, count: usize, lits: &[Lit], place: usize)
+    requires some { 0 < count }
+    requires within { place < 128 }
+    requires sized { length masks.old.items ≡ count }
+    ensures sized { length masks.new.items ≡ count }
+    ensures bits { BitsAre count lits.now place masks.old.items masks.new.items }
+{
+    for lit in lits {
+        let at = spot(count, *lit);
+        let mask = mask_at(masks.as_slice(), at);
+        masks[at] = mask | (1u128 << place);
+    }
+}
+
+fn empty_block(alloc: Global, count: usize) -> Result<Block, AllocError>
+    ensures { IfOk result (IsEmptyBlock count) }
+{
+    let masks = vec![in alloc; 0; count]?;
+    Ok(Block {
+        numbers: Items::new(alloc),
+        masks,
+    })
+}
+
+// Puts a clause into a block.
+fn put_in_block(
+    block: &mut Block,
+    count: usize,
+    number: usize,
+    lits: &[Lit],
+) -> Result<(), AllocError>
+    requires some { 0 < count }
+    requires room { length block.old.numbers < 128 }
+    requires sized { length block.old.masks.items ≡ count }
+    ensures { OnOk result (PutsNumber count lits.now number block.old block.new) }
+{
+    let place = block.numbers.len();
+    block.numbers.push(number)?;
+    set_bits(&mut block.masks, count, lits, place);
+    Ok(())
+}
+
+// Puts the last block behind those without room, and a new one in its place.
+fn move_last(alloc: Global, count: usize, long: &mut Blocks) -> Result<(), AllocError>
+    ensures { OnOk result (MovesLast count long.old long.new) }
+{
+    let empty = empty_block(alloc, count)?;
+    let last = mem::replace(&mut long.last, empty);
+    long.full.push(last)?;
+    Ok(())
+}
+
+/// Puts a clause into the blocks.
+pub fn put_long(
+    alloc: Global,
+    count: usize,
+    long: &mut Blocks,
+    number: usize,
+    lits: &[Lit],
+) -> Result<(), AllocError>
+    requires some { 0 < count }
+    requires room { length long.old.last.numbers < 128 }
+    requires sized { length long.old.last.masks.items ≡ count }
+    ensures { OnOk result (PutsLong count lits.now number long.old long.new) }
+{
+    put_in_block(&mut long.last, count, number, lits)?;
+    if long.last.numbers.len() < PLACES {
+        return Ok(());
+    }
+    move_last(alloc, count, long)
+}
+
+/// No long clauses.
+pub fn no_blocks(alloc: Global, count: usize) -> Result<Blocks, AllocError>
+    ensures { IfOk result (HasNoLong count) }
+{
+    Ok(Blocks {
+        full: Vec::new(alloc),
+        last: empty_block(alloc, count)?,
+    })
+}
