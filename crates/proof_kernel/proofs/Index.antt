@@ -13,7 +13,7 @@ use Rattle.proof_lines.specs.Numbers.{stands_in}
 use Rattle.proof_kernel.specs.Evidence.{is_new, each_new}
 use Rattle.proof_kernel.specs.Index.{spot, spots, HasNoEntry, slot_new, slot_within, entry_within, finds, PutsOne, MarksAre, with_marks, marked, marked_both_ways, marked_slot_within, finds_marked, lits_marked, HasNoMark}
 use Rattle.proof_kernel.specs.declared.blocks.Blocks.{Blocks}
-use Rattle.proof_kernel.specs.Blocks.{finds_long}
+use Rattle.proof_kernel.specs.Blocks.{finds_in_blocks}
 use Rattle.proof_kernel.specs.Puts.{IsIndex, PutsEither}
 use Rattle.std.proofs.lemmas.Bool.{and_parts, and_from, or_left, or_right, eqb-true}
 use Rattle.proof_lines.proofs.Sets.{has-cases, same_nat-refl}
@@ -115,8 +115,8 @@ finds-put m slots old new number d is p c =
 either-put : (f e g n : Bool) → (f || g) ≡ e → ((f || n) || g) ≡ (e || n)
 either-put f e g n h = grind arith
 
-either-put_long : (f e g n : Bool) → (f || g) ≡ e → (f || (g || n)) ≡ (e || n)
-either-put_long f e g n h = grind arith
+either-put_block : (f e g n : Bool) → (f || g) ≡ e → (f || (g || n)) ≡ (e || n)
+either-put_block f e g n h = grind arith
 
 any-last : (earlier : List (List Lit)) (d c : List Lit) → list_any (λ x. sub x c) (earlier ++ d ∷ []) ≡ (list_any (λ x. sub x c) earlier || sub d c)
 any-last earlier d c = list_any-append (λ x. sub x c) earlier (d ∷ []) ∙ ap (λ b. list_any (λ x. sub x c) earlier || b) (or_false (sub d c))
@@ -124,18 +124,18 @@ any-last earlier d c = list_any-append (λ x. sub x c) earlier (d ∷ []) ∙ ap
     or_false : (b : Bool) → (b || false) ≡ b
     or_false b = grind arith
 
-pub index-put : (m : ℕ) (slots : List (Option (List Lit))) (old new : List (List Entry)) (old_long new_long : Blocks) (earlier : List (List Lit)) (number : ℕ) (d : List Lit)
-    → IsIndex m slots old old_long earlier → slice_index_or slots number None ≡ Some d → PutsEither m d number old new old_long new_long → IsIndex m slots new new_long (earlier ++ d ∷ [])
-index-put m slots old new old_long new_long earlier number d h is puts c = elim puts [
+pub index-put : (m : ℕ) (slots : List (Option (List Lit))) (old new : List (List Entry)) (old_blocks new_blocks : Blocks) (earlier : List (List Lit)) (number : ℕ) (d : List Lit)
+    → IsIndex m slots old old_blocks earlier → slice_index_or slots number None ≡ Some d → PutsEither m d number old new old_blocks new_blocks → IsIndex m slots new new_blocks (earlier ++ d ∷ [])
+index-put m slots old new old_blocks new_blocks earlier number d h is puts c = elim puts [
   | inl p ↦
-      ap (λ (z : Blocks). finds m slots new c || finds_long slots z c) p.1
-      ∙ ap (λ b. b || finds_long slots old_long c) (finds-put m slots old new number d is p.0 c)
-      ∙ either-put (finds m slots old c) (list_any (λ x. sub x c) earlier) (finds_long slots old_long c) (sub d c) (h c)
+      ap (λ (z : Blocks). finds m slots new c || finds_in_blocks slots z c) p.1
+      ∙ ap (λ b. b || finds_in_blocks slots old_blocks c) (finds-put m slots old new number d is p.0 c)
+      ∙ either-put (finds m slots old c) (list_any (λ x. sub x c) earlier) (finds_in_blocks slots old_blocks c) (sub d c) (h c)
       ∙ sym (any-last earlier d c)
   | inr p ↦
-      ap (λ (z : List (List Entry)). finds m slots z c || finds_long slots new_long c) p.0
-      ∙ ap (λ b. finds m slots old c || b) (p.1.found slots c ∙ ap (λ (o : Option (List Lit)). finds_long slots old_long c || slot_within c o) is)
-      ∙ either-put_long (finds m slots old c) (list_any (λ x. sub x c) earlier) (finds_long slots old_long c) (sub d c) (h c)
+      ap (λ (z : List (List Entry)). finds m slots z c || finds_in_blocks slots new_blocks c) p.0
+      ∙ ap (λ b. finds m slots old c || b) (p.1.found slots c ∙ ap (λ (o : Option (List Lit)). finds_in_blocks slots old_blocks c || slot_within c o) is)
+      ∙ either-put_block (finds m slots old c) (list_any (λ x. sub x c) earlier) (finds_in_blocks slots old_blocks c) (sub d c) (h c)
       ∙ sym (any-last earlier d c)
 ]
 
@@ -256,9 +256,9 @@ spot-among m c i d lt = or_right (0 == spot m (get_or c i d)) (stands_in (map (s
     among (x ∷ c) (suc i) lt = or_right (spot m x == spot m (get_or c i d)) (stands_in (map (spot m) c) (spot m (get_or c i d))) (among c i (omega arith))
 
 -- the index before a number, and before the next one
-pub index-none : (m : ℕ) (slots : List (Option (List Lit))) (lists : List (List Entry)) (long : Blocks) → HasNoEntry lists
-    → ((c : List Lit) → finds_long slots long c ≡ false) → IsIndex m slots lists long []
-index-none m slots lists long empty none c =
+pub index-none : (m : ℕ) (slots : List (Option (List Lit))) (lists : List (List Entry)) (blocks : Blocks) → HasNoEntry lists
+    → ((c : List Lit) → finds_in_blocks slots blocks c ≡ false) → IsIndex m slots lists blocks []
+index-none m slots lists blocks empty none c =
     ap (λ b. finds m slots lists c || b) (none c)
     ∙ ap (λ b. b || false) ((λ i. list_any (λ k. list_any (entry_within m slots c) (empty k i)) (spots m c)) ∙ nowhere (spots m c))
   where
@@ -272,16 +272,16 @@ before-some slots i j d c e lt g = ap (λ (k : ℕ). live_of (take k slots)) e �
 before-none : (slots : List (Option (List Lit))) (i j : ℕ) (d : Option (List Lit)) → j ≡ suc i → i < length slots → get_or slots i d ≡ None → live_of (take j slots) ≡ live_of (take i slots)
 before-none slots i j d e lt g = ap (λ (k : ℕ). live_of (take k slots)) e ∙ live_of-next slots i d lt ∙ ap (λ (z : Option (List Lit)). live_of (take i slots) ++ live_of (z ∷ [])) g ∙ append-nil (live_of (take i slots))
 
-pub index-some : (m : ℕ) (slots : List (Option (List Lit))) (old new : List (List Entry)) (old_long new_long : Blocks) (i j : ℕ) (d : Option (List Lit)) (c : List Lit)
-    → j ≡ suc i → i < length slots → get_or slots i d ≡ Some c → PutsEither m c i old new old_long new_long
-    → IsIndex m slots old old_long (live_of (take i slots)) → IsIndex m slots new new_long (live_of (take j slots))
-index-some m slots old new old_long new_long i j d c e lt g p h =
-    subst (λ (z : List (List Lit)). IsIndex m slots new new_long z) (sym (before-some slots i j d c e lt g))
-    (index-put m slots old new old_long new_long (live_of (take i slots)) i c h (get_or_default slots i None d lt ∙ g) p)
+pub index-some : (m : ℕ) (slots : List (Option (List Lit))) (old new : List (List Entry)) (old_blocks new_blocks : Blocks) (i j : ℕ) (d : Option (List Lit)) (c : List Lit)
+    → j ≡ suc i → i < length slots → get_or slots i d ≡ Some c → PutsEither m c i old new old_blocks new_blocks
+    → IsIndex m slots old old_blocks (live_of (take i slots)) → IsIndex m slots new new_blocks (live_of (take j slots))
+index-some m slots old new old_blocks new_blocks i j d c e lt g p h =
+    subst (λ (z : List (List Lit)). IsIndex m slots new new_blocks z) (sym (before-some slots i j d c e lt g))
+    (index-put m slots old new old_blocks new_blocks (live_of (take i slots)) i c h (get_or_default slots i None d lt ∙ g) p)
 
-pub index-dropped : (m : ℕ) (slots : List (Option (List Lit))) (lists : List (List Entry)) (long : Blocks) (i j : ℕ) (d : Option (List Lit)) → j ≡ suc i → i < length slots → get_or slots i d ≡ None
-    → IsIndex m slots lists long (live_of (take i slots)) → IsIndex m slots lists long (live_of (take j slots))
-index-dropped m slots lists long i j d e lt g h = subst (λ (z : List (List Lit)). IsIndex m slots lists long z) (sym (before-none slots i j d e lt g)) h
+pub index-dropped : (m : ℕ) (slots : List (Option (List Lit))) (lists : List (List Entry)) (blocks : Blocks) (i j : ℕ) (d : Option (List Lit)) → j ≡ suc i → i < length slots → get_or slots i d ≡ None
+    → IsIndex m slots lists blocks (live_of (take i slots)) → IsIndex m slots lists blocks (live_of (take j slots))
+index-dropped m slots lists blocks i j d e lt g h = subst (λ (z : List (List Lit)). IsIndex m slots lists blocks z) (sym (before-none slots i j d e lt g)) h
 
 -- each clause from a number on is new, by the slot of the number
 pub each_new-slot : (slots : List (Option (List Lit))) (i j : ℕ) → j ≡ suc i → i < length slots

@@ -1,4 +1,4 @@
--- Lemmas on blocks of long clauses: bits of masks, what they rule out, and blocks with one clause more.
+-- Lemmas on blocks of clauses: bits of masks, what they rule out, and blocks with one clause more.
 use Rattle.std.proofs.Common.{◌≡◌, ℕ, zero, suc, ◌-◌, ◌*◌, ◌%◌, ◌^◌, ◌<◌, ◌≤◌, Bool, true, false, ◌||◌, inl, inr, List, [], ◌∷◌, ◌++◌, length, map, set, get_or, refl, sym, ◌∙◌, ap, subst, arith, Option, Some, None}
 use Rattle.std.specs.Prelude.{slice_index_or, bit_or}
 use Rattle.std.specs.Int.{bit_at, w128}
@@ -12,7 +12,7 @@ use Rattle.proof_lines.specs.Numbers.{stands_in}
 use Rattle.proof_kernel.specs.declared.blocks.Block.{Block}
 use Rattle.proof_kernel.specs.declared.blocks.Blocks.{Blocks}
 use Rattle.proof_kernel.specs.Index.{spots, slot_within, marked, MarksAre}
-use Rattle.proof_kernel.specs.Blocks.{number_within, block_within, slot_has, number_has, mask_bit, BlockFits, AllFit, BlocksFit, IsClearAt, RulesOut, BitsAre, PutsNumber, MovesLast, PutsLong, IsEmptyBlock, HasNoLong}
+use Rattle.proof_kernel.specs.Blocks.{number_within, block_within, slot_has, number_has, mask_bit, BlockFits, AllFit, BlocksFit, IsClearAt, RulesOut, BitsAre, PutsNumber, MovesLast, PutsInBlocks, IsEmptyBlock, HasNoClause}
 use Rattle.proof_kernel.specs.declared.freshness.Entry.{Entry}
 use Rattle.proof_kernel.specs.Puts.{PutsEither}
 use Rattle.proof_kernel.proofs.Index.{sub-all_spots}
@@ -139,7 +139,7 @@ all-more m slots (x ∷ bs) b all fits = (all.0, all-more m slots bs b all.1 fit
 
 -- the blocks with one clause more in the last one, which has room
 pub puts-room : (m : ℕ) (c : List Lit) (number : ℕ) (old new : Blocks) → length old.last.numbers < 128 → length new.last.numbers < 128 → new.full.items ≡ old.full.items
-    → PutsNumber m c number old.last new.last → PutsLong m c number old new
+    → PutsNumber m c number old.last new.last → PutsInBlocks m c number old new
 puts-room m c number old new room left full puts = record {
   found = λ slots d.
       ap (λ (z : List Block). list_any (block_within slots d) z || block_within slots d new.last) full
@@ -154,7 +154,7 @@ puts-room m c number old new room left full puts = record {
 
 -- so where an empty block follows
 pub puts-moved : (m : ℕ) (c : List Lit) (number : ℕ) (old middle new : Blocks) → length old.last.numbers < 128 → middle.full.items ≡ old.full.items
-    → PutsNumber m c number old.last middle.last → MovesLast m middle new → PutsLong m c number old new
+    → PutsNumber m c number old.last middle.last → MovesLast m middle new → PutsInBlocks m c number old new
 puts-moved m c number old middle new room full puts moves = record {
   found = λ slots d.
       ap (λ (z : List Block). list_any (block_within slots d) z || block_within slots d new.last) (moves.full ∙ ap (λ (z : List Block). z ++ middle.last ∷ []) full)
@@ -172,10 +172,10 @@ puts-moved m c number old middle new room full puts moves = record {
 }
 
 -- no clause stands in blocks without clauses
-pub none-long : (m : ℕ) (long : Blocks) → long.full.items ≡ [] → IsEmptyBlock m long.last → HasNoLong m long
-none-long m long full last = record {
+pub none-in_blocks : (m : ℕ) (blocks : Blocks) → blocks.full.items ≡ [] → IsEmptyBlock m blocks.last → HasNoClause m blocks
+none-in_blocks m blocks full last = record {
   none = λ slots c.
-      ap (λ (z : List Block). list_any (block_within slots c) z || block_within slots c long.last) full
+      ap (λ (z : List Block). list_any (block_within slots c) z || block_within slots c blocks.last) full
       ∙ ap (list_any (number_within slots c)) last.none;
   fits = λ slots. record {
     full = subst (AllFit m slots) (sym full) tt;

@@ -1,4 +1,4 @@
--- The private blocks of long clauses by which freshness is checked; they mirror src/blocks.rt, and a reader of the rules passes them by.
+-- The private blocks of clauses by which freshness is checked; they mirror src/blocks.rt, and a reader of the rules passes them by.
 use Rattle.std.specs.Prelude.{◌≡◌, ℕ, ◌<◌, ◌≤◌, Bool, true, false, ◌||◌, List, [], ◌∷◌, ◌++◌, length, map, slice_index_or, Option, Some, None, ◌⊎◌}
 use Rattle.std.specs.Int.{bit_at}
 use Rattle.std.specs.List.{list_any}
@@ -17,8 +17,8 @@ abbrev pub block_within : List (Option (List Lit)) → List Lit → Block → Bo
 block_within slots c b = list_any (number_within slots c) b.numbers
 
 -- one of the clauses of all blocks lies within another one
-abbrev pub finds_long : List (Option (List Lit)) → Blocks → List Lit → Bool
-finds_long slots long c = list_any (block_within slots c) long.full.items || block_within slots c long.last
+abbrev pub finds_in_blocks : List (Option (List Lit)) → Blocks → List Lit → Bool
+finds_in_blocks slots blocks c = list_any (block_within slots c) blocks.full.items || block_within slots c blocks.last
 
 -- the clause of a slot has a literal of a spot
 abbrev pub slot_has : ℕ → ℕ → Option (List Lit) → Bool
@@ -45,10 +45,10 @@ AllFit m slots [] = Unit {0}
 AllFit m slots (b ∷ bs) = BlockFits m slots b × AllFit m slots bs
 
 -- the set bits of all blocks tell so, and the last one has room
-pub record BlocksFit (m : ℕ) (slots : List (Option (List Lit))) (long : Blocks) : Type 0 where
-  pub full : AllFit m slots long.full.items
-  pub last : BlockFits m slots long.last
-  pub room : length long.last.numbers < 128
+pub record BlocksFit (m : ℕ) (slots : List (Option (List Lit))) (blocks : Blocks) : Type 0 where
+  pub full : AllFit m slots blocks.full.items
+  pub last : BlockFits m slots blocks.last
+  pub room : length blocks.last.numbers < 128
 
 -- no mask of a spot without a mark has the bit of a place
 abbrev pub IsClearAt : List Bool → List ℕ → ℕ → Type 0
@@ -78,9 +78,9 @@ pub record IsEmptyBlock (m : ℕ) (b : Block) : Type 0 where
   pub fits : (slots : List (Option (List Lit))) → BlockFits m slots b
 
 -- blocks without clauses
-pub record HasNoLong (m : ℕ) (long : Blocks) : Type 0 where
-  pub none : (slots : List (Option (List Lit))) (c : List Lit) → finds_long slots long c ≡ false
-  pub fits : (slots : List (Option (List Lit))) → BlocksFit m slots long
+pub record HasNoClause (m : ℕ) (blocks : Blocks) : Type 0 where
+  pub none : (slots : List (Option (List Lit))) (c : List Lit) → finds_in_blocks slots blocks c ≡ false
+  pub fits : (slots : List (Option (List Lit))) → BlocksFit m slots blocks
 
 -- the last block stands behind the full ones, and an empty one has its place
 pub record MovesLast (m : ℕ) (old new : Blocks) : Type 0 where
@@ -88,6 +88,6 @@ pub record MovesLast (m : ℕ) (old new : Blocks) : Type 0 where
   pub last : IsEmptyBlock m new.last
 
 -- the blocks have one clause more
-pub record PutsLong (m : ℕ) (c : List Lit) (number : ℕ) (old new : Blocks) : Type 0 where
-  pub found : (slots : List (Option (List Lit))) (d : List Lit) → finds_long slots new d ≡ (finds_long slots old d || number_within slots d number)
+pub record PutsInBlocks (m : ℕ) (c : List Lit) (number : ℕ) (old new : Blocks) : Type 0 where
+  pub found : (slots : List (Option (List Lit))) (d : List Lit) → finds_in_blocks slots new d ≡ (finds_in_blocks slots old d || number_within slots d number)
   pub fits : (slots : List (Option (List Lit))) → slice_index_or slots number None ≡ Some c → BlocksFit m slots old → BlocksFit m slots new

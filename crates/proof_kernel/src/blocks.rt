@@ -1,20 +1,20 @@
-// Blocks of long clauses, by which one look tells of many clauses that none of them lies within another clause.
+// Blocks of clauses, by which one look tells of many clauses that none of them lies within another clause.
 //
 // A block has up to 128 clauses, and a mask for each spot: the bit of a place is set where the clause at this place has a literal of the
 // spot. While a clause is looked at its spots are marked, and a clause that lies within it has marked spots alone. So the mask of a spot
 // without a mark rules out all its places at once. Clauses that aren't ruled out are looked at one by one; mostly there is none.
 //
-// Of two long clauses each has most literals of the other, and a list of the clauses with a common literal has nearly all of them. But
-// nearly all have each literal that a clause lacks, and so few masks rule out a whole block. Those that did are asked first in the next
+// Where clauses have most literals in common, a list of those with one of them has nearly all. But then nearly all have each literal
+// that a clause lacks, and so few masks rule out a whole block. Those that did are asked first in the next
 // block, then all. What is asked of a block is at most one mask for each spot, whatever its clauses are.
 //
-// The masks of a block take 16 bytes for each spot. A clause is long only where it has one in 64 of all spots, and so a block's masks
-// take no more than the literals of its clauses.
+// The masks of a block take 16 bytes for each spot. A clause of a block has at least one in 64 of all spots, and so a
+// block's masks take no more than the literals of its clauses.
 ghost use Rattle.std.specs.Prelude.{◌≡◌, ◌++◌, ◌∷◌, ◌<◌, ◌≤◌, ◌||◌, [], true, false, None, Some, IfOk, OnOk, length, slice_index_or};
 ghost use Rattle.std.specs.Int.{bit_at};
 ghost use Rattle.std.specs.List.{list_any};
 ghost use Rattle.proof_kernel.specs.Index.{MarksAre};
-ghost use Rattle.proof_kernel.specs.Blocks.{number_within, block_within, finds_long, AllFit, BlockFits, BlocksFit, RulesOut, AreNotWithin, BitsAre, PutsNumber, PutsLong, MovesLast, IsEmptyBlock, HasNoLong};
+ghost use Rattle.proof_kernel.specs.Blocks.{number_within, block_within, finds_in_blocks, AllFit, BlockFits, BlocksFit, RulesOut, AreNotWithin, BitsAre, PutsNumber, PutsInBlocks, MovesLast, IsEmptyBlock, HasNoClause};
 
 use crate::freshness::{is_marked, marked_slot_within, spot};
 use items::Items;
@@ -25,39 +25,33 @@ use std::mem;
 // How many clauses a block has at most, one for each bit of a mask.
 const PLACES: usize = 128;
 
-// From so many literals on a clause is long where it has at least one in `MANY_SHARE` of all spots, and below it where it has one in
-// `FEW_SHARE`: of short clauses that have few of the spots the lists leave few to look at.
-const MANY_LITS: usize = 64;
+// A clause of a block has at least one in so many of all spots.
+const MOST_SHARE: usize = 64;
 
-const MANY_SHARE: usize = 64;
-
-const FEW_SHARE: usize = 4;
+// How many clauses of the lists at least were compared with a clause of a block.
+const MANY_COMPARED: usize = 64;
 
 // How many spots are kept that ruled out places.
 const MOST_TELLING: usize = 64;
 
-/// Some long clauses by their numbers, and for each spot the places of the clauses that have a literal of it, as bits.
+/// Some clauses by their numbers, and for each spot the places of the clauses that have a literal of it, as bits.
 #[derive(Drop)]
 pub struct Block {
     numbers: Items<usize>,
     masks: Vec<u128>,
 }
 
-/// All long clauses, in blocks: those that have no room, and one that has.
+/// All blocks: those that have no room, and one that has.
 #[derive(Drop)]
 pub struct Blocks {
     full: Vec<Block>,
     last: Block,
 }
 
-/// Whether a clause is long, of so many spots.
-pub fn is_long(count: usize, lits: &[Lit]) -> bool {
-    let share = if lits.len() < MANY_LITS {
-        FEW_SHARE
-    } else {
-        MANY_SHARE
-    };
-    lits.len().saturating_mul(share) >= count
+/// Whether a clause, of so many spots, is to stand in a block: where it was compared with many clauses of the lists, and isn't so short that
+/// the masks would take more than the clauses.
+pub fn is_for_blocks(count: usize, lits: &[Lit], compared: usize) -> bool {
+    compared >= MANY_COMPARED && lits.len().saturating_mul(MOST_SHARE) >= count
 }
 
 fn mask_at(masks: &[u128], at: usize) -> u128
@@ -231,20 +225,20 @@ fn any_in_full(
     false
 }
 
-/// Whether one of the long clauses lies within another clause.
-pub fn any_long_within(
+/// Whether one of the clauses of all blocks lies within another clause.
+pub fn any_in_blocks(
     count: usize,
     marks: &[bool],
     slots: &[Option<Clause>],
     lits: &[Lit],
-    long: &Blocks,
+    blocks: &Blocks,
     hint: &mut usize,
     telling: &mut Vec<usize>,
 ) -> bool
     requires some { 0 < count }
     requires marks { MarksAre count marks.now lits.now }
-    requires fits { BlocksFit count slots.now long.now }
-    ensures { result ≡ finds_long slots.now long.now lits.now }
+    requires fits { BlocksFit count slots.now blocks.now }
+    ensures { result ≡ finds_in_blocks slots.now blocks.now lits.now }
 {
     telling.clear();
     any_in_full(
@@ -252,10 +246,10 @@ pub fn any_long_within(
         marks,
         slots,
         lits,
-        long.full.as_slice(),
+        blocks.full.as_slice(),
         hint,
         telling,
-    ) || any_in_block(count, marks, slots, lits, &long.last, hint, telling)
+    ) || any_in_block(count, marks, slots, lits, &blocks.last, hint, telling)
 }
 
 // Sets the bit of a place in the masks of the spots of literals.
@@ -302,38 +296,38 @@ fn put_in_block(
 }
 
 // Puts the last block behind those without room, and a new one in its place.
-fn move_last(alloc: Global, count: usize, long: &mut Blocks) -> Result<(), AllocError>
-    ensures { OnOk result (MovesLast count long.old long.new) }
+fn move_last(alloc: Global, count: usize, blocks: &mut Blocks) -> Result<(), AllocError>
+    ensures { OnOk result (MovesLast count blocks.old blocks.new) }
 {
     let empty = empty_block(alloc, count)?;
-    let last = mem::replace(&mut long.last, empty);
-    long.full.push(last)?;
+    let last = mem::replace(&mut blocks.last, empty);
+    blocks.full.push(last)?;
     Ok(())
 }
 
 /// Puts a clause into the blocks.
-pub fn put_long(
+pub fn put_in_blocks(
     alloc: Global,
     count: usize,
-    long: &mut Blocks,
+    blocks: &mut Blocks,
     number: usize,
     lits: &[Lit],
 ) -> Result<(), AllocError>
     requires some { 0 < count }
-    requires room { length long.old.last.numbers < 128 }
-    requires sized { length long.old.last.masks.items ≡ count }
-    ensures { OnOk result (PutsLong count lits.now number long.old long.new) }
+    requires room { length blocks.old.last.numbers < 128 }
+    requires sized { length blocks.old.last.masks.items ≡ count }
+    ensures { OnOk result (PutsInBlocks count lits.now number blocks.old blocks.new) }
 {
-    put_in_block(&mut long.last, count, number, lits)?;
-    if long.last.numbers.len() < PLACES {
+    put_in_block(&mut blocks.last, count, number, lits)?;
+    if blocks.last.numbers.len() < PLACES {
         return Ok(());
     }
-    move_last(alloc, count, long)
+    move_last(alloc, count, blocks)
 }
 
-/// No long clauses.
+/// Blocks without clauses.
 pub fn no_blocks(alloc: Global, count: usize) -> Result<Blocks, AllocError>
-    ensures { IfOk result (HasNoLong count) }
+    ensures { IfOk result (HasNoClause count) }
 {
     Ok(Blocks {
         full: Vec::new(alloc),

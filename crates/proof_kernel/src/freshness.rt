@@ -1,12 +1,14 @@
 // Fresh logs: no line drops a clause, and the clause of each line contains no earlier one, holds no atom both ways and isn't
 // empty.
 //
-// An index finds the earlier clauses that lie within a clause. The long ones stand in blocks, of which src/blocks.rt speaks, and the
-// others in lists. A literal has a spot, and each of these clauses stands in the list
-// of the spot of one of its literals: the rarest, which fewest of the clauses before it had. A clause that lies within another shares
-// that literal with it, so it stands in a list of the other's spots. Its entry has the spots of the three next rarest literals too, so
-// that a look at some marks passes over nearly all entries, without a look at their clauses. Clauses without literals stand in the list
-// of spot 0, which is always looked through. Where there is no memory for the index, each clause is compared with each earlier one.
+// An index finds the earlier clauses that lie within a clause. A literal has a spot, and an earlier clause stands in the list of the
+// spot of one of its literals: the rarest, which fewest of the clauses before it had. A clause that lies within another shares that
+// literal with it, so it stands in a list of the other's spots. Its entry has the spots of the three next rarest literals too, so that a
+// look at some marks passes over nearly all entries, without a look at their clauses. Clauses without literals stand in the list of spot
+// 0, which is always looked through. Where there is no memory for the index, each clause is compared with each earlier one.
+//
+// A clause that was compared with many clauses of the lists stands in a block in place of a list: it has most literals in common with
+// them, and so have those to come. src/blocks.rt says how one look tells of the clauses of a whole block.
 //
 // Which literal is the rarest is told by a count for each spot. To take the shortest list instead would be to fill the lists of the
 // literals that most clauses have, as long as these are empty, and those are looked through for most clauses.
@@ -21,10 +23,10 @@ ghost use Rattle.proof_kernel.specs.Rules.{live_of};
 ghost use Rattle.proof_lines.specs.Numbers.{stands_in};
 ghost use Rattle.proof_kernel.specs.Evidence.{is_new, each_new};
 ghost use Rattle.proof_kernel.specs.Index.{HasNoEntry, HasNoMark, slot_new, PutsOne, finds, finds_marked, marked, all_marked, lits_marked, any_opposite_marked, marked_both_ways, marked_within, marked_slot_within, sign_number, spot, spots, with_marks, MarksAre};
-ghost use Rattle.proof_kernel.specs.Blocks.{finds_long, BlocksFit};
+ghost use Rattle.proof_kernel.specs.Blocks.{finds_in_blocks, BlocksFit};
 ghost use Rattle.proof_kernel.specs.Puts.{IsIndex, PutsEither};
 
-use crate::blocks::{Blocks, any_long_within, is_long, no_blocks, put_long};
+use crate::blocks::{Blocks, any_in_blocks, is_for_blocks, no_blocks, put_in_blocks};
 use items::Items;
 use proof_lines::clause::{Clause, Lit, holds_both_ways, is_within};
 use std::alloc::{AllocError, Global};
@@ -32,11 +34,14 @@ use std::alloc::{AllocError, Global};
 // How many places before the last one a search for a literal without a mark begins.
 const MOST_SHIFT: usize = 2;
 
-/// What shortens looks at clauses and decides nothing: the place where the last search for a literal without a mark ended, and spots that
-/// ruled out clauses of blocks.
+/// What shortens looks at clauses and decides nothing.
 #[derive(Drop)]
-struct Hints {
+pub struct Hints {
+    /// Where the last search for a literal without a mark ended.
     place: usize,
+    /// How many clauses of the lists were compared with the last clause literal by literal.
+    compared: usize,
+    /// Spots that ruled out clauses of blocks.
     telling: Vec<usize>,
 }
 
@@ -183,21 +188,38 @@ fn list_at(lists: &[Items<Entry>], at: usize) -> &[Entry]
     }
 }
 
+// Whether an entry has marked spots alone, and so has its clause, which lies within another.
+fn is_entry_within(
+    count: usize,
+    marks: &[bool],
+    slots: &[Option<Clause>],
+    lits: &[Lit],
+    entry: Entry,
+    hints: &mut Hints,
+) -> bool
+    requires { 0 < count }
+    ensures { result ≡ marked_within count marks.now slots.now lits.now entry }
+{
+    if !all_marked(marks, entry) {
+        return false;
+    }
+    hints.compared = hints.compared.saturating_add(1);
+    marked_slot_within(count, marks, slots, entry.number, lits, &mut hints.place)
+}
+
 fn any_within(
     count: usize,
     marks: &[bool],
     slots: &[Option<Clause>],
     lits: &[Lit],
     entries: &[Entry],
-    hint: &mut usize,
+    hints: &mut Hints,
 ) -> bool
     requires { 0 < count }
     ensures { result ≡ list_any (marked_within count marks.now slots.now lits.now) entries.now }
 {
     for entry in entries {
-        if all_marked(marks, *entry)
-            && marked_slot_within(count, marks, slots, entry.number, lits, hint)
-        {
+        if is_entry_within(count, marks, slots, lits, *entry, hints) {
             return true;
         }
     }
@@ -211,13 +233,13 @@ fn finds_marked(
     slots: &[Option<Clause>],
     lists: &[Items<Entry>],
     lits: &[Lit],
-    hint: &mut usize,
+    hints: &mut Hints,
 ) -> bool
     requires { 0 < count }
     ensures { result ≡ finds_marked count marks.now slots.now lists.now lits.now }
 {
-    any_within(count, marks, slots, lits, list_at(lists, 0), hint)
-        || finds_at_literals(count, marks, slots, lists, lits, hint)
+    any_within(count, marks, slots, lits, list_at(lists, 0), hints)
+        || finds_at_literals(count, marks, slots, lists, lits, hints)
 }
 
 fn finds_at_literals(
@@ -226,7 +248,7 @@ fn finds_at_literals(
     slots: &[Option<Clause>],
     lists: &[Items<Entry>],
     lits: &[Lit],
-    hint: &mut usize,
+    hints: &mut Hints,
 ) -> bool
     requires { 0 < count }
     ensures { result ≡ list_any (λ k. list_any (marked_within count marks.now slots.now lits.now) (slice_index_or lists.now k [])) (map (spot count) lits.now) }
@@ -238,7 +260,7 @@ fn finds_at_literals(
             slots,
             lits,
             list_at(lists, spot(count, *lit)),
-            hint,
+            hints,
         ) {
             return true;
         }
@@ -252,25 +274,25 @@ fn finds_either(
     marks: &[bool],
     slots: &[Option<Clause>],
     lists: &[Items<Entry>],
-    long: &Blocks,
+    blocks: &Blocks,
     lits: &[Lit],
     hints: &mut Hints,
 ) -> bool
     requires some { 0 < count }
     requires marks { MarksAre count marks.now lits.now }
-    requires fits { BlocksFit count slots.now long.now }
-    ensures { result ≡ (finds count slots.now lists.now lits.now || finds_long slots.now long.now lits.now) }
+    requires fits { BlocksFit count slots.now blocks.now }
+    ensures { result ≡ (finds count slots.now lists.now lits.now || finds_in_blocks slots.now blocks.now lits.now) }
 {
-    let listed = finds_marked(count, marks, slots, lists, lits, &mut hints.place);
+    let listed = finds_marked(count, marks, slots, lists, lits, hints);
     if listed {
         return true;
     }
-    any_long_within(
+    any_in_blocks(
         count,
         marks,
         slots,
         lits,
-        long,
+        blocks,
         &mut hints.place,
         &mut hints.telling,
     )
@@ -282,20 +304,21 @@ fn finds(
     marks: &mut Vec<bool>,
     slots: &[Option<Clause>],
     lists: &[Items<Entry>],
-    long: &Blocks,
+    blocks: &Blocks,
     lits: &[Lit],
     hints: &mut Hints,
 ) -> bool
     requires some { 0 < count }
     requires sized { length marks.old.items ≡ count }
     requires clear { HasNoMark marks.old.items }
-    requires fits { BlocksFit count slots.now long.now }
-    ensures is { result ≡ (finds count slots.now lists.now lits.now || finds_long slots.now long.now lits.now) }
+    requires fits { BlocksFit count slots.now blocks.now }
+    ensures is { result ≡ (finds count slots.now lists.now lits.now || finds_in_blocks slots.now blocks.now lits.now) }
     ensures sized { length marks.new.items ≡ count }
     ensures clear { HasNoMark marks.new.items }
 {
+    hints.compared = 0;
     mark(marks, count, lits, true);
-    let found = finds_either(count, marks.as_slice(), slots, lists, long, lits, hints);
+    let found = finds_either(count, marks.as_slice(), slots, lists, blocks, lits, hints);
     mark(marks, count, lits, false);
     found
 }
@@ -399,25 +422,26 @@ fn put(
     put_at(lists, first, entry)
 }
 
-// Puts a clause into the index: into a block where it is long, and else into a list.
+// Puts a clause into the index: into a block where it wants one, and else into a list.
 fn put_clause(
     alloc: Global,
     count: usize,
     seen: &mut Vec<usize>,
     lists: &mut Vec<Items<Entry>>,
-    long: &mut Blocks,
+    blocks: &mut Blocks,
     number: usize,
     lits: &[Lit],
+    compared: usize,
 ) -> Result<(), AllocError>
     requires some { 0 < count }
     requires listed { length lists.old.items ≡ count }
-    requires room { length long.old.last.numbers < 128 }
-    requires sized { length long.old.last.masks.items ≡ count }
+    requires room { length blocks.old.last.numbers < 128 }
+    requires sized { length blocks.old.last.masks.items ≡ count }
     ensures listed { OnOk result (length lists.new.items ≡ count) }
-    ensures puts { OnOk result (PutsEither count lits.now number lists.old.items lists.new.items long.old long.new) }
+    ensures puts { OnOk result (PutsEither count lits.now number lists.old.items lists.new.items blocks.old blocks.new) }
 {
-    if is_long(count, lits) {
-        return put_long(alloc, count, long, number, lits);
+    if is_for_blocks(count, lits, compared) {
+        return put_in_blocks(alloc, count, blocks, number, lits);
     }
     put(count, seen, lists, number, lits)
 }
@@ -429,19 +453,29 @@ fn put_slot(
     slots: &[Option<Clause>],
     seen: &mut Vec<usize>,
     lists: &mut Vec<Items<Entry>>,
-    long: &mut Blocks,
+    blocks: &mut Blocks,
     number: usize,
+    compared: usize,
 ) -> Result<(), AllocError>
     requires some { 0 < count }
     requires listed { length lists.old.items ≡ count }
-    requires fits { BlocksFit count slots.now long.old }
+    requires fits { BlocksFit count slots.now blocks.old }
     requires there { number < length slots.now }
     ensures listed { OnOk result (length lists.new.items ≡ count) }
-    ensures fits { OnOk result (BlocksFit count slots.now long.new) }
-    ensures next { OnOk result (IsIndex count slots.now lists.old.items long.old (live_of (take number slots.now)) → IsIndex count slots.now lists.new.items long.new (live_of (take (number + 1) slots.now))) }
+    ensures fits { OnOk result (BlocksFit count slots.now blocks.new) }
+    ensures next { OnOk result (IsIndex count slots.now lists.old.items blocks.old (live_of (take number slots.now)) → IsIndex count slots.now lists.new.items blocks.new (live_of (take (number + 1) slots.now))) }
 {
     match &slots[number] {
-        Some(clause) => put_clause(alloc, count, seen, lists, long, number, clause.lits()),
+        Some(clause) => put_clause(
+            alloc,
+            count,
+            seen,
+            lists,
+            blocks,
+            number,
+            clause.lits(),
+            compared,
+        ),
         None => Ok(()),
     }
 }
@@ -464,20 +498,20 @@ fn put_before(
     slots: &[Option<Clause>],
     seen: &mut Vec<usize>,
     lists: &mut Vec<Items<Entry>>,
-    long: &mut Blocks,
+    blocks: &mut Blocks,
     number: usize,
 ) -> Result<(), AllocError>
     requires some { 0 < count }
     requires there { number ≤ length slots.now }
     requires listed { length lists.old.items ≡ count }
-    requires fits { BlocksFit count slots.now long.old }
-    requires none { IsIndex count slots.now lists.old.items long.old [] }
+    requires fits { BlocksFit count slots.now blocks.old }
+    requires none { IsIndex count slots.now lists.old.items blocks.old [] }
     ensures listed { OnOk result (length lists.new.items ≡ count) }
-    ensures fits { OnOk result (BlocksFit count slots.now long.new) }
-    ensures is { OnOk result (IsIndex count slots.now lists.new.items long.new (live_of (take number slots.now))) }
+    ensures fits { OnOk result (BlocksFit count slots.now blocks.new) }
+    ensures is { OnOk result (IsIndex count slots.now lists.new.items blocks.new (live_of (take number slots.now))) }
 {
     for i in 0..number {
-        put_slot(alloc, count, slots, seen, lists, long, i)?;
+        put_slot(alloc, count, slots, seen, lists, blocks, i, 0)?;
     }
     Ok(())
 }
@@ -488,7 +522,7 @@ fn is_slot_new(
     marks: &mut Vec<bool>,
     slots: &[Option<Clause>],
     lists: &[Items<Entry>],
-    long: &Blocks,
+    blocks: &Blocks,
     number: usize,
     hints: &mut Hints,
 ) -> bool
@@ -496,15 +530,15 @@ fn is_slot_new(
     requires sized { length marks.old.items ≡ count }
     requires clear { HasNoMark marks.old.items }
     requires there { number < length slots.now }
-    requires fits { BlocksFit count slots.now long.now }
-    requires before { IsIndex count slots.now lists.now long.now (live_of (take number slots.now)) }
+    requires fits { BlocksFit count slots.now blocks.now }
+    requires before { IsIndex count slots.now lists.now blocks.now (live_of (take number slots.now)) }
     ensures is { result ≡ slot_new (live_of (take number slots.now)) (slice_index_or slots.now number None) }
     ensures sized { length marks.new.items ≡ count }
     ensures clear { HasNoMark marks.new.items }
 {
     match &slots[number] {
         Some(clause) => {
-            let found = finds(count, marks, slots, lists, long, clause.lits(), hints);
+            let found = finds(count, marks, slots, lists, blocks, clause.lits(), hints);
             let both = is_both_ways(count, marks, clause.lits());
             !found && !both && !clause.is_empty()
         }
@@ -519,19 +553,20 @@ fn each_new_after(
     slots: &[Option<Clause>],
     seen: &mut Vec<usize>,
     lists: &mut Vec<Items<Entry>>,
-    long: &mut Blocks,
+    blocks: &mut Blocks,
     given: usize,
 ) -> Result<bool, AllocError>
     requires some { 0 < count }
     requires there { given ≤ length slots.now }
     requires listed { length lists.old.items ≡ count }
-    requires fits { BlocksFit count slots.now long.old }
-    requires before { IsIndex count slots.now lists.old.items long.old (live_of (take given slots.now)) }
+    requires fits { BlocksFit count slots.now blocks.old }
+    requires before { IsIndex count slots.now lists.old.items blocks.old (live_of (take given slots.now)) }
     ensures { IfOk result (λ b. b ≡ each_new (live_of (take given slots.now)) (live_of (drop given slots.now))) }
 {
     let mut marks = vec![in alloc; false; count]?;
     let mut hints = Hints {
         place: 0,
+        compared: 0,
         telling: Vec::new(alloc),
     };
     for i in given..slots.len() {
@@ -540,13 +575,13 @@ fn each_new_after(
             &mut marks,
             slots,
             lists.as_slice(),
-            long,
+            blocks,
             i,
             &mut hints,
         ) {
             return Ok(false);
         }
-        put_slot(alloc, count, slots, seen, lists, long, i)?;
+        put_slot(alloc, count, slots, seen, lists, blocks, i, hints.compared)?;
     }
     Ok(true)
 }
@@ -563,9 +598,25 @@ fn each_new_by_index(
 {
     let mut seen = vec![in alloc; 0; count]?;
     let mut lists = empty_lists(alloc, count)?;
-    let mut long = no_blocks(alloc, count)?;
-    put_before(alloc, count, slots, &mut seen, &mut lists, &mut long, given)?;
-    each_new_after(alloc, count, slots, &mut seen, &mut lists, &mut long, given)
+    let mut blocks = no_blocks(alloc, count)?;
+    put_before(
+        alloc,
+        count,
+        slots,
+        &mut seen,
+        &mut lists,
+        &mut blocks,
+        given,
+    )?;
+    each_new_after(
+        alloc,
+        count,
+        slots,
+        &mut seen,
+        &mut lists,
+        &mut blocks,
+        given,
+    )
 }
 
 fn holds_one_within(earlier: &[Option<Clause>], lits: &[Lit]) -> bool

@@ -7,6 +7,6 @@ use Rattle.proof_kernel.proofs.freshness.put_before.Given as goal
 abbrev pub invariant-loop-i : goal.invariant-loop-i
 invariant-loop-i l = record {
   listed : length l.lists.items ≡ l.count;
-  fits : BlocksFit l.count l.slots l.long;
-  index : IsIndex l.count l.slots l.lists.items l.long (live_of (take l.i l.slots));
+  fits : BlocksFit l.count l.slots l.blocks;
+  index : IsIndex l.count l.slots l.lists.items l.blocks (live_of (take l.i l.slots));
 }

@@ -2,14 +2,14 @@ use Rattle.std.proofs.Common.{◌∙◌, refl, ap, inl, inr, length}
 use Rattle.std.proofs.lemmas.Result.{on_ok_weaker}
 use Rattle.std.proofs.lemmas.List.{length-set}
 use Rattle.proof_kernel.specs.Index.{PutsOne}
-use Rattle.proof_kernel.specs.Blocks.{PutsLong}
+use Rattle.proof_kernel.specs.Blocks.{PutsInBlocks}
 use Rattle.proof_kernel.proofs.freshness.put_clause.Goals as goal
 
-pub returns-then-is_long-clause-puts : goal.returns-then-is_long-clause-puts
-returns-then-is_long-clause-puts c =
-    on_ok_weaker c.put_long.result
-    (λ (p : PutsLong c.args.count c.args.lits.now c.args.number c.args.long.now c.put_long.new.long). inr (refl, p))
-    c.put_long.ensures
+pub returns-then-is_for_blocks-clause-puts : goal.returns-then-is_for_blocks-clause-puts
+returns-then-is_for_blocks-clause-puts c =
+    on_ok_weaker c.put_in_blocks.result
+    (λ (p : PutsInBlocks c.args.count c.args.lits.now c.args.number c.args.blocks.now c.put_in_blocks.new.blocks). inr (refl, p))
+    c.put_in_blocks.ensures
 
 pub returns-clause-listed : goal.returns-clause-listed
 returns-clause-listed c =
