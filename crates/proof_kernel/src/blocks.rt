@@ -5,11 +5,11 @@
 // without a mark rules out all its places at once. Clauses that aren't ruled out are looked at one by one; mostly there is none.
 //
 // Where clauses have most literals in common, a list of those with one of them has nearly all. But then nearly all have each literal
-// that a clause lacks, and so few masks rule out a whole block. Those that did are asked first in the next
-// block, then all. What is asked of a block is at most one mask for each spot, whatever its clauses are.
+// that a clause lacks, and so few masks rule out a whole block. Those that did are asked first in the next block, then all. What is asked
+// of a block is at most one mask for each spot and each spot that is asked first, whatever its clauses are.
 //
-// The masks of a block take 16 bytes for each spot. A clause of a block has at least one in 64 of all spots, and so a
-// block's masks take no more than the literals of its clauses.
+// The masks of a block take 16 bytes for each spot. A clause of a block has at least one in 64 of all spots, and so a block's masks take
+// no more than the literals of its clauses, or than 64 literals would for each.
 ghost use Rattle.std.specs.Prelude.{◌≡◌, ◌++◌, ◌∷◌, ◌<◌, ◌≤◌, ◌||◌, [], true, false, None, Some, IfOk, OnOk, length, slice_index_or};
 ghost use Rattle.std.specs.Int.{bit_at};
 ghost use Rattle.std.specs.List.{list_any};
@@ -25,11 +25,15 @@ use std::mem;
 // How many clauses a block has at most, one for each bit of a mask.
 const PLACES: usize = 128;
 
-// A clause of a block has at least one in so many of all spots.
+// A clause of a block has at least one in so many of all spots, or would have with so many literals.
 const MOST_SHARE: usize = 64;
 
-// How many clauses of the lists at least were compared with a clause of a block.
+const FEW_LITS: usize = 64;
+
+// A clause of a block was compared with at least so many clauses of the lists, and with at least one in so many of those of the log.
 const MANY_COMPARED: usize = 64;
+
+const COMPARED_SHARE: usize = 16;
 
 // How many spots are kept that ruled out places.
 const MOST_TELLING: usize = 64;
@@ -48,10 +52,17 @@ pub struct Blocks {
     last: Block,
 }
 
-/// Whether a clause, of so many spots, is to stand in a block: where it was compared with many clauses of the lists, and isn't so short that
-/// the masks would take more than the clauses.
-pub fn is_for_blocks(count: usize, lits: &[Lit], compared: usize) -> bool {
-    compared >= MANY_COMPARED && lits.len().saturating_mul(MOST_SHARE) >= count
+/// Whether a clause, which was compared with so many clauses of the lists, is to stand in a block, behind so many lines: where many of the
+/// lists' clauses have most literals in common with it.
+pub fn is_crowded(compared: usize, lines: usize, blocks: &Blocks) -> bool {
+    let listed = lines.saturating_sub(blocks.full.len().saturating_mul(PLACES));
+    compared >= MANY_COMPARED && compared.saturating_mul(COMPARED_SHARE) >= listed
+}
+
+/// Whether a clause is to stand in a block: behind a crowd, and where of so many spots the masks of a block don't take much more than its
+/// clauses.
+pub fn is_for_blocks(count: usize, lits: &[Lit], crowded: bool) -> bool {
+    crowded && lits.len().max(FEW_LITS).saturating_mul(MOST_SHARE) >= count
 }
 
 fn mask_at(masks: &[u128], at: usize) -> u128

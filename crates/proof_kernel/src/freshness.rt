@@ -26,7 +26,7 @@ ghost use Rattle.proof_kernel.specs.Index.{HasNoEntry, HasNoMark, slot_new, Puts
 ghost use Rattle.proof_kernel.specs.Blocks.{finds_in_blocks, BlocksFit};
 ghost use Rattle.proof_kernel.specs.Puts.{IsIndex, PutsEither};
 
-use crate::blocks::{Blocks, any_in_blocks, is_for_blocks, no_blocks, put_in_blocks};
+use crate::blocks::{Blocks, any_in_blocks, is_crowded, is_for_blocks, no_blocks, put_in_blocks};
 use items::Items;
 use proof_lines::clause::{Clause, Lit, holds_both_ways, is_within};
 use std::alloc::{AllocError, Global};
@@ -431,7 +431,7 @@ fn put_clause(
     blocks: &mut Blocks,
     number: usize,
     lits: &[Lit],
-    compared: usize,
+    crowded: bool,
 ) -> Result<(), AllocError>
     requires some { 0 < count }
     requires listed { length lists.old.items ≡ count }
@@ -440,7 +440,7 @@ fn put_clause(
     ensures listed { OnOk result (length lists.new.items ≡ count) }
     ensures puts { OnOk result (PutsEither count lits.now number lists.old.items lists.new.items blocks.old blocks.new) }
 {
-    if is_for_blocks(count, lits, compared) {
+    if is_for_blocks(count, lits, crowded) {
         return put_in_blocks(alloc, count, blocks, number, lits);
     }
     put(count, seen, lists, number, lits)
@@ -455,7 +455,7 @@ fn put_slot(
     lists: &mut Vec<Items<Entry>>,
     blocks: &mut Blocks,
     number: usize,
-    compared: usize,
+    crowded: bool,
 ) -> Result<(), AllocError>
     requires some { 0 < count }
     requires listed { length lists.old.items ≡ count }
@@ -474,7 +474,7 @@ fn put_slot(
             blocks,
             number,
             clause.lits(),
-            compared,
+            crowded,
         ),
         None => Ok(()),
     }
@@ -511,7 +511,7 @@ fn put_before(
     ensures is { OnOk result (IsIndex count slots.now lists.new.items blocks.new (live_of (take number slots.now))) }
 {
     for i in 0..number {
-        put_slot(alloc, count, slots, seen, lists, blocks, i, 0)?;
+        put_slot(alloc, count, slots, seen, lists, blocks, i, false)?;
     }
     Ok(())
 }
@@ -581,7 +581,8 @@ fn each_new_after(
         ) {
             return Ok(false);
         }
-        put_slot(alloc, count, slots, seen, lists, blocks, i, hints.compared)?;
+        let crowded = is_crowded(hints.compared, i.saturating_sub(given), blocks);
+        put_slot(alloc, count, slots, seen, lists, blocks, i, crowded)?;
     }
     Ok(true)
 }
