@@ -11,7 +11,10 @@ use Rattle.proof_lines.specs.Clauses.{has, sub, flip, holds_both_ways}
 use Rattle.proof_kernel.specs.Rules.{live_of}
 use Rattle.proof_lines.specs.Numbers.{stands_in}
 use Rattle.proof_kernel.specs.Evidence.{is_new, each_new}
-use Rattle.proof_kernel.specs.Index.{spot, spots, HasNoEntry, slot_new, slot_within, entry_within, finds, IsIndex, PutsOne, with_marks, marked, marked_both_ways, marked_slot_within, finds_marked, lits_marked, HasNoMark}
+use Rattle.proof_kernel.specs.Index.{spot, spots, HasNoEntry, slot_new, slot_within, entry_within, finds, PutsOne, MarksAre, with_marks, marked, marked_both_ways, marked_slot_within, finds_marked, lits_marked, HasNoMark}
+use Rattle.proof_kernel.specs.declared.blocks.Blocks.{Blocks}
+use Rattle.proof_kernel.specs.Blocks.{finds_in_blocks}
+use Rattle.proof_kernel.specs.Puts.{IsIndex, PutsEither}
 use Rattle.std.proofs.lemmas.Bool.{and_parts, and_from, or_left, or_right, eqb-true}
 use Rattle.proof_lines.proofs.Sets.{has-cases, same_nat-refl}
 use Rattle.proof_kernel.proofs.States.{live_of-next}
@@ -55,7 +58,7 @@ sub-spots m (x ∷ d) c k h s = by_case (sub-spots m d c k (and_parts (has c x) 
     by_case ih true e s = subst (λ (z : ℕ). stands_in (map (spot m) c) z ≡ true) (eqb-true (spot m x) k e) (has-spot m c x (and_parts (has c x) (sub d c) h).0)
     by_case ih false e s = ih s
 
-sub-all_spots : (m : ℕ) (d c : List Lit) (k : ℕ) → sub d c ≡ true → stands_in (spots m d) k ≡ true → stands_in (spots m c) k ≡ true
+pub sub-all_spots : (m : ℕ) (d c : List Lit) (k : ℕ) → sub d c ≡ true → stands_in (spots m d) k ≡ true → stands_in (spots m c) k ≡ true
 sub-all_spots m d c k h s = by_case (0 == k) s
   where
     by_case : (b : Bool) → (b || stands_in (map (spot m) d) k) ≡ true → (b || stands_in (map (spot m) c) k) ≡ true
@@ -77,37 +80,64 @@ any-put p (x ∷ lists) zero (suc k) e lt = or_none (list_any p (slice_index_or 
 any-put p (x ∷ lists) (suc at) zero e lt = or_none (list_any p x) (0 == suc at) (p e) (zero-suc at)
 any-put p (x ∷ lists) (suc at) (suc k) e lt = any-put p lists at k e (omega arith) ∙ ap (λ b. list_any p (slice_index_or lists k []) || (b && p e)) (sym (suc-suc k at))
 
--- the index finds exactly what is earlier, with one clause more
-pub index-put : (m : ℕ) (slots : List (Option (List Lit))) (old new : List (List Entry)) (earlier : List (List Lit)) (number : ℕ) (d : List Lit)
-    → IsIndex m slots old earlier → slice_index_or slots number None ≡ Some d → PutsOne m d number old new → IsIndex m slots new (earlier ++ d ∷ [])
-index-put m slots old new earlier number d h is p c =
+-- the lists find what they found, or the clause that was put
+pub finds-put : (m : ℕ) (slots : List (Option (List Lit))) (old new : List (List Entry)) (number : ℕ) (d : List Lit)
+    → slice_index_or slots number None ≡ Some d → PutsOne m d number old new → (c : List Lit) → finds m slots new c ≡ (finds m slots old c || sub d c)
+finds-put m slots old new number d is p c =
     let e : Entry = record { number = number; second = p.second; third = p.third; fourth = p.fourth } in
     let q : Entry → Bool = entry_within m slots c in
     let one : finds m slots new c ≡ list_any (λ k. list_any q (slice_index_or old k []) || ((k == p.at) && q e)) (spots m c) =
     ap (λ (z : List (List Entry)). finds m slots z c) p.lists ∙ (λ i. list_any (λ k. any-put q old p.at k e p.within i) (spots m c)) in
     one ∙ any-or (λ k. list_any q (slice_index_or old k [])) (λ k. (k == p.at) && q e) (spots m c)
-    ∙ (λ i. h c i || any-one p.at (q e) (spots m c) i)
-    ∙ ap (λ b. list_any (λ x. sub x c) earlier || b) (last (sub d c) refl)
-    ∙ sym (list_any-append (λ x. sub x c) earlier (d ∷ []))
+    ∙ ap (λ b. finds m slots old c || b) (any-one p.at (q e) (spots m c))
+    ∙ ap (λ b. finds m slots old c || b) (last (sub d c) refl)
   where
     within : (o : Option (List Lit)) → o ≡ Some d → slot_within c o ≡ sub d c
     within o e = ap (slot_within c) e
 
-    last : (b : Bool) → sub d c ≡ b → (stands_in (spots m c) p.at && ((stands_in (spots m c) p.second && (stands_in (spots m c) p.third && stands_in (spots m c) p.fourth)) && slot_within c (slice_index_or slots number None))) ≡ (b || false)
+    last : (b : Bool) → sub d c ≡ b → (stands_in (spots m c) p.at && ((stands_in (spots m c) p.second && (stands_in (spots m c) p.third && stands_in (spots m c) p.fourth)) && slot_within c (slice_index_or slots number None))) ≡ sub d c
     last true e =
         let s = sub-all_spots m d c p.at e p.at_spot in
         let t = sub-all_spots m d c p.second e p.second_spot in
         let u = sub-all_spots m d c p.third e p.third_spot in
         let v = sub-all_spots m d c p.fourth e p.fourth_spot in
         let w = within (slice_index_or slots number None) is ∙ e in
-        all_true _ _ _ _ _ s t u v w
+        all_true _ _ _ _ _ s t u v w ∙ sym e
       where
         all_true : (a x y z b : Bool) → a ≡ true → x ≡ true → y ≡ true → z ≡ true → b ≡ true → (a && ((x && (y && z)) && b)) ≡ true
         all_true a x y z b s t u v w = grind arith
-    last false e = let w = within (slice_index_or slots number None) is ∙ e in one_false _ _ _ w
+    last false e = let w = within (slice_index_or slots number None) is ∙ e in one_false _ _ _ w ∙ sym e
       where
         one_false : (x y z : Bool) → z ≡ false → (x && (y && z)) ≡ false
         one_false x y z w = grind arith
+
+-- the index finds exactly what is earlier, with one clause more
+either-put : (f e g n : Bool) → (f || g) ≡ e → ((f || n) || g) ≡ (e || n)
+either-put f e g n h = grind arith
+
+either-put_block : (f e g n : Bool) → (f || g) ≡ e → (f || (g || n)) ≡ (e || n)
+either-put_block f e g n h = grind arith
+
+any-last : (earlier : List (List Lit)) (d c : List Lit) → list_any (λ x. sub x c) (earlier ++ d ∷ []) ≡ (list_any (λ x. sub x c) earlier || sub d c)
+any-last earlier d c = list_any-append (λ x. sub x c) earlier (d ∷ []) ∙ ap (λ b. list_any (λ x. sub x c) earlier || b) (or_false (sub d c))
+  where
+    or_false : (b : Bool) → (b || false) ≡ b
+    or_false b = grind arith
+
+pub index-put : (m : ℕ) (slots : List (Option (List Lit))) (old new : List (List Entry)) (old_blocks new_blocks : Blocks) (earlier : List (List Lit)) (number : ℕ) (d : List Lit)
+    → IsIndex m slots old old_blocks earlier → slice_index_or slots number None ≡ Some d → PutsEither m d number old new old_blocks new_blocks → IsIndex m slots new new_blocks (earlier ++ d ∷ [])
+index-put m slots old new old_blocks new_blocks earlier number d h is puts c = elim puts [
+  | inl p ↦
+      ap (λ (z : Blocks). finds m slots new c || finds_in_blocks slots z c) p.1
+      ∙ ap (λ b. b || finds_in_blocks slots old_blocks c) (finds-put m slots old new number d is p.0 c)
+      ∙ either-put (finds m slots old c) (list_any (λ x. sub x c) earlier) (finds_in_blocks slots old_blocks c) (sub d c) (h c)
+      ∙ sym (any-last earlier d c)
+  | inr p ↦
+      ap (λ (z : List (List Entry)). finds m slots z c || finds_in_blocks slots new_blocks c) p.0
+      ∙ ap (λ b. finds m slots old c || b) (p.1.found slots c ∙ ap (λ (o : Option (List Lit)). finds_in_blocks slots old_blocks c || slot_within c o) is)
+      ∙ either-put_block (finds m slots old c) (list_any (λ x. sub x c) earlier) (finds_in_blocks slots old_blocks c) (sub d c) (h c)
+      ∙ sym (any-last earlier d c)
+]
 
 -- marks on the spots of some literals
 spot-below : (m : ℕ) (l : Lit) → 0 < m → spot m l < m
@@ -194,17 +224,18 @@ both-marked m marks c some sized clear =
     (λ i. list_any (λ l. marked-among m marks c (spot m (flip l)) some sized clear i) c && holds_both_ways c)
     ∙ and_given (list_any (λ l. stands_in (spots m c) (spot m (flip l))) c) (holds_both_ways c) (both-among m c c)
 
-pub finds-marked : (m : ℕ) (marks : List Bool) (slots : List (Option (List Lit))) (lists : List (List Entry)) (c : List Lit) → 0 < m → length marks ≡ m → HasNoMark marks
-    → finds_marked m (with_marks m marks c true) slots lists c ≡ finds m slots lists c
-finds-marked m marks slots lists c some sized clear =
-    λ i. list_any (λ k. list_any (λ (e : Entry). (same e.second i && (same e.third i && same e.fourth i)) && same_slot (slice_index_or slots e.number None) i) (slice_index_or lists k [])) (spots m c)
-  where
-    same : (k : ℕ) → marked (with_marks m marks c true) k ≡ stands_in (spots m c) k
-    same k = marked-among m marks c k some sized clear
+-- so after they were set the marks are those of the clause
+pub marks-are : (m : ℕ) (marks : List Bool) (c : List Lit) → 0 < m → length marks ≡ m → HasNoMark marks → MarksAre m (with_marks m marks c true) c
+marks-are m marks c some sized clear k = marked-among m marks c k some sized clear
 
-    same_slot : (o : Option (List Lit)) → marked_slot_within m (with_marks m marks c true) c o ≡ slot_within c o
-    same_slot (Some d) = (λ i. list_all (λ l. same (spot m l) i) d && sub d c) ∙ and_given (list_all (λ l. stands_in (spots m c) (spot m l)) d) (sub d c) (sub-among m d c)
-    same_slot None = refl
+pub slot-marked : (m : ℕ) (marks : List Bool) (c : List Lit) (o : Option (List Lit)) → MarksAre m marks c → marked_slot_within m marks c o ≡ slot_within c o
+slot-marked m marks c (Some d) are = (λ i. list_all (λ l. are (spot m l) i) d && sub d c) ∙ and_given (list_all (λ l. stands_in (spots m c) (spot m l)) d) (sub d c) (sub-among m d c)
+slot-marked m marks c None are = refl
+
+pub finds-marked : (m : ℕ) (marks : List Bool) (slots : List (Option (List Lit))) (lists : List (List Entry)) (c : List Lit) → MarksAre m marks c
+    → finds_marked m marks slots lists c ≡ finds m slots lists c
+finds-marked m marks slots lists c are =
+    λ i. list_any (λ k. list_any (λ (e : Entry). (are e.second i && (are e.third i && are e.fourth i)) && slot-marked m marks c (slice_index_or slots e.number None) are i) (slice_index_or lists k [])) (spots m c)
 
 pub marks-taken : (m : ℕ) (marks set_so left : List Bool) (c : List Lit) → 0 < m → length marks ≡ m → HasNoMark marks → set_so ≡ with_marks m marks c true → length set_so ≡ m → left ≡ with_marks m set_so c false → HasNoMark left
 marks-taken m marks set_so left c some sized clear is so end k =
@@ -225,8 +256,11 @@ spot-among m c i d lt = or_right (0 == spot m (get_or c i d)) (stands_in (map (s
     among (x ∷ c) (suc i) lt = or_right (spot m x == spot m (get_or c i d)) (stands_in (map (spot m) c) (spot m (get_or c i d))) (among c i (omega arith))
 
 -- the index before a number, and before the next one
-pub index-none : (m : ℕ) (slots : List (Option (List Lit))) (lists : List (List Entry)) → HasNoEntry lists → IsIndex m slots lists []
-index-none m slots lists empty c = (λ i. list_any (λ k. list_any (entry_within m slots c) (empty k i)) (spots m c)) ∙ nowhere (spots m c)
+pub index-none : (m : ℕ) (slots : List (Option (List Lit))) (lists : List (List Entry)) (blocks : Blocks) → HasNoEntry lists
+    → ((c : List Lit) → finds_in_blocks slots blocks c ≡ false) → IsIndex m slots lists blocks []
+index-none m slots lists blocks empty none c =
+    ap (λ b. finds m slots lists c || b) (none c)
+    ∙ ap (λ b. b || false) ((λ i. list_any (λ k. list_any (entry_within m slots c) (empty k i)) (spots m c)) ∙ nowhere (spots m c))
   where
     nowhere : (ks : List ℕ) → list_any (λ k. false) ks ≡ false
     nowhere [] = refl
@@ -238,15 +272,16 @@ before-some slots i j d c e lt g = ap (λ (k : ℕ). live_of (take k slots)) e �
 before-none : (slots : List (Option (List Lit))) (i j : ℕ) (d : Option (List Lit)) → j ≡ suc i → i < length slots → get_or slots i d ≡ None → live_of (take j slots) ≡ live_of (take i slots)
 before-none slots i j d e lt g = ap (λ (k : ℕ). live_of (take k slots)) e ∙ live_of-next slots i d lt ∙ ap (λ (z : Option (List Lit)). live_of (take i slots) ++ live_of (z ∷ [])) g ∙ append-nil (live_of (take i slots))
 
-pub index-some : (m : ℕ) (slots : List (Option (List Lit))) (old new : List (List Entry)) (i j : ℕ) (d : Option (List Lit)) (c : List Lit) → j ≡ suc i → i < length slots → get_or slots i d ≡ Some c
-    → PutsOne m c i old new → IsIndex m slots old (live_of (take i slots)) → IsIndex m slots new (live_of (take j slots))
-index-some m slots old new i j d c e lt g p h =
-    subst (λ (z : List (List Lit)). IsIndex m slots new z) (sym (before-some slots i j d c e lt g))
-    (index-put m slots old new (live_of (take i slots)) i c h (get_or_default slots i None d lt ∙ g) p)
+pub index-some : (m : ℕ) (slots : List (Option (List Lit))) (old new : List (List Entry)) (old_blocks new_blocks : Blocks) (i j : ℕ) (d : Option (List Lit)) (c : List Lit)
+    → j ≡ suc i → i < length slots → get_or slots i d ≡ Some c → PutsEither m c i old new old_blocks new_blocks
+    → IsIndex m slots old old_blocks (live_of (take i slots)) → IsIndex m slots new new_blocks (live_of (take j slots))
+index-some m slots old new old_blocks new_blocks i j d c e lt g p h =
+    subst (λ (z : List (List Lit)). IsIndex m slots new new_blocks z) (sym (before-some slots i j d c e lt g))
+    (index-put m slots old new old_blocks new_blocks (live_of (take i slots)) i c h (get_or_default slots i None d lt ∙ g) p)
 
-pub index-dropped : (m : ℕ) (slots : List (Option (List Lit))) (lists : List (List Entry)) (i j : ℕ) (d : Option (List Lit)) → j ≡ suc i → i < length slots → get_or slots i d ≡ None
-    → IsIndex m slots lists (live_of (take i slots)) → IsIndex m slots lists (live_of (take j slots))
-index-dropped m slots lists i j d e lt g h = subst (λ (z : List (List Lit)). IsIndex m slots lists z) (sym (before-none slots i j d e lt g)) h
+pub index-dropped : (m : ℕ) (slots : List (Option (List Lit))) (lists : List (List Entry)) (blocks : Blocks) (i j : ℕ) (d : Option (List Lit)) → j ≡ suc i → i < length slots → get_or slots i d ≡ None
+    → IsIndex m slots lists blocks (live_of (take i slots)) → IsIndex m slots lists blocks (live_of (take j slots))
+index-dropped m slots lists blocks i j d e lt g h = subst (λ (z : List (List Lit)). IsIndex m slots lists blocks z) (sym (before-none slots i j d e lt g)) h
 
 -- each clause from a number on is new, by the slot of the number
 pub each_new-slot : (slots : List (Option (List Lit))) (i j : ℕ) → j ≡ suc i → i < length slots

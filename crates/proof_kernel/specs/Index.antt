@@ -39,10 +39,6 @@ entry_within m slots c e = spots_among m c e && slot_within c (slice_index_or sl
 abbrev pub finds : ℕ → List (Option (List Lit)) → List (List Entry) → List Lit → Bool
 finds m slots lists c = list_any (λ k. list_any (entry_within m slots c) (slice_index_or lists k [])) (spots m c)
 
--- the lists find a clause within another one exactly where one of the earlier clauses is
-abbrev pub IsIndex : ℕ → List (Option (List Lit)) → List (List Entry) → List (List Lit) → Type 0
-IsIndex m slots lists earlier = (c : List Lit) → finds m slots lists c ≡ list_any (λ d. sub d c) earlier
-
 -- the lists have one entry more, for the clause of a number, in the list of one of its spots
 pub record PutsOne (m : ℕ) (c : List Lit) (number : ℕ) (old new : List (List Entry)) : Type 0 where
   pub at : ℕ
@@ -92,6 +88,10 @@ marked_within m marks slots c e = all_marked marks e && marked_slot_within m mar
 -- an entry with marked spots whose clause lies within this one stands in a list of this clause's spots
 abbrev pub finds_marked : ℕ → List Bool → List (Option (List Lit)) → List (List Entry) → List Lit → Bool
 finds_marked m marks slots lists c = list_any (λ k. list_any (marked_within m marks slots c) (slice_index_or lists k [])) (spots m c)
+
+-- the marked spots are those of a clause
+abbrev pub MarksAre : ℕ → List Bool → List Lit → Type 0
+MarksAre m marks c = (k : ℕ) → marked marks k ≡ stands_in (spots m c) k
 
 -- no spot is marked
 abbrev pub HasNoMark : List Bool → Type 0

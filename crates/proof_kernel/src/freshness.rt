@@ -1,11 +1,14 @@
 // Fresh logs: no line drops a clause, and the clause of each line contains no earlier one, holds no atom both ways and isn't
 // empty.
 //
-// An index finds the earlier clauses that lie within a clause. A literal has a spot, and each earlier clause stands in the list
-// of the spot of one of its literals: the rarest, which fewest of the clauses before it had. A clause that lies within another shares
-// that literal with it, so it stands in a list of the other's spots. Its entry has the spots of the three next rarest literals too, so
-// that a look at some marks passes over nearly all entries, without a look at their clauses. Clauses without literals stand in the list
-// of spot 0, which is always looked through. Where there is no memory for the index, each clause is compared with each earlier one.
+// An index finds the earlier clauses that lie within a clause. A literal has a spot, and an earlier clause stands in the list of the
+// spot of one of its literals: the rarest, which fewest of the clauses before it had. A clause that lies within another shares that
+// literal with it, so it stands in a list of the other's spots. Its entry has the spots of the three next rarest literals too, so that a
+// look at some marks passes over nearly all entries, without a look at their clauses. Clauses without literals stand in the list of spot
+// 0, which is always looked through. Where there is no memory for the index, each clause is compared with each earlier one.
+//
+// A clause that was compared with many clauses of the lists stands in a block in place of a list: it has most literals in common with
+// them, and so have those to come. src/blocks.rt says how one look tells of the clauses of a whole block.
 //
 // Which literal is the rarest is told by a count for each spot. To take the shortest list instead would be to fill the lists of the
 // literals that most clauses have, as long as these are empty, and those are looked through for most clauses.
@@ -13,20 +16,34 @@
 // The spots of a clause are marked while it is looked at. So whether an earlier clause may lie within it is one pass over the earlier
 // one, from where the last such pass ended to a literal without a mark, and whether it may hold an atom both ways is one pass over its own
 // literals. Where all are marked the lists are compared, once for a log that isn't fresh.
-ghost use Rattle.std.specs.Prelude.{◌≡◌, ◌+◌, ◌*◌, ◌^◌, ◌<◌, ◌≤◌, ◌++◌, ◌∷◌, true, cond, is_none, IfOk, OnOk, drop, take, length, is_some, map, slice_index_or, slice_set, Some, None, []};
+ghost use Rattle.std.specs.Prelude.{◌≡◌, ◌+◌, ◌*◌, ◌^◌, ◌<◌, ◌≤◌, ◌||◌, ◌++◌, ◌∷◌, true, cond, is_none, IfOk, OnOk, drop, take, length, is_some, map, slice_index_or, slice_set, Some, None, []};
 ghost use Rattle.std.specs.List.{list_all, list_any};
 ghost use Rattle.proof_lines.specs.Clauses.{sub, holds_both_ways};
 ghost use Rattle.proof_kernel.specs.Rules.{live_of};
 ghost use Rattle.proof_lines.specs.Numbers.{stands_in};
 ghost use Rattle.proof_kernel.specs.Evidence.{is_new, each_new};
-ghost use Rattle.proof_kernel.specs.Index.{HasNoEntry, HasNoMark, slot_new, IsIndex, PutsOne, finds, finds_marked, marked, all_marked, lits_marked, any_opposite_marked, marked_both_ways, marked_within, marked_slot_within, sign_number, spot, spots, with_marks};
+ghost use Rattle.proof_kernel.specs.Index.{HasNoEntry, HasNoMark, slot_new, PutsOne, finds, finds_marked, marked, all_marked, lits_marked, any_opposite_marked, marked_both_ways, marked_within, marked_slot_within, sign_number, spot, spots, with_marks, MarksAre};
+ghost use Rattle.proof_kernel.specs.Blocks.{finds_in_blocks, BlocksFit};
+ghost use Rattle.proof_kernel.specs.Puts.{IsIndex, PutsEither};
 
+use crate::blocks::{Blocks, any_in_blocks, is_crowded, is_for_blocks, no_blocks, put_in_blocks};
 use items::Items;
 use proof_lines::clause::{Clause, Lit, holds_both_ways, is_within};
 use std::alloc::{AllocError, Global};
 
 // How many places before the last one a search for a literal without a mark begins.
 const MOST_SHIFT: usize = 2;
+
+/// What shortens looks at clauses and decides nothing.
+#[derive(Drop)]
+pub struct Hints {
+    /// Where the last search for a literal without a mark ended.
+    place: usize,
+    /// How many clauses of the lists were compared with the last clause literal by literal.
+    compared: usize,
+    /// Spots that ruled out clauses of blocks.
+    telling: Vec<usize>,
+}
 
 /// An earlier clause in a list of the index: its number, and the spots of three of its literals, or 0 where it has fewer.
 #[derive(Clone, Copy)]
@@ -45,7 +62,7 @@ fn sign_number(positive: bool) -> usize
 }
 
 // The spot of a literal, of so many spots.
-fn spot(count: usize, lit: Lit) -> usize
+pub fn spot(count: usize, lit: Lit) -> usize
     requires { 0 < count }
     ensures is { result ≡ spot count lit }
     ensures below { result < count }
@@ -58,7 +75,7 @@ fn spot(count: usize, lit: Lit) -> usize
     }
 }
 
-fn is_marked(marks: &[bool], at: usize) -> bool
+pub fn is_marked(marks: &[bool], at: usize) -> bool
     ensures { result ≡ marked marks.now at }
 {
     at == 0 || (at < marks.len() && marks[at])
@@ -131,7 +148,7 @@ fn marked_both_ways(count: usize, marks: &[bool], lits: &[Lit]) -> bool
 }
 
 // Whether the clause of a number has marked spots alone and lies within another.
-fn marked_slot_within(
+pub fn marked_slot_within(
     count: usize,
     marks: &[bool],
     slots: &[Option<Clause>],
@@ -171,21 +188,38 @@ fn list_at(lists: &[Items<Entry>], at: usize) -> &[Entry]
     }
 }
 
+// Whether an entry has marked spots alone, and so has its clause, which lies within another.
+fn is_entry_within(
+    count: usize,
+    marks: &[bool],
+    slots: &[Option<Clause>],
+    lits: &[Lit],
+    entry: Entry,
+    hints: &mut Hints,
+) -> bool
+    requires { 0 < count }
+    ensures { result ≡ marked_within count marks.now slots.now lits.now entry }
+{
+    if !all_marked(marks, entry) {
+        return false;
+    }
+    hints.compared = hints.compared.saturating_add(1);
+    marked_slot_within(count, marks, slots, entry.number, lits, &mut hints.place)
+}
+
 fn any_within(
     count: usize,
     marks: &[bool],
     slots: &[Option<Clause>],
     lits: &[Lit],
     entries: &[Entry],
-    hint: &mut usize,
+    hints: &mut Hints,
 ) -> bool
     requires { 0 < count }
     ensures { result ≡ list_any (marked_within count marks.now slots.now lits.now) entries.now }
 {
     for entry in entries {
-        if all_marked(marks, *entry)
-            && marked_slot_within(count, marks, slots, entry.number, lits, hint)
-        {
+        if is_entry_within(count, marks, slots, lits, *entry, hints) {
             return true;
         }
     }
@@ -199,13 +233,13 @@ fn finds_marked(
     slots: &[Option<Clause>],
     lists: &[Items<Entry>],
     lits: &[Lit],
-    hint: &mut usize,
+    hints: &mut Hints,
 ) -> bool
     requires { 0 < count }
     ensures { result ≡ finds_marked count marks.now slots.now lists.now lits.now }
 {
-    any_within(count, marks, slots, lits, list_at(lists, 0), hint)
-        || finds_at_literals(count, marks, slots, lists, lits, hint)
+    any_within(count, marks, slots, lits, list_at(lists, 0), hints)
+        || finds_at_literals(count, marks, slots, lists, lits, hints)
 }
 
 fn finds_at_literals(
@@ -214,7 +248,7 @@ fn finds_at_literals(
     slots: &[Option<Clause>],
     lists: &[Items<Entry>],
     lits: &[Lit],
-    hint: &mut usize,
+    hints: &mut Hints,
 ) -> bool
     requires { 0 < count }
     ensures { result ≡ list_any (λ k. list_any (marked_within count marks.now slots.now lits.now) (slice_index_or lists.now k [])) (map (spot count) lits.now) }
@@ -226,12 +260,42 @@ fn finds_at_literals(
             slots,
             lits,
             list_at(lists, spot(count, *lit)),
-            hint,
+            hints,
         ) {
             return true;
         }
     }
     false
+}
+
+// Whether one of the earlier clauses, in a list or in a block, lies within a clause whose spots are marked.
+fn finds_either(
+    count: usize,
+    marks: &[bool],
+    slots: &[Option<Clause>],
+    lists: &[Items<Entry>],
+    blocks: &Blocks,
+    lits: &[Lit],
+    hints: &mut Hints,
+) -> bool
+    requires some { 0 < count }
+    requires marks { MarksAre count marks.now lits.now }
+    requires fits { BlocksFit count slots.now blocks.now }
+    ensures { result ≡ (finds count slots.now lists.now lits.now || finds_in_blocks slots.now blocks.now lits.now) }
+{
+    let listed = finds_marked(count, marks, slots, lists, lits, hints);
+    if listed {
+        return true;
+    }
+    any_in_blocks(
+        count,
+        marks,
+        slots,
+        lits,
+        blocks,
+        &mut hints.place,
+        &mut hints.telling,
+    )
 }
 
 // Whether one of the earlier clauses lies within a clause.
@@ -240,18 +304,21 @@ fn finds(
     marks: &mut Vec<bool>,
     slots: &[Option<Clause>],
     lists: &[Items<Entry>],
+    blocks: &Blocks,
     lits: &[Lit],
-    hint: &mut usize,
+    hints: &mut Hints,
 ) -> bool
     requires some { 0 < count }
     requires sized { length marks.old.items ≡ count }
     requires clear { HasNoMark marks.old.items }
-    ensures is { result ≡ finds count slots.now lists.now lits.now }
+    requires fits { BlocksFit count slots.now blocks.now }
+    ensures is { result ≡ (finds count slots.now lists.now lits.now || finds_in_blocks slots.now blocks.now lits.now) }
     ensures sized { length marks.new.items ≡ count }
     ensures clear { HasNoMark marks.new.items }
 {
+    hints.compared = 0;
     mark(marks, count, lits, true);
-    let found = finds_marked(count, marks.as_slice(), slots, lists, lits, hint);
+    let found = finds_either(count, marks.as_slice(), slots, lists, blocks, lits, hints);
     mark(marks, count, lits, false);
     found
 }
@@ -355,22 +422,60 @@ fn put(
     put_at(lists, first, entry)
 }
 
+// Puts a clause into the index: into a block where it wants one, and else into a list.
+fn put_clause(
+    alloc: Global,
+    count: usize,
+    seen: &mut Vec<usize>,
+    lists: &mut Vec<Items<Entry>>,
+    blocks: &mut Blocks,
+    number: usize,
+    lits: &[Lit],
+    crowded: bool,
+) -> Result<(), AllocError>
+    requires some { 0 < count }
+    requires listed { length lists.old.items ≡ count }
+    requires room { length blocks.old.last.numbers < 128 }
+    requires sized { length blocks.old.last.masks.items ≡ count }
+    ensures listed { OnOk result (length lists.new.items ≡ count) }
+    ensures puts { OnOk result (PutsEither count lits.now number lists.old.items lists.new.items blocks.old blocks.new) }
+{
+    if is_for_blocks(count, lits, crowded) {
+        return put_in_blocks(alloc, count, blocks, number, lits);
+    }
+    put(count, seen, lists, number, lits)
+}
+
 // Puts the clause of a number into the index, unless it was dropped.
 fn put_slot(
+    alloc: Global,
     count: usize,
     slots: &[Option<Clause>],
     seen: &mut Vec<usize>,
     lists: &mut Vec<Items<Entry>>,
+    blocks: &mut Blocks,
     number: usize,
+    crowded: bool,
 ) -> Result<(), AllocError>
     requires some { 0 < count }
     requires listed { length lists.old.items ≡ count }
+    requires fits { BlocksFit count slots.now blocks.old }
     requires there { number < length slots.now }
     ensures listed { OnOk result (length lists.new.items ≡ count) }
-    ensures next { OnOk result (IsIndex count slots.now lists.old.items (live_of (take number slots.now)) → IsIndex count slots.now lists.new.items (live_of (take (number + 1) slots.now))) }
+    ensures fits { OnOk result (BlocksFit count slots.now blocks.new) }
+    ensures next { OnOk result (IsIndex count slots.now lists.old.items blocks.old (live_of (take number slots.now)) → IsIndex count slots.now lists.new.items blocks.new (live_of (take (number + 1) slots.now))) }
 {
     match &slots[number] {
-        Some(clause) => put(count, seen, lists, number, clause.lits()),
+        Some(clause) => put_clause(
+            alloc,
+            count,
+            seen,
+            lists,
+            blocks,
+            number,
+            clause.lits(),
+            crowded,
+        ),
         None => Ok(()),
     }
 }
@@ -386,24 +491,29 @@ fn empty_lists(alloc: Global, count: usize) -> Result<Vec<Items<Entry>>, AllocEr
     Ok(lists)
 }
 
-// The index of the clauses before a number, which are counted at their spots.
-fn index_before(
+// Puts the clauses before a number into an empty index.
+fn put_before(
     alloc: Global,
     count: usize,
     slots: &[Option<Clause>],
     seen: &mut Vec<usize>,
+    lists: &mut Vec<Items<Entry>>,
+    blocks: &mut Blocks,
     number: usize,
-) -> Result<Vec<Items<Entry>>, AllocError>
+) -> Result<(), AllocError>
     requires some { 0 < count }
     requires there { number ≤ length slots.now }
-    ensures sized { IfOk result (λ lists. length lists.items ≡ count) }
-    ensures is { IfOk result (λ lists. IsIndex count slots.now lists.items (live_of (take number slots.now))) }
+    requires listed { length lists.old.items ≡ count }
+    requires fits { BlocksFit count slots.now blocks.old }
+    requires none { IsIndex count slots.now lists.old.items blocks.old [] }
+    ensures listed { OnOk result (length lists.new.items ≡ count) }
+    ensures fits { OnOk result (BlocksFit count slots.now blocks.new) }
+    ensures is { OnOk result (IsIndex count slots.now lists.new.items blocks.new (live_of (take number slots.now))) }
 {
-    let mut lists = empty_lists(alloc, count)?;
     for i in 0..number {
-        put_slot(count, slots, seen, &mut lists, i)?;
+        put_slot(alloc, count, slots, seen, lists, blocks, i, false)?;
     }
-    Ok(lists)
+    Ok(())
 }
 
 // Whether the clause of a number, if it wasn't dropped, is new among those before it.
@@ -412,26 +522,69 @@ fn is_slot_new(
     marks: &mut Vec<bool>,
     slots: &[Option<Clause>],
     lists: &[Items<Entry>],
+    blocks: &Blocks,
     number: usize,
-    hint: &mut usize,
+    hints: &mut Hints,
 ) -> bool
     requires some { 0 < count }
     requires sized { length marks.old.items ≡ count }
     requires clear { HasNoMark marks.old.items }
     requires there { number < length slots.now }
-    requires before { IsIndex count slots.now lists.now (live_of (take number slots.now)) }
+    requires fits { BlocksFit count slots.now blocks.now }
+    requires before { IsIndex count slots.now lists.now blocks.now (live_of (take number slots.now)) }
     ensures is { result ≡ slot_new (live_of (take number slots.now)) (slice_index_or slots.now number None) }
     ensures sized { length marks.new.items ≡ count }
     ensures clear { HasNoMark marks.new.items }
 {
     match &slots[number] {
         Some(clause) => {
-            let found = finds(count, marks, slots, lists, clause.lits(), hint);
+            let found = finds(count, marks, slots, lists, blocks, clause.lits(), hints);
             let both = is_both_ways(count, marks, clause.lits());
             !found && !both && !clause.is_empty()
         }
         None => true,
     }
+}
+
+// Whether each clause from a number on is new, by an index of those before the number.
+fn each_new_after(
+    alloc: Global,
+    count: usize,
+    slots: &[Option<Clause>],
+    seen: &mut Vec<usize>,
+    lists: &mut Vec<Items<Entry>>,
+    blocks: &mut Blocks,
+    given: usize,
+) -> Result<bool, AllocError>
+    requires some { 0 < count }
+    requires there { given ≤ length slots.now }
+    requires listed { length lists.old.items ≡ count }
+    requires fits { BlocksFit count slots.now blocks.old }
+    requires before { IsIndex count slots.now lists.old.items blocks.old (live_of (take given slots.now)) }
+    ensures { IfOk result (λ b. b ≡ each_new (live_of (take given slots.now)) (live_of (drop given slots.now))) }
+{
+    let mut marks = vec![in alloc; false; count]?;
+    let mut hints = Hints {
+        place: 0,
+        compared: 0,
+        telling: Vec::new(alloc),
+    };
+    for i in given..slots.len() {
+        if !is_slot_new(
+            count,
+            &mut marks,
+            slots,
+            lists.as_slice(),
+            blocks,
+            i,
+            &mut hints,
+        ) {
+            return Ok(false);
+        }
+        let crowded = is_crowded(hints.compared, i.saturating_sub(given), blocks);
+        put_slot(alloc, count, slots, seen, lists, blocks, i, crowded)?;
+    }
+    Ok(true)
 }
 
 fn each_new_by_index(
@@ -444,17 +597,27 @@ fn each_new_by_index(
     requires there { given ≤ length slots.now }
     ensures { IfOk result (λ b. b ≡ each_new (live_of (take given slots.now)) (live_of (drop given slots.now))) }
 {
-    let mut marks = vec![in alloc; false; count]?;
     let mut seen = vec![in alloc; 0; count]?;
-    let mut lists = index_before(alloc, count, slots, &mut seen, given)?;
-    let mut hint = 0;
-    for i in given..slots.len() {
-        if !is_slot_new(count, &mut marks, slots, lists.as_slice(), i, &mut hint) {
-            return Ok(false);
-        }
-        put_slot(count, slots, &mut seen, &mut lists, i)?;
-    }
-    Ok(true)
+    let mut lists = empty_lists(alloc, count)?;
+    let mut blocks = no_blocks(alloc, count)?;
+    put_before(
+        alloc,
+        count,
+        slots,
+        &mut seen,
+        &mut lists,
+        &mut blocks,
+        given,
+    )?;
+    each_new_after(
+        alloc,
+        count,
+        slots,
+        &mut seen,
+        &mut lists,
+        &mut blocks,
+        given,
+    )
 }
 
 fn holds_one_within(earlier: &[Option<Clause>], lits: &[Lit]) -> bool

@@ -8,11 +8,12 @@
 // Definitions, in the order in which a reader needs them, after those of `proof_lines`: specs/Rules (what stands after a line, or
 // the first rule that it breaks), specs/Evidence (fresh logs, the evidence of undecided verdicts), specs/Answers (the answers to
 // whole logs). Two private indexes make the kernel fast, and no clause of a call names them: src/atoms.rt (the rows among the
-// atoms, specs/Atoms) and src/freshness.rt (the literals of earlier clauses, specs/Index).
+// atoms, specs/Atoms), and src/freshness.rt with src/blocks.rt (the literals of earlier clauses, specs/Index, specs/Blocks, specs/Puts).
 #![tactic(auto)]
 
 pub mod answer;
 mod atoms;
+mod blocks;
 mod freshness;
 pub mod kernel;
 pub mod log;

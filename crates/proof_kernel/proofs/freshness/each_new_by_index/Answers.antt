@@ -1,31 +1,8 @@
-use Rattle.std.proofs.Common.{◌+◌, ◌∙◌, sym, ap, arith, Bool, take, drop, ◌&&◌}
-use Rattle.std.proofs.lemmas.Grind.{common_steps}
-use Rattle.proof_kernel.specs.Rules.{live_of}
-use Rattle.proof_kernel.specs.Evidence.{each_new}
-use Rattle.proof_kernel.proofs.Index.{each_new-slot}
+use Rattle.proof_kernel.proofs.Index.{index-none}
 use Rattle.proof_kernel.proofs.freshness.each_new_by_index.Goals as goal
 
-pub loop-i-preserved : goal.loop-i-preserved
-loop-i-preserved c =
-    let slots = c.args.slots.now in
-    let i = c.loop-i.i in
-    record {
-      listed = c.in_ok-put_slot.ensures.listed;
-      index = c.in_ok-put_slot.ensures.next c.loop-i.invariant.index;
-      sized = c.is_slot_new.ensures.sized;
-      clear = c.is_slot_new.ensures.clear;
-      rest = c.loop-i.invariant.rest ∙ each_new-slot slots i _ (omega arith) c.loop-i-test.true
-          ∙ ap (λ (b : Bool). b && each_new (live_of (take (i + 1) slots)) (live_of (drop (i + 1) slots))) (sym c.is_slot_new.ensures.is ∙ c.if-not-is_slot_new.false);
-    }
+pub put_before-requires-clause-fits : goal.put_before-requires-clause-fits
+put_before-requires-clause-fits c = c.in_ok-blocks.ensures.fits c.args.slots.now
 
-pub loop-i-init : goal.loop-i-init
-loop-i-init c = grind (arith, common_steps)
-
-pub returns-then-not-is_slot_new : goal.returns-then-not-is_slot_new
-returns-then-not-is_slot_new c = grind (arith, common_steps)
-
-pub loop-i-smaller : goal.loop-i-smaller
-loop-i-smaller c = grind (arith, common_steps)
-
-pub returns : goal.returns
-returns c = grind (arith, common_steps)
+pub put_before-requires-clause-none : goal.put_before-requires-clause-none
+put_before-requires-clause-none c = index-none c.args.count c.args.slots.now c.in_ok-lists.lists.items c.in_ok-blocks.blocks c.in_ok-lists.ensures.empty (c.in_ok-blocks.ensures.none c.args.slots.now)

@@ -1,13 +1,16 @@
 use Rattle.std.proofs.Common.{◌≡◌, length, take, drop}
 use Rattle.proof_kernel.specs.Rules.{live_of}
 use Rattle.proof_kernel.specs.Evidence.{each_new}
-use Rattle.proof_kernel.specs.Index.{HasNoMark, IsIndex}
-use Rattle.proof_kernel.proofs.freshness.each_new_by_index.Given as goal
+use Rattle.proof_kernel.specs.Index.{HasNoMark}
+use Rattle.proof_kernel.specs.Blocks.{BlocksFit}
+use Rattle.proof_kernel.specs.Puts.{IsIndex}
+use Rattle.proof_kernel.proofs.freshness.each_new_after.Given as goal
 
 abbrev pub invariant-loop-i : goal.invariant-loop-i
 invariant-loop-i l = record {
   listed : length l.lists.items ≡ l.count;
-  index : IsIndex l.count l.slots l.lists.items (live_of (take l.i l.slots));
+  fits : BlocksFit l.count l.slots l.blocks;
+  index : IsIndex l.count l.slots l.lists.items l.blocks (live_of (take l.i l.slots));
   sized : length l.marks.items ≡ l.count;
   clear : HasNoMark l.marks.items;
   rest : each_new (live_of (take l.given l.slots)) (live_of (drop l.given l.slots)) ≡ each_new (live_of (take l.i l.slots)) (live_of (drop l.i l.slots));
