@@ -14,7 +14,7 @@ use Rattle.replica_replay.specs.declared.step.StepRefused.{StepRefused}
 use Rattle.replica_replay.specs.declared.step.StepRefused.TheVariants as refusal
 use Rattle.replica_replay.specs.Held.{Held, IsHeld, none_held}
 use Rattle.replica_replay.specs.Replayed.{Replayed}
-use Rattle.replica_replay.specs.Steps.{Outcome, accepted, refused, state_of, operation_named, decided, named_outcome, found_outcome, called, took, outcome, held_after, answer}
+use Rattle.replica_replay.specs.Steps.{Outcome, accepted, refused, state_of, operation_named, replica_with, decided, named_outcome, found_outcome, called, took, outcome, held_after, answer}
 use Rattle.replay_text.specs.declared.stop.Stop.{Stop}
 use Rattle.replay_text.specs.declared.stop.Stop.TheVariants as stop
 use Rattle.replay_text.specs.Course.{Course, stopped, with_event, unless_broken, replica_of, state_at, after_outcome, course_from, course}
@@ -41,19 +41,19 @@ decided_length None e held after h = h
 decided_length (Some why) e held after h = refl
 
 module _ (d : Specification) (w : World) (held : Held) where
-  called_length : (replica : ℕ) (name : List ℕ) (args : List ℤ) (o : Option (List ℕ)) → length (held_after held (called d w held replica name args o)).taken ≡ length held.taken
+  called_length : (replica : ℕ) (name : List ℕ) (args : List ℤ) (o : Option (List ℕ)) → length (held_after held (called d w name args (replica_with held replica o))).taken ≡ length held.taken
   called_length replica name args None = refl
   called_length replica name args (Some taken) = named (operation_named d name)
     where
-      named : (op : Option ℕ) → length (held_after held (named_outcome d w held replica taken args op)).taken ≡ length held.taken
+      named : (op : Option ℕ) → length (held_after held (named_outcome d w (record { held = held; replica = replica; taken = taken }) args op)).taken ≡ length held.taken
       named None = refl
       named (Some op) = decided_length _ (length held.events) held _ (length-set held.taken replica _)
 
-  took_length : (replica e : ℕ) (o : Option (List ℕ)) → length (held_after held (took d w held replica e o)).taken ≡ length held.taken
+  took_length : (replica e : ℕ) (o : Option (List ℕ)) → length (held_after held (took d w e (replica_with held replica o))).taken ≡ length held.taken
   took_length replica e None = refl
   took_length replica e (Some taken) = found (slice_get held.events e)
     where
-      found : (o : Option (Event Call)) → length (held_after held (found_outcome d w held replica taken e o)).taken ≡ length held.taken
+      found : (o : Option (Event Call)) → length (held_after held (found_outcome d w (record { held = held; replica = replica; taken = taken }) e o)).taken ≡ length held.taken
       found None = refl
       found (Some event) = decided_length _ e held _ (length-set held.taken replica _)
 
