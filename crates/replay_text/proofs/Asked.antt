@@ -18,7 +18,7 @@ use Rattle.replica_replay.specs.declared.step.Step.{Step}
 use Rattle.replica_replay.specs.declared.step.Step.TheVariants as step
 use Rattle.replica_replay.specs.declared.step.StepRefused.{StepRefused}
 use Rattle.replica_replay.specs.Held.{Held, none_held, IsHeld}
-use Rattle.replica_replay.specs.Steps.{accepted, state_of, operation_named, decided, named_outcome, found_outcome, called, took, outcome}
+use Rattle.replica_replay.specs.Steps.{accepted, state_of, operation_named, replica_with, decided, named_outcome, found_outcome, called, took, outcome}
 use Rattle.replay_text.specs.Course.{replica_of, state_at}
 use Rattle.replay_text.specs.Asked.{HoldsAt, AllHeld, OthersHeld, IsFrontElsewhere, LedBy, Grows}
 
@@ -32,11 +32,11 @@ decided_is None n e next after h = (cc h, cc h)
 decided_is (Some why) n e next after h = absurd (cc h)
 
 module _ (d : Specification) (w : World) (held : Held) (replica e : ℕ) (after : Held) where
-  called_grows : (name : List ℕ) (args : List ℤ) (o : Option (List ℕ)) → slice_get held.taken replica ≡ o → called d w held replica name args o ≡ accepted e after → Grows held replica e after
+  called_grows : (name : List ℕ) (args : List ℤ) (o : Option (List ℕ)) → slice_get held.taken replica ≡ o → called d w name args (replica_with held replica o) ≡ accepted e after → Grows held replica e after
   called_grows name args None q h = absurd (cc h)
   called_grows name args (Some taken) q h = by (operation_named d name) h
     where
-      by : (op : Option ℕ) → named_outcome d w held replica taken args op ≡ accepted e after → Grows held replica e after
+      by : (op : Option ℕ) → named_outcome d w (record { held = held; replica = replica; taken = taken }) args op ≡ accepted e after → Grows held replica e after
       by None h = absurd (cc h)
       by (Some op) h =
           let event : Event Call = record { call = record { op = op; args = args }; seen = taken } in
@@ -45,11 +45,11 @@ module _ (d : Specification) (w : World) (held : Held) (replica e : ℕ) (after 
           let same = decided_is _ (length held.events) e next after h in
           subst (λ (n : ℕ). Grows held replica n after) same.0 (subst (Grows held replica (length held.events)) same.1 grown)
 
-  took_grows : (event : ℕ) (o : Option (List ℕ)) → slice_get held.taken replica ≡ o → took d w held replica event o ≡ accepted e after → Grows held replica e after
+  took_grows : (event : ℕ) (o : Option (List ℕ)) → slice_get held.taken replica ≡ o → took d w event (replica_with held replica o) ≡ accepted e after → Grows held replica e after
   took_grows event None q h = absurd (cc h)
   took_grows event (Some taken) q h = by (slice_get held.events event) refl h
     where
-      by : (o : Option (Event Call)) → slice_get held.events event ≡ o → found_outcome d w held replica taken event o ≡ accepted e after → Grows held replica e after
+      by : (o : Option (Event Call)) → slice_get held.events event ≡ o → found_outcome d w (record { held = held; replica = replica; taken = taken }) event o ≡ accepted e after → Grows held replica e after
       by None s h = absurd (cc h)
       by (Some found) s h =
           let next : Held = record { events = held.events; taken = set held.taken replica (taken ++ event ∷ []) } in

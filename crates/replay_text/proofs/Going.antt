@@ -1,7 +1,8 @@
 -- Going through steps one by one.
-use Rattle.std.proofs.Common.{◌≡◌, ℕ, ℤ, zero, suc, replicate, ◌+◌, ◌<◌, ◌⊎◌, inl, inr, List, [], ◌∷◌, ◌++◌, length, drop, get_or, Option, None, Some, Result, Ok, Err, refl, sym, ap, ◌∙◌, subst, append_assoc, append-nil, length-set, add-one, arith}
+use Rattle.std.proofs.Common.{◌≡◌, ℕ, ℤ, zero, suc, replicate, ◌+◌, ◌<◌, ◌≤◌, ◌⊎◌, inl, inr, List, [], ◌∷◌, ◌++◌, length, drop, get_or, Option, None, Some, Result, Ok, Err, refl, sym, ap, ◌∙◌, subst, append_assoc, append-nil, length-set, add-one, arith}
 use Rattle.std.specs.Prelude.{slice_get, codes}
 use Rattle.std.proofs.lemmas.List.{drop_more, length-replicate}
+use Rattle.std.proofs.Math.ListN.{drop_of_length-le}
 use Rattle.spec_core.specs.declared.world.World.{World}
 use Rattle.spec_core.specs.declared.world.Call.{Call}
 use Rattle.executions.specs.Orders.{Event}
@@ -14,13 +15,13 @@ use Rattle.replica_replay.specs.declared.step.StepRefused.{StepRefused}
 use Rattle.replica_replay.specs.declared.step.StepRefused.TheVariants as refusal
 use Rattle.replica_replay.specs.Held.{Held, IsHeld, none_held}
 use Rattle.replica_replay.specs.Replayed.{Replayed}
-use Rattle.replica_replay.specs.Steps.{Outcome, accepted, refused, state_of, operation_named, decided, named_outcome, found_outcome, called, took, outcome, held_after, answer}
+use Rattle.replica_replay.specs.Steps.{Outcome, accepted, refused, state_of, operation_named, replica_with, decided, named_outcome, found_outcome, called, took, outcome, held_after, answer}
 use Rattle.replay_text.specs.declared.stop.Stop.{Stop}
 use Rattle.replay_text.specs.declared.stop.Stop.TheVariants as stop
 use Rattle.replay_text.specs.Course.{Course, stopped, with_event, unless_broken, replica_of, state_at, after_outcome, course_from, course}
 use Rattle.replay_text.specs.Text.{step_line, step_lines, stop_line, replica_texts, course_text}
 use Rattle.replay_text.specs.declared.writing.Stepped.TheVariants as stepped
-use Rattle.replay_text.specs.Reached.{IsStepped, IsReached}
+use Rattle.replay_text.specs.Reached.{IsStepped, CourseDone, IsReached}
 use Rattle.replay_text.specs.Asked.{AllHeld}
 use Rattle.replay_text.proofs.Asked.{all_hold}
 
@@ -41,19 +42,19 @@ decided_length None e held after h = h
 decided_length (Some why) e held after h = refl
 
 module _ (d : Specification) (w : World) (held : Held) where
-  called_length : (replica : ℕ) (name : List ℕ) (args : List ℤ) (o : Option (List ℕ)) → length (held_after held (called d w held replica name args o)).taken ≡ length held.taken
+  called_length : (replica : ℕ) (name : List ℕ) (args : List ℤ) (o : Option (List ℕ)) → length (held_after held (called d w name args (replica_with held replica o))).taken ≡ length held.taken
   called_length replica name args None = refl
   called_length replica name args (Some taken) = named (operation_named d name)
     where
-      named : (op : Option ℕ) → length (held_after held (named_outcome d w held replica taken args op)).taken ≡ length held.taken
+      named : (op : Option ℕ) → length (held_after held (named_outcome d w (record { held = held; replica = replica; taken = taken }) args op)).taken ≡ length held.taken
       named None = refl
       named (Some op) = decided_length _ (length held.events) held _ (length-set held.taken replica _)
 
-  took_length : (replica e : ℕ) (o : Option (List ℕ)) → length (held_after held (took d w held replica e o)).taken ≡ length held.taken
+  took_length : (replica e : ℕ) (o : Option (List ℕ)) → length (held_after held (took d w e (replica_with held replica o))).taken ≡ length held.taken
   took_length replica e None = refl
   took_length replica e (Some taken) = found (slice_get held.events e)
     where
-      found : (o : Option (Event Call)) → length (held_after held (found_outcome d w held replica taken e o)).taken ≡ length held.taken
+      found : (o : Option (Event Call)) → length (held_after held (found_outcome d w (record { held = held; replica = replica; taken = taken }) e o)).taken ≡ length held.taken
       found None = refl
       found (Some event) = decided_length _ e held _ (length-set held.taken replica _)
 
@@ -76,6 +77,10 @@ course_length d w held (s ∷ ss) = by (outcome d w held s) (step_length d w hel
 
 -- ---- the steps
 
+-- where the loop ends, from its parts
+abbrev pub end_at : List ℕ → ℕ → Stop → Held → CourseDone
+end_at text count how held = record { text = text; accepted = count; stop = how; held = held }
+
 -- What remains between two steps: of all steps some are left, and the course from here continues the whole.
 pub record Remaining (d : Specification) (w : World) (first : Held) (all : List Step) (before text : List ℕ) (k : ℕ) (now : Held) (left : List Step) : Type 0 where
   pub text_is : before ++ step_lines 0 all (course_from d w first all).events ≡ text ++ step_lines k left (course_from d w now left).events
@@ -92,7 +97,7 @@ module _ (d : Specification) (w : World) (first : Held) (all : List Step) (befor
       zero_more n = omega arith
 
   -- behind the last
-  pub at_last : (text : List ℕ) (k : ℕ) (now : Held) → Remaining d w first all before text k now [] → IsReached (course_from d w first all) all before text k stop.Done now
+  pub at_last : (text : List ℕ) (k : ℕ) (now : Held) → Remaining d w first all before text k now [] → IsReached (course_from d w first all) all before (end_at text k stop.Done now)
   at_last text k now r = record {
     text_is = r.text_is ∙ append-nil text;
     count_is = r.count_is ∙ omega arith;
@@ -102,7 +107,7 @@ module _ (d : Specification) (w : World) (first : Held) (all : List Step) (befor
 
   module _ (text : List ℕ) (k : ℕ) (now : Held) (s : Step) (left : List Step) (r : Remaining d w first all before text k now (s ∷ left)) where
     -- at a step that is refused
-    pub at_refused : (why : StepRefused) → outcome d w now s ≡ refused why → IsReached (course_from d w first all) all before text k (stop.Refused why) now
+    pub at_refused : (why : StepRefused) → outcome d w now s ≡ refused why → IsReached (course_from d w first all) all before (end_at text k (stop.Refused why) now)
     at_refused why e =
         let is : course_from d w now (s ∷ left) ≡ stopped (stop.Refused why) now = ap (λ o. after_outcome d w (replica_of s) now o (λ after. course_from d w after left)) e in
         record {
@@ -122,7 +127,7 @@ module _ (d : Specification) (w : World) (first : Held) (all : List Step) (befor
 
       -- whose replica's state breaks an invariant
       pub at_broken : (place : ℕ) → Some place ≡ broken_at d w (state_at d w after (replica_of s))
-          → IsReached (course_from d w first all) all before (text ++ step_line k s e) (k + 1) (stop.Broken place) after
+          → IsReached (course_from d w first all) all before (end_at (text ++ step_line k s e) (k + 1) (stop.Broken place) after)
       at_broken place b =
           let is = accepted_course (Some place) b in
           record {
@@ -163,7 +168,7 @@ module _ (d : Specification) (w : World) (first : Held) (all : List Step) (befor
   stepped_here = subst (λ (v : World). IsStepped d v now.held s (stepped.Accepted e o) after.held) is.world_is went
 
   -- an accepted step that breaks an invariant ends the loop
-  pub ends_broken : (place : ℕ) → o ≡ Some place → IsReached (course_from d w first all) all before longer (k + 1) (stop.Broken place) after.held
+  pub ends_broken : (place : ℕ) → o ≡ Some place → IsReached (course_from d w first all) all before (end_at longer (k + 1) (stop.Broken place) after.held)
   ends_broken place q =
       rw line (at_broken d w first all before text k now.held s (drop (k + 1) all) remaining_here e after.held stepped_here.0 place (sym q ∙ stepped_here.1))
 
@@ -179,6 +184,25 @@ module _ (d : Specification) (w : World) (first : Held) (all : List Step) (befor
       held_here : IsHeld d w now.held
       held_here = subst (λ (v : World). IsHeld d v now.held) is.world_is (subst (λ (x : Specification). IsHeld x now.world now.held) is.spec_is held)
 
+-- where the loop ends without a step that was accepted
+module _ (d : Specification) (w : World) (first : Held) (all : List Step) (before text : List ℕ) (k : ℕ) (now : Replayed) (is : Between d w first all before text k now) where
+  -- at a step that is refused, which leaves what is held
+  pub ends_refused : (s : Step) → k < length all → s ≡ get_or all k s → (why : StepRefused) (after : Held) → IsStepped d now.world now.held s (stepped.Refused why) after
+      → IsReached (course_from d w first all) all before (end_at text k (stop.Refused why) after)
+  ends_refused s below here why after went =
+      let split : drop k all ≡ s ∷ drop (k + 1) all = drop_more all k s below ∙ ap (λ z. z ∷ drop (k + 1) all) (sym here) in
+      let went_here = subst (λ (v : World). IsStepped d v now.held s (stepped.Refused why) after) is.world_is went in
+      subst (λ (h : Held). IsReached (course_from d w first all) all before (end_at text k (stop.Refused why) h)) (sym went_here.1)
+      (at_refused d w first all before text k now.held s (drop (k + 1) all) (subst (λ z. Remaining d w first all before text k now.held z) split is.remaining) why went_here.0)
+
+  -- behind the last
+  pub ends_done : length all ≤ k → k ≤ length all → IsReached (course_from d w first all) all before (end_at text (length all) stop.Done now.held)
+  ends_done past within =
+      let same : k ≡ length all = omega (arith, past, within) in
+      let none : drop k all ≡ [] = drop_of_length-le all past in
+      subst (λ n. IsReached (course_from d w first all) all before (end_at text n stop.Done now.held)) same
+      (at_last d w first all before text k now.held (subst (λ z. Remaining d w first all before text k now.held z) none is.remaining))
+
 none_first : (n : ℕ) → let none : List ℕ = [] in get_or (replicate n none) 0 [] ≡ []
 none_first zero = refl
 none_first (suc n) = refl
@@ -188,7 +212,7 @@ first_state d w n = ap (state_of d w (none_held n)) (none_first n)
 
 -- a course whose initial state breaks an invariant ends before the first step
 pub broken_at_start : (d : Specification) (w : World) (n : ℕ) (ss : List Step) (text : List ℕ) (held : Held) (place : ℕ) → held ≡ none_held n
-    → Some place ≡ broken_at d w (state_at d w held 0) → IsReached (course d w n ss) ss text text 0 (stop.Broken place) held
+    → Some place ≡ broken_at d w (state_at d w held 0) → IsReached (course d w n ss) ss text (end_at text 0 (stop.Broken place) held)
 broken_at_start d w n ss text held place h b =
     let broken : broken_at d w (state_of d w (none_held n) []) ≡ Some place =
     sym (b ∙ ap (λ (x : Held). broken_at d w (state_at d w x 0)) h ∙ ap (broken_at d w) (first_state d w n)) in
@@ -216,7 +240,7 @@ assembled t0 t1 t2 t3 t4 h l s r a b c e = grind (arith, append_assoc)
 
 -- from its parts
 pub whole_text : (d : Specification) (w : World) (ss : List Step) (c : Course) (t0 t1 t2 t3 t4 : List ℕ) (n : ℕ) (how : Stop) (held : Held)
-    → t1 ≡ t0 ++ codes "cise replay 1\n" → IsReached c ss t1 t2 n how held → t3 ≡ t2 ++ stop_line d n how → t4 ≡ t3 ++ replica_texts d w held 0 held.taken
+    → t1 ≡ t0 ++ codes "cise replay 1\n" → IsReached c ss t1 (end_at t2 n how held) → t3 ≡ t2 ++ stop_line d n how → t4 ≡ t3 ++ replica_texts d w held 0 held.taken
     → t4 ≡ t0 ++ course_text d w ss c
 whole_text d w ss c t0 t1 t2 t3 t4 n how held a r b e =
     rw (r.count_is, r.stop_is, r.held_is) (assembled t0 t1 t2 t3 t4 (codes "cise replay 1\n") (step_lines 0 ss c.events) (stop_line d n how) (replica_texts d w held 0 held.taken) a r.text_is b e)

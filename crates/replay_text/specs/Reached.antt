@@ -20,10 +20,17 @@ IsStepped d w held s (stepped.Accepted e place) after =
 IsStepped d w held s (stepped.Refused why) after =
     (outcome d w held s ≡ refused why) × (after ≡ held)
 
--- a course of some steps was gone through, and the lines of the accepted ones were added to a text
-pub record IsReached (c : Course) (steps : List Step) (before text : List ℕ) (count : ℕ)
-    (stop : Stop) (after : Held) : Type 0 where
-  pub text_is : before ++ step_lines 0 steps c.events ≡ text
-  pub count_is : length c.events ≡ count
-  pub stop_is : c.stop ≡ stop
-  pub held_is : c.held ≡ after
+-- Where the loop over the steps ends: the text so far, how many steps were accepted, how it stops, and what is held then.
+pub record CourseDone : Type 0 where
+  pub text : List ℕ
+  pub accepted : ℕ
+  pub stop : Stop
+  pub held : Held
+
+-- a course of some steps was gone through, and the lines of the accepted ones were added to this text
+pub record IsReached (c : Course) (steps : List Step) (before : List ℕ)
+    (end : CourseDone) : Type 0 where
+  pub text_is : before ++ step_lines 0 steps c.events ≡ end.text
+  pub count_is : length c.events ≡ end.accepted
+  pub stop_is : c.stop ≡ end.stop
+  pub held_is : c.held ≡ end.held

@@ -4,7 +4,8 @@ ghost use Rattle.std.specs.Prelude.{◌≡◌, ◌++◌, ◌∷◌, [], get_or, 
 ghost use Rattle.spec_core.specs.Specification.{no_counter, no_invariant};
 ghost use Rattle.std.specs.Fmt.{signed_decimal};
 ghost use Rattle.spec_core.specs.StateText.{spaced};
-ghost use Rattle.replay_text.specs.Text.{step_words, step_line, refusal_words, broken_words, stop_line};
+ghost use Rattle.replay_text.specs.Text.{step_words, step_line, refusal_words, broken_words};
+ghost use Rattle.replay_text.specs.Text.{stop_line};
 
 use crate::stop::Stop;
 use replica_replay::{Step, StepRefused};
@@ -172,7 +173,8 @@ pub fn push_stop(
     accepted: usize,
     stop: &Stop,
 ) -> Result<(), AllocError>
-    ensures { OnOk result (text.new.items ≡ text.old.items ++ stop_line spec.now accepted stop.now) }
+    ensures { OnOk result
+        (text.new.items ≡ text.old.items ++ stop_line spec.now accepted stop.now) }
 {
     match stop {
         Stop::Done => push_number(alloc, text, b"done ", accepted)?,

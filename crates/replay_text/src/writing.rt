@@ -1,12 +1,14 @@
 // Going through the steps of a schedule, and writing the text.
 
-ghost use Rattle.std.specs.Prelude.{◌≡◌, ◌++◌, [], ◌∷◌, ◌+◌, ◌<◌, ◌≤◌, ◌^◌, true, length, take, get_or, IfOk, OnOk, codes};
+ghost use Rattle.std.specs.Prelude.{◌≡◌, ◌++◌, [], ◌∷◌, ◌+◌, ◌<◌, ◌≤◌, ◌^◌, true, length, take};
+ghost use Rattle.std.specs.Prelude.{get_or, IfOk, OnOk, codes};
 ghost use Rattle.spec_core.specs.Meaning.{broken_at};
 ghost use Rattle.spec_core.specs.Fits.{world_fits};
 ghost use Rattle.spec_core.specs.StateText.{state_text};
 ghost use Rattle.replay_text.specs.Course.{state_at, replica_of, course_from, course};
 ghost use Rattle.replica_replay.specs.Held.{none_held};
-ghost use Rattle.replay_text.specs.Text.{step_lines, stop_line, replica_text, replica_texts, replay_text, replay_status, status_of};
+ghost use Rattle.replay_text.specs.Text.{step_lines, stop_line, replica_text, replica_texts};
+ghost use Rattle.replay_text.specs.Text.{replay_text, replay_status, status_of};
 ghost use Rattle.replay_text.specs.Reached.{IsStepped, IsReached};
 ghost use Rattle.replay_text.specs.Asked.{AllHeld, OthersHeld, IsFrontElsewhere, LedBy};
 
@@ -71,8 +73,11 @@ fn broken_by<R: Steps>(spec: &Spec, replay: &R, replica: u32, event: u32) -> Opt
     requires spec { (R.replayed replay.now).spec ≡ spec.now }
     requires replica { replica < length (R.replayed replay.now).held.taken }
     requires event { event < length (R.replayed replay.now).held.events }
-    requires led { LedBy spec.now (R.replayed replay.now).world (R.replayed replay.now).held replica event }
-    ensures { result ≡ broken_at spec.now (R.replayed replay.now).world (state_at spec.now (R.replayed replay.now).world (R.replayed replay.now).held replica) }
+    requires led { LedBy spec.now (R.replayed replay.now).world
+        (R.replayed replay.now).held replica event }
+    ensures { result
+        ≡ broken_at spec.now (R.replayed replay.now).world
+        (state_at spec.now (R.replayed replay.now).world (R.replayed replay.now).held replica) }
 {
     invariant_broken_after(
         spec,
@@ -88,9 +93,13 @@ fn broken_after<R: Steps>(spec: &Spec, replay: &R, replica: u32, event: u32) -> 
     requires spec { (R.replayed replay.now).spec ≡ spec.now }
     requires replica { replica < length (R.replayed replay.now).held.taken }
     requires event { event < length (R.replayed replay.now).held.events }
-    requires others { OthersHeld spec.now (R.replayed replay.now).world (R.replayed replay.now).held replica }
-    requires led { LedBy spec.now (R.replayed replay.now).world (R.replayed replay.now).held replica event }
-    ensures { result ≡ broken_at spec.now (R.replayed replay.now).world (state_at spec.now (R.replayed replay.now).world (R.replayed replay.now).held replica) }
+    requires others { OthersHeld spec.now (R.replayed replay.now).world
+        (R.replayed replay.now).held replica }
+    requires led { LedBy spec.now (R.replayed replay.now).world
+        (R.replayed replay.now).held replica event }
+    ensures { result
+        ≡ broken_at spec.now (R.replayed replay.now).world
+        (state_at spec.now (R.replayed replay.now).world (R.replayed replay.now).held replica) }
 {
     if is_front_elsewhere(replay, replica) {
         return None;
@@ -147,7 +156,13 @@ fn write_steps<R: Steps>(
     ensures reached { IfOk result
         (λ s. IsReached
         (course_from spec.now (R.replayed replay.old).world (R.replayed replay.old).held steps.now)
-        steps.now text.old.items text.new.items s.accepted s.stop (R.replayed replay.new).held) }
+        steps.now text.old.items
+        (record {
+          text = text.new.items;
+          accepted = s.accepted;
+          stop = s.stop;
+          held = (R.replayed replay.new).held;
+        })) }
     ensures world { OnOk result ((R.replayed replay.new).world ≡ (R.replayed replay.old).world) }
     ensures spec { OnOk result ((R.replayed replay.new).spec ≡ (R.replayed replay.old).spec) }
 {
@@ -257,7 +272,13 @@ fn write_course<R: Steps>(
     requires some { 1 ≤ replicas }
     ensures reached { IfOk result
         (λ s. IsReached (course spec.now (R.replayed replay.old).world replicas steps.now) steps.now
-        text.old.items text.new.items s.accepted s.stop (R.replayed replay.new).held) }
+        text.old.items
+        (record {
+          text = text.new.items;
+          accepted = s.accepted;
+          stop = s.stop;
+          held = (R.replayed replay.new).held;
+        })) }
     ensures world { OnOk result ((R.replayed replay.new).world ≡ (R.replayed replay.old).world) }
     ensures spec { OnOk result ((R.replayed replay.new).spec ≡ (R.replayed replay.old).spec) }
 {
@@ -296,7 +317,9 @@ fn write_replay<R: Steps>(
     ensures text { OnOk result
         (text.new.items
         ≡ text.old.items ++ replay_text spec.now (R.replayed replay.old).world replicas steps.now) }
-    ensures status { IfOk result (λ status. status ≡ replay_status spec.now (R.replayed replay.old).world replicas steps.now) }
+    ensures status { IfOk result
+        (λ status. status
+        ≡ replay_status spec.now (R.replayed replay.old).world replicas steps.now) }
 {
     push(text, b"cise replay 1\n")?;
     let stopped = write_course(alloc, spec, replay, replicas, steps, text)?;
@@ -339,8 +362,10 @@ pub fn replay(
 ) -> Result<Answer, AllocError>
     requires world { world_fits spec.now world ≡ true }
     requires some { 1 ≤ replicas }
-    ensures text { IfOk result (λ report. report.text.items ≡ replay_text spec.now world replicas steps.now) }
-    ensures status { IfOk result (λ report. report.status ≡ replay_status spec.now world replicas steps.now) }
+    ensures text { IfOk result
+        (λ report. report.text.items ≡ replay_text spec.now world replicas steps.now) }
+    ensures status { IfOk result
+        (λ report. report.status ≡ replay_status spec.now world replicas steps.now) }
 {
     let mut replay = Replay::new(alloc, spec, world, replicas)?;
     replay_by(alloc, spec, &mut replay, replicas, steps)

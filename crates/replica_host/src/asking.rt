@@ -87,7 +87,7 @@ fn asked<R: Runner>(
     ensures refusal { IfOk result
         (λ found. (next : Option StepRefused)
         → call_asked (R.specification runner.now) (R.setting runner.now) (calls_of happened.now)
-        taken.now (reads state.now) call.now next
+        (record { taken = taken.now; state = reads state.now }) call.now next
         ≡ option_or found next) }
     ensures fits { IfOk result
         (λ found. found ≡ None
@@ -163,12 +163,12 @@ pub fn state_after_call<R: Runner>(
         (λ s. is_state (R.specification runner.now) (R.setting runner.now) s ≡ true) }
     ensures ok { OnOk result
         (call_refused (R.specification runner.now) (R.setting runner.now) (calls_of happened.now)
-        taken.now (reads state.now) call.now
+        (record { taken = taken.now; state = reads state.now }) call.now
         ≡ None) }
     ensures err { IfErr result
         (λ why. (why ≡ StepRefused.Memory)
         ⊎ (call_refused (R.specification runner.now) (R.setting runner.now) (calls_of happened.now)
-        taken.now (reads state.now) call.now
+        (record { taken = taken.now; state = reads state.now }) call.now
         ≡ Some why)) }
 {
     match asked(runner, happened, taken, state, call, rivals) {
@@ -195,13 +195,15 @@ pub fn state_after_taking<R: Runner>(
     ensures fits { IfOk result
         (λ s. is_state (R.specification runner.now) (R.setting runner.now) s ≡ true) }
     ensures ok { OnOk result
-        (taking_refused (R.specification runner.now) (R.setting runner.now) taken.now
-        (reads state.now) event seen.now call.now
+        (taking_refused (R.specification runner.now) (R.setting runner.now)
+        (record { taken = taken.now; state = reads state.now }) event
+        (record { call = call.now; seen = seen.now })
         ≡ None) }
     ensures err { IfErr result
         (λ why. (why ≡ StepRefused.Memory)
-        ⊎ (taking_refused (R.specification runner.now) (R.setting runner.now) taken.now
-        (reads state.now) event seen.now call.now
+        ⊎ (taking_refused (R.specification runner.now) (R.setting runner.now)
+        (record { taken = taken.now; state = reads state.now }) event
+        (record { call = call.now; seen = seen.now })
         ≡ Some why)) }
 {
     match taking_asked(taken, event, seen) {

@@ -21,9 +21,10 @@ use Rattle.replica_replay.specs.declared.keeping.Happened.{Happened}
 use Rattle.replica_replay.specs.declared.keeping.Replica.{Replica}
 use Rattle.replica_replay.specs.Held.{Held}
 use Rattle.replica_replay.specs.Refusals.{effect_refused, call_asked, call_refused, taking_asked, taking_refused}
-use Rattle.replica_replay.specs.Steps.{operation_named, state_of, Outcome, decided, with_taken, called, took, held_after, answer}
+use Rattle.replica_replay.specs.Steps.{operation_named, AtReplica, state_of, replica_in, Outcome, decided, with_taken, called, took, held_after, answer}
 use Rattle.replica_replay.specs.Holding.{seen_by_event, event_of, orders_of, calls_of, held_by, IsKept}
 use Rattle.replica_replay.proofs.Taking.{absent, one_found, get_map}
+use Rattle.replica_replay.proofs.Refusing.{view_of}
 use Rattle.replica_replay.proofs.Fronts.{held_taking, held_call}
 use Rattle.replica_replay.proofs.Kept.{own_order, taking_is_kept, call_is_kept}
 use Rattle.replica_replay.proofs.Outcomes.{call_decided, taking_decided}
@@ -108,32 +109,35 @@ module _ (d : Specification) (w : World) (happened : List Happened) (replicas : 
   the_call = record { op = op; args = xs }
 
   abbrev pub the_outcome : Outcome
-  the_outcome = called d w call_now r name args (slice_get call_now.taken r)
+  the_outcome = called d w name args (replica_in call_now r)
 
   -- why the call is refused, by what is kept
   abbrev why_not : Option StepRefused
-  why_not = call_refused d w (calls_of happened) at.order (reads at.state) the_call
+  why_not = call_refused d w (calls_of happened) (view_of at) the_call
+
+  abbrev calling : AtReplica
+  calling = record { held = call_now; replica = r; taken = at.order }
 
   abbrev call_after : Held
-  call_after = record { events = call_now.events ++ record { call = the_call; seen = at.order } ∷ []; taken = with_taken call_now.taken r at.order (length call_now.events) }
+  call_after = record { events = call_now.events ++ record { call = the_call; seen = at.order } ∷ []; taken = with_taken calling (length call_now.events) }
 
   call_decides : (why : Option StepRefused) → why_not ≡ why → the_outcome ≡ decided why (length call_now.events) call_after
-  call_decides why k = ap (λ (a : List ℤ). called d w call_now r name a (slice_get call_now.taken r)) (sym same) ∙ call_decided d w happened replicas r name xs op at why is here (sym named) k
+  call_decides why k = ap (λ (a : List ℤ). called d w name a (replica_in call_now r)) (sym same) ∙ call_decided d w happened replicas r name xs op at why is here (sym named) k
 
-  call_why_not : (hs : List Happened) → hs ≡ happened → (found : Option StepRefused) → ((next : Option StepRefused) → call_asked d w (calls_of hs) at.order (reads at.state) the_call next ≡ option_or found next)
+  call_why_not : (hs : List Happened) → hs ≡ happened → (found : Option StepRefused) → ((next : Option StepRefused) → call_asked d w (calls_of hs) (view_of at) the_call next ≡ option_or found next)
       → why_not ≡ option_or found (effect_refused d w (reads at.state) the_call)
-  call_why_not hs q found asked = ap (λ (l : List Happened). call_refused d w (calls_of l) at.order (reads at.state) the_call) (sym q) ∙ asked (effect_refused d w (reads at.state) the_call)
+  call_why_not hs q found asked = ap (λ (l : List Happened). call_refused d w (calls_of l) (view_of at) the_call) (sym q) ∙ asked (effect_refused d w (reads at.state) the_call)
 
-  pub call_asked_refuses : (hs : List Happened) → hs ≡ happened → (why : StepRefused) → ((next : Option StepRefused) → call_asked d w (calls_of hs) at.order (reads at.state) the_call next ≡ option_or (Some why) next)
+  pub call_asked_refuses : (hs : List Happened) → hs ≡ happened → (why : StepRefused) → ((next : Option StepRefused) → call_asked d w (calls_of hs) (view_of at) the_call next ≡ option_or (Some why) next)
       → failed why ≡ answer the_outcome
   call_asked_refuses hs q why asked = sym (ap answer (call_decides (Some why) (call_why_not hs q (Some why) asked)))
 
-  pub call_effect_refuses : (hs : List Happened) → hs ≡ happened → (why : StepRefused) → ((next : Option StepRefused) → call_asked d w (calls_of hs) at.order (reads at.state) the_call next ≡ option_or None next)
+  pub call_effect_refuses : (hs : List Happened) → hs ≡ happened → (why : StepRefused) → ((next : Option StepRefused) → call_asked d w (calls_of hs) (view_of at) the_call next ≡ option_or None next)
       → (why ≡ Memory) ⊎ (effect_refused d w (reads at.state) the_call ≡ Some why) → (failed why ≡ failed Memory) ⊎ (failed why ≡ answer the_outcome)
   call_effect_refuses hs q why asked (inl m) = inl (ap failed m)
   call_effect_refuses hs q why asked (inr e) = inr (sym (ap answer (call_decides (Some why) (call_why_not hs q None asked ∙ e))))
 
-  pub call_passes : (hs : List Happened) → hs ≡ happened → ((next : Option StepRefused) → call_asked d w (calls_of hs) at.order (reads at.state) the_call next ≡ option_or None next)
+  pub call_passes : (hs : List Happened) → hs ≡ happened → ((next : Option StepRefused) → call_asked d w (calls_of hs) (view_of at) the_call next ≡ option_or None next)
       → effect_refused d w (reads at.state) the_call ≡ None → why_not ≡ None
   call_passes hs q asked e = call_why_not hs q None asked ∙ e
 
@@ -173,20 +177,23 @@ module _ (d : Specification) (w : World) (happened : List Happened) (replicas : 
   take_now = held_by happened replicas
 
   abbrev pub took_outcome : Outcome
-  took_outcome = took d w take_now r e (slice_get take_now.taken r)
+  took_outcome = took d w e (replica_in take_now r)
 
   abbrev not_taken_for : Option StepRefused
-  not_taken_for = taking_refused d w at.order (reads at.state) e (seen_by_event (orders_of replicas) it) it.call
+  not_taken_for = taking_refused d w (view_of at) e (event_of (orders_of replicas) it)
+
+  abbrev taking : AtReplica
+  taking = record { held = take_now; replica = r; taken = at.order }
 
   abbrev take_after : Held
-  take_after = record { events = take_now.events; taken = with_taken take_now.taken r at.order e }
+  take_after = record { events = take_now.events; taken = with_taken taking e }
 
   take_decides : (why : Option StepRefused) → not_taken_for ≡ why → took_outcome ≡ decided why e take_after
   take_decides why k = taking_decided d w happened replicas r e at it why is here there k
 
   take_why_not : (seen : List ℕ) → seen ≡ seen_by_event (orders_of replicas) it → (found : Option StepRefused) → ((next : Option StepRefused) → taking_asked at.order e seen next ≡ option_or found next)
       → not_taken_for ≡ option_or found (effect_refused d w (reads at.state) it.call)
-  take_why_not seen q found asked = ap (λ (l : List ℕ). taking_refused d w at.order (reads at.state) e l it.call) (sym q) ∙ asked (effect_refused d w (reads at.state) it.call)
+  take_why_not seen q found asked = ap (λ (l : List ℕ). let event : Event Call = record { call = it.call; seen = l } in taking_refused d w (view_of at) e event) (sym q) ∙ asked (effect_refused d w (reads at.state) it.call)
 
   pub take_asked_refuses : (seen : List ℕ) → seen ≡ seen_by_event (orders_of replicas) it → (why : StepRefused) → ((next : Option StepRefused) → taking_asked at.order e seen next ≡ option_or (Some why) next)
       → failed why ≡ answer took_outcome

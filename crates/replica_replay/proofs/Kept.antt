@@ -17,8 +17,9 @@ use Rattle.replica_replay.specs.declared.keeping.Replica.{Replica}
 use Rattle.replica_replay.specs.Held.{Held, IsHeld}
 use Rattle.replica_replay.specs.Refusals.{call_refused, taking_refused}
 use Rattle.replica_replay.specs.Steps.{state_of}
-use Rattle.replica_replay.specs.Holding.{seen_by_event, event_of, orders_of, calls_of, held_by, IsKept}
+use Rattle.replica_replay.specs.Holding.{event_of, orders_of, calls_of, held_by, IsKept}
 use Rattle.replica_replay.proofs.Taking.{absent, one_found, get_set, get_map}
+use Rattle.replica_replay.proofs.Refusing.{view_with, view_of}
 use Rattle.replica_replay.proofs.Executed.{call_kept, taking_kept}
 use Rattle.replica_replay.proofs.Fronts.{grown, front_within, map_set, calls_map, held_taking, held_call}
 
@@ -51,7 +52,7 @@ module _ (d : Specification) (w : World) where
 
   pub taking_is_kept : (happened : List Happened) (replicas : List Replica) (r e : ℕ) (at next : Replica) (h : Happened) → IsKept d w happened replicas
       → slice_get replicas r ≡ Some at → slice_get happened e ≡ Some h
-      → taking_refused d w at.order (reads at.state) e (seen_by_event (orders_of replicas) h) h.call ≡ None
+      → taking_refused d w (view_of at) e (event_of (orders_of replicas) h) ≡ None
       → next.order ≡ get_or (orders_of replicas) r [] ++ e ∷ []
       → is_state d w next.state ≡ true → reads next.state ≡ after d w h.call (reads at.state)
       → IsKept d w happened (set replicas r next)
@@ -63,15 +64,15 @@ module _ (d : Specification) (w : World) where
       let exists : slice_get held.events e ≡ Some event = get_map (event_of old) happened e h there in
       let own = own_order replicas r at here in
       let was : reads at.state ≡ state_of d w held mine = is.states r at here ∙ ap (state_of d w held) (sym own) in
-      let may : taking_refused d w mine (state_of d w held mine) e event.seen event.call ≡ None
-      = ap (λ (l : List ℕ). taking_refused d w l (state_of d w held mine) e event.seen event.call) own ∙ ap (λ (s : Reads). taking_refused d w at.order s e event.seen event.call) (sym was) ∙ accepted in
+      let may : taking_refused d w (view_with mine (state_of d w held mine)) e event ≡ None
+      = ap (λ (l : List ℕ). taking_refused d w (view_with l (state_of d w held mine)) e event) own ∙ ap (λ (s : Reads). taking_refused d w (view_with at.order s) e event) (sym was) ∙ accepted in
       let becomes = held_taking happened replicas r e next is.fronts grew in
       let orders : orders_of (set replicas r next) ≡ set old r (mine ++ e ∷ []) = map_set (λ (x : Replica). x.order) replicas r next ∙ ap (λ (l : List ℕ). set old r l) grew in
       let still : (held_by happened (set replicas r next)).events ≡ held.events = ap (λ (x : Held). x.events) becomes in
       record {
         world = is.world;
         few = is.few;
-        held = subst (IsHeld d w) (sym becomes) (taking_kept d w held r mine e event is.held (own_taken replicas r at here) exists may);
+        held = subst (IsHeld d w) (sym becomes) (taking_kept d w (record { held = held; replica = r; taken = mine }) e event is.held (own_taken replicas r at here) exists may);
         fronts = λ k i q. subst (λ (o : List (List ℕ)). i.before ≤ length (get_or o i.replica [])) (sym orders) (front_within old (set old r (mine ++ e ∷ [])) i (grown old r (e ∷ [])) (is.fronts k i q));
         fit = λ k x q. elim (get_set replicas r k next x q) [
           | inl p ↦ subst (λ (z : Replica). is_state d w z.state ≡ true) p.1 fits
@@ -89,7 +90,7 @@ module _ (d : Specification) (w : World) where
 
   pub call_is_kept : (happened : List Happened) (replicas : List Replica) (r : ℕ) (call : Call) (at next : Replica) → IsKept d w happened replicas
       → slice_get replicas r ≡ Some at
-      → call_refused d w (calls_of happened) at.order (reads at.state) call ≡ None
+      → call_refused d w (calls_of happened) (view_of at) call ≡ None
       → length happened + 1 < 2 ^ 32
       → next.order ≡ get_or (orders_of replicas) r [] ++ length happened ∷ []
       → is_state d w next.state ≡ true → reads next.state ≡ after d w call (reads at.state)
@@ -103,13 +104,14 @@ module _ (d : Specification) (w : World) where
       let own = own_order replicas r at here in
       let count : length held.events ≡ length happened = length_events old happened in
       let was : reads at.state ≡ state_of d w held mine = is.states r at here ∙ ap (state_of d w held) (sym own) in
-      let may : call_refused d w (map (λ (v : Event Call). v.call) held.events) mine (state_of d w held mine) call ≡ None
-      = ap (λ (cs : List Call). call_refused d w cs mine (state_of d w held mine) call) (calls_map old happened) ∙ ap (λ (l : List ℕ). call_refused d w (calls_of happened) l (state_of d w held mine) call) own ∙ ap (λ (s : Reads). call_refused d w (calls_of happened) at.order s call) (sym was) ∙ accepted in
+      let may : call_refused d w (map (λ (v : Event Call). v.call) held.events) (view_with mine (state_of d w held mine)) call ≡ None
+      = ap (λ (cs : List Call). call_refused d w cs (view_with mine (state_of d w held mine)) call) (calls_map old happened) ∙ ap (λ (l : List ℕ). call_refused d w (calls_of happened) (view_with l (state_of d w held mine)) call) own
+      ∙ ap (λ (s : Reads). call_refused d w (calls_of happened) (view_with at.order s) call) (sym was) ∙ accepted in
       let becomes = held_call happened replicas r call (length happened) next (slice_get_within replicas r at here) is.fronts grew in
       let orders : orders_of (set replicas r next) ≡ set old r (mine ++ length happened ∷ []) = map_set (λ (x : Replica). x.order) replicas r next ∙ ap (λ (l : List ℕ). set old r l) grew in
       let after_it = held_by (happened ++ one ∷ []) (set replicas r next) in
       let more : after_it.events ≡ held.events ++ event ∷ [] = ap (λ (x : Held). x.events) becomes in
-      let kept = call_kept d w held r mine call is.held (own_taken replicas r at here) may in
+      let kept = call_kept d w (record { held = held; replica = r; taken = mine }) call is.held (own_taken replicas r at here) may in
       let known : IsHeld d w (record { events = held.events ++ event ∷ []; taken = set old r (mine ++ length happened ∷ []) })
       = subst (λ (n : ℕ). let x : Held = record { events = held.events ++ event ∷ []; taken = set old r (mine ++ n ∷ []) } in IsHeld d w x) count kept in
       let ordered : (k : ℕ) (x : Replica) → slice_get replicas k ≡ Some x → state_after (system_of d w) (held.events ++ event ∷ []) x.order ≡ state_after (system_of d w) held.events x.order

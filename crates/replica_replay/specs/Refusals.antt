@@ -10,6 +10,7 @@ use Rattle.spec_core.specs.Fits.{call_fits}
 use Rattle.effectors.specs.Effect.{after_call}
 use Rattle.effectors.specs.Beyond.{Beyond, first_beyond}
 use Rattle.token_rules.specs.Conflict.{conflicts}
+use Rattle.executions.specs.Orders.{Event}
 use Rattle.replica_replay.specs.declared.step.StepRefused.{StepRefused}
 use Rattle.replica_replay.specs.declared.step.StepRefused.TheVariants.{Arguments, Conflict, Precondition, Seen, Missing, Range, Observation}
 use Rattle.replica_replay.specs.Held.{is_taken}
@@ -53,20 +54,24 @@ abbrev pub effect_refused : Specification → World → Reads → Call → Optio
 effect_refused d w r call =
     unless (first_beyond 0 (after_call d w call r).counters) beyond_range None
 
--- What is asked of a call before its effect, at a replica that has taken these of the events, in this state.
-abbrev pub call_asked : Specification → World → List Call → List ℕ → Reads → Call
-    → Option StepRefused → Option StepRefused
-call_asked d w calls taken r call next =
+-- What a replica knows where a step is tried: the events that it has taken, and its state.
+pub record LocalView : Type 0 where
+  pub taken : List ℕ
+  pub state : Reads
+
+-- What is asked of a call before its effect, at a replica, where the events have these calls.
+abbrev pub call_asked : Specification → World → List Call → LocalView → Call → Option StepRefused
+    → Option StepRefused
+call_asked d w calls at call next =
     need (call_fits d w call) Arguments
-    (unless (least_unseen d w taken call 0 calls) Conflict
-    (unless (first_false w r call.args (op_of d call.op).requires_) false_requires
-    (unless (first_false w r call.args (op_of d call.op).observes) false_observes
+    (unless (least_unseen d w at.taken call 0 calls) Conflict
+    (unless (first_false w at.state call.args (op_of d call.op).requires_) false_requires
+    (unless (first_false w at.state call.args (op_of d call.op).observes) false_observes
     next)))
 
 -- Why a call is refused at such a replica: what is asked of it, and then its effect.
-abbrev pub call_refused : Specification → World → List Call → List ℕ → Reads → Call
-    → Option StepRefused
-call_refused d w calls taken r call = call_asked d w calls taken r call (effect_refused d w r call)
+abbrev pub call_refused : Specification → World → List Call → LocalView → Call → Option StepRefused
+call_refused d w calls at call = call_asked d w calls at call (effect_refused d w at.state call)
 
 -- What is asked of an event that has seen these, at a replica that has taken those.
 abbrev pub taking_asked : List ℕ → ℕ → List ℕ → Option StepRefused → Option StepRefused
@@ -75,7 +80,7 @@ taking_asked taken e seen next =
     (unless (first_untaken taken seen) Missing
     next)
 
--- Why a taking is refused at such a replica: what is asked of the event, and then its effect.
-abbrev pub taking_refused : Specification → World → List ℕ → Reads → ℕ → List ℕ → Call
-    → Option StepRefused
-taking_refused d w taken r e seen call = taking_asked taken e seen (effect_refused d w r call)
+-- Why a taking is refused at a replica: what is asked of the event, and then its effect.
+abbrev pub taking_refused : Specification → World → LocalView → ℕ → Event Call → Option StepRefused
+taking_refused d w at e event =
+    taking_asked at.taken e event.seen (effect_refused d w at.state event.call)

@@ -107,8 +107,9 @@ pub fn asked(
     requires few { length happened.now < 2 ^ 32 }
     requires rivals { rivals.now ≡ rivals_of spec.now call.now.op }
     ensures refusal { (next : Option StepRefused)
-        → call_asked spec.now world.now (calls_of happened.now) taken.now (reads state.now)
-        call.now next ≡ option_or result next }
+        → call_asked spec.now world.now (calls_of happened.now)
+        (record { taken = taken.now; state = reads state.now }) call.now next
+        ≡ option_or result next }
     ensures fits { result ≡ None → call_fits spec.now world.now call.now ≡ true }
 {
     spec.well_formed();

@@ -5,7 +5,8 @@ ghost use Rattle.std.specs.Prelude.{get_or, slice_get, List, Some, Result, Err, 
 ghost use Rattle.spec_core.specs.State.{reads};
 ghost use Rattle.spec_core.specs.Fits.{world_fits, is_state};
 ghost use Rattle.replica_replay.specs.Held.{IsHeld, none_held};
-ghost use Rattle.replica_replay.specs.Steps.{state_of, called, took, outcome, held_after, answer};
+ghost use Rattle.replica_replay.specs.Steps.{state_of, replica_in, called, took, outcome};
+ghost use Rattle.replica_replay.specs.Steps.{held_after, answer};
 
 use crate::asking::{asked, operation_named, state_after_call, taking_asked};
 use crate::keeping::{
@@ -125,13 +126,14 @@ impl<'a> Replay<'a> {
 
     fn call(&mut self, replica: u32, name: &[u8], args: &[i64]) -> Result<Taken, StepRefused>
         ensures answer { (result ≡ Err StepRefused.Memory)
-            ⊎ (result ≡ answer (called self.old.spec self.old.world self.old.held replica name.now
-            args.now (slice_get self.old.held.taken replica))) }
+            ⊎ (result
+            ≡ answer (called self.old.spec self.old.world name.now args.now
+            (replica_in self.old.held replica))) }
         ensures ok { OnOk result
             (self.new ≡ record self.old {
               held = held_after self.old.held
-                  (called self.old.spec self.old.world self.old.held replica name.now args.now
-                  (slice_get self.old.held.taken replica));
+                  (called self.old.spec self.old.world name.now args.now
+                  (replica_in self.old.held replica));
             }) }
         ensures err { OnErr result (self.new ≡ self.old) }
     {
@@ -183,13 +185,14 @@ impl<'a> Replay<'a> {
 
     fn take(&mut self, replica: u32, event: u32) -> Result<Taken, StepRefused>
         ensures answer { (result ≡ Err StepRefused.Memory)
-            ⊎ (result ≡ answer (took self.old.spec self.old.world self.old.held replica event
-            (slice_get self.old.held.taken replica))) }
+            ⊎ (result
+            ≡ answer (took self.old.spec self.old.world event
+            (replica_in self.old.held replica))) }
         ensures ok { OnOk result
             (self.new ≡ record self.old {
               held = held_after self.old.held
-                  (took self.old.spec self.old.world self.old.held replica event
-                  (slice_get self.old.held.taken replica));
+                  (took self.old.spec self.old.world event
+                  (replica_in self.old.held replica));
             }) }
         ensures err { OnErr result (self.new ≡ self.old) }
     {

@@ -26,8 +26,8 @@ use Rattle.simulate_text.specs.Lines.{said_lines}
 use Rattle.simulate_text.specs.declared.said.Stop.{Stop}
 use Rattle.simulate_text.specs.declared.said.Stop.TheVariants as stop
 use Rattle.simulate_text.specs.declared.simulation.Simulation.{Simulation}
-use Rattle.simulate_text.specs.Course.{Simulated, Part, goes_on, stops, saying, with_net, stepped, told, broken_of, unless_broken, asked_at, heard_by, granted, hears_grant, asked_once, asks, begun, begins, is_waiting, tries_again, taken, takes, calls, part_of, replica_of as caller}
-use Rattle.simulate_text.specs.Reached.{simulated_in, IsOf, IsGone, IsPart, IsStep, Does}
+use Rattle.simulate_text.specs.Course.{Simulated, Part, GrantHeard, goes_on, stops, saying, with_net, stepped, told, broken_of, unless_broken, asked_at, heard_by, granted, hears_grant, asked_once, asks, begun, begins, is_waiting, tries_again, taken, takes, calls, part_of, replica_of as caller}
+use Rattle.simulate_text.specs.Reached.{simulated_in, IsOf, IsGone, PartDone, IsPart, StepDone, IsStep, Does}
 
 -- ---- replicas
 
@@ -74,27 +74,34 @@ hears_more d w m n first mid new it e gone =
 
 -- ---- parts
 
+-- what is left of a part, and of a step
+abbrev pub part_done : {R : Type 0} → List Said → Option Stop → Simulation R → PartDone R
+part_done said stop sim = record { said = said; stop = stop; sim = sim }
+
+abbrev pub step_done : {R : Type 0} → List ℕ → Option Stop → Simulation R → StepDone R
+step_done text stop sim = record { text = text; stop = stop; sim = sim }
+
 -- it stops, and nothing was said
 pub stopped_part : {R : Type 0} (d : Specification) (w : World) (how : Stop) (sim : Simulation R) (before : List Said) → IsOf d w sim.net
-    → IsPart d w (stops how (simulated_in sim)) before before (Some how) sim
+    → IsPart d w (stops how (simulated_in sim)) before (part_done before (Some how) sim)
 stopped_part d w how sim before of = record { said_is = append-nil before; stop_is = refl; after_is = refl; of = of }
 
 -- a part is carried out as one that it is equal to
-pub as_part : {R : Type 0} (d : Specification) (w : World) (part other : Part) (before said : List Said) (stop : Option Stop) (after : Simulation R) → other ≡ part
-    → IsPart d w part before said stop after → IsPart d w other before said stop after
-as_part d w part other before said stop after e is = subst (λ (p : Part). IsPart d w p before said stop after) (sym e) is
+pub as_part : {R : Type 0} (d : Specification) (w : World) (part other : Part) (before : List Said) (after : PartDone R) → other ≡ part
+    → IsPart d w part before after → IsPart d w other before after
+as_part d w part other before after e is = subst (λ (p : Part). IsPart d w p before after) (sym e) is
 
 -- A part is carried out where another was, from another simulation on, to which it is equal there.
 pub does_from : {E R : Type 0} (r : Result (Option Stop) E) (part other : Specification → World → Simulated → Part) (mid old : Simulation R) (before said : List Said) (new : Simulation R)
     → ((d : Specification) (w : World) → IsOf d w old.net → IsOf d w mid.net × (other d w (simulated_in old) ≡ part d w (simulated_in mid)))
-    → IfOk r (λ stop. Does part mid before said stop new) → IfOk r (λ stop. Does other old before said stop new)
+    → IfOk r (λ stop. Does part mid before (part_done said stop new)) → IfOk r (λ stop. Does other old before (part_done said stop new))
 does_from r part other mid old before said new e does =
-    IfOk-weaker r (λ stop. Does part mid before said stop new) (λ stop. Does other old before said stop new)
-    (λ stop does d w of. as_part d w (part d w (simulated_in mid)) (other d w (simulated_in old)) before said stop new (e d w of).1 (does d w (e d w of).0)) does
+    IfOk-weaker r (λ stop. Does part mid before (part_done said stop new)) (λ stop. Does other old before (part_done said stop new))
+    (λ stop does d w of. as_part d w (part d w (simulated_in mid)) (other d w (simulated_in old)) before (part_done said stop new) (e d w of).1 (does d w (e d w of).0)) does
 
 -- something was said before a part was carried out
 pub said_first : {R : Type 0} (d : Specification) (w : World) (what : Said) (part : Part) (before mid said : List Said) (stop : Option Stop) (after : Simulation R) → mid ≡ before ++ what ∷ []
-    → IsPart d w part mid said stop after → IsPart d w (saying what part) before said stop after
+    → IsPart d w part mid (part_done said stop after) → IsPart d w (saying what part) before (part_done said stop after)
 said_first d w what part before mid said stop after e is = record {
   said_is = sym (append_assoc before (what ∷ []) part.said) ∙ ap (λ (l : List Said). l ++ part.said) (sym e) ∙ is.said_is;
   stop_is = is.stop_is;
@@ -106,15 +113,18 @@ pub asked_part : (d : Specification) (w : World) (r : ℕ) (sim : Simulated) (ne
     → asked_at d w r sim next ≡ unless_broken o sim next
 asked_part d w r sim next o e = ap (λ (x : Option ℕ). unless_broken x sim next) (sym e)
 
+abbrev pub grant_heard : ℕ → ℕ → Bool → GrantHeard
+grant_heard r sent tells = record { replica = r; sent = sent; tells = tells }
+
 module _ (d : Specification) (w : World) (sim : Simulated) (next : Network) where
   -- a replica hears a grant, and answers
   pub hears_part : (r m sent : ℕ) (tells : Bool) (it : Result NetDid SimulateRefused) → length sim.net.messages ≡ sent → told (outcome d w sim.net (step.Hear r m)) ≡ it
-      → network_after sim.net (outcome d w sim.net (step.Hear r m)) ≡ next → hears_grant d w r m tells sim ≡ granted d w r sent tells it (with_net sim next)
+      → network_after sim.net (outcome d w sim.net (step.Hear r m)) ≡ next → hears_grant d w r m tells sim ≡ granted d w (grant_heard r sent tells) it (with_net sim next)
   hears_part r m sent tells it a b c =
       let o = outcome d w sim.net (step.Hear r m) in
-      ap (λ n. granted d w r n tells (told o) (stepped sim o)) a
-      ∙ ap (λ (x : Result NetDid SimulateRefused). granted d w r sent tells x (stepped sim o)) b
-      ∙ ap (λ (n : Network). granted d w r sent tells it (with_net sim n)) c
+      ap (λ n. granted d w (grant_heard r n tells) (told o) (stepped sim o)) a
+      ∙ ap (λ (x : Result NetDid SimulateRefused). granted d w (grant_heard r sent tells) x (stepped sim o)) b
+      ∙ ap (λ (n : Network). granted d w (grant_heard r sent tells) it (with_net sim n)) c
 
   -- a replica makes a call, and answers
   pub begins_part : (r sent : ℕ) (call : Call) (it : Result NetDid SimulateRefused) → length sim.net.messages ≡ sent → told (outcome d w sim.net (step.Begin r call)) ≡ it
@@ -178,7 +188,8 @@ replica_below net s r n a b lt =
 
 -- a step was carried out, and its lines were added to a text
 pub step_part : {R : Type 0} (d : Specification) (w : World) (part : Part) (k r : ℕ) (s : Step) (before text : List ℕ) (start said told : List Said) (stop : Option Stop) (after : Simulation R)
-    → start ≡ [] → IsPart d w part start said stop after → r ≡ caller s → told ≡ said → text ≡ before ++ said_lines d k r told → IsStep d w part k s before text stop after
+    → start ≡ [] → IsPart d w part start (part_done said stop after) → r ≡ caller s → told ≡ said → text ≡ before ++ said_lines d k r told
+    → IsStep d w part (said_lines d k (caller s)) before (step_done text stop after)
 step_part d w part k r s before text start said told stop after none is a b e = record {
   text_is = e ∙ ap (λ n. before ++ said_lines d k n told) a
       ∙ ap (λ (l : List Said). before ++ said_lines d k (caller s) l) (b ∙ sym is.said_is ∙ ap (λ (l : List Said). l ++ part.said) none);

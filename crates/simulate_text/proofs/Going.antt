@@ -16,7 +16,12 @@ use Rattle.simulate_text.specs.declared.simulation.Simulation.{Simulation}
 use Rattle.simulate_text.specs.Lines.{said_lines}
 use Rattle.simulate_text.specs.Course.{Simulated, Course, broken_of, replica_of, part_of, unless_stopped, course_from, first_simulated, unless_broken_first, course}
 use Rattle.simulate_text.specs.Text.{replica_text, replica_texts}
-use Rattle.simulate_text.specs.Reached.{simulated_in, IsOf, IsStep, IsReached}
+use Rattle.simulate_text.proofs.Carrying.{step_done}
+use Rattle.simulate_text.specs.Reached.{simulated_in, IsOf, IsStep, CourseDone, IsReached}
+
+-- what is left of a course
+abbrev pub course_done : {R : Type 0} → List ℕ → ℕ → Stop → Simulation R → CourseDone R
+course_done text at how sim = record { text = text; at = at; stop = how; sim = sim }
 
 -- What remains between two steps: of all steps some are left, and the course from here continues the whole.
 pub record Remaining (d : Specification) (w : World) (whole : Course) (before text : List ℕ) (k : ℕ) (left : List Step) (now : Simulated) : Type 0 where
@@ -28,7 +33,7 @@ pub record Remaining (d : Specification) (w : World) (whole : Course) (before te
 module _ (d : Specification) (w : World) (whole : Course) (before : List ℕ) where
   -- behind the last step
   pub at_last : {R : Type 0} (text : List ℕ) (k : ℕ) (now : Simulation R) → Remaining d w whole before text k [] (simulated_in now) → IsOf d w now.net
-      → IsReached d w whole before text k stop.Done now
+      → IsReached d w whole before (course_done text k stop.Done now)
   at_last text k now r of = record {
     text_is = r.text_is ∙ append-nil text;
     at_is = r.at_is;
@@ -38,7 +43,7 @@ module _ (d : Specification) (w : World) (whole : Course) (before : List ℕ) wh
   }
 
   module _ {R : Type 0} (text longer : List ℕ) (k : ℕ) (s : Step) (left : List Step) (now : Simulated) (after : Simulation R) (o : Option Stop)
-      (r : Remaining d w whole before text k (s ∷ left) now) (is : IsStep d w (part_of d w s now) k s text longer o after) where
+      (r : Remaining d w whole before text k (s ∷ left) now) (is : IsStep d w (part_of d w s now) (said_lines d k (replica_of s)) text (step_done longer o after)) where
     here : course_from d w k (s ∷ left) now ≡ unless_stopped o k (said_lines d k (replica_of s) (part_of d w s now).said) (simulated_in after) (course_from d w (suc k) left (simulated_in after))
     here =
         let lines = said_lines d k (replica_of s) (part_of d w s now).said in
@@ -46,7 +51,7 @@ module _ (d : Specification) (w : World) (whole : Course) (before : List ℕ) wh
         ∙ ap (λ (x : Simulated). unless_stopped o k lines x (course_from d w (suc k) left x)) is.after_is
 
     -- at a step at which it stops
-    pub at_stop : (how : Stop) → o ≡ Some how → IsReached d w whole before longer k how after
+    pub at_stop : (how : Stop) → o ≡ Some how → IsReached d w whole before (course_done longer k how after)
     at_stop how e =
         let lines = said_lines d k (replica_of s) (part_of d w s now).said in
         let c = here ∙ ap (λ (x : Option Stop). unless_stopped x k lines (simulated_in after) (course_from d w (suc k) left (simulated_in after))) e in
@@ -86,7 +91,7 @@ course_is : (d : Specification) (w : World) (n : ℕ) (ss : List Step) (o : Opti
 course_is d w n ss o e = ap (λ (x : Option ℕ). unless_broken_first x (first_simulated d w n) (course_from d w 0 ss (first_simulated d w n))) (sym e)
 
 pub at_broken_start : {R : Type 0} (d : Specification) (w : World) (n : ℕ) (ss : List Step) (text : List ℕ) (sim : Simulation R) (place : ℕ) → simulated_in sim ≡ first_simulated d w n
-    → Some place ≡ broken_at d w (reads (initial d w)) → IsOf d w sim.net → IsReached d w (course d w n ss) text text 0 (stop.BrokenFirst place) sim
+    → Some place ≡ broken_at d w (reads (initial d w)) → IsOf d w sim.net → IsReached d w (course d w n ss) text (course_done text 0 (stop.BrokenFirst place) sim)
 at_broken_start d w n ss text sim place first e of =
     let c = course_is d w n ss (Some place) e in
     record {
@@ -98,10 +103,10 @@ at_broken_start d w n ss text sim place first e of =
     }
 
 pub at_start : {R : Type 0} (d : Specification) (w : World) (n : ℕ) (ss : List Step) (before text : List ℕ) (at : ℕ) (how : Stop) (sim : Simulated) (after : Simulation R) → sim ≡ first_simulated d w n
-    → None ≡ broken_at d w (reads (initial d w)) → IsReached d w (course_from d w 0 ss sim) before text at how after → IsReached d w (course d w n ss) before text at how after
+    → None ≡ broken_at d w (reads (initial d w)) → IsReached d w (course_from d w 0 ss sim) before (course_done text at how after) → IsReached d w (course d w n ss) before (course_done text at how after)
 at_start d w n ss before text at how sim after first e is =
     let c : course_from d w 0 ss sim ≡ course d w n ss = ap (course_from d w 0 ss) first ∙ sym (course_is d w n ss None e) in
-    subst (λ (x : Course). IsReached d w x before text at how after) c is
+    subst (λ (x : Course). IsReached d w x before (course_done text at how after)) c is
 
 -- ---- between two steps
 
@@ -117,13 +122,13 @@ between_first d w ss text sim of = record { remaining = record { text_is = refl;
 
 module _ {R : Type 0} (d : Specification) (w : World) (whole : Course) (before text longer : List ℕ) (k : ℕ) (all : List Step) (now after : Simulation R) (s : Step) (below : k < length all)
     (here : s ≡ get_or all k s) (is : Between d w whole before text k (drop k all) now) (o : Option Stop)
-    (went : IsStep d w (part_of d w s (simulated_in now)) k s text longer o after) where
+    (went : IsStep d w (part_of d w s (simulated_in now)) (said_lines d k (replica_of s)) text (step_done longer o after)) where
   remaining_here : Remaining d w whole before text k (s ∷ drop (k + 1) all) (simulated_in now)
   remaining_here =
       let split : drop k all ≡ s ∷ drop (k + 1) all = drop_more all k s below ∙ ap (λ (z : Step). z ∷ drop (k + 1) all) (sym here) in
       subst (λ (z : List Step). Remaining d w whole before text k z (simulated_in now)) split is.remaining
 
-  pub ends_here : (how : Stop) → o ≡ Some how → IsReached d w whole before longer k how after
+  pub ends_here : (how : Stop) → o ≡ Some how → IsReached d w whole before (course_done longer k how after)
   ends_here how e = at_stop d w whole before text longer k s (drop (k + 1) all) (simulated_in now) after o remaining_here went how e
 
   pub leads_on : o ≡ None → Between d w whole before longer (k + 1) (drop (k + 1) all) after
@@ -131,11 +136,11 @@ module _ {R : Type 0} (d : Specification) (w : World) (whole : Course) (before t
 
 -- behind the last step
 pub done_here : {R : Type 0} (d : Specification) (w : World) (whole : Course) (before text : List ℕ) (k : ℕ) (all : List Step) (now : Simulation R) → length all ≤ k → k ≤ length all
-    → Between d w whole before text k (drop k all) now → IsReached d w whole before text (length all) stop.Done now
+    → Between d w whole before text k (drop k all) now → IsReached d w whole before (course_done text (length all) stop.Done now)
 done_here d w whole before text k all now past within is =
     let same : k ≡ length all = omega (arith, past, within) in
     let none : drop k all ≡ [] = drop_of_length-le all past in
-    subst (λ n. IsReached d w whole before text n stop.Done now) same
+    subst (λ n. IsReached d w whole before (course_done text n stop.Done now)) same
     (at_last d w whole before text k now (subst (λ (l : List Step). Remaining d w whole before text k l (simulated_in now)) none is.remaining) is.of)
 
 -- ---- the replicas

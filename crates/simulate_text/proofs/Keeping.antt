@@ -31,7 +31,7 @@ use Rattle.simulate_text.specs.declared.said.SimulateRefused.{SimulateRefused}
 use Rattle.simulate_text.specs.declared.said.SimulateRefused.TheVariants as refusal
 use Rattle.simulate_text.specs.declared.said.Stop.{Stop}
 use Rattle.simulate_text.specs.declared.said.Stop.TheVariants as stop
-use Rattle.simulate_text.specs.Course.{Simulated, Part, goes_on, stops, saying, stepped, told, broken_of, unless_broken, asked_at, with_done, ran, heard_by, void, waits_on, granted, hears_grant, asked_once, asked_twice, asks, begun, calls, is_waiting, tries_again, taken, takes, at_replica, part_of}
+use Rattle.simulate_text.specs.Course.{Simulated, Part, GrantHeard, goes_on, stops, saying, stepped, told, broken_of, unless_broken, asked_at, with_done, ran, heard_by, void, waits_on, granted, hears_grant, asked_once, asked_twice, asks, begun, calls, is_waiting, tries_again, taken, takes, at_replica, part_of}
 use Rattle.simulate_text.specs.Text.{status_of}
 
 none_found : (o : Option ℕ) → is_none o ≡ true → o ≡ None
@@ -91,21 +91,21 @@ module _ (d : Specification) (w : World) where
   good_void : (cause : WhyVoid) (m : ℕ) (sim : Simulated) → IsKept d w sim.net → IsGood (void d w cause m sim)
   good_void cause m sim kept = good_on _ _ (heard_kept m (length sim.net.replicas) sim.net kept)
 
-  good_granted : (r sent : ℕ) (tells : Bool) (it : Result NetDid SimulateRefused) (sim : Simulated) → IsKept d w sim.net → IsGood (granted d w r sent tells it sim)
-  good_granted r sent tells (Err why) sim kept = good_refused why sim kept
-  good_granted r sent tells (Ok (did.Ran e)) sim kept = good_ran r e sent sim kept
-  good_granted r sent tells (Ok (did.Void cause m)) sim kept = good_void cause m sim kept
-  good_granted r sent tells (Ok (did.Asked q)) sim kept = good_on [] sim kept
-  good_granted r sent tells (Ok (did.Granted m)) sim kept = good_on [] sim kept
-  good_granted r sent tells (Ok (did.Took e)) sim kept = good_on [] sim kept
-  good_granted r sent tells (Ok (did.Awaits id)) sim kept = good_on (waits_on tells id) sim kept
-  good_granted r sent tells (Ok did.Noted) sim kept = good_on [] sim kept
-  good_granted r sent tells (Ok did.Old) sim kept = good_on [] sim kept
+  good_granted : (heard : GrantHeard) (it : Result NetDid SimulateRefused) (sim : Simulated) → IsKept d w sim.net → IsGood (granted d w heard it sim)
+  good_granted heard (Err why) sim kept = good_refused why sim kept
+  good_granted heard (Ok (did.Ran e)) sim kept = good_ran heard.replica e heard.sent sim kept
+  good_granted heard (Ok (did.Void cause m)) sim kept = good_void cause m sim kept
+  good_granted heard (Ok (did.Asked q)) sim kept = good_on [] sim kept
+  good_granted heard (Ok (did.Granted m)) sim kept = good_on [] sim kept
+  good_granted heard (Ok (did.Took e)) sim kept = good_on [] sim kept
+  good_granted heard (Ok (did.Awaits id)) sim kept = good_on (waits_on heard.tells id) sim kept
+  good_granted heard (Ok did.Noted) sim kept = good_on [] sim kept
+  good_granted heard (Ok did.Old) sim kept = good_on [] sim kept
 
   good_hears : (r m : ℕ) (tells : Bool) (sim : Simulated) → IsKept d w sim.net → IsGood (hears_grant d w r m tells sim)
   good_hears r m tells sim kept =
       let o = outcome d w sim.net (step.Hear r m) in
-      good_granted r (length sim.net.messages) tells (told o) (stepped sim o) (step_kept d w sim.net kept (step.Hear r m))
+      good_granted (record { replica = r; sent = length sim.net.messages; tells = tells }) (told o) (stepped sim o) (step_kept d w sim.net kept (step.Hear r m))
 
   good_asks : (r q : ℕ) (sim : Simulated) → IsKept d w sim.net → IsGood (asks d w r q sim)
   good_asks r q sim kept =

@@ -127,25 +127,32 @@ abbrev pub waits_on : Bool → EventId → List Said
 waits_on true id = said.Awaits id ∷ []
 waits_on false id = []
 
--- What a replica answers to the grant of its waiting call, before which these messages had been sent: the call is run, is void, or
--- waits on. Nothing is said of other answers.
-abbrev pub granted : Specification → World → ℕ → ℕ → Bool → Result NetDid SimulateRefused
-    → Simulated → Part
-granted d w r sent tells (Err why) sim = stops (stop.Refused why) sim
-granted d w r sent tells (Ok (did.Ran e)) sim = ran d w r e sent sim
-granted d w r sent tells (Ok (did.Void cause m)) sim = void d w cause m sim
-granted d w r sent tells (Ok (did.Asked q)) sim = goes_on [] sim
-granted d w r sent tells (Ok (did.Granted m)) sim = goes_on [] sim
-granted d w r sent tells (Ok (did.Took e)) sim = goes_on [] sim
-granted d w r sent tells (Ok (did.Awaits id)) sim = goes_on (waits_on tells id) sim
-granted d w r sent tells (Ok did.Noted) sim = goes_on [] sim
-granted d w r sent tells (Ok did.Old) sim = goes_on [] sim
+-- A replica's hearing of the grant of its waiting call: which replica, how many messages had been sent before, and whether it is told
+-- that the call waits on.
+pub record GrantHeard : Type 0 where
+  pub replica : ℕ
+  pub sent : ℕ
+  pub tells : Bool
+
+-- What a replica answers to the grant of its waiting call: the call is run, is void, or waits on. Nothing is said of other answers.
+abbrev pub granted : Specification → World → GrantHeard → Result NetDid SimulateRefused → Simulated
+    → Part
+granted d w heard (Err why) sim = stops (stop.Refused why) sim
+granted d w heard (Ok (did.Ran e)) sim = ran d w heard.replica e heard.sent sim
+granted d w heard (Ok (did.Void cause m)) sim = void d w cause m sim
+granted d w heard (Ok (did.Asked q)) sim = goes_on [] sim
+granted d w heard (Ok (did.Granted m)) sim = goes_on [] sim
+granted d w heard (Ok (did.Took e)) sim = goes_on [] sim
+granted d w heard (Ok (did.Awaits id)) sim = goes_on (waits_on heard.tells id) sim
+granted d w heard (Ok did.Noted) sim = goes_on [] sim
+granted d w heard (Ok did.Old) sim = goes_on [] sim
 
 -- a replica hears the grant of its waiting call
 abbrev pub hears_grant : Specification → World → ℕ → ℕ → Bool → Simulated → Part
 hears_grant d w r m tells sim =
     (let o = outcome d w sim.net (step.Hear r m) in
-    granted d w r (length sim.net.messages) tells (told o) (stepped sim o))
+    granted d w (record { replica = r; sent = length sim.net.messages; tells = tells }) (told o)
+    (stepped sim o))
 
 -- the network when the manager has got a request
 abbrev pub asked_once : Specification → World → ℕ → Network → Network

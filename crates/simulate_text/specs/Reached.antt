@@ -2,7 +2,6 @@
 use Rattle.std.specs.Prelude.{◌≡◌, ℕ, List, ◌++◌, Option, Result}
 use Rattle.spec_core.specs.declared.world.World.{World}
 use Rattle.spec_core.specs.Specification.{Specification}
-use Rattle.replica_replay.specs.declared.step.Step.{Step}
 use Rattle.token_protocol.specs.declared.network.NetDid.{NetDid}
 use Rattle.token_protocol.specs.Network.{Network, Outcome, network_after}
 use Rattle.token_core.specs.HeldNet.{HeldNet, network_held}
@@ -10,8 +9,7 @@ use Rattle.simulate_text.specs.declared.said.Said.{Said}
 use Rattle.simulate_text.specs.declared.said.SimulateRefused.{SimulateRefused}
 use Rattle.simulate_text.specs.declared.said.Stop.{Stop}
 use Rattle.simulate_text.specs.declared.simulation.Simulation.{Simulation}
-use Rattle.simulate_text.specs.Lines.{said_lines}
-use Rattle.simulate_text.specs.Course.{Simulated, Part, Course, told, replica_of}
+use Rattle.simulate_text.specs.Course.{Simulated, Part, Course, told}
 
 -- the simulation that the code holds
 abbrev pub simulated_in : {R : Type 0} → Simulation R → Simulated
@@ -30,34 +28,53 @@ pub record IsGone (d : Specification) (w : World) (o : Outcome) (before : Networ
   pub net_is : network_after before o ≡ network_held after
   pub of : IsOf d w after
 
+-- What the code has after a part of a step: all that was said, whether it stops there, and the simulation.
+pub record PartDone (R : Type 0) : Type 0 where
+  pub said : List Said
+  pub stop : Option Stop
+  pub sim : Simulation R
+
 -- A part of a step was carried out: what it says was added to what was said, and this is how it stops and what is left.
-pub record IsPart {R : Type 0} (d : Specification) (w : World) (part : Part)
-    (before said : List Said) (stop : Option Stop) (after : Simulation R) : Type 0 where
-  pub said_is : before ++ part.said ≡ said
-  pub stop_is : part.stop ≡ stop
-  pub after_is : part.after ≡ simulated_in after
-  pub of : IsOf d w after.net
+pub record IsPart {R : Type 0} (d : Specification) (w : World) (part : Part) (before : List Said)
+    (after : PartDone R) : Type 0 where
+  pub said_is : before ++ part.said ≡ after.said
+  pub stop_is : part.stop ≡ after.stop
+  pub after_is : part.after ≡ simulated_in after.sim
+  pub of : IsOf d w after.sim.net
 
 -- This part was carried out, whatever the specification and the world of the network are.
 abbrev pub Does : {R : Type 0} → (Specification → World → Simulated → Part) → Simulation R
-    → List Said → List Said → Option Stop → Simulation R → Type 0
-Does part old before said stop new =
+    → List Said → PartDone R → Type 0
+Does part old before after =
     (d : Specification) (w : World) → IsOf d w old.net
-    → IsPart d w (part d w (simulated_in old)) before said stop new
+    → IsPart d w (part d w (simulated_in old)) before after
 
--- a step was carried out, and its lines were added to a text
-pub record IsStep {R : Type 0} (d : Specification) (w : World) (part : Part) (k : ℕ) (s : Step)
-    (before text : List ℕ) (stop : Option Stop) (after : Simulation R) : Type 0 where
-  pub text_is : text ≡ before ++ said_lines d k (replica_of s) part.said
-  pub stop_is : part.stop ≡ stop
-  pub after_is : part.after ≡ simulated_in after
-  pub of : IsOf d w after.net
+-- What the code has after a step: the text so far, whether it stops there, and the simulation.
+pub record StepDone (R : Type 0) : Type 0 where
+  pub text : List ℕ
+  pub stop : Option Stop
+  pub sim : Simulation R
 
--- a course was gone through, and its lines were added to a text
-pub record IsReached {R : Type 0} (d : Specification) (w : World) (c : Course)
-    (before text : List ℕ) (at : ℕ) (stop : Stop) (after : Simulation R) : Type 0 where
-  pub text_is : before ++ c.lines ≡ text
-  pub at_is : c.at ≡ at
-  pub stop_is : c.stop ≡ stop
-  pub after_is : c.after ≡ simulated_in after
-  pub of : IsOf d w after.net
+-- a step was carried out, and its lines, which are written so, were added to a text
+pub record IsStep {R : Type 0} (d : Specification) (w : World) (part : Part)
+    (lines : List Said → List ℕ) (before : List ℕ) (after : StepDone R) : Type 0 where
+  pub text_is : after.text ≡ before ++ lines part.said
+  pub stop_is : part.stop ≡ after.stop
+  pub after_is : part.after ≡ simulated_in after.sim
+  pub of : IsOf d w after.sim.net
+
+-- What the code has where the loop over the steps ends: the text so far, at which step it stops and how, and the simulation.
+pub record CourseDone (R : Type 0) : Type 0 where
+  pub text : List ℕ
+  pub at : ℕ
+  pub stop : Stop
+  pub sim : Simulation R
+
+-- a course was gone through, and its lines were added to this text
+pub record IsReached {R : Type 0} (d : Specification) (w : World) (c : Course) (before : List ℕ)
+    (end : CourseDone R) : Type 0 where
+  pub text_is : before ++ c.lines ≡ end.text
+  pub at_is : c.at ≡ end.at
+  pub stop_is : c.stop ≡ end.stop
+  pub after_is : c.after ≡ simulated_in end.sim
+  pub of : IsOf d w end.sim.net

@@ -1,7 +1,8 @@
 // The lines of a simulation's text.
 
 ghost use Rattle.std.specs.Prelude.{◌≡◌, ◌++◌, ◌∷◌, [], get_or, OnOk, codes, decimal};
-ghost use Rattle.simulate_text.specs.Lines.{void_words, said_words, said_line, said_lines, refusal_words, stop_line};
+ghost use Rattle.simulate_text.specs.Lines.{void_words, said_words, said_line, said_lines};
+ghost use Rattle.simulate_text.specs.Lines.{refusal_words, stop_line};
 
 use crate::said::{Said, SimulateRefused, Stop};
 use replay_text::{counter_name, invariant_name, push, push_number, push_range};
@@ -69,7 +70,8 @@ fn push_line(
     replica: u32,
     said: &Said,
 ) -> Result<(), AllocError>
-    ensures { OnOk result (text.new.items ≡ text.old.items ++ said_line spec.now number replica said.now) }
+    ensures { OnOk result
+        (text.new.items ≡ text.old.items ++ said_line spec.now number replica said.now) }
 {
     push_number(alloc, text, b"step ", number)?;
     push_number(alloc, text, b" replica ", replica as usize)?;
@@ -87,7 +89,8 @@ pub fn push_lines(
     replica: u32,
     said: &[Said],
 ) -> Result<(), AllocError>
-    ensures { OnOk result (text.new.items ≡ text.old.items ++ said_lines spec.now number replica said.now) }
+    ensures { OnOk result
+        (text.new.items ≡ text.old.items ++ said_lines spec.now number replica said.now) }
 {
     for what in said {
         push_line(alloc, text, spec, number, replica, what)?;

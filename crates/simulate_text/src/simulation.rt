@@ -5,7 +5,10 @@ ghost use Rattle.spec_core.specs.declared.world.World.{World as Setting};
 ghost use Rattle.spec_core.specs.Specification.{Specification};
 ghost use Rattle.token_protocol.specs.Network.{outcome};
 ghost use Rattle.token_core.specs.HeldNet.{network_held};
-ghost use Rattle.simulate_text.specs.Course.{refusal_of, heard_by_all, broken_of, saying, asked_at, ran, void, granted, hears_grant, asks, begun, begins, is_waiting, tries_again, taken, takes, first_simulated};
+ghost use Rattle.simulate_text.specs.Course.{refusal_of, heard_by_all, broken_of, saying, asked_at};
+ghost use Rattle.simulate_text.specs.Course.{ran, void, granted, hears_grant, asks, begun, begins};
+ghost use Rattle.simulate_text.specs.Course.{is_waiting, tries_again, taken, takes};
+ghost use Rattle.simulate_text.specs.Course.{first_simulated};
 ghost use Rattle.simulate_text.specs.Reached.{simulated_in, IsOf, IsGone, Does};
 
 use crate::said::{Said, SimulateRefused, Stop};
@@ -150,8 +153,8 @@ impl<R: Runner + Drop> Simulation<R> {
         said: &mut Vec<Said>,
     ) -> Result<Option<Stop>, AllocError>
         ensures { IfOk result
-            (λ stop. Does (λ d w. ran d w replica event done) self.old said.old.items said.new.items
-            stop self.new) }
+            (λ stop. Does (λ d w. ran d w replica event done) self.old said.old.items
+            (record { said = said.new.items; stop = stop; sim = self.new })) }
     {
         self.dones.push(done)?;
         said.push(Said::Call(event))?;
@@ -168,7 +171,9 @@ impl<R: Runner + Drop> Simulation<R> {
         message: u32,
         said: &mut Vec<Said>,
     ) -> Result<Option<Stop>, AllocError>
-        ensures { IfOk result (λ stop. Does (λ d w. void d w why message) self.old said.old.items said.new.items stop self.new) }
+        ensures { IfOk result
+            (λ stop. Does (λ d w. void d w why message) self.old said.old.items
+            (record { said = said.new.items; stop = stop; sim = self.new })) }
     {
         said.push(Said::Void(why))?;
         tell_all(&mut self.net, message)?;
@@ -185,8 +190,10 @@ impl<R: Runner + Drop> Simulation<R> {
         said: &mut Vec<Said>,
     ) -> Result<Option<Stop>, AllocError>
         ensures { IfOk result
-            (λ stop. Does (λ d w. granted d w replica sent tells answer) self.old said.old.items
-            said.new.items stop self.new) }
+            (λ stop. Does
+            (λ d w. granted d w (record { replica = replica; sent = sent; tells = tells }) answer)
+            self.old said.old.items
+            (record { said = said.new.items; stop = stop; sim = self.new })) }
     {
         match answer {
             Err(why) => Ok(Some(Stop::Refused(why))),
@@ -212,7 +219,7 @@ impl<R: Runner + Drop> Simulation<R> {
     ) -> Result<Option<Stop>, AllocError>
         ensures { IfOk result
             (λ stop. Does (λ d w. hears_grant d w replica message tells) self.old said.old.items
-            said.new.items stop self.new) }
+            (record { said = said.new.items; stop = stop; sim = self.new })) }
     {
         let sent = as_number(self.net.messages().len())?;
         let answer = go(&mut self.net, &NetStep::Hear { replica, message })?;
@@ -227,8 +234,8 @@ impl<R: Runner + Drop> Simulation<R> {
         said: &mut Vec<Said>,
     ) -> Result<Option<Stop>, AllocError>
         ensures { IfOk result
-            (λ stop. Does (λ d w. asks d w replica request) self.old said.old.items said.new.items
-            stop self.new) }
+            (λ stop. Does (λ d w. asks d w replica request) self.old said.old.items
+            (record { said = said.new.items; stop = stop; sim = self.new })) }
     {
         let grant = as_number(self.net.messages().len())?;
         let _ = go(&mut self.net, &NetStep::Ask { request })?;
@@ -247,7 +254,7 @@ impl<R: Runner + Drop> Simulation<R> {
     ) -> Result<Option<Stop>, AllocError>
         ensures { IfOk result
             (λ stop. Does (λ d w. begun d w replica sent answer) self.old said.old.items
-            said.new.items stop self.new) }
+            (record { said = said.new.items; stop = stop; sim = self.new })) }
     {
         match answer {
             Err(why) => Ok(Some(Stop::Refused(why))),
@@ -266,8 +273,8 @@ impl<R: Runner + Drop> Simulation<R> {
         said: &mut Vec<Said>,
     ) -> Result<Option<Stop>, AllocError>
         ensures { IfOk result
-            (λ stop. Does (λ d w. begins d w replica call) self.old said.old.items said.new.items
-            stop self.new) }
+            (λ stop. Does (λ d w. begins d w replica call) self.old said.old.items
+            (record { said = said.new.items; stop = stop; sim = self.new })) }
     {
         let sent = as_number(self.net.messages().len())?;
         let answer = go(&mut self.net, &NetStep::Begin { replica, call })?;
@@ -277,8 +284,8 @@ impl<R: Runner + Drop> Simulation<R> {
     // Where a call of a replica waits, it hears its grant again.
     fn try_again(&mut self, replica: u32, said: &mut Vec<Said>) -> Result<Option<Stop>, AllocError>
         ensures { IfOk result
-            (λ stop. Does (λ d w. tries_again d w replica) self.old said.old.items said.new.items
-            stop self.new) }
+            (λ stop. Does (λ d w. tries_again d w replica) self.old said.old.items
+            (record { said = said.new.items; stop = stop; sim = self.new })) }
     {
         if !is_waiting(&self.net, replica) {
             return Ok(None);
@@ -298,7 +305,8 @@ impl<R: Runner + Drop> Simulation<R> {
             (λ stop. Does
             (λ d w sim. saying (Said.Take event)
             (asked_at d w replica sim (tries_again d w replica sim)))
-            self.old said.old.items said.new.items stop self.new) }
+            self.old said.old.items
+            (record { said = said.new.items; stop = stop; sim = self.new })) }
     {
         said.push(Said::Take(event))?;
         match broken_of(&self.net, replica) {
@@ -317,7 +325,7 @@ impl<R: Runner + Drop> Simulation<R> {
     ) -> Result<Option<Stop>, AllocError>
         ensures { IfOk result
             (λ stop. Does (λ d w. taken d w replica event (Ok did.now)) self.old said.old.items
-            said.new.items stop self.new) }
+            (record { said = said.new.items; stop = stop; sim = self.new })) }
     {
         match did {
             NetDid::Took { .. } => self.took(replica, event, said),
@@ -343,7 +351,7 @@ impl<R: Runner + Drop> Simulation<R> {
     ) -> Result<Option<Stop>, AllocError>
         ensures { IfOk result
             (λ stop. Does (λ d w. taken d w replica event answer) self.old said.old.items
-            said.new.items stop self.new) }
+            (record { said = said.new.items; stop = stop; sim = self.new })) }
     {
         match answer {
             Ok(did) => self.heard_done(replica, event, &did, said),
@@ -361,7 +369,7 @@ impl<R: Runner + Drop> Simulation<R> {
     ) -> Result<Option<Stop>, AllocError>
         ensures { IfOk result
             (λ stop. Does (λ d w. takes d w replica event (Some done)) self.old said.old.items
-            said.new.items stop self.new) }
+            (record { said = said.new.items; stop = stop; sim = self.new })) }
     {
         let heard = NetStep::Hear {
             replica,

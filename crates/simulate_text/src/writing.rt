@@ -1,12 +1,16 @@
 // Going through the steps of a schedule, and writing the text.
 
-ghost use Rattle.std.specs.Prelude.{◌≡◌, ◌++◌, ℕ, ◌≤◌, ◌<◌, true, Some, length, slice_get, IfOk, OnOk};
+ghost use Rattle.std.specs.Prelude.{◌≡◌, ◌++◌, ℕ, ◌≤◌, ◌<◌, true, Some, length, slice_get, IfOk};
+ghost use Rattle.std.specs.Prelude.{OnOk};
 ghost use Rattle.spec_core.specs.declared.world.World.{World as Setting};
 ghost use Rattle.spec_core.specs.Fits.{world_fits};
 ghost use Rattle.replica_replay.specs.Steps.{operation_named as named_operation};
 ghost use Rattle.token_core.specs.HeldNet.{HeldReplica, replica_of as replica_held, network_held};
-ghost use Rattle.simulate_text.specs.Course.{calls, takes, part_of, replica_of, course_from, course, first_simulated};
-ghost use Rattle.simulate_text.specs.Text.{replica_text, replica_texts, simulate_text, simulate_status, status_of};
+ghost use Rattle.simulate_text.specs.Lines.{said_lines};
+ghost use Rattle.simulate_text.specs.Course.{calls, takes, part_of, replica_of, course_from};
+ghost use Rattle.simulate_text.specs.Course.{course, first_simulated};
+ghost use Rattle.simulate_text.specs.Text.{replica_text, replica_texts, simulate_text};
+ghost use Rattle.simulate_text.specs.Text.{simulate_status, status_of};
 ghost use Rattle.simulate_text.specs.Reached.{simulated_in, IsOf, Does, IsStep, IsReached};
 
 use crate::lines::{push_lines, push_stop};
@@ -41,7 +45,8 @@ fn call_named<R: Runner + Drop>(
 ) -> Result<Option<Stop>, AllocError>
     ensures { IfOk result
         (λ stop. Does (λ d w. calls d w replica args.now (named_operation d name.now)) sim.old
-        said.old.items said.new.items stop sim.new) }
+        said.old.items
+        (record { said = said.new.items; stop = stop; sim = sim.new })) }
 {
     let Some(op) = operation_named(sim.net.runner().spec(), name) else {
         return Ok(Some(Stop::Refused(SimulateRefused::Operation)));
@@ -59,7 +64,8 @@ fn take_numbered<R: Runner + Drop>(
 ) -> Result<Option<Stop>, AllocError>
     ensures { IfOk result
         (λ stop. Does (λ d w s. takes d w replica event (slice_get s.dones event) s) sim.old
-        said.old.items said.new.items stop sim.new) }
+        said.old.items
+        (record { said = said.new.items; stop = stop; sim = sim.new })) }
 {
     match number_at(&sim.dones, event) {
         Some(done) => sim.take(replica, event, done, said),
@@ -74,7 +80,9 @@ fn carry_out<R: Runner + Drop>(
     step: &Step,
     said: &mut Vec<Said>,
 ) -> Result<Option<Stop>, AllocError>
-    ensures { IfOk result (λ stop. Does (λ d w. part_of d w step.now) sim.old said.old.items said.new.items stop sim.new) }
+    ensures { IfOk result
+        (λ stop. Does (λ d w. part_of d w step.now) sim.old said.old.items
+        (record { said = said.new.items; stop = stop; sim = sim.new })) }
 {
     if replica_of(step) as usize >= sim.net.replica_count() {
         return Ok(Some(Stop::Refused(SimulateRefused::Replica)));
@@ -98,8 +106,9 @@ fn write_step<R: Runner + Drop>(
 ) -> Result<Option<Stop>, AllocError>
     ensures { IfOk result
         (λ stop. (w : Setting) → IsOf spec.now w sim.old.net
-        → IsStep spec.now w (part_of spec.now w step.now (simulated_in sim.old)) number step.now
-        text.old.items text.new.items stop sim.new) }
+        → IsStep spec.now w (part_of spec.now w step.now (simulated_in sim.old))
+        (said_lines spec.now number (replica_of step.now)) text.old.items
+        (record { text = text.new.items; stop = stop; sim = sim.new })) }
 {
     let mut said = Vec::new(alloc);
     let stop = carry_out(alloc, sim, step, &mut said)?;
@@ -125,7 +134,8 @@ fn write_steps<R: Runner + Drop>(
     ensures { IfOk result
         (λ s. (w : Setting) → IsOf spec.now w sim.old.net
         → IsReached spec.now w (course_from spec.now w 0 steps.now (simulated_in sim.old))
-        text.old.items text.new.items s.at s.stop sim.new) }
+        text.old.items
+        (record { text = text.new.items; at = s.at; stop = s.stop; sim = sim.new })) }
 {
     for (number, step) in steps.iter().enumerate() {
         match write_step(alloc, spec, sim, number, step, text)? {
@@ -150,8 +160,8 @@ fn write_course<R: Runner + Drop>(
     ensures { IfOk result
         (λ s. (w : Setting) (replicas : ℕ) → 1 ≤ replicas
         → simulated_in sim.old ≡ first_simulated spec.now w replicas → IsOf spec.now w sim.old.net
-        → IsReached spec.now w (course spec.now w replicas steps.now) text.old.items text.new.items
-        s.at s.stop sim.new) }
+        → IsReached spec.now w (course spec.now w replicas steps.now) text.old.items
+        (record { text = text.new.items; at = s.at; stop = s.stop; sim = sim.new })) }
 {
     match broken_of(&sim.net, 0) {
         Some(place) => Ok(Stopped {
@@ -247,8 +257,11 @@ pub fn simulate_by<R: Runner + Drop>(
 ) -> Result<Answer, AllocError>
     requires spec { R.specification runner ≡ spec.now }
     requires some { 1 ≤ replicas }
-    ensures text { IfOk result (λ report. report.text.items ≡ simulate_text spec.now (R.setting runner) replicas steps.now) }
-    ensures status { IfOk result (λ report. report.status ≡ simulate_status spec.now (R.setting runner) replicas steps.now) }
+    ensures text { IfOk result
+        (λ report. report.text.items
+        ≡ simulate_text spec.now (R.setting runner) replicas steps.now) }
+    ensures status { IfOk result
+        (λ report. report.status ≡ simulate_status spec.now (R.setting runner) replicas steps.now) }
 {
     let mut text = Vec::new(alloc);
     let mut sim = Simulation::new(alloc, runner, replicas)?;
@@ -267,8 +280,10 @@ pub fn simulate(
 ) -> Result<Answer, AllocError>
     requires world { world_fits spec.now world.now ≡ true }
     requires some { 1 ≤ replicas }
-    ensures text { IfOk result (λ report. report.text.items ≡ simulate_text spec.now world.now replicas steps.now) }
-    ensures status { IfOk result (λ report. report.status ≡ simulate_status spec.now world.now replicas steps.now) }
+    ensures text { IfOk result
+        (λ report. report.text.items ≡ simulate_text spec.now world.now replicas steps.now) }
+    ensures status { IfOk result
+        (λ report. report.status ≡ simulate_status spec.now world.now replicas steps.now) }
 {
     let plain = Plain::new(alloc, spec, world);
     simulate_by(alloc, spec, plain, replicas, steps)

@@ -3,7 +3,7 @@ use Rattle.spec_core.specs.declared.world.World.{World}
 use Rattle.replay_text.specs.Asked.{AllHeld}
 use Rattle.replay_text.specs.declared.writing.Stepped.{Stepped}
 use Rattle.replay_text.specs.Reached.{IsStepped}
-use Rattle.replay_text.proofs.Going.{ends_broken, leads_on}
+use Rattle.replay_text.proofs.Going.{ends_broken, leads_on, ends_refused, ends_done}
 use Rattle.replay_text.proofs.writing.write_steps.Goals as goal
 
 pub returns-in-Some-clause-reached : goal.returns-in-Some-clause-reached
@@ -24,3 +24,15 @@ loop-number-preserved g c =
 pub carry_out-requires-clause-holds : goal.carry_out-requires-clause-holds
 carry_out-requires-clause-holds g c =
     subst (λ (w : World). AllHeld c.args.spec.now w (g.R.Steps.replayed c.loop-number.replay).held) (sym c.loop-number.invariant.world_is) c.loop-number.invariant.holds
+
+pub returns-in-Refused-clause-reached : goal.returns-in-Refused-clause-reached
+returns-in-Refused-clause-reached g c =
+    let step = subst (λ (s : Stepped). IsStepped c.args.spec.now (g.R.Steps.replayed c.loop-number.replay).world (g.R.Steps.replayed c.loop-number.replay).held c.index-steps-number.result s (g.R.Steps.replayed c.carry_out.new.replay).held) c.in-Refused.is c.in_ok-event.ensures.stepped in
+    ends_refused c.args.spec.now (g.R.Steps.replayed c.args.replay.now).world (g.R.Steps.replayed c.args.replay.now).held c.args.steps.now c.args.text.now.items c.loop-number.text.items c.loop-number.number
+    (g.R.Steps.replayed c.loop-number.replay) c.loop-number.invariant c.index-steps-number.result c.loop-number-test.true c.index-steps-number.is
+    c.in-Refused.why (g.R.Steps.replayed c.carry_out.new.replay).held step
+
+pub returns-clause-reached : goal.returns-clause-reached
+returns-clause-reached g c =
+    ends_done c.args.spec.now (g.R.Steps.replayed c.args.replay.now).world (g.R.Steps.replayed c.args.replay.now).held c.args.steps.now c.args.text.now.items c.loop-number.text.items c.loop-number.number
+    (g.R.Steps.replayed c.loop-number.replay) c.loop-number.invariant c.loop-number-test.false c.loop-number.auto.number-end

@@ -4,7 +4,7 @@ use Rattle.simulate_text.specs.declared.said.SimulateRefused.TheVariants as refu
 use Rattle.simulate_text.specs.declared.said.Stop.TheVariants as stop
 use Rattle.simulate_text.specs.Course.{takes, stops}
 use Rattle.simulate_text.specs.Reached.{simulated_in}
-use Rattle.simulate_text.proofs.Carrying.{does_from, as_part, stopped_part}
+use Rattle.simulate_text.proofs.Carrying.{part_done, does_from, as_part, stopped_part}
 use Rattle.simulate_text.proofs.writing.take_numbered.Goals as goal
 
 pub returns-in-Some : goal.returns-in-Some
@@ -21,5 +21,5 @@ returns-in-None g c = λ d w of.
     let none : slice_get old.dones.items e ≡ None
     = sym (c.number_at.ensures ∙ ap (λ (l : List ℕ). slice_get l e) c.deref.ensures.value) ∙ c.in-None.is in
     let how = stop.Refused refusal.NoEvent in
-    as_part d w (stops how (simulated_in old)) (takes d w r e (slice_get old.dones.items e) (simulated_in old)) before before (Some how) old
+    as_part d w (stops how (simulated_in old)) (takes d w r e (slice_get old.dones.items e) (simulated_in old)) before (part_done before (Some how) old)
     (ap (λ (o : Option ℕ). takes d w r e o (simulated_in old)) none) (stopped_part d w how old before of)

@@ -1,12 +1,11 @@
 use Rattle.std.proofs.Common.{◌≡◌, ◌⊎◌, None, List, ◌∙◌, ap, subst}
-use Rattle.std.specs.Prelude.{slice_get}
-use Rattle.spec_core.specs.State.{reads}
 use Rattle.replica_replay.specs.declared.step.StepRefused.TheVariants.{Memory}
 use Rattle.replica_replay.specs.declared.keeping.Replica.{Replica}
 use Rattle.replica_replay.specs.Held.{Held}
 use Rattle.replica_replay.specs.Replayed.{Replayed}
-use Rattle.replica_replay.specs.Steps.{took, held_after, answer}
+use Rattle.replica_replay.specs.Steps.{replica_in, took, held_after, answer}
 use Rattle.replica_replay.specs.Holding.{orders_of, seen_by_event}
+use Rattle.replica_replay.proofs.Refusing.{view_of}
 use Rattle.replica_replay.proofs.Answering.{failed, ok_then, found_at, event_fits, take_leaves, take_answers, take_holds}
 use Rattle.replica_host.proofs.Hosting.{taking_kept, take_refuses}
 use Rattle.replica_host.proofs.host.Host.take.Goals as goal
@@ -26,7 +25,7 @@ invariant_of-self g c =
     let e = c.args.event in let found = c.in-Some-get.found.now in let look_event = c.in-Some-get.ensures.lookup in
     let there = found_at c.deref-2.result.now hs e found c.deref-2.ensures.value look_event.0 look_event.1 in
     let seen = c.seen_by_event-seen.result.now in let saw = c.seen_by_event-seen.ensures ∙ ap (λ (l : List Replica). seen_by_event (orders_of l) found) c.deref-3.ensures.value in
-    let may = taking_kept d w at.order (reads at.state) e seen (seen_by_event (orders_of rs) found) found.call None saw c.in-Ok.ensures.ok in
+    let may = taking_kept d w (view_of at) e seen (seen_by_event (orders_of rs) found) found.call None saw c.in-Ok.ensures.ok in
     take_leaves d w hs rs c.self.invariant r at here e found there c.keep_taking.result c.in-Ok.state c.keep_taking.new.replicas.items may
     c.keep_taking.ensures.ok c.keep_taking.ensures.err c.in-Ok.ensures.fits c.in-Ok.ensures.reads
 
@@ -38,8 +37,8 @@ returns-in-Ok-clause-answer g c =
     let e = c.args.event in let found = c.in-Some-get.found.now in let look_event = c.in-Some-get.ensures.lookup in
     let there = found_at c.deref-2.result.now hs e found c.deref-2.ensures.value look_event.0 look_event.1 in
     let seen = c.seen_by_event-seen.result.now in let saw = c.seen_by_event-seen.ensures ∙ ap (λ (l : List Replica). seen_by_event (orders_of l) found) c.deref-3.ensures.value in
-    let may = taking_kept d w at.order (reads at.state) e seen (seen_by_event (orders_of rs) found) found.call None saw c.in-Ok.ensures.ok in
-    subst (λ (p : Replayed). (c.keep_taking.result ≡ failed Memory) ⊎ (c.keep_taking.result ≡ answer (took p.spec p.world p.held r e (slice_get p.held.taken r)))) c.self.view_is
+    let may = taking_kept d w (view_of at) e seen (seen_by_event (orders_of rs) found) found.call None saw c.in-Ok.ensures.ok in
+    subst (λ (p : Replayed). (c.keep_taking.result ≡ failed Memory) ⊎ (c.keep_taking.result ≡ answer (took p.spec p.world e (replica_in p.held r)))) c.self.view_is
     (take_answers d w hs rs c.self.invariant r at here e found there c.keep_taking.result may c.keep_taking.ensures.taken c.keep_taking.ensures.memory)
 
 pub returns-in-Ok-clause-ok : goal.returns-in-Ok-clause-ok
@@ -50,10 +49,10 @@ returns-in-Ok-clause-ok g c =
     let e = c.args.event in let found = c.in-Some-get.found.now in let look_event = c.in-Some-get.ensures.lookup in
     let there = found_at c.deref-2.result.now hs e found c.deref-2.ensures.value look_event.0 look_event.1 in
     let seen = c.seen_by_event-seen.result.now in let saw = c.seen_by_event-seen.ensures ∙ ap (λ (l : List Replica). seen_by_event (orders_of l) found) c.deref-3.ensures.value in
-    let may = taking_kept d w at.order (reads at.state) e seen (seen_by_event (orders_of rs) found) found.call None saw c.in-Ok.ensures.ok in
+    let may = taking_kept d w (view_of at) e seen (seen_by_event (orders_of rs) found) found.call None saw c.in-Ok.ensures.ok in
     ok_then c.keep_taking.result
     (λ h. ap (λ (x : Held). let p : Replayed = record { spec = d; world = w; held = x } in p) h
-    ∙ ap (λ (p : Replayed). let q : Replayed = record { spec = p.spec; world = p.world; held = held_after p.held (took p.spec p.world p.held r e (slice_get p.held.taken r)) } in q) c.self.view_is)
+    ∙ ap (λ (p : Replayed). let q : Replayed = record { spec = p.spec; world = p.world; held = held_after p.held (took p.spec p.world e (replica_in p.held r)) } in q) c.self.view_is)
     (take_holds d w hs rs c.self.invariant r at here e found there c.keep_taking.result c.in-Ok.state c.keep_taking.new.replicas.items may c.keep_taking.ensures.ok)
 
 pub returns-in-Err-clause-answer : goal.returns-in-Err-clause-answer
@@ -64,5 +63,5 @@ returns-in-Err-clause-answer g c =
     let e = c.args.event in let found = c.in-Some-get.found.now in let look_event = c.in-Some-get.ensures.lookup in
     let there = found_at c.deref-2.result.now hs e found c.deref-2.ensures.value look_event.0 look_event.1 in
     let seen = c.seen_by_event-seen.result.now in let saw = c.seen_by_event-seen.ensures ∙ ap (λ (l : List Replica). seen_by_event (orders_of l) found) c.deref-3.ensures.value in
-    subst (λ (p : Replayed). (failed c.in-Err.why ≡ failed Memory) ⊎ (failed c.in-Err.why ≡ answer (took p.spec p.world p.held r e (slice_get p.held.taken r)))) c.self.view_is
+    subst (λ (p : Replayed). (failed c.in-Err.why ≡ failed Memory) ⊎ (failed c.in-Err.why ≡ answer (took p.spec p.world e (replica_in p.held r)))) c.self.view_is
     (take_refuses d w hs rs c.self.invariant r at here e found there seen saw c.in-Err.why c.in-Err.ensures.err)

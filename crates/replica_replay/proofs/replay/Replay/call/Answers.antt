@@ -1,9 +1,8 @@
 use Rattle.std.proofs.Common.{◌≡◌, ◌⊎◌, inr, ◌∙◌, ap, subst}
-use Rattle.std.specs.Prelude.{slice_get}
 use Rattle.replica_replay.specs.declared.step.StepRefused.TheVariants.{Memory}
 use Rattle.replica_replay.specs.Held.{Held}
 use Rattle.replica_replay.specs.Replayed.{Replayed}
-use Rattle.replica_replay.specs.Steps.{called, held_after, answer}
+use Rattle.replica_replay.specs.Steps.{replica_in, called, held_after, answer}
 use Rattle.replica_replay.proofs.Answering.{failed, ok_then, found_at, call_asked_refuses, call_effect_refuses, call_passes, call_leaves, call_answers, call_holds}
 use Rattle.replica_replay.proofs.Spares.{spare_taken, leads_from}
 use Rattle.replica_replay.proofs.replay.Replay.call.Goals as goal
@@ -15,7 +14,7 @@ returns-in-Some-asked-clause-answer c =
     let here = found_at c.deref.result.now rs r at c.deref.ensures.value look.0 look.1 in
     let name = c.args.name.now in let op = c.in-Some-operation_named.op in let named = c.in-Some-operation_named.ensures in
     let xs = c.in_ok-args.args in let args = c.args.args.now in let same = c.in_ok-args.ensures in
-    inr (subst (λ (p : Replayed). failed c.in-Some-asked.why ≡ answer (called p.spec p.world p.held r name args (slice_get p.held.taken r))) c.self.view_is
+    inr (subst (λ (p : Replayed). failed c.in-Some-asked.why ≡ answer (called p.spec p.world name args (replica_in p.held r))) c.self.view_is
     (call_asked_refuses d w hs rs c.self.invariant.kept r at here name op named xs args same c.deref-2.result.now c.deref-2.ensures.value c.in-Some-asked.why c.in-Some-asked.ensures.refusal))
 
 pub state_after_call-requires-clause-state : goal.state_after_call-requires-clause-state
@@ -31,7 +30,7 @@ returns-clause-answer c =
     let here = found_at c.deref.result.now rs r at c.deref.ensures.value look.0 look.1 in
     let name = c.args.name.now in let op = c.in-Some-operation_named.op in let named = c.in-Some-operation_named.ensures in
     let xs = c.in_ok-args.args in let args = c.args.args.now in let same = c.in_ok-args.ensures in
-    subst (λ (p : Replayed). (failed c.in-Err.why ≡ failed Memory) ⊎ (failed c.in-Err.why ≡ answer (called p.spec p.world p.held r name args (slice_get p.held.taken r)))) c.self.view_is
+    subst (λ (p : Replayed). (failed c.in-Err.why ≡ failed Memory) ⊎ (failed c.in-Err.why ≡ answer (called p.spec p.world name args (replica_in p.held r)))) c.self.view_is
     (call_effect_refuses d w hs rs c.self.invariant.kept r at here name op named xs args same c.deref-2.result.now c.deref-2.ensures.value c.in-Err.why c.in-None.ensures.refusal c.in-Err.ensures.err)
 
 pub invariant_of-self : goal.invariant_of-self
@@ -69,7 +68,7 @@ returns-in-Ok-clause-answer c =
     let name = c.args.name.now in let op = c.in-Some-operation_named.op in let named = c.in-Some-operation_named.ensures in
     let xs = c.in_ok-args.args in let args = c.args.args.now in let same = c.in_ok-args.ensures in
     let may = call_passes d w hs rs c.self.invariant.kept r at here name op named xs args same c.deref-2.result.now c.deref-2.ensures.value c.in-None.ensures.refusal c.in-Ok.ensures.ok in
-    subst (λ (p : Replayed). (c.keep_call.result ≡ failed Memory) ⊎ (c.keep_call.result ≡ answer (called p.spec p.world p.held r name args (slice_get p.held.taken r)))) c.self.view_is
+    subst (λ (p : Replayed). (c.keep_call.result ≡ failed Memory) ⊎ (c.keep_call.result ≡ answer (called p.spec p.world name args (replica_in p.held r)))) c.self.view_is
     (call_answers d w hs rs c.self.invariant.kept r at here name op named xs args same c.keep_call.result may c.keep_call.ensures.taken c.keep_call.ensures.memory)
 
 pub returns-in-Ok-clause-ok : goal.returns-in-Ok-clause-ok
@@ -82,5 +81,5 @@ returns-in-Ok-clause-ok c =
     let may = call_passes d w hs rs c.self.invariant.kept r at here name op named xs args same c.deref-2.result.now c.deref-2.ensures.value c.in-None.ensures.refusal c.in-Ok.ensures.ok in
     ok_then c.keep_call.result
     (λ h. ap (λ (x : Held). let p : Replayed = record { spec = d; world = w; held = x } in p) h
-    ∙ ap (λ (p : Replayed). let q : Replayed = record { spec = p.spec; world = p.world; held = held_after p.held (called p.spec p.world p.held r name args (slice_get p.held.taken r)) } in q) c.self.view_is)
+    ∙ ap (λ (p : Replayed). let q : Replayed = record { spec = p.spec; world = p.world; held = held_after p.held (called p.spec p.world name args (replica_in p.held r)) } in q) c.self.view_is)
     (call_holds d w hs rs c.self.invariant.kept r at here name op named xs args same c.keep_call.result c.in-Ok.state c.keep_call.new.happened.items c.keep_call.new.replicas.items may c.keep_call.ensures.happened c.keep_call.ensures.replicas)

@@ -1,10 +1,9 @@
 use Rattle.std.proofs.Common.{◌≡◌, ◌⊎◌, inr, List, ◌∙◌, ap, subst}
-use Rattle.std.specs.Prelude.{slice_get}
 use Rattle.replica_replay.specs.declared.step.StepRefused.TheVariants.{Memory}
 use Rattle.replica_replay.specs.declared.keeping.Replica.{Replica}
 use Rattle.replica_replay.specs.Held.{Held}
 use Rattle.replica_replay.specs.Replayed.{Replayed}
-use Rattle.replica_replay.specs.Steps.{took, held_after, answer}
+use Rattle.replica_replay.specs.Steps.{replica_in, took, held_after, answer}
 use Rattle.replica_replay.specs.Holding.{orders_of, seen_by_event}
 use Rattle.replica_replay.proofs.Answering.{failed, ok_then, found_at, event_fits, take_asked_refuses, take_effect_refuses, take_passes, take_leaves, take_answers, take_holds}
 use Rattle.replica_replay.proofs.Spares.{spare_taken, leads_from}
@@ -18,7 +17,7 @@ returns-in-Some-taking_asked-clause-answer c =
     let e = c.args.event in let found = c.in-Some-get.found.now in let look_event = c.in-Some-get.ensures.lookup in
     let there = found_at c.deref-2.result.now hs e found c.deref-2.ensures.value look_event.0 look_event.1 in
     let seen = c.seen_by_event-seen.result.now in let saw = c.seen_by_event-seen.ensures ∙ ap (λ (l : List Replica). seen_by_event (orders_of l) found) c.deref-3.ensures.value in
-    inr (subst (λ (p : Replayed). failed c.in-Some-taking_asked.why ≡ answer (took p.spec p.world p.held r e (slice_get p.held.taken r))) c.self.view_is
+    inr (subst (λ (p : Replayed). failed c.in-Some-taking_asked.why ≡ answer (took p.spec p.world e (replica_in p.held r))) c.self.view_is
     (take_asked_refuses d w hs rs c.self.invariant.kept r at here e found there seen saw c.in-Some-taking_asked.why c.in-Some-taking_asked.ensures))
 
 pub state_after_call-requires-clause-state : goal.state_after_call-requires-clause-state
@@ -42,7 +41,7 @@ returns-in-Err-clause-answer c =
     let e = c.args.event in let found = c.in-Some-get.found.now in let look_event = c.in-Some-get.ensures.lookup in
     let there = found_at c.deref-2.result.now hs e found c.deref-2.ensures.value look_event.0 look_event.1 in
     let seen = c.seen_by_event-seen.result.now in let saw = c.seen_by_event-seen.ensures ∙ ap (λ (l : List Replica). seen_by_event (orders_of l) found) c.deref-3.ensures.value in
-    subst (λ (p : Replayed). (failed c.in-Err.why ≡ failed Memory) ⊎ (failed c.in-Err.why ≡ answer (took p.spec p.world p.held r e (slice_get p.held.taken r)))) c.self.view_is
+    subst (λ (p : Replayed). (failed c.in-Err.why ≡ failed Memory) ⊎ (failed c.in-Err.why ≡ answer (took p.spec p.world e (replica_in p.held r)))) c.self.view_is
     (take_effect_refuses d w hs rs c.self.invariant.kept r at here e found there seen saw c.in-Err.why c.in-None.ensures c.in-Err.ensures.err)
 
 pub invariant_of-self : goal.invariant_of-self
@@ -82,7 +81,7 @@ returns-in-Ok-clause-answer c =
     let there = found_at c.deref-2.result.now hs e found c.deref-2.ensures.value look_event.0 look_event.1 in
     let seen = c.seen_by_event-seen.result.now in let saw = c.seen_by_event-seen.ensures ∙ ap (λ (l : List Replica). seen_by_event (orders_of l) found) c.deref-3.ensures.value in
     let may = take_passes d w hs rs c.self.invariant.kept r at here e found there seen saw c.in-None.ensures c.in-Ok.ensures.ok in
-    subst (λ (p : Replayed). (c.keep_taking.result ≡ failed Memory) ⊎ (c.keep_taking.result ≡ answer (took p.spec p.world p.held r e (slice_get p.held.taken r)))) c.self.view_is
+    subst (λ (p : Replayed). (c.keep_taking.result ≡ failed Memory) ⊎ (c.keep_taking.result ≡ answer (took p.spec p.world e (replica_in p.held r)))) c.self.view_is
     (take_answers d w hs rs c.self.invariant.kept r at here e found there c.keep_taking.result may c.keep_taking.ensures.taken c.keep_taking.ensures.memory)
 
 pub returns-in-Ok-clause-ok : goal.returns-in-Ok-clause-ok
@@ -96,5 +95,5 @@ returns-in-Ok-clause-ok c =
     let may = take_passes d w hs rs c.self.invariant.kept r at here e found there seen saw c.in-None.ensures c.in-Ok.ensures.ok in
     ok_then c.keep_taking.result
     (λ h. ap (λ (x : Held). let p : Replayed = record { spec = d; world = w; held = x } in p) h
-    ∙ ap (λ (p : Replayed). let q : Replayed = record { spec = p.spec; world = p.world; held = held_after p.held (took p.spec p.world p.held r e (slice_get p.held.taken r)) } in q) c.self.view_is)
+    ∙ ap (λ (p : Replayed). let q : Replayed = record { spec = p.spec; world = p.world; held = held_after p.held (took p.spec p.world e (replica_in p.held r)) } in q) c.self.view_is)
     (take_holds d w hs rs c.self.invariant.kept r at here e found there c.keep_taking.result c.in-Ok.state c.keep_taking.new.replicas.items may c.keep_taking.ensures.ok)

@@ -3,14 +3,14 @@ use Rattle.token_core.specs.HeldNet.{network_held}
 use Rattle.simulate_text.specs.declared.simulation.Simulation.{Simulation}
 use Rattle.simulate_text.specs.Course.{granted, hears_grant}
 use Rattle.simulate_text.specs.Reached.{simulated_in}
-use Rattle.simulate_text.proofs.Carrying.{does_from, hears_part}
+use Rattle.simulate_text.proofs.Carrying.{grant_heard, does_from, hears_part}
 use Rattle.simulate_text.proofs.simulation.Simulation.hear_grant.Goals as goal
 
 pub returns : goal.returns
 returns g c =
     let old = c.args.self.now in
     let mid : Simulation g.row.R.Denot = record { net = c.go.new.net; dones = old.dones; grants = old.grants } in
-    does_from c.granted.result (λ d w. granted d w c.args.replica c.in_ok-sent.sent c.args.tells c.in_ok-answer.answer)
+    does_from c.granted.result (λ d w. granted d w (grant_heard c.args.replica c.in_ok-sent.sent c.args.tells) c.in_ok-answer.answer)
     (λ d w. hears_grant d w c.args.replica c.args.message c.args.tells) mid old c.args.said.now.items c.granted.new.said.items c.granted.new.self
     (λ d w of.
     let gone = c.in_ok-answer.ensures d w of in (
