@@ -3,10 +3,10 @@ use Rattle.std.proofs.Common.{◌≡◌, ℕ, ◌+◌, ◌^◌, ◌≤◌, false
 use Rattle.proof_lines.specs.declared.line.Line.{Line}
 use Rattle.proof_lines.specs.Problems.{PlainProblem}
 use Rattle.search_logs.specs.SearchLogs.{splits}
-use Rattle.sat_core.specs.Answers.{IsSpent}
+use Rattle.sat_core.specs.Answers.{IsExhausted}
 
-pub spent-small : (p : PlainProblem) (budget : ℕ) (log : List Line) → IsSpent false p budget log → budget ≤ 3 ^ length p.atoms
-spent-small p budget log h =
+pub exhausted-small : (p : PlainProblem) (budget : ℕ) (log : List Line) → IsExhausted false p budget log → budget ≤ 3 ^ length p.atoms
+exhausted-small p budget log h =
     let none : splits log ≡ 0 = h.short.unsplit refl in
     let few : length log ≤ 3 ^ (length p.atoms + 0) + 0 = subst (λ (s : ℕ). length log ≤ 3 ^ (length p.atoms + s) + s) none h.short.few in
     let same : length p.atoms + 0 ≡ length p.atoms = omega arith in

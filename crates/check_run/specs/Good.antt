@@ -9,7 +9,7 @@ use Rattle.proof_kernel.specs.Rules.{State, run}
 use Rattle.ground_problem.specs.Problem.{formulas_of}
 use Rattle.ground_numbers.specs.Problem.{problem_of}
 use Rattle.ground_problem.specs.Problem.{most_formulas}
-use Rattle.sat_core.specs.Answers.{IsSpent, IsTooLong, IsTooLarge}
+use Rattle.sat_core.specs.Answers.{IsExhausted, IsTooLong, IsTooLarge}
 use Rattle.proof_report.specs.Verdicts.{VerdictForm, proved, refuted, instances, lines, rows, range}
 use Rattle.check_run.specs.Shown.{listing_of}
 
@@ -39,7 +39,7 @@ abbrev pub IsGood : Specification → ℕ → Obligation → VerdictForm → Typ
 IsGood d budget ob (proved log) = IsProof d budget ob log
 IsGood d budget ob (refuted p es) = IsRefutation d ob p.world (listing_of d p) p.calls es
 IsGood d budget ob instances = HasMany d ob
-IsGood d budget ob (lines log) = HasFew d ob × IsSpent true (problem_of d ob) budget log
+IsGood d budget ob (lines log) = HasFew d ob × IsExhausted true (problem_of d ob) budget log
 IsGood d budget ob (rows log r) =
     HasFew d ob
     × IsTooLong true (problem_of d ob) budget (record { log = log; used = r.used; steps = r.steps })

@@ -102,7 +102,7 @@ impl Analysis {
     }
 
     // Resolves back to the first clause with one literal of the last level, which is answered.
-    fn resolve_back(
+    fn resolve_to_uip(
         &mut self,
         clauses: &Clauses,
         assignment: &Assignment,
@@ -181,7 +181,7 @@ impl Analysis {
         self.open = 0;
         chains.push(conflict, 0)?;
         self.absorb(assignment, queue, clauses.lits(conflict), None)?;
-        let Some(first) = self.resolve_back(clauses, assignment, queue, chains)? else {
+        let Some(first) = self.resolve_to_uip(clauses, assignment, queue, chains)? else {
             return Ok(None);
         };
         self.resolve_fixed(chains)?;

@@ -107,7 +107,7 @@ impl Chains {
         for place in start.saturating_add(1)..self.end_of(learned) {
             if let Some(step) = self.step(place) {
                 let reason = self.number_of(numbers, step.clause);
-                out.push(line_on(step.lit, reason, reached))?;
+                out.push(resolve_line(step.lit, reason, reached))?;
                 let Ok(number) = u32::try_from(self.given.saturating_add(out.len())) else {
                     return Err(AllocError);
                 };
@@ -180,7 +180,7 @@ fn is_marked(marks: &[bool], place: usize) -> bool {
 }
 
 // The line that resolves a clause with one that forced a literal.
-fn line_on(lit: u32, reason: u32, reached: u32) -> Line {
+fn resolve_line(lit: u32, reason: u32, reached: u32) -> Line {
     let pivot = atom_of(lit);
     if is_positive(lit) {
         Line::Resolve {

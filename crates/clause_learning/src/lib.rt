@@ -10,6 +10,9 @@
 // that is settled for all of them. These are ten to twenty times as many clauses. Here only the steps of a chain are noted. Where the
 // empty clause is reached, the chains that it needs are written as lines, and no others; so the log is shorter, too.
 //
+// Two such searches take turns, each from where it stopped: one decides by activity, the other by number and without beginning anew. By
+// activity most problems take few conflicts. Pigeons in too few holes take a tenth as many by number, and give a shorter log.
+//
 // Where a log would be longer than the budget, there is a refutation, and another may be shorter. So the search is tried in other styles:
 // first by lookahead, whose conflicts are few, then by activity with earlier restarts.
 //

@@ -100,7 +100,7 @@ impl Lookahead {
     }
 
     /// Whether a decision would visit more clauses than it may.
-    pub(crate) fn is_spent(&self) -> bool {
+    pub(crate) fn is_exhausted(&self) -> bool {
         self.visits < self.clauses.len()
     }
 

@@ -9,6 +9,7 @@ use decision_queue::{DecisionQueue, Order};
 use items::Items;
 use proof_lines::{AtomKind, Line, Problem};
 use std::alloc::{AllocError, Global};
+use std::cmp::min;
 
 /// What the search proposes. Nothing is promised of it.
 #[derive(Drop)]
@@ -24,32 +25,54 @@ pub enum Proposal {
 // The most atoms of a problem that is tried: each literal has a number.
 const MOST_ATOMS: usize = 1 << 30;
 
-// In which style a search is tried: it begins anew after a multiple of so many conflicts, and what older conflicts added to the activity of
-// an atom counts for less so many times with each. One that looks ahead doesn't decide by activity.
+// In which style a search is tried: in which order atoms are decided, unless it looks ahead; it begins anew after a multiple of so many
+// conflicts, and what older conflicts added to the activity of an atom counts for less so many times with each.
 #[derive(Clone, Copy)]
 struct Style {
+    order: Order,
     restart: u32,
     fades: u32,
     looks: bool,
 }
 
-const STYLES: [Style; 3] = [
+// The two styles that take turns.
+const BY_ACTIVITY: Style = Style {
+    order: Order::Activity,
+    restart: 100,
+    fades: 1,
+    looks: false,
+};
+
+const BY_NUMBER: Style = Style {
+    order: Order::Number,
+    restart: u32::MAX,
+    fades: 1,
+    looks: false,
+};
+
+// The styles for a shorter log.
+const SHORTER: [Style; 2] = [
     Style {
-        restart: 100,
-        fades: 1,
-        looks: false,
-    },
-    Style {
+        order: Order::Activity,
         restart: u32::MAX,
         fades: 1,
         looks: true,
     },
     Style {
+        order: Order::Activity,
         restart: 20,
         fades: 2,
         looks: false,
     },
 ];
+
+// After so many conflicts by activity it is the turn of the other order, for twice as many. Each turn ends after a multiple of the
+// conflicts of the one before it.
+const TURN: u32 = 256;
+
+const GROWTH: u32 = 16;
+
+const TURNS: u32 = 2;
 
 // How many atoms are tried before one is decided by lookahead.
 const LOOKS: u32 = 8;
@@ -67,16 +90,18 @@ enum Tried {
     Ended(Proposal),
     /// The log is longer than the budget, or lookahead visited as many clauses as it may.
     Long,
+    /// There were as many conflicts as it may have.
+    Open,
 }
 
 // What a step came to.
 #[derive(Clone, Copy)]
 enum Progress {
-    Goes,
+    Continue,
     Refuted,
     Found,
     Stuck,
-    Spent,
+    BudgetExhausted,
 }
 
 // What the literals of an atom do.
@@ -98,6 +123,7 @@ struct Search {
     lookahead: Lookahead,
     noted: usize,
     style: Style,
+    refuted: bool,
     conflicts: u32,
     restarts: u32,
     left: u32,
@@ -151,10 +177,11 @@ impl Search {
             assignment,
             analysis,
             chains: Chains::new(alloc, problem.clauses.len()),
-            queue: DecisionQueue::new(alloc, Order::Activity),
+            queue: DecisionQueue::new(alloc, style.order),
             lookahead,
             noted: 0,
             style,
+            refuted: false,
             conflicts: 0,
             restarts: 0,
             left: style.restart,
@@ -273,7 +300,7 @@ impl Search {
         if let Some(lit) = self.analysis.lits.first() {
             self.assignment.assign(*lit, Some(clause))?;
         }
-        Ok(Progress::Goes)
+        Ok(Progress::Continue)
     }
 
     // How much a literal does, unless a conflict follows from it.
@@ -331,13 +358,13 @@ impl Search {
 
     // Decides by lookahead.
     fn decide_ahead(&mut self) -> Result<Progress, AllocError> {
-        if self.lookahead.is_spent() {
-            return Ok(Progress::Spent);
+        if self.lookahead.is_exhausted() {
+            return Ok(Progress::BudgetExhausted);
         }
         match self.look()? {
             Some(lit) => {
                 self.assignment.decide(lit)?;
-                Ok(Progress::Goes)
+                Ok(Progress::Continue)
             }
             None => Ok(Progress::Found),
         }
@@ -356,7 +383,7 @@ impl Search {
             let lit = self.assignment.last_of(atom);
             if self.assignment.truth(lit) == Truth::Open {
                 self.assignment.decide(lit)?;
-                return Ok(Progress::Goes);
+                return Ok(Progress::Continue);
             }
         }
         Ok(Progress::Found)
@@ -413,39 +440,140 @@ impl Search {
         Ok(())
     }
 
-    // Searches until there is an answer, or there were so many conflicts.
-    fn run(
+    // Takes up the clauses of the problem.
+    fn begin(
         &mut self,
         alloc: Global,
         problem: &Problem,
         atoms: u32,
         budget: u32,
-    ) -> Result<Tried, AllocError> {
+    ) -> Result<(), AllocError> {
         if let Some(conflict) = self.load(alloc, problem)? {
             self.learn(conflict)?;
+            self.refuted = true;
+            return Ok(());
+        }
+        self.prepare(atoms, budget)
+    }
+
+    // Goes on until there is an answer, or there were so many conflicts in all.
+    fn run(
+        &mut self,
+        alloc: Global,
+        atoms: u32,
+        budget: u32,
+        most: u32,
+    ) -> Result<Tried, AllocError> {
+        if self.refuted {
             return self.log(alloc, budget);
         }
-        self.prepare(atoms, budget)?;
-        for _ in 0..budget {
+        for _ in self.conflicts..most {
             for _ in 0..self.assignment.truths.len().saturating_add(1) {
                 let conflicts = self.conflicts;
                 match self.advance()? {
-                    Progress::Goes => {}
+                    Progress::Continue => {}
                     Progress::Refuted => return self.log(alloc, budget),
                     Progress::Found => {
                         let values = self.values(alloc, atoms)?;
                         return Ok(Tried::Ended(Proposal::Values(values)));
                     },
                     Progress::Stuck => return Ok(Tried::Ended(Proposal::Nothing)),
-                    Progress::Spent => return Ok(Tried::Long),
+                    Progress::BudgetExhausted => return Ok(Tried::Long),
                 }
                 if self.conflicts != conflicts {
                     break;
                 }
             }
         }
-        Ok(Tried::Ended(Proposal::Nothing))
+        Ok(Tried::Open)
     }
+}
+
+// Lets two searches take turns, each from where it stopped. Where the log of the second is too long, the first goes on alone.
+fn take_turns(
+    alloc: Global,
+    atoms: u32,
+    budget: u32,
+    active: &mut Search,
+    numbered: &mut Search,
+) -> Result<Tried, AllocError> {
+    let mut turn = TURN;
+    for _ in 0..TURNS {
+        match numbered.run(alloc, atoms, budget, min(turn.saturating_mul(2), budget))? {
+            Tried::Ended(proposal) => return Ok(Tried::Ended(proposal)),
+            Tried::Long => break,
+            Tried::Open => {}
+        }
+        turn = turn.saturating_mul(GROWTH);
+        match active.run(alloc, atoms, budget, min(turn, budget))? {
+            Tried::Ended(proposal) => return Ok(Tried::Ended(proposal)),
+            Tried::Long => return Ok(Tried::Long),
+            Tried::Open => {}
+        }
+    }
+    active.run(alloc, atoms, budget, budget)
+}
+
+// Goes on with a search by activity after its first turn.
+fn alternate(
+    alloc: Global,
+    problem: &Problem,
+    atoms: u32,
+    budget: u32,
+    active: &mut Search,
+) -> Result<Tried, AllocError> {
+    let mut numbered = Search::new(alloc, problem, atoms, BY_NUMBER)?;
+    let tried = match numbered.begin(alloc, problem, atoms, budget) {
+        Ok(()) => take_turns(alloc, atoms, budget, active, &mut numbered),
+        Err(error) => Err(error),
+    };
+    drop(numbered);
+    tried
+}
+
+fn tried_first(
+    alloc: Global,
+    problem: &Problem,
+    atoms: u32,
+    budget: u32,
+    active: &mut Search,
+) -> Result<Tried, AllocError> {
+    active.begin(alloc, problem, atoms, budget)?;
+    match active.run(alloc, atoms, budget, min(TURN, budget))? {
+        Tried::Ended(proposal) => Ok(Tried::Ended(proposal)),
+        Tried::Long => Ok(Tried::Long),
+        Tried::Open => alternate(alloc, problem, atoms, budget, active),
+    }
+}
+
+// Tries a search by activity, and one by number in turn with it.
+fn tried_by_turns(
+    alloc: Global,
+    problem: &Problem,
+    atoms: u32,
+    budget: u32,
+) -> Result<Tried, AllocError> {
+    let mut active = Search::new(alloc, problem, atoms, BY_ACTIVITY)?;
+    let tried = tried_first(alloc, problem, atoms, budget, &mut active);
+    drop(active);
+    tried
+}
+
+// Tries a search in a style.
+fn tried_in(
+    alloc: Global,
+    problem: &Problem,
+    atoms: u32,
+    budget: u32,
+    style: Style,
+) -> Result<Tried, AllocError> {
+    let mut search = Search::new(alloc, problem, atoms, style)?;
+    let tried = match search.begin(alloc, problem, atoms, budget) {
+        Ok(()) => search.run(alloc, atoms, budget, budget),
+        Err(error) => Err(error),
+    };
+    drop(search);
+    tried
 }
 
 /// Searches a problem for values by which all clauses are true, or for a log of at most `budget` lines that shows that there are none. It
@@ -457,10 +585,15 @@ pub fn propose(alloc: Global, problem: &Problem, budget: u32) -> Result<Proposal
     let Ok(atoms) = u32::try_from(problem.atoms.len()) else {
         return Ok(Proposal::Nothing);
     };
-    for style in STYLES {
-        let mut search = Search::new(alloc, problem, atoms, style)?;
-        match search.run(alloc, problem, atoms, budget)? {
+    match tried_by_turns(alloc, problem, atoms, budget)? {
+        Tried::Ended(proposal) => return Ok(proposal),
+        Tried::Open => return Ok(Proposal::Nothing),
+        Tried::Long => {}
+    }
+    for style in SHORTER {
+        match tried_in(alloc, problem, atoms, budget, style)? {
             Tried::Ended(proposal) => return Ok(proposal),
+            Tried::Open => return Ok(Proposal::Nothing),
             Tried::Long => {}
         }
     }

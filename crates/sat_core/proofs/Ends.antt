@@ -17,7 +17,7 @@ use Rattle.search_logs.proofs.Forcing.{refuted_none, empty_unsat}
 use Rattle.search_logs.proofs.Shown.{standing-fresh, lines_judged-so}
 use Rattle.sat_core.specs.declared.answer.Answer.{Answer}
 use Rattle.sat_core.specs.declared.answer.Answer.TheVariants.{Unsat, Sat, Lines, Rows, Range, Memory}
-use Rattle.sat_core.specs.Answers.{IsEasy, IsRefuted, IsSpent, IsShort, IsAnswer, ShowsNone}
+use Rattle.sat_core.specs.Answers.{IsEasy, IsRefuted, IsExhausted, IsShort, IsAnswer, ShowsNone}
 use Rattle.sat_core.specs.Searching.{Aim, Keeps, InSearch, InChain}
 use Rattle.sat_core.proofs.Keeping.{short_of}
 
@@ -78,9 +78,9 @@ searched-so a budget q ls phase k s n = record {
   search = s;
 }
 
-pub spent-so : (a : Aim) (budget : ℕ) (q : PlainProblem) (ls : List Line) (phase : Phase) → Keeps a budget q ls → SearchLog a.problem ls q phase → ((k : ℕ) → k < length q.clauses → is_empty (get_or q.clauses k []) ≡ false) → budget ≤ length ls
-    → (IsEasy a.problem → ⊥) → (AreRefuted a.problem.clauses → length a.problem.atoms ≤ budget → ⊥) → IsSpent a.split a.problem budget ls
-spent-so a budget q ls phase k s n b u f =
+pub exhausted-so : (a : Aim) (budget : ℕ) (q : PlainProblem) (ls : List Line) (phase : Phase) → Keeps a budget q ls → SearchLog a.problem ls q phase → ((k : ℕ) → k < length q.clauses → is_empty (get_or q.clauses k []) ≡ false) → budget ≤ length ls
+    → (IsEasy a.problem → ⊥) → (AreRefuted a.problem.clauses → length a.problem.atoms ≤ budget → ⊥) → IsExhausted a.split a.problem budget ls
+exhausted-so a budget q ls phase k s n b u f =
     let r = k.room in
     let whole : length ls ≡ budget = omega arith in
     let searched = searched-so a budget q ls phase k s n in
@@ -95,8 +95,8 @@ spent-so a budget q ls phase k s n b u f =
     }
 
 -- a chain that isn't done, with no line left
-pub chain_spends : (a : Aim) (budget before : ℕ) (q : PlainProblem) (t : List Entry) (ls : List Line) (i : ℕ) → InChain a budget before q t ls i → is_done t (get_or q.clauses i []) ≡ false → budget ≤ length ls → IsSpent a.split a.problem budget ls
-chain_spends a budget before q t ls i x n b = spent-so a budget q ls (within x.start x.from (get_or q.clauses i [])) x.keeps x.search none b x.uneasy hard
+pub chain_exhausts : (a : Aim) (budget before : ℕ) (q : PlainProblem) (t : List Entry) (ls : List Line) (i : ℕ) → InChain a budget before q t ls i → is_done t (get_or q.clauses i []) ≡ false → budget ≤ length ls → IsExhausted a.split a.problem budget ls
+chain_exhausts a budget before q t ls i x n b = exhausted-so a budget q ls (within x.start x.from (get_or q.clauses i [])) x.keeps x.search none b x.uneasy hard
   where
     none : (k : ℕ) → k < length q.clauses → is_empty (get_or q.clauses k []) ≡ false
     none k l = by_case (cases_eq k i)
@@ -127,8 +127,8 @@ pub settled_full : (t : List Entry) (cs : List (List Lit)) → NoneFalse t cs �
 settled_full t cs n k l = full t (get_or cs k []) (n k l)
 
 -- a settled trail where a line is wanted and none is left
-pub search_spends : (a : Aim) (budget : ℕ) (q : PlainProblem) (t : List Entry) (ls : List Line) → InSearch a budget q t ls → Settled t q.clauses → NoneFalse t q.clauses → budget ≤ length ls → (IsEasy a.problem → ⊥) → IsSpent a.split a.problem budget ls
-search_spends a budget q t ls x w n b u = spent-so a budget q ls between x.keeps x.search (settled_full t q.clauses n) b u (λ r m. settled_unrefuted a budget q t ls x w n r)
+pub search_exhausts : (a : Aim) (budget : ℕ) (q : PlainProblem) (t : List Entry) (ls : List Line) → InSearch a budget q t ls → Settled t q.clauses → NoneFalse t q.clauses → budget ≤ length ls → (IsEasy a.problem → ⊥) → IsExhausted a.split a.problem budget ls
+search_exhausts a budget q t ls x w n b u = exhausted-so a budget q ls between x.keeps x.search (settled_full t q.clauses n) b u (λ r m. settled_unrefuted a budget q t ls x w n r)
 
 -- an empty clause is there from the start
 pub at_once : (split : Bool) (p : PlainProblem) (budget : ℕ) (log : List Line) → log ≡ [] → list_any is_empty p.clauses ≡ true → IsRefuted split p budget log

@@ -1,7 +1,7 @@
 pub mod Keeping
 pub mod Resolving
 pub mod Ends
-pub mod Asked
+pub mod Checked
 pub mod Outcomes
 pub mod Units
 pub mod Backjumps

@@ -19,22 +19,23 @@ use Rattle.proof_lines.proofs.Sets.{same_lit-is}
 use Rattle.theory_api.specs.Laws.{all_below, is_some_row, are_given, IsConflict, IsSplit, IsTooMany, IsBeyond}
 use Rattle.theory_api.proofs.Standing.{lit_at}
 use Rattle.search_logs.specs.declared.trail.Entry.{Entry}
-use Rattle.search_logs.specs.Trails.{in_trail, named, is_false, is_unit, has_decision, Settled, NoneFalse, IsStep, free}
+use Rattle.search_logs.specs.Trails.{in_trail, is_assigned, is_false, is_unit, has_decision, Settled, NoneFalse, IsStep, free}
 use Rattle.search_logs.specs.Forcing.{AreRefuted}
 use Rattle.search_logs.specs.SearchLogs.{none, with_row, splits}
 use Rattle.search_logs.proofs.Free.{free-top, free-falls}
 use Rattle.search_logs.proofs.Forcing.{refuted_none, unit_forced, unit_parts}
 use Rattle.search_logs.proofs.Taken.{farkas_taken}
 use Rattle.search_logs.proofs.Valued.{stand-of}
-use Rattle.sat_core.specs.declared.asking.Outcome.{Outcome}
-use Rattle.sat_core.specs.declared.asking.Outcome.TheVariants.{Goes, Refuted, Found, Spent, Rows, Range, Memory}
-use Rattle.sat_core.specs.declared.explaining.Explained.{Explained}
-use Rattle.sat_core.specs.declared.explaining.Explained.TheVariants.{Empty, Cut, Spent as SpentThere, Memory as NoMemory}
-use Rattle.sat_core.specs.Answers.{AreRowsOf, IsEasy, IsTooLong, IsTooLarge}
-use Rattle.sat_core.specs.Searching.{Aim, Keeps, InSearch, InChain, IsDrawn, IsExplained, IsLearned, IsRefutation, work}
-use Rattle.sat_core.specs.Outcomes.{IsOutcome, IsPushed, outcome_of, IfGoes, IsStay}
+use Rattle.sat_core.specs.declared.checking.Outcome.{Outcome}
+use Rattle.sat_core.specs.declared.checking.Outcome.TheVariants.{Continue, Refuted, Found, BudgetExhausted, Rows, Range, Memory}
+use Rattle.sat_core.specs.declared.analyzing.Analyzed.{Analyzed}
+use Rattle.sat_core.specs.declared.analyzing.Analyzed.TheVariants.{Empty, Cut, BudgetExhausted as ExhaustedThere, Memory as NoMemory}
+use Rattle.sat_core.specs.Answers.{AreRowsOf, IsEasy, IsExhausted, IsTooLong, IsTooLarge}
+use Rattle.sat_core.specs.Searching.{Aim, Keeps, InSearch, InChain, IsRowAssignment, IsAnalyzed, IsLearned, IsRefutation, work}
+use Rattle.sat_core.specs.Outcomes.{IsOutcome, IsPushed, outcome_of, IfContinue, IsStay, IsSplitOff}
 use Rattle.sat_core.proofs.Keeping.{clause-below, keeps_first}
-use Rattle.sat_core.proofs.Asked.{none_false, stand-places, given-lits, picked_in, uneasy_given, search_splits, too_long, too_large}
+use Rattle.sat_core.proofs.Ends.{search_exhausts}
+use Rattle.sat_core.proofs.Checked.{none_false, stand-places, given-lits, picked_in, uneasy_given, search_splits, too_long, too_large}
 
 -- What a step of a search comes to.
 
@@ -53,7 +54,7 @@ work-line a budget q r t u ls ms k h =
     let d = free-top (length r.atoms) u in
     let f = few_splits a budget r ms k in omega (arith, b, c, d, f)
 
-pub work-atom : (a : Aim) (budget : ℕ) (q : PlainProblem) (e : Entry) (t : List Entry) (ls : List Line) → e.lit.atom < length q.atoms → named t e.lit.atom ≡ false → work a budget q (e ∷ t) ls < work a budget q t ls
+pub work-atom : (a : Aim) (budget : ℕ) (q : PlainProblem) (e : Entry) (t : List Entry) (ls : List Line) → e.lit.atom < length q.atoms → is_assigned t e.lit.atom ≡ false → work a budget q (e ∷ t) ls < work a budget q t ls
 work-atom a budget q e t ls h k = let f = free-falls (length q.atoms) e t h k in omega arith
 
 -- THE FIRST TRAIL, AND ONE MORE LITERAL.
@@ -78,12 +79,12 @@ search_begins a budget f cs ks h = record {
     full (c ∷ cs) h zero l = full_one c (or_parts (is_empty c) (list_any is_empty cs) h).0
     full (c ∷ cs) h (suc k) l = full cs (or_parts (is_empty c) (list_any is_empty cs) h).1 k (omega arith)
 
-pub search_pushes : (a : Aim) (budget : ℕ) (q : PlainProblem) (t : List Entry) (ls : List Line) (e : Entry) → InSearch a budget q t ls → NoneFalse t q.clauses → named t e.lit.atom ≡ false → e.lit.atom < length q.atoms → IsStep q.clauses t e.lit e.reason → InSearch a budget q (e ∷ t) ls
+pub search_pushes : (a : Aim) (budget : ℕ) (q : PlainProblem) (t : List Entry) (ls : List Line) (e : Entry) → InSearch a budget q t ls → NoneFalse t q.clauses → is_assigned t e.lit.atom ≡ false → e.lit.atom < length q.atoms → IsStep q.clauses t e.lit e.reason → InSearch a budget q (e ∷ t) ls
 search_pushes a budget q t ls e x n u b w = record {
   keeps = x.keeps;
   trail = (u, w, x.trail);
   calm = n;
-  below = λ y h. elim (or_cases (e.lit.atom == y) (named t y) h) [ inl k ↦ subst (λ (z : ℕ). z < length q.atoms) (eqb-true e.lit.atom y k) b | inr k ↦ x.below y k ];
+  below = λ y h. elim (or_cases (e.lit.atom == y) (is_assigned t y) h) [ inl k ↦ subst (λ (z : ℕ). z < length q.atoms) (eqb-true e.lit.atom y k) b | inr k ↦ x.below y k ];
   search = x.search;
   early = λ r. (let y = x.early r in (pushed_early r (e.reason) w y, y.1, y.2));
   easy = λ r. (let y = x.easy r in (y.0, y.1, λ d l h. pushed_easy e.reason w y d l (or_cases (same_lit e.lit l) (in_trail t l) h)));
@@ -104,52 +105,52 @@ abbrev pub aim_of : PlainProblem → Bool → Aim
 aim_of p split = record { problem = p; split = split }
 
 pub pushed-outcome : (o : Outcome) (split stop : Bool) (p : PlainProblem) (budget : ℕ) (q : PlainProblem) (t : List Entry) (ls : List Line) (l : Lit) (reason : Option ℕ) (u : List Entry) → InSearch (aim_of p split) budget q t ls → NoneFalse t q.clauses
-    → named t l.atom ≡ false → l.atom < length q.atoms → IsStep q.clauses t l reason → IsPushed o t l reason u → IsOutcome o split stop p budget q t ls q u ls
-pushed-outcome Goes split stop p budget q t ls l reason u x n f b w h =
+    → is_assigned t l.atom ≡ false → l.atom < length q.atoms → IsStep q.clauses t l reason → IsPushed o t l reason u → IsOutcome o split stop p budget q t ls q u ls
+pushed-outcome Continue split stop p budget q t ls l reason u x n f b w h =
     subst (λ (z : List Entry). InSearch (aim_of p split) budget q z ls × (work (aim_of p split) budget q z ls < work (aim_of p split) budget q t ls)) (sym h)
     (search_pushes (aim_of p split) budget q t ls (record { lit = l; reason = reason }) x n f b w, work-atom (aim_of p split) budget q (record { lit = l; reason = reason }) t ls b f)
 pushed-outcome Memory split stop p budget q t ls l reason u x n f b w h = tt
 pushed-outcome Refuted split stop p budget q t ls l reason u x n f b w h = absurd h
 pushed-outcome (Found i) split stop p budget q t ls l reason u x n f b w h = absurd h
-pushed-outcome Spent split stop p budget q t ls l reason u x n f b w h = absurd h
+pushed-outcome BudgetExhausted split stop p budget q t ls l reason u x n f b w h = absurd h
 pushed-outcome (Rows used steps) split stop p budget q t ls l reason u x n f b w h = absurd h
 pushed-outcome (Range used steps what) split stop p budget q t ls l reason u x n f b w h = absurd h
 
-pub forced-step : (a : Aim) (budget : ℕ) (q : PlainProblem) (t : List Entry) (ls : List Line) (r : ℕ) (l : Lit) → InSearch a budget q t ls → (r < length q.clauses) × (is_unit t (get_or q.clauses r []) l ≡ true) × NoneFalse t q.clauses → (named t l.atom ≡ false) × (l.atom < length q.atoms)
+pub forced-step : (a : Aim) (budget : ℕ) (q : PlainProblem) (t : List Entry) (ls : List Line) (r : ℕ) (l : Lit) → InSearch a budget q t ls → (r < length q.clauses) × (is_unit t (get_or q.clauses r []) l ≡ true) × NoneFalse t q.clauses → (is_assigned t l.atom ≡ false) × (l.atom < length q.atoms)
 forced-step a budget q t ls r l x h = let u = unit_parts t (get_or q.clauses r []) l h.1 in (u.1, clause-below q x.keeps.fits r l h.0 u.0)
 
 -- CONFLICTS.
 
-pub explained-outcome : (e : Explained) (split stop : Bool) (p : PlainProblem) (budget : ℕ) (q : PlainProblem) (t : List Entry) (ls : List Line) (i : ℕ) (r : PlainProblem) (u : List Entry) (ms : List Line) → InChain (aim_of p split) budget (length ls) q t ls i
-    → IsExplained e budget q t ls i r u ms → IsOutcome (outcome_of e) split stop p budget q t ls r u ms
-explained-outcome Empty split stop p budget q t ls i r u ms x h = h (aim_of p split) (length ls) x
-explained-outcome Cut split stop p budget q t ls i r u ms x h = let y = h (aim_of p split) (length ls) x in (y.0, work-line (aim_of p split) budget q r t u ls ms y.0.keeps y.1)
-explained-outcome SpentThere split stop p budget q t ls i r u ms x h = h (aim_of p split) (length ls) x
-explained-outcome NoMemory split stop p budget q t ls i r u ms x h = tt
+pub analyzed-outcome : (e : Analyzed) (split stop : Bool) (p : PlainProblem) (budget : ℕ) (q : PlainProblem) (t : List Entry) (ls : List Line) (i : ℕ) (r : PlainProblem) (u : List Entry) (ms : List Line) → InChain (aim_of p split) budget (length ls) q t ls i
+    → IsAnalyzed e budget q t ls i r u ms → IsOutcome (outcome_of e) split stop p budget q t ls r u ms
+analyzed-outcome Empty split stop p budget q t ls i r u ms x h = h (aim_of p split) (length ls) x
+analyzed-outcome Cut split stop p budget q t ls i r u ms x h = let y = h (aim_of p split) (length ls) x in (y.0, work-line (aim_of p split) budget q r t u ls ms y.0.keeps y.1)
+analyzed-outcome ExhaustedThere split stop p budget q t ls i r u ms x h = h (aim_of p split) (length ls) x
+analyzed-outcome NoMemory split stop p budget q t ls i r u ms x h = tt
 
-pub learned-outcome : (e : Explained) (split stop : Bool) (p : PlainProblem) (budget : ℕ) (q : PlainProblem) (t : List Entry) (ls : List Line) (r : PlainProblem) (u : List Entry) (ms : List Line) → InSearch (aim_of p split) budget q t ls
+pub learned-outcome : (e : Analyzed) (split stop : Bool) (p : PlainProblem) (budget : ℕ) (q : PlainProblem) (t : List Entry) (ls : List Line) (r : PlainProblem) (u : List Entry) (ms : List Line) → InSearch (aim_of p split) budget q t ls
     → IsLearned e budget q t ls r u ms → IsOutcome (outcome_of e) split stop p budget q t ls r u ms
 learned-outcome Empty split stop p budget q t ls r u ms x h = h (aim_of p split) x
 learned-outcome Cut split stop p budget q t ls r u ms x h = let y = h (aim_of p split) x in (y.0, work-line (aim_of p split) budget q r t u ls ms y.0.keeps y.1)
-learned-outcome SpentThere split stop p budget q t ls r u ms x h = h (aim_of p split) x
+learned-outcome ExhaustedThere split stop p budget q t ls r u ms x h = h (aim_of p split) x
 learned-outcome NoMemory split stop p budget q t ls r u ms x h = tt
 
-pub learned-stays : (e : Explained) (a : Aim) (budget : ℕ) (q : PlainProblem) (t : List Entry) (ls : List Line) (r : PlainProblem) (u : List Entry) (ms : List Line) → InSearch a budget q t ls → IsLearned e budget q t ls r u ms → IfGoes (outcome_of e) (IsStay q.clauses t r.clauses u)
+pub learned-stays : (e : Analyzed) (a : Aim) (budget : ℕ) (q : PlainProblem) (t : List Entry) (ls : List Line) (r : PlainProblem) (u : List Entry) (ms : List Line) → InSearch a budget q t ls → IsLearned e budget q t ls r u ms → IfContinue (outcome_of e) (IsStay q.clauses t r.clauses u)
 learned-stays Empty a budget q t ls r u ms x h = tt
 learned-stays Cut a budget q t ls r u ms x h = inr (h a x).2
-learned-stays SpentThere a budget q t ls r u ms x h = tt
+learned-stays ExhaustedThere a budget q t ls r u ms x h = tt
 learned-stays NoMemory a budget q t ls r u ms x h = tt
 
 -- ASKING.
 
-pub places-so : (q : PlainProblem) (t : List Entry) (k : ℕ) (lits : List Lit) (rows rows2 : List Row) (ints : ℕ) → fits q ≡ true → IsDrawn q.atoms t k lits rows → rows2 ≡ rows → ints ≡ q.ints → all_below ints rows2 ≡ true
+pub places-so : (q : PlainProblem) (t : List Entry) (k : ℕ) (lits : List Lit) (rows rows2 : List Row) (ints : ℕ) → fits q ≡ true → IsRowAssignment q.atoms t k lits rows → rows2 ≡ rows → ints ≡ q.ints → all_below ints rows2 ≡ true
 places-so q t k lits rows rows2 ints f d e i =
     let p = and_parts (list_all (names_below q.ints) q.atoms) (list_all (atoms_below (length q.atoms)) q.clauses) f in
     (λ j. all_below (i j) (e j)) ∙ stand-places q.ints q.atoms lits rows p.0 (stand-of q.atoms lits rows d.stand)
 
 pub takes-so : (split : Bool) (takes : List Row → ℕ → Type 0) (p : PlainProblem) (budget : ℕ) (q : PlainProblem) (t : List Entry) (ls : List Line) (k : ℕ) (lits : List Lit) (rows rows2 : List Row) (ints : ℕ)
     → (split ≡ true → (rows : List Row) (ints : ℕ) → all_below ints rows ≡ true → takes rows ints) → (split ≡ false → (lits : List Lit) (rows : List Row) → AreRowsOf p.atoms lits rows → takes rows p.ints)
-    → InSearch (aim_of p split) budget q t ls → IsDrawn q.atoms t k lits rows → rows2 ≡ rows → ints ≡ q.ints → all_below ints rows2 ≡ true → takes rows2 ints
+    → InSearch (aim_of p split) budget q t ls → IsRowAssignment q.atoms t k lits rows → rows2 ≡ rows → ints ≡ q.ints → all_below ints rows2 ≡ true → takes rows2 ints
 takes-so split takes p budget q t ls k lits rows rows2 ints all some x d e i b = by_case split refl
   where
     by_case : (s : Bool) → split ≡ s → takes rows2 ints
@@ -159,10 +160,10 @@ takes-so split takes p budget q t ls k lits rows rows2 ints all some x d e i b =
         let y = some h lits rows o in
         subst (λ (n : ℕ). takes rows2 n) (sym (i ∙ x.keeps.ints)) (subst (λ (z : List Row). takes z p.ints) (sym e) y)
 
-pub picks-so : (q : PlainProblem) (t : List Entry) (k : ℕ) (lits lits2 : List Lit) (rows : List Row) (used used2 : List ℕ) → IsDrawn q.atoms t k lits rows → are_given rows used ≡ true → lits2 ≡ lits → used2 ≡ used → list_all (λ u. nat_lt u (length lits2)) used2 ≡ true
+pub picks-so : (q : PlainProblem) (t : List Entry) (k : ℕ) (lits lits2 : List Lit) (rows : List Row) (used used2 : List ℕ) → IsRowAssignment q.atoms t k lits rows → are_given rows used ≡ true → lits2 ≡ lits → used2 ≡ used → list_all (λ u. nat_lt u (length lits2)) used2 ≡ true
 picks-so q t k lits lits2 rows used used2 d g e f = (λ i. list_all (λ u. nat_lt u (length (e i))) (f i)) ∙ given-lits q.atoms lits rows used (stand-of q.atoms lits rows d.stand) g
 
-module _ (split stop : Bool) (p : PlainProblem) (budget : ℕ) (q : PlainProblem) (t : List Entry) (ls : List Line) (lits : List Lit) (rows : List Row) (used : List ℕ) (used2 : List Lit) (x : InSearch (aim_of p split) budget q t ls) (w : Settled t q.clauses) (d : IsDrawn q.atoms t (length q.atoms) lits rows) (g : are_given rows used ≡ true) (e : used2 ≡ map (lit_at lits) used) where
+module _ (split stop : Bool) (p : PlainProblem) (budget : ℕ) (q : PlainProblem) (t : List Entry) (ls : List Line) (lits : List Lit) (rows : List Row) (used : List ℕ) (used2 : List Lit) (x : InSearch (aim_of p split) budget q t ls) (w : Settled t q.clauses) (d : IsRowAssignment q.atoms t (length q.atoms) lits rows) (g : are_given rows used ≡ true) (e : used2 ≡ map (lit_at lits) used) where
   pub refutation-so : (steps : List RowStep) → IsConflict rows used steps → IsRefutation budget q t ls used2 steps
   refutation-so steps c = subst (λ (z : List Lit). IsRefutation budget q t ls z steps) (sym e) (record {
     aim = aim_of p split;
@@ -184,8 +185,30 @@ module _ (split stop : Bool) (p : PlainProblem) (budget : ℕ) (q : PlainProblem
       let n : length ms ≡ length ls + 1 = ap (λ (z : List Line). length z) ms_is ∙ length-append ls (SplitLine place at (map (lit_at lits) used) steps low high values ∷ []) in
       (z, work-line (aim_of p split) budget q r t t ls ms z.keeps (omega (arith, n)))
 
+  pub splits-outcome : (o : Outcome) (place : ℕ) (at : ℤ) (steps : List RowStep) (low high : ℕ) (values : List ℤ) (r : PlainProblem) (ms : List Line) → IsSplit q.ints rows place at used steps low high values → split ≡ true
+      → IsSplitOff o budget q ls (at_most place at) (SplitLine place at used2 steps low high values) r ms → IsOutcome o split stop p budget q t ls r t ms
+  splits-outcome Continue place at steps low high values r ms c s h = split-so place at steps low high values r ms c s h.0 (h.1, h.2, h.3)
+  splits-outcome Refuted place at steps low high values r ms c s h = absurd h
+  splits-outcome (Found i) place at steps low high values r ms c s h = absurd h
+  splits-outcome BudgetExhausted place at steps low high values r ms c s h =
+      let z = search_exhausts (aim_of p split) budget q t ls x w (none_false q.clauses t w) h.0 (uneasy_given (aim_of p split) budget q t ls lits rows used x w d g) in
+      subst (λ (n : List Line). IsExhausted split p budget n) (sym h.2) z
+  splits-outcome (Rows taken ended) place at steps low high values r ms c s h = absurd h
+  splits-outcome (Range taken ended what) place at steps low high values r ms c s h = absurd h
+  splits-outcome Memory place at steps low high values r ms c s h = absurd h
+
   pub rows-so : (steps : List RowStep) → IsTooMany rows used steps → IsTooLong split p budget (record { log = ls; used = used2; steps = steps })
   rows-so steps c = subst (λ (z : List Lit). IsTooLong split p budget (record { log = ls; used = z; steps = steps })) (sym e) (too_long (aim_of p split) budget q t ls lits rows used x w d g steps c)
 
   pub range-so : (steps : List RowStep) (what : RangeWhat) → IsBeyond rows used steps what → IsTooLarge split p budget (record { log = ls; used = used2; steps = steps; what = what })
   range-so steps what c = subst (λ (z : List Lit). IsTooLarge split p budget (record { log = ls; used = z; steps = steps; what = what })) (sym e) (too_large (aim_of p split) budget q t ls lits rows used x w d g steps what c)
+
+-- a Split line leaves trail and clauses as they were
+pub splits-stay : (o : Outcome) (budget : ℕ) (q : PlainProblem) (t : List Entry) (ls : List Line) (row : Row) (line : Line) (r : PlainProblem) (ms : List Line) → IsSplitOff o budget q ls row line r ms → IfContinue o (IsStay q.clauses t r.clauses t)
+splits-stay Continue budget q t ls row line r ms h = inl (refl, ap (λ (z : PlainProblem). z.clauses) h.1)
+splits-stay Refuted budget q t ls row line r ms h = tt
+splits-stay (Found i) budget q t ls row line r ms h = tt
+splits-stay BudgetExhausted budget q t ls row line r ms h = tt
+splits-stay (Rows used steps) budget q t ls row line r ms h = tt
+splits-stay (Range used steps what) budget q t ls row line r ms h = tt
+splits-stay Memory budget q t ls row line r ms h = tt

@@ -9,11 +9,11 @@ use Rattle.proof_kernel.specs.Rules.{next}
 use Rattle.std.proofs.lemmas.Bool.{and_parts, or_parts, or_left, or_right, lt-ltb, cases_eq}
 use Rattle.proof_lines.proofs.Sets.{same_nat-refl}
 use Rattle.search_logs.specs.declared.trail.Entry.{Entry}
-use Rattle.search_logs.specs.Trails.{after, named, is_false, open_in, before_last, is_decision, has_decision, IsTrail, older, IsCalm, is_done}
+use Rattle.search_logs.specs.Trails.{after, is_assigned, is_false, open_in, before_last, is_decision, has_decision, IsTrail, older, IsCalm, is_done}
 use Rattle.search_logs.specs.Forcing.{AreRefuted}
 use Rattle.search_logs.specs.Chains.{Cutting}
-use Rattle.search_logs.specs.SearchLogs.{line_on, resolved_on, within, between, IsNext, SearchLog, conflict, step, finish, with_clause, is_split, standing}
-use Rattle.search_logs.proofs.Trails.{has_all, starts-open, settled-before, named-before}
+use Rattle.search_logs.specs.SearchLogs.{resolve_line, resolved_on, within, between, IsNext, SearchLog, conflict, step, finish, with_clause, is_split, standing}
+use Rattle.search_logs.proofs.Trails.{has_all, starts-open, settled-before, is_assigned-before}
 use Rattle.search_logs.proofs.Chain.{begin_chain, pop_step, Top, top_of, members, resolve_step, is_next, is_fresh, first_cut, more_cut, last_cut, at_new, longer}
 use Rattle.search_logs.proofs.Free.{trail_short}
 use Rattle.search_logs.proofs.Forcing.{conflict_free}
@@ -80,7 +80,7 @@ chain_pops a budget before q e t ls i x n = (
     start = x.start;
     from = x.from;
     ex = pop_step x.start x.from q.clauses e t i x.ex n;
-    below = λ k h. x.below k (or_right (e.lit.atom == k) (named t k) h);
+    below = λ k h. x.below k (or_right (e.lit.atom == k) (is_assigned t k) h);
     search = x.search;
     since = x.since;
     grew = x.grew;
@@ -108,9 +108,9 @@ module _ (a : Aim) (budget before : ℕ) (q : PlainProblem) (e : Entry) (t : Lis
   the_clause r p = let k = the_reason r p in ap (λ k. get_or q.clauses k []) (sym k) ∙ x.ex.grows.same top.reason top.reason_there
 
   pub chain_steps : (r : ℕ) → e.reason ≡ Some r → distinct (get_or q.clauses r []) ≡ true → length ls < budget → length q.clauses + 1 < 2 ^ 32
-      → (y : InChain a budget before (with_clause q (resolved_on e.lit (get_or q.clauses r []) (get_or q.clauses i []))) t (ls ++ line_on e.lit r i ∷ []) (length q.clauses)) × (y.start ≡ x.start) × (y.from ≡ x.from)
+      → (y : InChain a budget before (with_clause q (resolved_on e.lit (get_or q.clauses r []) (get_or q.clauses i []))) t (ls ++ resolve_line e.lit r i ∷ []) (length q.clauses)) × (y.start ≡ x.start) × (y.from ≡ x.from)
   chain_steps r p d b few =
-      subst (λ (c : List Lit). (y : InChain a budget before (with_clause q (resolved_on e.lit c (get_or q.clauses i []))) t (ls ++ line_on e.lit r i ∷ []) (length q.clauses)) × (y.start ≡ x.start) × (y.from ≡ x.from)) (sym (the_clause r p)) stepped
+      subst (λ (c : List Lit). (y : InChain a budget before (with_clause q (resolved_on e.lit c (get_or q.clauses i []))) t (ls ++ resolve_line e.lit r i ∷ []) (length q.clauses)) × (y.start ≡ x.start) × (y.from ≡ x.from)) (sym (the_clause r p)) stepped
     where
       new : List Lit
       new = resolved_on e.lit (get_or x.start top.reason []) (get_or q.clauses i [])
@@ -118,10 +118,10 @@ module _ (a : Aim) (budget before : ℕ) (q : PlainProblem) (e : Entry) (t : Lis
       set : distinct (get_or x.start top.reason []) ≡ true
       set = subst (λ (c : List Lit). distinct c ≡ true) (the_clause r p) d
 
-      unsplit : is_split (line_on e.lit r i) ≡ false
+      unsplit : is_split (resolve_line e.lit r i) ≡ false
       unsplit = by_sign e.lit.positive
         where
-          by_sign : (s : Bool) → is_split (line_on (record { atom = e.lit.atom; positive = s }) r i) ≡ false
+          by_sign : (s : Bool) → is_split (resolve_line (record { atom = e.lit.atom; positive = s }) r i) ≡ false
           by_sign true = refl
           by_sign false = refl
 
@@ -129,7 +129,7 @@ module _ (a : Aim) (budget before : ℕ) (q : PlainProblem) (e : Entry) (t : Lis
       reason_has = subst (λ (c : List Lit). has c e.lit ≡ true) (sym (the_clause r p)) (and_parts (has (get_or x.start top.reason []) e.lit) _ top.unit).0
 
       atom_there : e.lit.atom < length q.atoms
-      atom_there = x.below e.lit.atom (or_left (e.lit.atom == e.lit.atom) (named t e.lit.atom) (same_nat-refl e.lit.atom))
+      atom_there = x.below e.lit.atom (or_left (e.lit.atom == e.lit.atom) (is_assigned t e.lit.atom) (same_nat-refl e.lit.atom))
 
       new_below : atoms_below (length q.atoms) new ≡ true
       new_below = has_all (λ l. nat_lt l.atom (length q.atoms)) new (λ l m. lt-ltb l.atom (length q.atoms) (one l m))
@@ -140,35 +140,35 @@ module _ (a : Aim) (budget before : ℕ) (q : PlainProblem) (e : Entry) (t : Lis
             | inr o ↦ clause-below q x.keeps.fits r l (reason_there r p) (subst (λ (c : List Lit). has c l ≡ true) (sym (the_clause r p)) o.0)
           ]
 
-      taken : next (standing (length a.problem.clauses) q) (line_on e.lit r i) ≡ Ok (standing (length a.problem.clauses) (with_clause q new))
+      taken : next (standing (length a.problem.clauses) q) (resolve_line e.lit r i) ≡ Ok (standing (length a.problem.clauses) (with_clause q new))
       taken =
-          subst (λ (c : List Lit). next (standing (length a.problem.clauses) q) (line_on e.lit r i) ≡ Ok (standing (length a.problem.clauses) (with_clause q (resolved_on e.lit c (get_or q.clauses i []))))) (the_clause r p)
+          subst (λ (c : List Lit). next (standing (length a.problem.clauses) q) (resolve_line e.lit r i) ≡ Ok (standing (length a.problem.clauses) (with_clause q (resolved_on e.lit c (get_or q.clauses i []))))) (the_clause r p)
           (resolve_taken (length a.problem.clauses) q e.lit r i (reason_there r p) x.ex.there atom_there reason_has h)
 
-      kept : Keeps a budget (with_clause q new) (ls ++ line_on e.lit r i ∷ [])
+      kept : Keeps a budget (with_clause q new) (ls ++ resolve_line e.lit r i ∷ [])
       kept =
-          keeps_clause a budget q ls (line_on e.lit r i) new x.keeps b unsplit
+          keeps_clause a budget q ls (resolve_line e.lit r i) new x.keeps b unsplit
           taken
           (is_fresh x.start x.from q.clauses e t i x.ex h n top set (length a.problem.clauses) x.keeps.fresh) new_below few
 
       undone : is_done x.from (get_or q.clauses i []) ≡ false
       undone = same_done x.from (e ∷ t) (get_or q.clauses i []) x.ex.same_has x.ex.same_before ∙ n
 
-      next_is : IsNext x.start x.from q.clauses (get_or q.clauses i []) (line_on e.lit r i) new
-      next_is = subst (λ (z : ℕ). IsNext x.start x.from q.clauses (get_or q.clauses i []) (line_on e.lit z i) new) (the_reason r p) (is_next x.start x.from q.clauses e t i x.ex h n top set)
+      next_is : IsNext x.start x.from q.clauses (get_or q.clauses i []) (resolve_line e.lit r i) new
+      next_is = subst (λ (z : ℕ). IsNext x.start x.from q.clauses (get_or q.clauses i []) (resolve_line e.lit z i) new) (the_reason r p) (is_next x.start x.from q.clauses e t i x.ex h n top set)
 
-      longer_log : length (ls ++ line_on e.lit r i ∷ []) ≡ length ls + 1
-      longer_log = length-append ls (line_on e.lit r i ∷ [])
+      longer_log : length (ls ++ resolve_line e.lit r i ∷ []) ≡ length ls + 1
+      longer_log = length-append ls (resolve_line e.lit r i ∷ [])
 
-      stepped : (y : InChain a budget before (with_clause q new) t (ls ++ line_on e.lit r i ∷ []) (length q.clauses)) × (y.start ≡ x.start) × (y.from ≡ x.from)
+      stepped : (y : InChain a budget before (with_clause q new) t (ls ++ resolve_line e.lit r i ∷ []) (length q.clauses)) × (y.start ≡ x.start) × (y.from ≡ x.from)
       stepped = (
         record {
           keeps = kept;
           start = x.start;
           from = x.from;
           ex = resolve_step x.start x.from q.clauses e t i x.ex h n top set;
-          below = λ k m. x.below k (or_right (e.lit.atom == k) (named t k) m);
-          search = subst (λ (c : List Lit). SearchLog a.problem (ls ++ line_on e.lit r i ∷ []) (with_clause q new) (within x.start x.from c)) (sym (at_new q.clauses new)) (step x.search (line_on e.lit r i) new undone next_is);
+          below = λ k m. x.below k (or_right (e.lit.atom == k) (is_assigned t k) m);
+          search = subst (λ (c : List Lit). SearchLog a.problem (ls ++ resolve_line e.lit r i ∷ []) (with_clause q new) (within x.start x.from c)) (sym (at_new q.clauses new)) (step x.search (resolve_line e.lit r i) new undone next_is);
           since = (let l = longer_log in let s = x.since in omega arith);
           grew = λ _. (let l = longer_log in let s = x.since in omega arith);
           early = λ f. (let y = x.early f in ((or_parts (is_decision e) (has_decision t) y.0).1, (let z = y.1 in let l = longer_log in omega arith)));
@@ -183,7 +183,7 @@ pub record InCut (a : Aim) (budget before : ℕ) (q : PlainProblem) (start : Lis
   pub keeps : Keeps a budget q ls
   pub cut : Cutting start q.clauses t i
   pub shorter : IsBefore t from
-  pub below : (x : ℕ) → named t x ≡ true → x < length q.atoms
+  pub below : (x : ℕ) → is_assigned t x ≡ true → x < length q.atoms
   pub search : SearchLog a.problem ls q between
   pub grew : before < length ls
   pub hard : AreRefuted a.problem.clauses → ⊥
@@ -196,7 +196,7 @@ cut_begins a budget before q t ls i x d h =
       keeps = x.keeps;
       cut = first_cut x.start x.from q.clauses t i x.ex h;
       shorter = last-before (before_last t) t h (inl refl);
-      below = λ k m. x.below k (named-before t k m);
+      below = λ k m. x.below k (is_assigned-before t k m);
       search = finish x.search e;
       grew = x.grew e;
       hard = λ r. absurd (let y = (x.early r).0 in cc);
@@ -208,7 +208,7 @@ cut_more a budget before q start from t ls i x h = record {
   keeps = x.keeps;
   cut = more_cut start q.clauses t i x.cut h;
   shorter = before-trans (before_last t) t from (last-before (before_last t) t h (inl refl)) x.shorter;
-  below = λ k m. x.below k (named-before t k m);
+  below = λ k m. x.below k (is_assigned-before t k m);
   search = x.search;
   grew = x.grew;
   hard = x.hard;

@@ -5,18 +5,18 @@ use Rattle.proof_lines.specs.Clauses.{has, same_lit, flip}
 use Rattle.std.proofs.lemmas.Bool.{and_parts, or_left, or_right, false_from_ne_true, not-true}
 use Rattle.proof_lines.proofs.Sets.{same_lit-is, same_lit-refl}
 use Rattle.search_logs.specs.declared.trail.Entry.{Entry}
-use Rattle.search_logs.specs.Trails.{negated, named, is_false, lone, is_unit}
-use Rattle.search_logs.proofs.Trails.{any_has, all_has, in_named}
+use Rattle.search_logs.specs.Trails.{negated, is_assigned, is_false, others_false, is_unit}
+use Rattle.search_logs.proofs.Trails.{any_has, all_has, in_assigned}
 
 -- Which literal may make a clause unit.
 
 -- a literal that makes a clause unit isn't negated
 unit-open : (t : List Entry) (c : List Lit) (l : Lit) → is_unit t c l ≡ true → negated t l ≡ true → ⊥
 unit-open t c l u n = absurd (
-    let p = and_parts (has c l) (lone t c l && not (named t l.atom)) u in
-    let q = and_parts (lone t c l) (not (named t l.atom)) p.1 in
-    let m = in_named t (flip l) n in
-    let k = not-true (named t l.atom) q.1 in cc)
+    let p = and_parts (has c l) (others_false t c l && not (is_assigned t l.atom)) u in
+    let q = and_parts (others_false t c l) (not (is_assigned t l.atom)) p.1 in
+    let m = in_assigned t (flip l) n in
+    let k = not-true (is_assigned t l.atom) q.1 in cc)
 
 none_open : (t : List Entry) (c : List Lit) → is_false t c ≡ true → list_any (is_unit t c) c ≡ false
 none_open t c f = false_from_ne_true (list_any (is_unit t c) c) (λ h. (let r = any_has (is_unit t c) c h in unit-open t c r.0 r.2 (all_has (negated t) c r.0 f r.1)))
@@ -30,8 +30,8 @@ first_open t c l h n u = false_from_ne_true (list_any (is_unit t c) c) (λ k. (l
     by_case : (x : Lit) → is_unit t c x ≡ true → (b : Bool) → same_lit l x ≡ b → ⊥
     by_case x v true e = absurd (let w : is_unit t c l ≡ true = subst (λ (z : Lit). is_unit t c z ≡ true) (sym (same_lit-is l x e)) v in cc)
     by_case x v false e = absurd (
-        let p = and_parts (has c x) (lone t c x && not (named t x.atom)) v in
-        let q = and_parts (lone t c x) (not (named t x.atom)) p.1 in
+        let p = and_parts (has c x) (others_false t c x && not (is_assigned t x.atom)) v in
+        let q = and_parts (others_false t c x) (not (is_assigned t x.atom)) p.1 in
         let s = all_has (λ y. same_lit y x || negated t y) c l q.0 h in
         let m = or_last (same_lit l x) (negated t l) s e in cc)
 

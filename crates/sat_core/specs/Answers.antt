@@ -59,7 +59,7 @@ pub record IsModelOf (p : PlainProblem) (i : Interpretation) : Type 0 where
   pub unrefuted : AreRefuted p.clauses → ⊥
 
 -- LINES: a fresh search log of exactly `budget` lines
-pub record IsSpent (split : Bool) (p : PlainProblem) (budget : ℕ) (log : List Line) : Type 0 where
+pub record IsExhausted (split : Bool) (p : PlainProblem) (budget : ℕ) (log : List Line) : Type 0 where
   pub judged : lines_judged p log budget ≡ Ok tt
   pub whole : length log ≡ budget
   pub makes : PlainProblem
@@ -106,7 +106,7 @@ ShowsNone p Memory = Unit {0}
 abbrev pub IsAnswer : Bool → Bool → PlainProblem → ℕ → Answer → Type 0
 IsAnswer split stop p budget (Unsat log) = IsRefuted split p budget log
 IsAnswer split stop p budget (Sat i) = IsModelOf p i
-IsAnswer split stop p budget (Lines log) = IsSpent split p budget log
+IsAnswer split stop p budget (Lines log) = IsExhausted split p budget log
 IsAnswer split stop p budget (Rows e) = (stop ≡ true) × IsTooLong split p budget e
 IsAnswer split stop p budget (Range e) = (stop ≡ true) × IsTooLarge split p budget e
 IsAnswer split stop p budget Memory = Unit {0}

@@ -1,53 +1,65 @@
 -- What a step of the search comes to.
-use Rattle.std.specs.Prelude.{◌≡◌, ◌⊎◌, ℕ, ◌<◌, Bool, true, List, ◌∷◌, Option}
+use Rattle.std.specs.Prelude.{◌≡◌, ◌⊎◌, ℕ, ◌<◌, ◌≤◌, ◌^◌, Bool, true, List, [], ◌∷◌, ◌++◌, length, Option}
+use Rattle.lin_rows.specs.Rows.{Row}
 use Rattle.proof_lines.specs.declared.clause.Lit.{Lit}
 use Rattle.proof_lines.specs.declared.line.Line.{Line}
 use Rattle.proof_lines.specs.Problems.{PlainProblem}
 use Rattle.search_logs.specs.declared.trail.Entry.{Entry}
-use Rattle.sat_core.specs.declared.asking.Outcome.{Outcome}
-use Rattle.sat_core.specs.declared.asking.Outcome.TheVariants.{Goes, Refuted, Found, Spent, Rows, Range, Memory}
-use Rattle.sat_core.specs.declared.explaining.Explained.{Explained}
-use Rattle.sat_core.specs.declared.explaining.Explained.TheVariants.{Empty, Cut, Spent as SpentThere, Memory as NoMemory}
-use Rattle.sat_core.specs.Answers.{IsRefuted, IsModelOf, IsSpent, IsTooLong, IsTooLarge}
+use Rattle.search_logs.specs.SearchLogs.{with_row}
+use Rattle.sat_core.specs.declared.checking.Outcome.{Outcome}
+use Rattle.sat_core.specs.declared.checking.Outcome.TheVariants.{Continue, Refuted, Found, BudgetExhausted, Rows, Range, Memory}
+use Rattle.sat_core.specs.declared.analyzing.Analyzed.{Analyzed}
+use Rattle.sat_core.specs.declared.analyzing.Analyzed.TheVariants.{Empty, Cut, BudgetExhausted as ExhaustedThere, Memory as NoMemory}
+use Rattle.sat_core.specs.Answers.{IsRefuted, IsModelOf, IsExhausted, IsTooLong, IsTooLarge}
 use Rattle.sat_core.specs.Searching.{InSearch, IsBackjump, work}
 
--- what a step of a search comes to: it goes on, with less left to do, or it ends with an answer
+-- what a step of a search comes to: it continues, with less left to do, or it ends with an answer
 abbrev pub IsOutcome : Outcome → Bool → Bool → PlainProblem → ℕ → PlainProblem → List Entry → List Line → PlainProblem → List Entry → List Line → Type 0
-IsOutcome Goes split stop p budget q t ls r u ms =
+IsOutcome Continue split stop p budget q t ls r u ms =
     InSearch (record { problem = p; split = split }) budget r u ms × (work (record { problem = p; split = split }) budget r u ms < work (record { problem = p; split = split }) budget q t ls)
 IsOutcome Refuted split stop p budget q t ls r u ms = IsRefuted split p budget ms
 IsOutcome (Found i) split stop p budget q t ls r u ms = IsModelOf p i
-IsOutcome Spent split stop p budget q t ls r u ms = IsSpent split p budget ms
+IsOutcome BudgetExhausted split stop p budget q t ls r u ms = IsExhausted split p budget ms
 IsOutcome (Rows used steps) split stop p budget q t ls r u ms = (stop ≡ true) × IsTooLong split p budget (record { log = ms; used = used; steps = steps })
 IsOutcome (Range used steps what) split stop p budget q t ls r u ms = (stop ≡ true) × IsTooLarge split p budget (record { log = ms; used = used; steps = steps; what = what })
 IsOutcome Memory split stop p budget q t ls r u ms = Unit {0}
 
 -- a literal was pushed
 abbrev pub IsPushed : Outcome → List Entry → Lit → Option ℕ → List Entry → Type 0
-IsPushed Goes t l reason u = u ≡ record { lit = l; reason = reason } ∷ t
+IsPushed Continue t l reason u = u ≡ record { lit = l; reason = reason } ∷ t
 IsPushed Memory t l reason u = Unit {0}
 IsPushed Refuted t l reason u = ⊥
 IsPushed (Found i) t l reason u = ⊥
-IsPushed Spent t l reason u = ⊥
+IsPushed BudgetExhausted t l reason u = ⊥
 IsPushed (Rows used steps) t l reason u = ⊥
 IsPushed (Range used steps what) t l reason u = ⊥
 
--- what a step comes to that explains a conflict
-abbrev pub outcome_of : Explained → Outcome
+-- a Split line was written and its atom added, or the log has as many lines as it may
+abbrev pub IsSplitOff : Outcome → ℕ → PlainProblem → List Line → Row → Line → PlainProblem → List Line → Type 0
+IsSplitOff Continue budget q ls row line r ms = (length ls < budget) × (r ≡ with_row q row) × (ms ≡ ls ++ line ∷ []) × (length r.atoms < 2 ^ 32)
+IsSplitOff Refuted budget q ls row line r ms = ⊥
+IsSplitOff (Found i) budget q ls row line r ms = ⊥
+IsSplitOff BudgetExhausted budget q ls row line r ms = (budget ≤ length ls) × (r ≡ q) × (ms ≡ ls)
+IsSplitOff (Rows used steps) budget q ls row line r ms = ⊥
+IsSplitOff (Range used steps what) budget q ls row line r ms = ⊥
+IsSplitOff Memory budget q ls row line r ms = ⊥
+
+-- what a step comes to that analyzes a conflict
+abbrev pub outcome_of : Analyzed → Outcome
 outcome_of Empty = Refuted
-outcome_of Cut = Goes
-outcome_of SpentThere = Spent
+outcome_of Cut = Continue
+outcome_of ExhaustedThere = BudgetExhausted
 outcome_of NoMemory = Memory
 
--- where the search goes on, something holds
-abbrev pub IfGoes : Outcome → Type 0 → Type 0
-IfGoes Goes P = P
-IfGoes Refuted P = Unit {0}
-IfGoes (Found i) P = Unit {0}
-IfGoes Spent P = Unit {0}
-IfGoes (Rows used steps) P = Unit {0}
-IfGoes (Range used steps what) P = Unit {0}
-IfGoes Memory P = Unit {0}
+-- where the search continues, something holds
+abbrev pub IfContinue : Outcome → Type 0 → Type 0
+IfContinue Continue P = P
+IfContinue Refuted P = Unit {0}
+IfContinue (Found i) P = Unit {0}
+IfContinue BudgetExhausted P = Unit {0}
+IfContinue (Rows used steps) P = Unit {0}
+IfContinue (Range used steps what) P = Unit {0}
+IfContinue Memory P = Unit {0}
 
 -- the trail and the clauses are as they were, or there was a backjump
 abbrev pub IsStay : List (List Lit) → List Entry → List (List Lit) → List Entry → Type 0

@@ -14,18 +14,18 @@ use Rattle.proof_lines.specs.Steps.{is_negative}
 use Rattle.proof_lines.specs.Problems.{PlainProblem, fits}
 use Rattle.proof_kernel.specs.Rules.{run, next}
 use Rattle.search_logs.specs.declared.trail.Entry.{Entry}
-use Rattle.search_logs.specs.Trails.{in_trail, has_decision, is_decision, before_last, open_in, named, is_false, is_unit, is_done, Settled, NoneFalse, IsTrail, IsCalm, free}
+use Rattle.search_logs.specs.Trails.{in_trail, has_decision, is_decision, before_last, open_in, is_assigned, is_false, is_unit, is_done, Settled, NoneFalse, IsTrail, IsCalm, free}
 use Rattle.search_logs.specs.Fresh.{IsFresh}
-use Rattle.search_logs.specs.Chains.{Grows, Explaining, Begins}
+use Rattle.search_logs.specs.Chains.{Grows, Analyzing, Begins}
 use Rattle.search_logs.specs.SearchLogs.{between, within, SearchLog, standing, splits, with_clause}
 use Rattle.search_logs.specs.Forcing.{AreRefuted, AreSatisfied, are_plain}
 use Rattle.sat_core.specs.declared.finding.Found.{Found}
 use Rattle.sat_core.specs.declared.finding.Found.TheVariants.{Conflict, Forced as OfForced, Nothing}
-use Rattle.sat_core.specs.declared.explaining.Chained.{Chained}
-use Rattle.sat_core.specs.declared.explaining.Chained.TheVariants.{Done, Spent, Memory}
-use Rattle.sat_core.specs.declared.explaining.Explained.{Explained}
-use Rattle.sat_core.specs.declared.explaining.Explained.TheVariants.{Empty, Cut, Spent as SpentThere, Memory as NoMemory}
-use Rattle.sat_core.specs.Answers.{AreRowsOf, IsEasy, IsRefuted, IsSpent}
+use Rattle.sat_core.specs.declared.analyzing.Chained.{Chained}
+use Rattle.sat_core.specs.declared.analyzing.Chained.TheVariants.{Done, BudgetExhausted, Memory}
+use Rattle.sat_core.specs.declared.analyzing.Analyzed.{Analyzed}
+use Rattle.sat_core.specs.declared.analyzing.Analyzed.TheVariants.{Empty, Cut, BudgetExhausted as ExhaustedThere, Memory as NoMemory}
+use Rattle.sat_core.specs.Answers.{AreRowsOf, IsEasy, IsRefuted, IsExhausted}
 
 -- WHERE A SEARCH STANDS. These words are the search's own: its private functions hand them on.
 
@@ -62,7 +62,7 @@ pub record InSearch (a : Aim) (budget : ℕ) (q : PlainProblem) (t : List Entry)
   pub keeps : Keeps a budget q ls
   pub trail : IsTrail q.clauses t
   pub calm : IsCalm q.clauses t
-  pub below : (x : ℕ) → named t x ≡ true → x < length q.atoms
+  pub below : (x : ℕ) → is_assigned t x ≡ true → x < length q.atoms
   pub search : SearchLog a.problem ls q between
   pub early : AreRefuted a.problem.clauses → (has_decision t ≡ false) × (ls ≡ []) × (q.clauses ≡ a.problem.clauses)
   pub easy : IsEasy a.problem → (ls ≡ []) × (q.clauses ≡ a.problem.clauses) × (has_decision t ≡ false → (l : Lit) → in_trail t l ≡ true → Forced a.problem.clauses l)
@@ -72,8 +72,8 @@ pub record InChain (a : Aim) (budget before : ℕ) (q : PlainProblem) (t : List 
   pub keeps : Keeps a budget q ls
   pub start : List (List Lit)
   pub from : List Entry
-  pub ex : Explaining start from q.clauses t i
-  pub below : (x : ℕ) → named t x ≡ true → x < length q.atoms
+  pub ex : Analyzing start from q.clauses t i
+  pub below : (x : ℕ) → is_assigned t x ≡ true → x < length q.atoms
   pub search : SearchLog a.problem ls q (within start from (slice_index_or q.clauses i []))
   pub since : before ≤ length ls
   pub grew : is_done from (slice_index_or q.clauses i []) ≡ true → before < length ls
@@ -106,23 +106,23 @@ GoesOn budget q t ls i r u ms j = (a : Aim) (before : ℕ) (x : InChain a budget
 -- how the resolving of a chain ended
 abbrev pub IsChained : Chained → ℕ → PlainProblem → List Entry → List Line → ℕ → PlainProblem → List Entry → List Line → Type 0
 IsChained (Done j) budget q t ls i r u ms = GoesOn budget q t ls i r u ms j × (is_done u (slice_index_or r.clauses j []) ≡ true)
-IsChained (Spent j) budget q t ls i r u ms = GoesOn budget q t ls i r u ms j × (is_done u (slice_index_or r.clauses j []) ≡ false) × (budget ≤ length ms)
+IsChained (BudgetExhausted j) budget q t ls i r u ms = GoesOn budget q t ls i r u ms j × (is_done u (slice_index_or r.clauses j []) ≡ false) × (budget ≤ length ms)
 IsChained Memory budget q t ls i r u ms = Unit {0}
 
 -- the trail is cut back after a chain, whatever search it belongs to
-abbrev pub IsCutBack : PlainProblem → List Entry → ℕ → List Entry → Type 0
-IsCutBack q t i u = (a : Aim) (budget before : ℕ) (ls : List Line) (x : InChain a budget before q t ls i) → is_done t (slice_index_or q.clauses i []) ≡ true → has_decision t ≡ true → InSearch a budget q u ls × (before < length ls) × IsBackjump x.start t q.clauses u
+abbrev pub IsBackjumpAfter : PlainProblem → List Entry → ℕ → List Entry → Type 0
+IsBackjumpAfter q t i u = (a : Aim) (budget before : ℕ) (ls : List Line) (x : InChain a budget before q t ls i) → is_done t (slice_index_or q.clauses i []) ≡ true → has_decision t ≡ true → InSearch a budget q u ls × (before < length ls) × IsBackjump x.start t q.clauses u
 
 -- the trail is cut back to where the chain of a false clause may begin
 abbrev pub IsLevel : List Entry → List Entry → List Lit → Type 0
-IsLevel t u c = (cs : List (List Lit)) → IsTrail cs t → Settled t cs → is_false t c ≡ true → Begins cs u c × ((x : ℕ) → named u x ≡ true → named t x ≡ true) × ((u ≡ t) ⊎ IsBefore u t)
+IsLevel t u c = (cs : List (List Lit)) → IsTrail cs t → Settled t cs → is_false t c ≡ true → Begins cs u c × ((x : ℕ) → is_assigned u x ≡ true → is_assigned t x ≡ true) × ((u ≡ t) ⊎ IsBefore u t)
 
 -- how a chain ended, whatever search it belongs to
-abbrev pub IsExplained : Explained → ℕ → PlainProblem → List Entry → List Line → ℕ → PlainProblem → List Entry → List Line → Type 0
-IsExplained Empty budget q t ls i r u ms = (a : Aim) (before : ℕ) → InChain a budget before q t ls i → IsRefuted a.split a.problem budget ms
-IsExplained Cut budget q t ls i r u ms = (a : Aim) (before : ℕ) (x : InChain a budget before q t ls i) → InSearch a budget r u ms × (before < length ms) × IsBackjump x.start t r.clauses u
-IsExplained SpentThere budget q t ls i r u ms = (a : Aim) (before : ℕ) → InChain a budget before q t ls i → IsSpent a.split a.problem budget ms
-IsExplained NoMemory budget q t ls i r u ms = Unit {0}
+abbrev pub IsAnalyzed : Analyzed → ℕ → PlainProblem → List Entry → List Line → ℕ → PlainProblem → List Entry → List Line → Type 0
+IsAnalyzed Empty budget q t ls i r u ms = (a : Aim) (before : ℕ) → InChain a budget before q t ls i → IsRefuted a.split a.problem budget ms
+IsAnalyzed Cut budget q t ls i r u ms = (a : Aim) (before : ℕ) (x : InChain a budget before q t ls i) → InSearch a budget r u ms × (before < length ms) × IsBackjump x.start t r.clauses u
+IsAnalyzed ExhaustedThere budget q t ls i r u ms = (a : Aim) (before : ℕ) → InChain a budget before q t ls i → IsExhausted a.split a.problem budget ms
+IsAnalyzed NoMemory budget q t ls i r u ms = Unit {0}
 
 -- what is left to do: lines, and then atoms. There are never more atoms than the problem's and one for each line
 abbrev pub work : Aim → ℕ → PlainProblem → List Entry → List Line → ℕ
@@ -133,7 +133,7 @@ abbrev pub lit_at : List Lit → ℕ → Lit
 lit_at lits u = slice_index_or lits u (record { atom = 0; positive = true })
 
 -- the literals of a trail over the first atoms that stand for rows, and their rows
-pub record IsDrawn (atoms : List AtomKind) (t : List Entry) (first : ℕ) (lits : List Lit) (rows : List Row) : Type 0 where
+pub record IsRowAssignment (atoms : List AtomKind) (t : List Entry) (first : ℕ) (lits : List Lit) (rows : List Row) : Type 0 where
   pub stand : AreRowsOf atoms lits rows
   pub in_it : list_all (in_trail t) lits ≡ true
   pub covers : (x : ℕ) (r : Row) → x < first → slice_get atoms x ≡ Some (OfRow r) → list_any (λ l. l.atom == x) lits ≡ true
@@ -148,10 +148,10 @@ pub record IsRefutation (budget : ℕ) (q : PlainProblem) (t : List Entry) (ls :
   pub uneasy : (a : Aim) → InSearch a budget q t ls → IsEasy a.problem → ⊥
 
 -- how the learning from rows in conflict ended, whatever search it belongs to
-abbrev pub IsLearned : Explained → ℕ → PlainProblem → List Entry → List Line → PlainProblem → List Entry → List Line → Type 0
+abbrev pub IsLearned : Analyzed → ℕ → PlainProblem → List Entry → List Line → PlainProblem → List Entry → List Line → Type 0
 IsLearned Empty budget q t ls r u ms = (a : Aim) → InSearch a budget q t ls → IsRefuted a.split a.problem budget ms
 IsLearned Cut budget q t ls r u ms = (a : Aim) → InSearch a budget q t ls → InSearch a budget r u ms × (length ls < length ms) × IsBackjump q.clauses t r.clauses u
-IsLearned SpentThere budget q t ls r u ms = (a : Aim) → InSearch a budget q t ls → IsSpent a.split a.problem budget ms
+IsLearned ExhaustedThere budget q t ls r u ms = (a : Aim) → InSearch a budget q t ls → IsExhausted a.split a.problem budget ms
 IsLearned NoMemory budget q t ls r u ms = Unit {0}
 
 -- THE SIGN OF A DECISION: an atom's row is decided by its truth where all numbers are 0, and a plain atom to true.

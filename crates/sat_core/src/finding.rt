@@ -1,7 +1,7 @@
 // What the clauses say under a trail.
 ghost use Rattle.std.specs.Prelude.{◌≡◌, ◌<◌, ◌^◌, ℕ, true, false, length, MatchOption};
 ghost use Rattle.std.specs.List.{list_any};
-ghost use Rattle.search_logs.specs.Trails.{named, is_unit};
+ghost use Rattle.search_logs.specs.Trails.{is_assigned, is_unit};
 ghost use Rattle.sat_core.specs.Searching.{IsFound};
 
 use crate::growing::{clause_count, lits_of};
@@ -20,7 +20,7 @@ pub enum Found {
 }
 
 // The literal that makes a clause unit, if it is. Only the first one that isn't negated may do so.
-fn unit_in(trail: &Trail, lits: &[Lit]) -> Option<Lit>
+fn unit_literal(trail: &Trail, lits: &[Lit]) -> Option<Lit>
     ensures { MatchOption result (list_any (is_unit trail.now lits.now) lits.now ≡ false) (λ l. is_unit trail.now lits.now l ≡ true) }
 {
     for lit in lits {
@@ -46,19 +46,19 @@ pub fn find(problem: &Problem, trail: &Trail) -> Found
         }
     }
     for i in 0..clause_count(problem) {
-        if let Some(lit) = unit_in(trail, lits_of(problem, i)) {
+        if let Some(lit) = unit_literal(trail, lits_of(problem, i)) {
             return Found::Forced(i, lit);
         }
     }
     Found::Nothing
 }
 
-/// An atom below a number that the trail doesn't name.
-pub fn unnamed(trail: &Trail, atoms: u32) -> Option<u32>
-    ensures { MatchOption result ((a : ℕ) → a < atoms → named trail.now a ≡ true) (λ a. (a < atoms) × (named trail.now a ≡ false)) }
+/// An atom below a number that the trail doesn't assign.
+pub fn unassigned(trail: &Trail, atoms: u32) -> Option<u32>
+    ensures { MatchOption result ((a : ℕ) → a < atoms → is_assigned trail.now a ≡ true) (λ a. (a < atoms) × (is_assigned trail.now a ≡ false)) }
 {
     for atom in 0..atoms {
-        if !trail.names(atom) {
+        if !trail.is_assigned(atom) {
             return Some(atom);
         }
     }

@@ -2,11 +2,11 @@
 // that shows that there is none, or it says why it gave up, with evidence.
 //
 // The search keeps a trail of literals that it takes to be true and goes round in single steps. A false clause is a conflict,
-// and it is explained at once. Else a unit clause forces its remaining literal. Else an atom without a value is decided. Where all
-// atoms have values, the solver is asked about the rows of the trail's literals. If numbers satisfy them, they and the trail are
+// and it is analyzed at once. Else a unit clause forces its remaining literal. Else an atom without a value is decided. Where all
+// atoms have values, the solver is asked about the rows of the trail's literals (the final check). If numbers satisfy them, they and the trail are
 // the interpretation. If they contradict each other, a Farkas line gives the clause of the opposites of their literals, which is
 // false under the trail, and so a conflict. If they leave a gap for a name, a Split line gives a new atom, which is decided next.
-// Its row is no atom's so far: every atom with a row is named by the trail, so its row or the opposite was among those that the
+// Its row is no atom's so far: every atom with a row is assigned by the trail, so its row or the opposite was among those that the
 // solver was given, and a solver proposes neither.
 //
 // Why the log is fresh. Whenever a chain begins, no clause is unit or false under the trail before a decision, since propagation is
@@ -46,13 +46,13 @@ macro_rules! or_drop {
     };
 }
 
+pub mod analyzing;
 pub mod answer;
-pub mod asking;
-pub mod drawing;
-pub mod explaining;
+pub mod checking;
 pub mod finding;
 pub mod growing;
 pub mod plain;
+pub mod row_assignments;
 
 pub use answer::Answer;
 pub use plain::solve_plain;

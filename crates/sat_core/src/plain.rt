@@ -8,10 +8,10 @@ ghost use Rattle.sat_core.specs.Answers.{AreRowsOf, IsAnswer, ShowsNone};
 ghost use Rattle.sat_core.specs.Searching.{InSearch};
 ghost use Rattle.sat_core.specs.Outcomes.{IsOutcome, IsPushed};
 
+use crate::analyzing::analyze;
 use crate::answer::Answer;
-use crate::asking::{Outcome, ask};
-use crate::explaining::explain;
-use crate::finding::{Found, find, unnamed};
+use crate::checking::{Outcome, final_check};
+use crate::finding::{Found, find, unassigned};
 use crate::growing::{atom_count, sign_of};
 use items::Items;
 use proof_lines::problem::law_rows;
@@ -24,12 +24,12 @@ fn push(trail: &mut Trail, lit: Lit, reason: Option<u32>) -> Outcome
     ensures { IsPushed result trail.old lit reason trail.new }
 {
     match trail.push(Entry { lit, reason }) {
-        Ok(()) => Outcome::Goes,
+        Ok(()) => Outcome::Continue,
         Err(_) => Outcome::Memory,
     }
 }
 
-// One step: a conflict is explained at once; then what is forced is taken to be true; then an atom is decided, a row by its truth
+// One step: a conflict is analyzed at once; then what is forced is taken to be true; then an atom is decided, a row by its truth
 // where all numbers are 0; and where all atoms have values, the solver of rows is asked.
 fn advance<T: Theory>(
     alloc: Global,
@@ -45,9 +45,9 @@ fn advance<T: Theory>(
     ensures { IsOutcome result T.MAY_SPLIT T.MAY_STOP problem.now budget grown.old trail.old log.old grown.new trail.new log.new }
 {
     match find(grown, trail) {
-        Found::Conflict(start) => explain(alloc, grown, trail, log, start, budget).outcome(),
+        Found::Conflict(start) => analyze(alloc, grown, trail, log, start, budget).outcome(),
         Found::Forced(reason, lit) => push(trail, lit, Some(reason)),
-        Found::Nothing => match unnamed(trail, atom_count(grown)) {
+        Found::Nothing => match unassigned(trail, atom_count(grown)) {
             Some(atom) => push(
                 trail,
                 Lit {
@@ -56,7 +56,7 @@ fn advance<T: Theory>(
                 },
                 None,
             ),
-            None => match ask(alloc, theory, problem, grown, trail, log, budget) {
+            None => match final_check(alloc, theory, problem, grown, trail, log, budget) {
                 Ok(outcome) => outcome,
                 Err(_) => Outcome::Memory,
             },
@@ -87,10 +87,10 @@ fn search_on<T: Theory>(
     let mut log = log;
     'search: loop {
         match advance(alloc, theory, problem, grown, trail, &mut log, budget) {
-            Outcome::Goes => {}
+            Outcome::Continue => {}
             Outcome::Refuted => return Answer::Unsat(log),
             Outcome::Found(interpretation) => return Answer::Sat(interpretation),
-            Outcome::Spent => return Answer::Lines(log),
+            Outcome::BudgetExhausted => return Answer::Lines(log),
             Outcome::Rows { used, steps } => {
                 return Answer::Rows(RowsEvidence { log, used, steps });
             }

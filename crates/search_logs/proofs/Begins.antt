@@ -6,7 +6,7 @@ use Rattle.search_logs.specs.declared.trail.Entry.{Entry}
 use Rattle.search_logs.specs.Trails.{is_false, Settled, NoneFalse, open_in, before_last, has_decision, IsTrail, older}
 use Rattle.search_logs.proofs.Trails.{zero-open, within-false, false-one_way, settled-before, trail-before}
 use Rattle.search_logs.proofs.Chain.{at_old, at_new, longer, old_or_new, grows-refl, grows-push, false-older_than}
-use Rattle.search_logs.specs.Chains.{Explaining, Begins}
+use Rattle.search_logs.specs.Chains.{Analyzing, Begins}
 
 -- cutting levels while the clause stays false ends there; n bounds the levels
 pub level_of : (n : ℕ) (cs : List (List Lit)) (t : List Entry) (c : List Lit) → length t ≤ n → ((s : List Entry) → has_decision s ≡ true → length (before_last s) < length s) → IsTrail cs t → Settled t cs → is_false t c ≡ true → (s : List Entry) × Begins cs s c
@@ -26,7 +26,7 @@ none_false : (cs : List (List Lit)) (t : List Entry) → Settled t cs → NoneFa
 none_false cs t s = λ k l. not-true (is_false t (get_or cs k [])) (and_parts (not (is_false t (get_or cs k []))) _ (s k l)).0
 
 -- the chain begins with that clause as with any conflict
-pub begin_theory : (cs : List (List Lit)) (t : List Entry) (c : List Lit) → Begins cs t c → distinct c ≡ true → Explaining cs t (cs ++ c ∷ []) t (length cs)
+pub begin_theory : (cs : List (List Lit)) (t : List Entry) (c : List Lit) → Begins cs t c → distinct c ≡ true → Analyzing cs t (cs ++ c ∷ []) t (length cs)
 begin_theory cs t c b d =
     let len = longer cs c in
     record {

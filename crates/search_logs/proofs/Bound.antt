@@ -3,7 +3,7 @@ use Rattle.proof_lines.specs.declared.clause.Lit.{Lit}
 use Rattle.proof_lines.specs.Clauses.{has, sub, flip, lit_of}
 use Rattle.std.proofs.lemmas.Bool.{or_cases, eqb-true}
 use Rattle.search_logs.specs.declared.trail.Entry.{Entry}
-use Rattle.search_logs.specs.Trails.{named, free}
+use Rattle.search_logs.specs.Trails.{is_assigned, free}
 use Rattle.search_logs.specs.Fresh.{IsFresh}
 use Rattle.search_logs.proofs.Trails.{has_all}
 use Rattle.search_logs.proofs.Free.{free-top, free-falls}
@@ -73,20 +73,20 @@ module _ (n first : ℕ) (cs : List (List Lit)) (f : IsFresh first cs) (below : 
   numbers zero = []
   numbers (suc k) = record { lit = lit_of (number n (get_or cs (first + k) [])) true; reason = None } ∷ numbers k
 
-  was_named : (k a : ℕ) → named (numbers k) a ≡ true → (j : ℕ) × (j < k) × (number n (get_or cs (first + j) []) ≡ a)
-  was_named zero a h = absurd cc
-  was_named (suc k) a h = elim (or_cases (number n (get_or cs (first + k) []) == a) (named (numbers k) a) h) [
+  was_assigned : (k a : ℕ) → is_assigned (numbers k) a ≡ true → (j : ℕ) × (j < k) × (number n (get_or cs (first + j) []) ≡ a)
+  was_assigned zero a h = absurd cc
+  was_assigned (suc k) a h = elim (or_cases (number n (get_or cs (first + k) []) == a) (is_assigned (numbers k) a) h) [
     | inl q ↦ (k, omega arith, eqb-true (number n (get_or cs (first + k) [])) a q)
-    | inr q ↦ (let r = was_named k a q in (r.0, let s = r.1 in omega arith, r.2))
+    | inr q ↦ (let r = was_assigned k a q in (r.0, let s = r.1 in omega arith, r.2))
   ]
 
-  is_new : (k : ℕ) → first + k < length cs → named (numbers k) (number n (get_or cs (first + k) [])) ≡ false
-  is_new k l = by_case (named (numbers k) (number n (get_or cs (first + k) []))) refl
+  is_new : (k : ℕ) → first + k < length cs → is_assigned (numbers k) (number n (get_or cs (first + k) [])) ≡ false
+  is_new k l = by_case (is_assigned (numbers k) (number n (get_or cs (first + k) []))) refl
     where
-      by_case : (b : Bool) → named (numbers k) (number n (get_or cs (first + k) [])) ≡ b → b ≡ false
+      by_case : (b : Bool) → is_assigned (numbers k) (number n (get_or cs (first + k) [])) ≡ b → b ≡ false
       by_case false h = refl
       by_case true h = absurd (
-          let r = was_named k (number n (get_or cs (first + k) [])) h in
+          let r = was_assigned k (number n (get_or cs (first + k) [])) h in
           let lt = r.1 in
           let a : first + r.0 < length cs = omega arith in
           let s = same_number n (get_or cs (first + r.0) []) (get_or cs (first + k) []) (λ q. below (first + r.0) q a) (f.one_way (first + r.0) (omega arith) a) r.2 in

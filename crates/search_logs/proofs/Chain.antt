@@ -6,10 +6,10 @@ use Rattle.proof_lines.specs.Clauses.{has, sub, distinct, same_lit, flip, lit_of
 use Rattle.std.proofs.lemmas.Bool.{and_parts, cases_eq, cases_lt, not-true, not_from_false, not_from_true}
 use Rattle.proof_lines.proofs.Sets.{has-resolvent, resolvent-left, resolvent-right, distinct-resolvent}
 use Rattle.search_logs.specs.declared.trail.Entry.{Entry}
-use Rattle.search_logs.specs.Trails.{named, is_false, lone, is_unit, quiet, NoneFalse, open_in, after, before_last, is_decision, has_decision, IsStep, IsTrail, older, IsCalm, is_done, from_last}
-use Rattle.search_logs.specs.SearchLogs.{line_on, resolved_on, IsNext}
+use Rattle.search_logs.specs.Trails.{is_assigned, is_false, others_false, is_unit, quiet, NoneFalse, open_in, after, before_last, is_decision, has_decision, IsStep, IsTrail, older, IsCalm, is_done, from_last}
+use Rattle.search_logs.specs.SearchLogs.{resolve_line, resolved_on, IsNext}
 use Rattle.search_logs.specs.Fresh.{IsFresh}
-use Rattle.search_logs.specs.Chains.{Grows, Added, Explaining, Cutting}
+use Rattle.search_logs.specs.Chains.{Grows, Added, Analyzing, Cutting}
 use Rattle.search_logs.proofs.Trails.{false-more, false-older, held-open, open_zero, zero-open, open-quiet, open-before, starts-open, settled-before, trail-before, top-reason, resolved-false, resolved-open, within-false, false-one_way}
 
 -- one clause more
@@ -104,7 +104,7 @@ false-before t c h = zero-open t c (let z = open_zero (before_last t) c h in let
 pub none-before : (t : List Entry) (cs : List (List Lit)) → NoneFalse t cs → NoneFalse (before_last t) cs
 none-before t cs h = λ k l. turn_false (is_false (before_last t) (get_or cs k [])) (is_false t (get_or cs k [])) (false-before t (get_or cs k [])) (h k l)
 
-pub begin_chain : (cs : List (List Lit)) (t : List Entry) (i : ℕ) → i < length cs → is_false t (get_or cs i []) ≡ true → distinct (get_or cs i []) ≡ true → IsTrail cs t → IsCalm cs t → Explaining cs t cs t i
+pub begin_chain : (cs : List (List Lit)) (t : List Entry) (i : ℕ) → i < length cs → is_false t (get_or cs i []) ≡ true → distinct (get_or cs i []) ≡ true → IsTrail cs t → IsCalm cs t → Analyzing cs t cs t i
 begin_chain cs t i l f d w n = record {
   there = l;
   false_now = f;
@@ -120,13 +120,13 @@ begin_chain cs t i l f d w n = record {
 }
 
 -- a literal whose negation the clause doesn't hold goes
-pub pop_step : (start : List (List Lit)) (t0 : List Entry) (cs : List (List Lit)) (e : Entry) (t : List Entry) (i : ℕ) → Explaining start t0 cs (e ∷ t) i → has (get_or cs i []) (flip e.lit) ≡ false → Explaining start t0 cs t i
+pub pop_step : (start : List (List Lit)) (t0 : List Entry) (cs : List (List Lit)) (e : Entry) (t : List Entry) (i : ℕ) → Analyzing start t0 cs (e ∷ t) i → has (get_or cs i []) (flip e.lit) ≡ false → Analyzing start t0 cs t i
 pop_step start t0 cs e t i x n = by_reason e.reason refl
   where
     f : is_false t (get_or cs i []) ≡ true
     f = false-older e t (get_or cs i []) x.false_now n
 
-    by_reason : (r : Option ℕ) → e.reason ≡ r → Explaining start t0 cs t i
+    by_reason : (r : Option ℕ) → e.reason ≡ r → Analyzing start t0 cs t i
     by_reason None q = absurd (
         let h : has_decision (e ∷ t) ≡ true = ap (λ r. is_none r || has_decision t) q in
         let b : before_last (e ∷ t) ≡ t = ap (λ r. after r t (before_last t)) q in
@@ -160,7 +160,7 @@ two_left t c n h = above (open_in (before_last t) c) (ap (λ b. cond b (nat_le (
     above m h = grind (arith, nat_tests)
 
 -- no clause is false before the literal that is resolved on
-pub none_here : (start : List (List Lit)) (t0 : List Entry) (cs : List (List Lit)) (e : Entry) (t : List Entry) (i : ℕ) → Explaining start t0 cs (e ∷ t) i → has (get_or cs i []) (flip e.lit) ≡ true → NoneFalse t cs
+pub none_here : (start : List (List Lit)) (t0 : List Entry) (cs : List (List Lit)) (e : Entry) (t : List Entry) (i : ℕ) → Analyzing start t0 cs (e ∷ t) i → has (get_or cs i []) (flip e.lit) ≡ true → NoneFalse t cs
 none_here start t0 cs e t i x h = λ k l. by_case k l (cases_eq k i)
   where
     by_case : (k : ℕ) → k < length cs → (k ≡ i) ⊎ (k ≢ i) → is_false t (get_or cs k []) ≡ false
@@ -174,18 +174,18 @@ pub record Top (start : List (List Lit)) (e : Entry) (t : List Entry) : Type 0 w
   pub reason_there : reason < length start
   pub unit : is_unit t (get_or start reason []) e.lit ≡ true
 
-pub top_of : (start : List (List Lit)) (t0 : List Entry) (cs : List (List Lit)) (e : Entry) (t : List Entry) (i : ℕ) → Explaining start t0 cs (e ∷ t) i → is_done (e ∷ t) (get_or cs i []) ≡ false → Top start e t
+pub top_of : (start : List (List Lit)) (t0 : List Entry) (cs : List (List Lit)) (e : Entry) (t : List Entry) (i : ℕ) → Analyzing start t0 cs (e ∷ t) i → is_done (e ∷ t) (get_or cs i []) ≡ false → Top start e t
 top_of start t0 cs e t i x n =
     let r = top-reason e t (get_or cs i []) x.set x.false_now (λ h. two_left (e ∷ t) (get_or cs i []) n h) in
     let s = subst (λ (q : Option ℕ). IsStep start t e.lit q) r.1 x.trail.1 in
     record { reason = r.0; is = r.1; reason_there = s.0; unit = s.1 }
 
-module _ (start : List (List Lit)) (t0 : List Entry) (cs : List (List Lit)) (e : Entry) (t : List Entry) (i : ℕ) (x : Explaining start t0 cs (e ∷ t) i) (h : has (get_or cs i []) (flip e.lit) ≡ true) (n : is_done (e ∷ t) (get_or cs i []) ≡ false) (p : Top start e t) (set : distinct (get_or start p.reason []) ≡ true) where
+module _ (start : List (List Lit)) (t0 : List Entry) (cs : List (List Lit)) (e : Entry) (t : List Entry) (i : ℕ) (x : Analyzing start t0 cs (e ∷ t) i) (h : has (get_or cs i []) (flip e.lit) ≡ true) (n : is_done (e ∷ t) (get_or cs i []) ≡ false) (p : Top start e t) (set : distinct (get_or start p.reason []) ≡ true) where
   abbrev pub gives : List Lit
   gives = resolved_on e.lit (get_or start p.reason []) (get_or cs i [])
 
-  unit_lone : lone t (get_or start p.reason []) e.lit ≡ true
-  unit_lone = (and_parts (lone t (get_or start p.reason []) e.lit) (not (named t e.lit.atom)) (and_parts (has (get_or start p.reason []) e.lit) (lone t (get_or start p.reason []) e.lit && not (named t e.lit.atom)) p.unit).1).0
+  unit_others : others_false t (get_or start p.reason []) e.lit ≡ true
+  unit_others = (and_parts (others_false t (get_or start p.reason []) e.lit) (not (is_assigned t e.lit.atom)) (and_parts (has (get_or start p.reason []) e.lit) (others_false t (get_or start p.reason []) e.lit && not (is_assigned t e.lit.atom)) p.unit).1).0
 
   same_has : has_decision (e ∷ t) ≡ has_decision t
   same_has = ap (λ r. is_none r || has_decision t) p.is
@@ -194,7 +194,7 @@ module _ (start : List (List Lit)) (t0 : List Entry) (cs : List (List Lit)) (e :
   same_before = ap (λ r. after r t (before_last t)) p.is
 
   pub given_false : is_false t gives ≡ true
-  given_false = resolved-false e t (get_or cs i []) (get_or start p.reason []) gives x.false_now unit_lone (members e.lit (get_or start p.reason []) (get_or cs i []))
+  given_false = resolved-false e t (get_or cs i []) (get_or start p.reason []) gives x.false_now unit_others (members e.lit (get_or start p.reason []) (get_or cs i []))
 
   pub given_distinct : distinct gives ≡ true
   given_distinct = keeps_distinct e.lit (get_or start p.reason []) (get_or cs i []) set x.set
@@ -224,7 +224,7 @@ module _ (start : List (List Lit)) (t0 : List Entry) (cs : List (List Lit)) (e :
       by_case false k = refl
 
   -- the next clause of the chain
-  pub resolve_step : Explaining start t0 (cs ++ gives ∷ []) t (length cs)
+  pub resolve_step : Analyzing start t0 (cs ++ gives ∷ []) t (length cs)
   resolve_step =
       let is_new = at_new cs gives in
       let len = longer cs gives in
@@ -249,7 +249,7 @@ module _ (start : List (List Lit)) (t0 : List Entry) (cs : List (List Lit)) (e :
       }
 
   -- the line is the next of a search log
-  pub is_next : IsNext start t0 cs (get_or cs i []) (line_on e.lit p.reason i) gives
+  pub is_next : IsNext start t0 cs (get_or cs i []) (resolve_line e.lit p.reason i) gives
   is_next = record {
     entry = e;
     rest = t;
@@ -284,7 +284,7 @@ module _ (start : List (List Lit)) (t0 : List Entry) (cs : List (List Lit)) (e :
 two-before : (t : List Entry) (c : List Lit) → Added t c → has_decision t ≡ true → Added (before_last t) c
 two-before t c a h = record { set = a.set; two = λ d. (let x = a.two h in let y = open-before (before_last t) c in omega arith) }
 
-pub first_cut : (start : List (List Lit)) (t0 : List Entry) (cs : List (List Lit)) (t : List Entry) (i : ℕ) → Explaining start t0 cs t i → has_decision t ≡ true → Cutting start cs (before_last t) i
+pub first_cut : (start : List (List Lit)) (t0 : List Entry) (cs : List (List Lit)) (t : List Entry) (i : ℕ) → Analyzing start t0 cs t i → has_decision t ≡ true → Cutting start cs (before_last t) i
 first_cut start t0 cs t i x h = record {
   trail = trail-before start t x.trail;
   grows = x.grows;

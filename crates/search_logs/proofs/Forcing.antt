@@ -6,7 +6,7 @@ use Rattle.proof_lines.specs.Forced.{Forced, by_clause}
 use Rattle.std.proofs.lemmas.Bool.{and_parts, or_cases, or_left, or_right, eqb-true, and_from, not-true, not_from_false}
 use Rattle.proof_lines.proofs.Sets.{same_lit-is, same_lit-refl}
 use Rattle.search_logs.specs.declared.trail.Entry.{Entry}
-use Rattle.search_logs.specs.Trails.{in_trail, negated, named, is_false, is_unit, quiet, lone, has_decision, before_last, after, Settled, NoneFalse, IsTrail}
+use Rattle.search_logs.specs.Trails.{in_trail, negated, is_assigned, is_false, is_unit, quiet, others_false, has_decision, before_last, after, Settled, NoneFalse, IsTrail}
 use Rattle.search_logs.specs.Forcing.{AreRefuted, AreSatisfied}
 use Rattle.search_logs.proofs.Trails.{has_all, all_has, one-way, settled-before}
 
@@ -19,11 +19,11 @@ any_there p (x ∷ c) l h k = elim (or_cases (same_lit x l) (has c l) h) [
   | inr e ↦ or_right (p x) (list_any p c) (any_there p c l e k)
 ]
 
-pub named_one : (t : List Entry) (a : ℕ) → named t a ≡ true → (in_trail t (lit_of a true) ≡ true) ⊎ (in_trail t (lit_of a false) ≡ true)
-named_one [] a h = absurd cc
-named_one (e ∷ t) a h = elim (or_cases (e.lit.atom == a) (named t a) h) [
+pub assigned_one : (t : List Entry) (a : ℕ) → is_assigned t a ≡ true → (in_trail t (lit_of a true) ≡ true) ⊎ (in_trail t (lit_of a false) ≡ true)
+assigned_one [] a h = absurd cc
+assigned_one (e ∷ t) a h = elim (or_cases (e.lit.atom == a) (is_assigned t a) h) [
   | inl q ↦ at_top e.lit.positive refl (eqb-true e.lit.atom a q)
-  | inr q ↦ elim (named_one t a q) [ inl r ↦ inl (or_right (same_lit e.lit (lit_of a true)) (in_trail t (lit_of a true)) r) | inr r ↦ inr (or_right (same_lit e.lit (lit_of a false)) (in_trail t (lit_of a false)) r) ]
+  | inr q ↦ elim (assigned_one t a q) [ inl r ↦ inl (or_right (same_lit e.lit (lit_of a true)) (in_trail t (lit_of a true)) r) | inr r ↦ inr (or_right (same_lit e.lit (lit_of a false)) (in_trail t (lit_of a false)) r) ]
 ]
   where
     is_it : (b : Bool) → e.lit.positive ≡ b → e.lit.atom ≡ a → same_lit e.lit (lit_of a b) ≡ true
@@ -33,8 +33,8 @@ named_one (e ∷ t) a h = elim (or_cases (e.lit.atom == a) (named t a) h) [
     at_top true p q = inl (or_left (same_lit e.lit (lit_of a true)) (in_trail t (lit_of a true)) (is_it true p q))
     at_top false p q = inr (or_left (same_lit e.lit (lit_of a false)) (in_trail t (lit_of a false)) (is_it false p q))
 
-forced_here : (t : List Entry) (c : List Lit) (l : Lit) → has c l ≡ true → lone t c l ≡ true → quiet t c ≡ true → is_false t c ≡ false → in_trail t l ≡ true
-forced_here t c l h o q f = by_case (negated t l) (named t l.atom) refl refl
+forced_here : (t : List Entry) (c : List Lit) (l : Lit) → has c l ≡ true → others_false t c l ≡ true → quiet t c ≡ true → is_false t c ≡ false → in_trail t l ≡ true
+forced_here t c l h o q f = by_case (negated t l) (is_assigned t l.atom) refl refl
   where
     or_last : (a b : Bool) → (a || b) ≡ true → a ≡ false → b ≡ true
     or_last a b p q = grind arith
@@ -45,17 +45,17 @@ forced_here t c l h o q f = by_case (negated t l) (named t l.atom) refl refl
     signs a false n (inl m) = absurd cc
     signs a false n (inr m) = m
 
-    by_case : (a b : Bool) → negated t l ≡ a → named t l.atom ≡ b → in_trail t l ≡ true
+    by_case : (a b : Bool) → negated t l ≡ a → is_assigned t l.atom ≡ b → in_trail t l ≡ true
     by_case true b p r = absurd (let m = has_all (negated t) c (λ x k. each x k (same_lit x l) refl) in cc)
       where
         each : (x : Lit) → has c x ≡ true → (d : Bool) → same_lit x l ≡ d → negated t x ≡ true
         each x k true e = subst (λ (z : Lit). negated t z ≡ true) (sym (same_lit-is x l e)) p
         each x k false e = or_last (same_lit x l) (negated t x) (all_has (λ y. same_lit y l || negated t y) c x o k) e
     by_case false false p r = absurd (
-        let u = and_from (has c l) (lone t c l && not (named t l.atom)) h (and_from (lone t c l) (not (named t l.atom)) o (not_from_false (named t l.atom) r)) in
+        let u = and_from (has c l) (others_false t c l && not (is_assigned t l.atom)) h (and_from (others_false t c l) (not (is_assigned t l.atom)) o (not_from_false (is_assigned t l.atom) r)) in
         let m = any_there (is_unit t c) c l h u in
         let v = not-true (list_any (is_unit t c) c) (and_parts (not (is_false t c)) (not (list_any (is_unit t c) c)) q).1 in cc)
-    by_case false true p r = signs l.atom l.positive p (named_one t l.atom r)
+    by_case false true p r = signs l.atom l.positive p (assigned_one t l.atom r)
 
 -- a settled trail holds what is forced
 settled_forced : (cs : List (List Lit)) (t : List Entry) (l : Lit) → Forced cs l → Settled t cs → NoneFalse t cs → in_trail t l ≡ true
@@ -73,7 +73,7 @@ refuted_none cs t r w n =
 pub unit_forced : (cs : List (List Lit)) (t : List Entry) (r : ℕ) (l : Lit) → r < length cs → is_unit t (get_or cs r []) l ≡ true → ((k : Lit) → in_trail t k ≡ true → Forced cs k) → Forced cs l
 unit_forced cs t r l b u f =
     let p = and_parts (has (get_or cs r []) l) _ u in
-    let q = and_parts (lone t (get_or cs r []) l) _ p.1 in
+    let q = and_parts (others_false t (get_or cs r []) l) _ p.1 in
     by_clause r b l p.0 (λ k h n. f (flip k) (or_last (same_lit k l) (negated t k) (all_has (λ y. same_lit y l || negated t y) (get_or cs r []) k q.0 h) n))
   where
     or_last : (a b : Bool) → (a || b) ≡ true → a ≡ false → b ≡ true
@@ -118,8 +118,8 @@ empty_unsat cs h s = let r = find_empty cs h in s.0 (r.0, r.1, λ l k. absurd (n
     none i l h e = nothing (get_or cs i []) l h e
 
 -- a forced literal
-pub unit_parts : (t : List Entry) (c : List Lit) (l : Lit) → is_unit t c l ≡ true → (has c l ≡ true) × (named t l.atom ≡ false)
-unit_parts t c l h = let p = and_parts (has c l) _ h in let q = and_parts _ (not (named t l.atom)) p.1 in (p.0, not-true (named t l.atom) q.1)
+pub unit_parts : (t : List Entry) (c : List Lit) (l : Lit) → is_unit t c l ≡ true → (has c l ≡ true) × (is_assigned t l.atom ≡ false)
+unit_parts t c l h = let p = and_parts (has c l) _ h in let q = and_parts _ (not (is_assigned t l.atom)) p.1 in (p.0, not-true (is_assigned t l.atom) q.1)
 
 pub some_open : (t : List Entry) (c : List Lit) → is_false t c ≡ false → (l : Lit) × (has c l ≡ true) × (negated t l ≡ false)
 some_open t [] h = absurd cc

@@ -10,7 +10,7 @@ use Rattle.proof_lines.specs.Clauses.{same_lit, same_bool, flip, lit_of}
 use Rattle.std.proofs.lemmas.Bool.{eqb-true}
 use Rattle.proof_lines.proofs.Sets.{same_nat-refl, same_lit-is, same_lit-refl}
 use Rattle.search_logs.specs.declared.trail.Entry.{Entry}
-use Rattle.search_logs.specs.Trails.{in_trail, negated, named, open_in, after, before_last, has_decision}
+use Rattle.search_logs.specs.Trails.{in_trail, negated, is_assigned, open_in, after, before_last, has_decision}
 use Rattle.search_logs.specs.Places.{place_of, lies_before, lies_from, ArePlaces, with_decision, decision_places, some_place, top_place}
 
 -- a literal has a place exactly where it is in the trail
@@ -62,10 +62,10 @@ place-before (e ∷ t) l = by_case e.reason (same_lit e.lit l) (place_of t l) re
     by_case (Some r) true None p s h = h ∙ not_less (length t) (length (before_last t)) s
     by_case (Some r) false None p s h = h
 
--- an atom is named where one of its literals is in the trail
-pub named-signs : (t : List Entry) (a : ℕ) → named t a ≡ (in_trail t (lit_of a true) || in_trail t (lit_of a false))
-named-signs [] a = refl
-named-signs (e ∷ t) a = by_sign (e.lit.atom == a) e.lit.positive (named t a) (in_trail t (lit_of a true)) (in_trail t (lit_of a false)) (named-signs t a)
+-- an atom is assigned where one of its literals is in the trail
+pub is_assigned-signs : (t : List Entry) (a : ℕ) → is_assigned t a ≡ (in_trail t (lit_of a true) || in_trail t (lit_of a false))
+is_assigned-signs [] a = refl
+is_assigned-signs (e ∷ t) a = by_sign (e.lit.atom == a) e.lit.positive (is_assigned t a) (in_trail t (lit_of a true)) (in_trail t (lit_of a false)) (is_assigned-signs t a)
   where
     by_sign : (q p n x y : Bool) → n ≡ (x || y) → (q || n) ≡ (((q && same_bool p true) || x) || ((q && same_bool p false) || y))
     by_sign true true n x y h = refl

@@ -25,10 +25,10 @@ use Rattle.proof_kernel.proofs.States.{live_of-map}
 use Rattle.theory_api.specs.Laws.{IsTooMany, IsBeyond}
 use Rattle.theory_api.proofs.Standing.{Stand, lit_at}
 use Rattle.search_logs.specs.declared.trail.Entry.{Entry}
-use Rattle.search_logs.specs.Trails.{in_trail, negated, named, is_false, IsTrail}
+use Rattle.search_logs.specs.Trails.{in_trail, negated, is_assigned, is_false, IsTrail}
 use Rattle.search_logs.specs.Fresh.{IsFresh}
 use Rattle.search_logs.specs.SearchLogs.{standing, is_split, splits}
-use Rattle.search_logs.proofs.Trails.{has_all, all_has, any_has, in_named, one-way}
+use Rattle.search_logs.proofs.Trails.{has_all, all_has, any_has, in_assigned, one-way}
 use Rattle.search_logs.proofs.Taken.{picked-line}
 
 -- What a log of a search shows: it is fresh, and its evidence is that of the proof kernel.
@@ -108,9 +108,9 @@ false-negations t used h = all-join (negated t) [] (map flip used) refl (flipped
 pub distinct-negations : (used : List Lit) → distinct (negations used) ≡ true
 distinct-negations used = distinct-join [] (map flip used) refl
 
--- the atoms of a false clause are named
-pub false-below : (n : ℕ) (t : List Entry) (c : List Lit) → is_false t c ≡ true → ((x : ℕ) → named t x ≡ true → x < n) → atoms_below n c ≡ true
-false-below n t c f b = has_all (λ l. nat_lt l.atom n) c (λ l h. lt-ltb l.atom n (b l.atom (in_named t (flip l) (all_has (negated t) c l f h))))
+-- the atoms of a false clause are assigned
+pub false-below : (n : ℕ) (t : List Entry) (c : List Lit) → is_false t c ≡ true → ((x : ℕ) → is_assigned t x ≡ true → x < n) → atoms_below n c ≡ true
+false-below n t c f b = has_all (λ l. nat_lt l.atom n) c (λ l h. lt-ltb l.atom n (b l.atom (in_assigned t (flip l) (all_has (negated t) c l f h))))
 
 -- literals of a trail don't stand in it both ways
 pub trail_one_way : (cs : List (List Lit)) (t : List Entry) (used : List Lit) → IsTrail cs t → list_all (in_trail t) used ≡ true → holds_both_ways used ≡ false

@@ -16,7 +16,7 @@ use Rattle.proof_kernel.specs.Rules.{State, next, grown, named, run_from, is_liv
 use Rattle.std.proofs.lemmas.Bool.{and_parts, lt-ltb}
 use Rattle.theory_api.specs.Laws.{IsConflict, IsSplit, rows_at, is_some_row}
 use Rattle.theory_api.proofs.Standing.{Stand, lit_at, stand-line, stand-used}
-use Rattle.search_logs.specs.SearchLogs.{standing, with_clause, with_row, line_on, resolved_on}
+use Rattle.search_logs.specs.SearchLogs.{standing, with_clause, with_row, resolve_line, resolved_on}
 
 -- The proof kernel takes the lines of a search.
 
@@ -86,11 +86,11 @@ module _ (g : ℕ) (q : PlainProblem) where
       ∙ ap (λ (s : State). Ok s) (standing-grown g q (resolvent pivot (get_or q.clauses left []) (get_or q.clauses right [])))
 
   pub resolve_taken : (l : Lit) (r i : ℕ) → r < length q.clauses → i < length q.clauses → l.atom < length q.atoms → has (get_or q.clauses r []) l ≡ true → has (get_or q.clauses i []) (flip l) ≡ true
-      → next (standing g q) (line_on l r i) ≡ Ok (standing g (with_clause q (resolved_on l (get_or q.clauses r []) (get_or q.clauses i []))))
+      → next (standing g q) (resolve_line l r i) ≡ Ok (standing g (with_clause q (resolved_on l (get_or q.clauses r []) (get_or q.clauses i []))))
   resolve_taken l r i a b d h k = by_sign l.atom l.positive d h k
     where
       by_sign : (at : ℕ) (p : Bool) → at < length q.atoms → has (get_or q.clauses r []) (lit_of at p) ≡ true → has (get_or q.clauses i []) (flip (lit_of at p)) ≡ true
-          → next (standing g q) (line_on (lit_of at p) r i) ≡ Ok (standing g (with_clause q (resolved_on (lit_of at p) (get_or q.clauses r []) (get_or q.clauses i []))))
+          → next (standing g q) (resolve_line (lit_of at p) r i) ≡ Ok (standing g (with_clause q (resolved_on (lit_of at p) (get_or q.clauses r []) (get_or q.clauses i []))))
       by_sign at true d h k = resolves r i at a b d h k
       by_sign at false d h k = resolves i r at b a d k h
 

@@ -6,7 +6,7 @@ use Rattle.proof_lines.specs.Clauses.{has, sub, distinct, same_lit, flip}
 use Rattle.std.proofs.lemmas.Bool.{and_parts, or_cases, or_parts, or_left, or_right, and_from, not-true, not_from_false}
 use Rattle.proof_lines.proofs.Sets.{same_lit-is, same_lit-refl, flip_twice, flip-apart, has-cases}
 use Rattle.search_logs.specs.declared.trail.Entry.{Entry}
-use Rattle.search_logs.specs.Trails.{in_trail, negated, named, is_false, lone, is_unit, quiet, Settled, open_in, after, before_last, is_decision, has_decision, IsStep, IsTrail}
+use Rattle.search_logs.specs.Trails.{in_trail, negated, is_assigned, is_false, others_false, is_unit, quiet, Settled, open_in, after, before_last, is_decision, has_decision, IsStep, IsTrail}
 
 or_last : (a b : Bool) → (a || b) ≡ true → a ≡ false → b ≡ true
 or_last a b p q = grind arith
@@ -34,11 +34,11 @@ pub flip_back : (a b : Lit) → same_lit a (flip b) ≡ true → flip a ≡ b
 flip_back a b h = ap flip (same_lit-is a (flip b) h) ∙ flip_twice b
 
 -- the trail
-pub in_named : (t : List Entry) (l : Lit) → in_trail t l ≡ true → named t l.atom ≡ true
-in_named [] l h = absurd cc
-in_named (e ∷ t) l h = elim (or_cases (same_lit e.lit l) (in_trail t l) h) [
-  | inl s ↦ or_left (e.lit.atom == l.atom) (named t l.atom) (and_parts (e.lit.atom == l.atom) _ s).0
-  | inr s ↦ or_right (e.lit.atom == l.atom) (named t l.atom) (in_named t l s)
+pub in_assigned : (t : List Entry) (l : Lit) → in_trail t l ≡ true → is_assigned t l.atom ≡ true
+in_assigned [] l h = absurd cc
+in_assigned (e ∷ t) l h = elim (or_cases (same_lit e.lit l) (in_trail t l) h) [
+  | inl s ↦ or_left (e.lit.atom == l.atom) (is_assigned t l.atom) (and_parts (e.lit.atom == l.atom) _ s).0
+  | inr s ↦ or_right (e.lit.atom == l.atom) (is_assigned t l.atom) (in_assigned t l s)
 ]
 
 pub negated-more : (e : Entry) (t : List Entry) (l : Lit) → negated t l ≡ true → negated (e ∷ t) l ≡ true
@@ -57,18 +57,18 @@ false-older e t c h n = has_all (negated t) c one
       | inr s ↦ s
     ]
 
-pub unnamed-open : (t : List Entry) (l : Lit) → named t l.atom ≡ false → negated t (flip l) ≡ false
-unnamed-open t l n = by_case (negated t (flip l)) refl
+pub unassigned-open : (t : List Entry) (l : Lit) → is_assigned t l.atom ≡ false → negated t (flip l) ≡ false
+unassigned-open t l n = by_case (negated t (flip l)) refl
   where
     by_case : (b : Bool) → negated t (flip l) ≡ b → b ≡ false
-    by_case true h = absurd (let k : in_trail t l ≡ true = subst (λ (z : Lit). in_trail t z ≡ true) (flip_twice l) h in let m = in_named t l k in cc)
+    by_case true h = absurd (let k : in_trail t l ≡ true = subst (λ (z : Lit). in_trail t z ≡ true) (flip_twice l) h in let m = in_assigned t l k in cc)
     by_case false h = refl
 
-pub held-open : (e : Entry) (t : List Entry) (c : List Lit) → named t e.lit.atom ≡ false → has c (flip e.lit) ≡ true → is_false t c ≡ false
+pub held-open : (e : Entry) (t : List Entry) (c : List Lit) → is_assigned t e.lit.atom ≡ false → has c (flip e.lit) ≡ true → is_false t c ≡ false
 held-open e t c n h = by_case (is_false t c) refl
   where
     by_case : (b : Bool) → is_false t c ≡ b → b ≡ false
-    by_case true f = absurd (let a = all_has (negated t) c (flip e.lit) f h in let b = unnamed-open t e.lit n in cc)
+    by_case true f = absurd (let a = all_has (negated t) c (flip e.lit) f h in let b = unassigned-open t e.lit n in cc)
     by_case false f = refl
 
 -- counting
@@ -143,8 +143,8 @@ open-quiet t c d h = and_from (not (is_false t c)) (not (list_any (is_unit t c) 
     no_unit false u = refl
     no_unit true u = absurd (
         let r = any_has (is_unit t c) c u in
-        let m = and_parts (has c r.0) (lone t c r.0 && not (named t r.0.atom)) r.2 in
-        let k = and_parts (lone t c r.0) (not (named t r.0.atom)) m.1 in
+        let m = and_parts (has c r.0) (others_false t c r.0 && not (is_assigned t r.0.atom)) r.2 in
+        let k = and_parts (others_false t c r.0) (not (is_assigned t r.0.atom)) m.1 in
         let w = open_two t c r.0 d h in
         let s = all_has (λ x. same_lit x r.0 || negated t x) c w.lit k.0 w.held in
         let s2 = or_last (same_lit w.lit r.0) (negated t w.lit) s w.other in
@@ -155,34 +155,34 @@ pub record Alone (t : List Entry) (c : List Lit) : Type 0 where
   pub lit : Lit
   pub held : has c lit ≡ true
   pub still : negated t lit ≡ false
-  pub rest : lone t c lit ≡ true
+  pub rest : others_false t c lit ≡ true
 
 pub open_alone : (t : List Entry) (c : List Lit) → open_in t c ≡ 1 → Alone t c
 open_alone t [] h = absurd (omega arith)
 open_alone t (y ∷ c) h = by_case (open_alone t c) (negated t y) refl h
   where
-    rest_lone : (l : Lit) → lone t c l ≡ true → negated t y ≡ true → lone t (y ∷ c) l ≡ true
-    rest_lone l k e = and_from (same_lit y l || negated t y) (lone t c l) (or_right (same_lit y l) (negated t y) e) k
+    rest_others : (l : Lit) → others_false t c l ≡ true → negated t y ≡ true → others_false t (y ∷ c) l ≡ true
+    rest_others l k e = and_from (same_lit y l || negated t y) (others_false t c l) (or_right (same_lit y l) (negated t y) e) k
 
     by_case : (open_in t c ≡ 1 → Alone t c) → (b : Bool) → negated t y ≡ b → cond b (open_in t c) (1 + open_in t c) ≡ 1 → Alone t (y ∷ c)
-    by_case ih true e h = let r = ih h in record { lit = r.lit; held = or_right (same_lit y r.lit) (has c r.lit) r.held; still = r.still; rest = rest_lone r.lit r.rest e }
+    by_case ih true e h = let r = ih h in record { lit = r.lit; held = or_right (same_lit y r.lit) (has c r.lit) r.held; still = r.still; rest = rest_others r.lit r.rest e }
     by_case ih false e h =
         let f = zero-open t c (omega arith) in
         record {
           lit = y;
           held = or_left (same_lit y y) (has c y) (same_lit-refl y);
           still = e;
-          rest = and_from (same_lit y y || negated t y) (lone t c y) (or_left (same_lit y y) (negated t y) (same_lit-refl y)) (has_all (λ x. same_lit x y || negated t x) c (λ l k. or_right (same_lit l y) (negated t l) (all_has (negated t) c l f k)));
+          rest = and_from (same_lit y y || negated t y) (others_false t c y) (or_left (same_lit y y) (negated t y) (same_lit-refl y)) (has_all (λ x. same_lit x y || negated t x) c (λ l k. or_right (same_lit l y) (negated t l) (all_has (negated t) c l f k)));
         }
 
 -- prefixes at decisions
-pub named-before : (t : List Entry) (a : ℕ) → named (before_last t) a ≡ true → named t a ≡ true
-named-before [] a h = h
-named-before (e ∷ t) a h = by_case (named-before t a) e.reason h
+pub is_assigned-before : (t : List Entry) (a : ℕ) → is_assigned (before_last t) a ≡ true → is_assigned t a ≡ true
+is_assigned-before [] a h = h
+is_assigned-before (e ∷ t) a h = by_case (is_assigned-before t a) e.reason h
   where
-    by_case : (named (before_last t) a ≡ true → named t a ≡ true) → (r : Option ℕ) → named (after r t (before_last t)) a ≡ true → named (e ∷ t) a ≡ true
-    by_case ih None h = or_right (e.lit.atom == a) (named t a) h
-    by_case ih (Some r) h = or_right (e.lit.atom == a) (named t a) (ih h)
+    by_case : (is_assigned (before_last t) a ≡ true → is_assigned t a ≡ true) → (r : Option ℕ) → is_assigned (after r t (before_last t)) a ≡ true → is_assigned (e ∷ t) a ≡ true
+    by_case ih None h = or_right (e.lit.atom == a) (is_assigned t a) h
+    by_case ih (Some r) h = or_right (e.lit.atom == a) (is_assigned t a) (ih h)
 
 pub open-before : (t : List Entry) (c : List Lit) → open_in t c ≤ open_in (before_last t) c
 open-before [] c = omega arith
@@ -192,24 +192,24 @@ open-before (e ∷ t) c = by_case (open-before t c) (open-more e t c) e.reason
     by_case ih m None = m
     by_case ih m (Some r) = omega arith
 
--- what is negated since the last decision isn't named before it
-pub unnamed-before : (cs : List (List Lit)) (t : List Entry) (l : Lit) → IsTrail cs t → negated t l ≡ true → negated (before_last t) l ≡ false → named (before_last t) l.atom ≡ false
-unnamed-before cs [] l w h n = absurd cc
-unnamed-before cs (e ∷ t) l w h n = by_case (unnamed-before cs t l w.2) e.reason n
+-- what is negated since the last decision isn't assigned before it
+pub unassigned-before : (cs : List (List Lit)) (t : List Entry) (l : Lit) → IsTrail cs t → negated t l ≡ true → negated (before_last t) l ≡ false → is_assigned (before_last t) l.atom ≡ false
+unassigned-before cs [] l w h n = absurd cc
+unassigned-before cs (e ∷ t) l w h n = by_case (unassigned-before cs t l w.2) e.reason n
   where
     same_atom : same_lit e.lit (flip l) ≡ true → e.lit.atom ≡ l.atom
     same_atom s = ap (λ (z : Lit). z.atom) (same_lit-is e.lit (flip l) s)
 
-    fresh_atom : same_lit e.lit (flip l) ≡ true → named t l.atom ≡ false
-    fresh_atom s = subst (λ (a : ℕ). named t a ≡ false) (same_atom s) w.0
+    fresh_atom : same_lit e.lit (flip l) ≡ true → is_assigned t l.atom ≡ false
+    fresh_atom s = subst (λ (a : ℕ). is_assigned t a ≡ false) (same_atom s) w.0
 
-    earlier : (b : Bool) → named (before_last t) l.atom ≡ b → named t l.atom ≡ false → b ≡ false
-    earlier true e f = absurd (let k = named-before t l.atom e in cc)
+    earlier : (b : Bool) → is_assigned (before_last t) l.atom ≡ b → is_assigned t l.atom ≡ false → b ≡ false
+    earlier true e f = absurd (let k = is_assigned-before t l.atom e in cc)
     earlier false e f = refl
 
-    by_case : (negated t l ≡ true → negated (before_last t) l ≡ false → named (before_last t) l.atom ≡ false) → (r : Option ℕ) → negated (after r t (before_last t)) l ≡ false → named (after r t (before_last t)) l.atom ≡ false
+    by_case : (negated t l ≡ true → negated (before_last t) l ≡ false → is_assigned (before_last t) l.atom ≡ false) → (r : Option ℕ) → negated (after r t (before_last t)) l ≡ false → is_assigned (after r t (before_last t)) l.atom ≡ false
     by_case ih None n = elim (or_cases (same_lit e.lit (flip l)) (negated t l) h) [ inl s ↦ fresh_atom s | inr s ↦ absurd cc ]
-    by_case ih (Some r) n = elim (or_cases (same_lit e.lit (flip l)) (negated t l) h) [ inl s ↦ earlier (named (before_last t) l.atom) refl (fresh_atom s) | inr s ↦ ih s n ]
+    by_case ih (Some r) n = elim (or_cases (same_lit e.lit (flip l)) (negated t l) h) [ inl s ↦ earlier (is_assigned (before_last t) l.atom) refl (fresh_atom s) | inr s ↦ ih s n ]
 
 pub trail-before : (cs : List (List Lit)) (t : List Entry) → IsTrail cs t → IsTrail cs (before_last t)
 trail-before cs [] w = w
@@ -244,8 +244,8 @@ starts-open cs t c w f q = by_size (open_in (before_last t) c) refl
     by_size (suc zero) e = absurd (
         let a = open_alone (before_last t) c e in
         let n = all_has (negated t) c a.lit f a.held in
-        let u = unnamed-before cs t a.lit w n a.still in
-        let m = and_from (has c a.lit) (lone (before_last t) c a.lit && not (named (before_last t) a.lit.atom)) a.held (and_from (lone (before_last t) c a.lit) (not (named (before_last t) a.lit.atom)) a.rest (not_from_false (named (before_last t) a.lit.atom) u)) in
+        let u = unassigned-before cs t a.lit w n a.still in
+        let m = and_from (has c a.lit) (others_false (before_last t) c a.lit && not (is_assigned (before_last t) a.lit.atom)) a.held (and_from (others_false (before_last t) c a.lit) (not (is_assigned (before_last t) a.lit.atom)) a.rest (not_from_false (is_assigned (before_last t) a.lit.atom) u)) in
         let k = there c (is_unit (before_last t) c) a.lit a.held m in
         let y = not-true (list_any (is_unit (before_last t) c) c) p.1 in cc)
     by_size (suc (suc n)) e = omega arith
@@ -265,7 +265,7 @@ top-reason e t c d f h = by_case e.reason refl h
         ])
 
 -- the resolvent on the newest literal is false before it
-pub resolved-false : (e : Entry) (t : List Entry) (c r d : List Lit) → is_false (e ∷ t) c ≡ true → lone t r e.lit ≡ true
+pub resolved-false : (e : Entry) (t : List Entry) (c r d : List Lit) → is_false (e ∷ t) c ≡ true → others_false t r e.lit ≡ true
     → ((x : Lit) → has d x ≡ true → ((has c x ≡ true) × (same_lit x (flip e.lit) ≡ false)) ⊎ ((has r x ≡ true) × (same_lit x e.lit ≡ false)))
     → is_false t d ≡ true
 resolved-false e t c r d f u h = has_all (negated t) d one
@@ -310,10 +310,10 @@ one-way cs (e ∷ t) l w h = by_case (one-way cs t l w.2) (in_trail (e ∷ t) (f
         elim (or_cases (same_lit e.lit l) (in_trail t l) h) [
           | inl s ↦ elim (or_cases (same_lit e.lit (flip l)) (in_trail t (flip l)) k) [
             | inl u ↦ (let x = same_lit-is e.lit l s in let y = same_lit-is e.lit (flip l) u in let z = flip-apart l in let v = same_lit-refl l in let m : same_lit l (flip l) ≡ true = subst (λ (q : Lit). same_lit l q ≡ true) (sym x ∙ y) v in absurd cc)
-            | inr u ↦ (let x = same_lit-is e.lit l s in let n = in_named t (flip l) u in let m : named t l.atom ≡ false = subst (λ (q : Lit). named t q.atom ≡ false) x w.0 in absurd cc)
+            | inr u ↦ (let x = same_lit-is e.lit l s in let n = in_assigned t (flip l) u in let m : is_assigned t l.atom ≡ false = subst (λ (q : Lit). is_assigned t q.atom ≡ false) x w.0 in absurd cc)
           ]
           | inr s ↦ elim (or_cases (same_lit e.lit (flip l)) (in_trail t (flip l)) k) [
-            | inl u ↦ (let y = same_lit-is e.lit (flip l) u in let n = in_named t l s in let m : named t l.atom ≡ false = subst (λ (q : Lit). named t q.atom ≡ false) y w.0 in absurd cc)
+            | inl u ↦ (let y = same_lit-is e.lit (flip l) u in let n = in_assigned t l s in let m : is_assigned t l.atom ≡ false = subst (λ (q : Lit). is_assigned t q.atom ≡ false) y w.0 in absurd cc)
             | inr u ↦ (let m = ih s in absurd cc)
           ]
         ])

@@ -90,12 +90,12 @@ at_most-is place at r h = let p = and_parts (is_alone place r.terms) (int_eq r.b
         at_most-coef = pos 1
     alone (t ∷ u ∷ ts) k = absurd cc
 
-named_at : (place : ℕ) (at : ℤ) (atoms : List AtomKind) → list_any (is_at_most place at) atoms ≡ true → (a : ℕ) × (r : Row) × (slice_get atoms a ≡ Some (OfRow r)) × (r ≡ at_most place at)
-named_at place at [] h = absurd cc
-named_at place at (Plain ∷ atoms) h = let n = named_at place at atoms h in (suc n.0, n.1, n.2, n.3)
-named_at place at (OfRow r ∷ atoms) h = elim (or_cases (is_alone place r.terms && int_eq r.bound at) (list_any (is_at_most place at) atoms) h) [
+assigned_at : (place : ℕ) (at : ℤ) (atoms : List AtomKind) → list_any (is_at_most place at) atoms ≡ true → (a : ℕ) × (r : Row) × (slice_get atoms a ≡ Some (OfRow r)) × (r ≡ at_most place at)
+assigned_at place at [] h = absurd cc
+assigned_at place at (Plain ∷ atoms) h = let n = assigned_at place at atoms h in (suc n.0, n.1, n.2, n.3)
+assigned_at place at (OfRow r ∷ atoms) h = elim (or_cases (is_alone place r.terms && int_eq r.bound at) (list_any (is_at_most place at) atoms) h) [
   | inl e ↦ (zero, r, refl, at_most-is place at r e)
-  | inr e ↦ (let n = named_at place at atoms e in (suc n.0, n.1, n.2, n.3))
+  | inr e ↦ (let n = assigned_at place at atoms e in (suc n.0, n.1, n.2, n.3))
 ]
 
 none_settles : (place : ℕ) (at : ℤ) (rows : List Row) → list_any (settles place at) rows ≡ false → list_all (λ r. not (settles place at r)) rows ≡ true
@@ -126,6 +126,6 @@ no_atom atoms lits rows place at s c n = by_case (list_any (is_at_most place at)
     by_case : (b : Bool) → list_any (is_at_most place at) atoms ≡ b → b ≡ false
     by_case false e = refl
     by_case true e = absurd (
-        let m = named_at place at atoms e in
+        let m = assigned_at place at atoms e in
         let f = sided (λ l. true) (λ r. not (settles place at r)) atoms lits rows m.0 m.1 s (all_yes lits) (none_settles place at rows n) (ap row_of_kind m.2) (c m.0 m.1 m.2) in
         by_sign f.0 f.1 (not-true (settles place at f.0) f.2.row) (subst (λ (z : Row). cond f.1 (Some z) (opposite z) ≡ Some f.0) m.3 f.2.is))

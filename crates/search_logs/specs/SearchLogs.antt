@@ -35,8 +35,8 @@ abbrev pub standing : ℕ → PlainProblem → State
 standing given q = record { atoms = q.atoms; ints = q.ints; given = given; slots = map (λ c. Some c) q.clauses; empty = list_any is_empty q.clauses }
 
 -- the line that resolves a clause with a reason of a literal
-abbrev pub line_on : Lit → ℕ → ℕ → Line
-line_on l reason reached = cond l.positive (Resolve reason reached l.atom) (Resolve reached reason l.atom)
+abbrev pub resolve_line : Lit → ℕ → ℕ → Line
+resolve_line l reason reached = cond l.positive (Resolve reason reached l.atom) (Resolve reached reason l.atom)
 
 -- the clause that it gives
 abbrev pub resolved_on : Lit → List Lit → List Lit → List Lit
@@ -58,7 +58,7 @@ pub record IsNext (start : List (List Lit)) (trail : List Entry) (now : List (Li
   pub place : ℕ
   pub place_there : place < length now
   pub place_is : slice_index_or now place [] ≡ reached
-  pub line_is : line ≡ line_on entry.lit reason place
+  pub line_is : line ≡ resolve_line entry.lit reason place
   pub gives_is : gives ≡ resolved_on entry.lit (slice_index_or start reason []) reached
 
 -- a settled trail for all clauses

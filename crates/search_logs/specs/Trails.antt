@@ -16,22 +16,22 @@ in_trail t l = list_any (λ e. same_lit e.lit l) t
 abbrev pub negated : List Entry → Lit → Bool
 negated t l = in_trail t (flip l)
 
--- the trail has a literal of the atom
-abbrev pub named : List Entry → ℕ → Bool
-named t a = list_any (λ e. e.lit.atom == a) t
+-- an atom is ASSIGNED by a trail: it has a literal of the atom
+abbrev pub is_assigned : List Entry → ℕ → Bool
+is_assigned t a = list_any (λ e. e.lit.atom == a) t
 
 -- a clause is FALSE under a trail: all its literals have their negations there
 abbrev pub is_false : List Entry → List Lit → Bool
 is_false t c = list_all (negated t) c
 
 -- all literals of a clause but one have their negations in the trail
-abbrev pub lone : List Entry → List Lit → Lit → Bool
-lone t c l = list_all (λ x. same_lit x l || negated t x) c
+abbrev pub others_false : List Entry → List Lit → Lit → Bool
+others_false t c l = list_all (λ x. same_lit x l || negated t x) c
 
 -- a clause is UNIT under a trail, with this remaining literal: all its other literals have their negations there, and the trail
--- doesn't name the atom of this one
+-- doesn't assign the atom of this one
 abbrev pub is_unit : List Entry → List Lit → Lit → Bool
-is_unit t c l = has c l && (lone t c l && not (named t l.atom))
+is_unit t c l = has c l && (others_false t c l && not (is_assigned t l.atom))
 
 -- a clause is neither unit nor false
 abbrev pub quiet : List Entry → List Lit → Bool
@@ -76,7 +76,7 @@ IsStep cs t l (Some r) = (r < length cs) × (is_unit t (slice_index_or cs r []) 
 -- a list is a trail for some clauses: its atoms are different, and each literal is a step over what stands before it
 abbrev pub IsTrail : List (List Lit) → List Entry → Type 0
 IsTrail cs [] = Unit {0}
-IsTrail cs (e ∷ t) = (named t e.lit.atom ≡ false) × IsStep cs t e.lit e.reason × IsTrail cs t
+IsTrail cs (e ∷ t) = (is_assigned t e.lit.atom ≡ false) × IsStep cs t e.lit e.reason × IsTrail cs t
 
 -- without the newest literal
 abbrev pub older : List Entry → List Entry
@@ -97,7 +97,7 @@ from_last (e ∷ t) c = cond (has c (flip e.lit)) (e ∷ t) (from_last t c)
 abbrev pub is_done : List Entry → List Lit → Bool
 is_done t c = cond (has_decision t) (nat_le (open_in (before_last t) c) 1) (nat_le (length c) 0)
 
--- how many atoms below a number a trail doesn't name
+-- how many atoms below a number a trail doesn't assign
 abbrev pub free : ℕ → List Entry → ℕ
 free zero t = 0
-free (suc n) t = cond (named t n) (free n t) (1 + free n t)
+free (suc n) t = cond (is_assigned t n) (free n t) (1 + free n t)

@@ -1,7 +1,7 @@
 // Trails: the literals that a search takes to be true, in the order in which it came to them.
 ghost use Rattle.std.specs.Prelude.{◌≡◌, ◌<◌, ◌≤◌, ◌+◌, true, OnOk, OnErr, IfSome, IfNone, MatchOption, false, [], ◌∷◌, ◌++◌, reverse};
 ghost use Rattle.proof_lines.specs.Clauses.{has, flip};
-ghost use Rattle.search_logs.specs.Trails.{in_trail, negated, named, is_false, is_unit, open_in, before_last, has_decision, is_done, lone};
+ghost use Rattle.search_logs.specs.Trails.{in_trail, negated, is_assigned, is_false, is_unit, open_in, before_last, has_decision, is_done, others_false};
 ghost use Rattle.search_logs.specs.Places.{place_of, ArePlaces};
 
 use crate::decisions;
@@ -148,8 +148,8 @@ impl Trail {
     }
 
     /// Whether the trail has a literal of the atom.
-    pub fn names(&self, atom: u32) -> bool
-        ensures { result ≡ named self.now atom }
+    pub fn is_assigned(&self, atom: u32) -> bool
+        ensures { result ≡ is_assigned self.now atom }
     {
         self.holds(Lit {
             atom,
@@ -184,8 +184,8 @@ impl Trail {
         lits.iter().all(|lit| self.negates(*lit))
     }
 
-    fn is_lone(&self, lits: &[Lit], lit: Lit) -> bool
-        ensures { result ≡ lone self.now lits.now lit }
+    fn others_are_false(&self, lits: &[Lit], lit: Lit) -> bool
+        ensures { result ≡ others_false self.now lits.now lit }
     {
         lits.iter().all(|x| x.same(lit) || self.negates(*x))
     }
@@ -194,7 +194,7 @@ impl Trail {
     pub fn is_unit(&self, lits: &[Lit], lit: Lit) -> bool
         ensures { result ≡ is_unit self.now lits.now lit }
     {
-        holds(lits, lit) && (self.is_lone(lits, lit) && !self.names(lit.atom))
+        holds(lits, lit) && (self.others_are_false(lits, lit) && !self.is_assigned(lit.atom))
     }
 
     /// Whether a chain is done with a clause.

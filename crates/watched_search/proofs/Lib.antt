@@ -4,7 +4,7 @@ mod Steady
 mod Visiting
 mod Following
 mod Changing
-mod Going
+mod Continuing
 mod Rows
 mod Asking
 mod Solvers

@@ -14,7 +14,7 @@ use Rattle.search_logs.specs.SearchLogs.{is_split, splits}
 use Rattle.sat_core.specs.declared.answer.Answer.{Answer}
 use Rattle.sat_core.specs.declared.answer.Answer.TheVariants.{Unsat, Sat, Lines, Rows, Range, Memory}
 use Rattle.sat_core.specs.Answers.{IsAnswer, IsEasy, IsRefuted, IsShort}
-use Rattle.watched_search.specs.Spent.{is_spent}
+use Rattle.watched_search.specs.Exhausted.{is_exhausted}
 
 -- ---- a log without a Split line
 
@@ -50,10 +50,10 @@ refuted-by split p budget ls c b w m u uneasy j =
 
 -- ---- a problem for which a budget was spent isn't easy
 
-pub spent-uneasy : (split stop : Bool) (p : PlainProblem) (budget : ℕ) (a : Answer) → IsAnswer split stop p budget a → is_spent a ≡ true → IsEasy p → ⊥
-spent-uneasy split stop p budget (Unsat log) h e = absurd cc
-spent-uneasy split stop p budget (Sat i) h e = absurd cc
-spent-uneasy split stop p budget (Lines log) h e = h.uneasy
-spent-uneasy split stop p budget (Rows x) h e = absurd cc
-spent-uneasy split stop p budget (Range x) h e = absurd cc
-spent-uneasy split stop p budget Memory h e = absurd cc
+pub exhausted-uneasy : (split stop : Bool) (p : PlainProblem) (budget : ℕ) (a : Answer) → IsAnswer split stop p budget a → is_exhausted a ≡ true → IsEasy p → ⊥
+exhausted-uneasy split stop p budget (Unsat log) h e = absurd cc
+exhausted-uneasy split stop p budget (Sat i) h e = absurd cc
+exhausted-uneasy split stop p budget (Lines log) h e = h.uneasy
+exhausted-uneasy split stop p budget (Rows x) h e = absurd cc
+exhausted-uneasy split stop p budget (Range x) h e = absurd cc
+exhausted-uneasy split stop p budget Memory h e = absurd cc

@@ -5,9 +5,9 @@ use Rattle.proof_lines.specs.declared.clause.Lit.{Lit}
 use Rattle.proof_lines.specs.Clauses.{has, same_lit, flip, lit_of}
 use Rattle.proof_lines.proofs.Sets.{same_lit-is, same_lit-refl}
 use Rattle.search_logs.specs.declared.trail.Entry.{Entry}
-use Rattle.search_logs.specs.Trails.{in_trail, negated, named, is_false, lone, is_unit, quiet, IsTrail}
-use Rattle.search_logs.proofs.Trails.{all_has, any_has, in_named, one-way}
-use Rattle.search_logs.proofs.Forcing.{named_one}
+use Rattle.search_logs.specs.Trails.{in_trail, negated, is_assigned, is_false, others_false, is_unit, quiet, IsTrail}
+use Rattle.search_logs.proofs.Trails.{all_has, any_has, in_assigned, one-way}
+use Rattle.search_logs.proofs.Forcing.{assigned_one}
 use Rattle.watched_search.specs.declared.looking.Watched.{Watched}
 use Rattle.watched_search.specs.Watches.{rests, is_open}
 
@@ -26,19 +26,19 @@ watched_not_false t c w h k o = elim (or_cases (not (negated t w.first)) (not (n
 -- what a clause has that is unit
 record Remaining (t : List Entry) (c : List Lit) : Type 0 where
   lit : Lit
-  lone : lone t c lit ≡ true
-  unnamed : named t lit.atom ≡ false
+  others_false : others_false t c lit ≡ true
+  unassigned : is_assigned t lit.atom ≡ false
 
 remaining : (t : List Entry) (c : List Lit) → list_any (is_unit t c) c ≡ true → Remaining t c
 remaining t c h =
     let r = any_has (is_unit t c) c h in
-    let p = and_parts (has c r.0) (lone t c r.0 && not (named t r.0.atom)) r.2 in
-    let q = and_parts (lone t c r.0) (not (named t r.0.atom)) p.1 in
-    record { lit = r.0; lone = q.0; unnamed = not-true (named t r.0.atom) q.1 }
+    let p = and_parts (has c r.0) (others_false t c r.0 && not (is_assigned t r.0.atom)) r.2 in
+    let q = and_parts (others_false t c r.0) (not (is_assigned t r.0.atom)) p.1 in
+    record { lit = r.0; others_false = q.0; unassigned = not-true (is_assigned t r.0.atom) q.1 }
 
 -- a literal of a unit clause that isn't false is the remaining one
 the_remaining : (t : List Entry) (c : List Lit) (l : Lit) (r : Remaining t c) → has c l ≡ true → negated t l ≡ false → l ≡ r.lit
-the_remaining t c l r h n = elim (or_cases (same_lit l r.lit) (negated t l) (all_has (λ x. same_lit x r.lit || negated t x) c l r.lone h)) [
+the_remaining t c l r h n = elim (or_cases (same_lit l r.lit) (negated t l) (all_has (λ x. same_lit x r.lit || negated t x) c l r.others_false h)) [
   | inl s ↦ same_lit-is l r.lit s
   | inr s ↦ absurd cc
 ]
@@ -46,8 +46,8 @@ the_remaining t c l r h n = elim (or_cases (same_lit l r.lit) (negated t l) (all
 no_true : (cs : List (List Lit)) (t : List Entry) (c : List Lit) (l : Lit) (r : Remaining t c) → IsTrail cs t → has c l ≡ true → in_trail t l ≡ true → ⊥
 no_true cs t c l r w h i =
     let e = the_remaining t c l r h (one-way cs t l w i) in
-    let n : named t r.lit.atom ≡ true = subst (λ (z : Lit). named t z.atom ≡ true) e (in_named t l i) in
-    let u = r.unnamed in
+    let n : is_assigned t r.lit.atom ≡ true = subst (λ (z : Lit). is_assigned t z.atom ≡ true) e (in_assigned t l i) in
+    let u = r.unassigned in
     absurd cc
 
 no_two : (t : List Entry) (c : List Lit) (a b : Lit) (r : Remaining t c) → has c a ≡ true → has c b ≡ true → negated t a ≡ false → negated t b ≡ false → same_lit a b ≡ false → ⊥
@@ -93,9 +93,9 @@ rest_quiet cs t c w g h k r = and_from (not (is_false t c)) (not (list_any (is_u
 -- LOOKING.
 
 -- a literal without its opposite that isn't true either has no value
-pub no_value : (t : List Entry) (l : Lit) → in_trail t l ≡ false → negated t l ≡ false → named t l.atom ≡ false
-no_value t l a b = false_from_ne_true (named t l.atom) (λ n. by_sign l.atom l.positive n a b)
+pub no_value : (t : List Entry) (l : Lit) → in_trail t l ≡ false → negated t l ≡ false → is_assigned t l.atom ≡ false
+no_value t l a b = false_from_ne_true (is_assigned t l.atom) (λ n. by_sign l.atom l.positive n a b)
   where
-    by_sign : (x : ℕ) (s : Bool) → named t x ≡ true → in_trail t (lit_of x s) ≡ false → in_trail t (flip (lit_of x s)) ≡ false → ⊥
-    by_sign x true n a b = elim (named_one t x n) [ inl h ↦ absurd cc | inr h ↦ absurd cc ]
-    by_sign x false n a b = elim (named_one t x n) [ inl h ↦ absurd cc | inr h ↦ absurd cc ]
+    by_sign : (x : ℕ) (s : Bool) → is_assigned t x ≡ true → in_trail t (lit_of x s) ≡ false → in_trail t (flip (lit_of x s)) ≡ false → ⊥
+    by_sign x true n a b = elim (assigned_one t x n) [ inl h ↦ absurd cc | inr h ↦ absurd cc ]
+    by_sign x false n a b = elim (assigned_one t x n) [ inl h ↦ absurd cc | inr h ↦ absurd cc ]

@@ -19,20 +19,20 @@ use Rattle.search_logs.specs.Trails.{in_trail, Settled}
 use Rattle.search_logs.specs.Forcing.{are_plain}
 use Rattle.search_logs.proofs.Taken.{farkas_taken}
 use Rattle.search_logs.proofs.Valued.{stand-of}
-use Rattle.sat_core.specs.declared.explaining.Explained.{Explained}
-use Rattle.sat_core.specs.declared.explaining.Explained.TheVariants.{Empty, Cut, Spent as SpentThere, Memory as NoMemory}
+use Rattle.sat_core.specs.declared.analyzing.Analyzed.{Analyzed}
+use Rattle.sat_core.specs.declared.analyzing.Analyzed.TheVariants.{Empty, Cut, BudgetExhausted as ExhaustedThere, Memory as NoMemory}
 use Rattle.sat_core.specs.Answers.{AreRowsOf}
-use Rattle.sat_core.specs.Searching.{Aim, InSearch, IsDrawn, IsLearned, IsRefutation}
-use Rattle.sat_core.specs.Outcomes.{outcome_of, IfGoes}
-use Rattle.sat_core.proofs.Asked.{stand-plain, given-lits, picked-in}
+use Rattle.sat_core.specs.Searching.{Aim, InSearch, IsRowAssignment, IsLearned, IsRefutation}
+use Rattle.sat_core.specs.Outcomes.{outcome_of, IfContinue}
+use Rattle.sat_core.proofs.Checked.{stand-plain, given-lits, picked-in}
 use Rattle.sat_core.proofs.Outcomes.{aim_of}
 use Rattle.watched_search.specs.declared.watches.Watches.{Watches}
 use Rattle.watched_search.specs.Watches.{AllKept}
-use Rattle.watched_search.specs.Ready.{MayGo}
+use Rattle.watched_search.specs.Ready.{MayContinue}
 use Rattle.watched_search.proofs.Changing.{jumped}
 use Rattle.watched_search.specs.Early.{AreHeld, IsClash}
 
--- Rows of a trail that names some atoms only.
+-- Rows of a trail that assigns some atoms only.
 
 -- one more literal with its row
 pub held-row : (atoms : List AtomKind) (t : List Entry) (lits : List Lit) (rows : List Row) (l : Lit) (q r : Row) → AreHeld atoms t lits rows → slice_get atoms l.atom ≡ Some (OfRow q) → in_trail t l ≡ true
@@ -44,9 +44,9 @@ held-row atoms t lits rows l q r h k i e =
       in_it = list_all-append (in_trail t) lits (l ∷ []) ∙ and_from (list_all (in_trail t) lits) (list_all (in_trail t) (l ∷ [])) h.in_it (and_from (in_trail t l) true i refl);
     }
 
--- they are drawn from the trail, whatever they leave out
-pub drawn-held : (atoms : List AtomKind) (t : List Entry) (lits : List Lit) (rows : List Row) → AreHeld atoms t lits rows → IsDrawn atoms t 0 lits rows
-drawn-held atoms t lits rows h = record { stand = h.stand; in_it = h.in_it; covers = λ x r l. absurd (omega (arith, l)) }
+-- they are rows of the trail, whatever they leave out
+pub assignment-held : (atoms : List AtomKind) (t : List Entry) (lits : List Lit) (rows : List Row) → AreHeld atoms t lits rows → IsRowAssignment atoms t 0 lits rows
+assignment-held atoms t lits rows h = record { stand = h.stand; in_it = h.in_it; covers = λ x r l. absurd (omega (arith, l)) }
 
 -- rows in conflict are a clash of their literals
 pub clash-so : (q : PlainProblem) (t : List Entry) (lits : List Lit) (rows : List Row) (used : List ℕ) (used2 : List Lit) (steps : List RowStep) → AreHeld q.atoms t lits rows → IsConflict rows used steps → used2 ≡ map (lit_at lits) used → IsClash q t used2 steps
@@ -79,8 +79,8 @@ takes-grown split takes p budget q t ls all some x lits rows o b = by_case split
     by_case true h = all h rows q.ints b
     by_case false h = subst (λ (n : ℕ). takes rows n) (sym x.keeps.ints) (some h lits rows (subst (λ (z : List AtomKind). AreRowsOf z lits rows) (x.keeps.unsplit h) o))
 
-pub learned-go : (e : Explained) (budget : ℕ) (q : PlainProblem) (t : List Entry) (ls : List Line) (r : PlainProblem) (u : List Entry) (ms : List Line) (a : Aim) (w : Watches) → InSearch a budget q t ls → AllKept q.clauses t w → IsLearned e budget q t ls r u ms → IfGoes (outcome_of e) (MayGo r.clauses u w)
-learned-go Empty budget q t ls r u ms a w x k h = tt
-learned-go Cut budget q t ls r u ms a w x k h = let y = h a x in (y.0.keeps.few_clauses, jumped q.clauses t r.clauses u w k y.2)
-learned-go SpentThere budget q t ls r u ms a w x k h = tt
-learned-go NoMemory budget q t ls r u ms a w x k h = tt
+pub learned-continue : (e : Analyzed) (budget : ℕ) (q : PlainProblem) (t : List Entry) (ls : List Line) (r : PlainProblem) (u : List Entry) (ms : List Line) (a : Aim) (w : Watches) → InSearch a budget q t ls → AllKept q.clauses t w → IsLearned e budget q t ls r u ms → IfContinue (outcome_of e) (MayContinue r.clauses u w)
+learned-continue Empty budget q t ls r u ms a w x k h = tt
+learned-continue Cut budget q t ls r u ms a w x k h = let y = h a x in (y.0.keeps.few_clauses, jumped q.clauses t r.clauses u w k y.2)
+learned-continue ExhaustedThere budget q t ls r u ms a w x k h = tt
+learned-continue NoMemory budget q t ls r u ms a w x k h = tt

@@ -5,7 +5,7 @@ use Rattle.proof_lines.specs.declared.clause.Lit.{Lit}
 use Rattle.proof_lines.specs.Clauses.{has, same_lit, flip, distinct}
 use Rattle.proof_lines.proofs.Sets.{same_lit-is, same_lit-refl}
 use Rattle.search_logs.specs.declared.trail.Entry.{Entry}
-use Rattle.search_logs.specs.Trails.{in_trail, negated, named, is_false, lone, is_unit, after, before_last, has_decision, open_in}
+use Rattle.search_logs.specs.Trails.{in_trail, negated, is_assigned, is_false, others_false, is_unit, after, before_last, has_decision, open_in}
 use Rattle.search_logs.proofs.Trails.{all_has, has_all, open_two}
 use Rattle.sat_core.specs.Searching.{IsBefore}
 use Rattle.sat_core.proofs.Backjumps.{before-last, before-in, before-decided}
@@ -80,22 +80,22 @@ or_last : (a b : Bool) → (a || b) ≡ true → a ≡ false → b ≡ true
 or_last a b p q = grind arith
 
 -- where all others are false before the last decision, there is none
-pub steady-lone : (t : List Entry) (c : List Lit) (a b : Lit) → distinct c ≡ true → (has_decision t ≡ true → 2 ≤ open_in (before_last t) c) → lone (before_last t) c a ≡ true → IsSteady t (record { first = a; second = b })
-steady-lone t c a b d wide h u k = absurd (
+pub steady-others : (t : List Entry) (c : List Lit) (a b : Lit) → distinct c ≡ true → (has_decision t ≡ true → 2 ≤ open_in (before_last t) c) → others_false (before_last t) c a ≡ true → IsSteady t (record { first = a; second = b })
+steady-others t c a b d wide h u k = absurd (
     let w = open_two (before_last t) c a d (wide (before-decided u t k)) in
     let s = all_has (λ x. same_lit x a || negated (before_last t) x) c w.lit h w.held in
     let n = or_last (same_lit w.lit a) (negated (before_last t) w.lit) s w.other in
     let o = w.still in cc)
 
 -- a clause whose literals but one are false
-pub false-lone : (t : List Entry) (c : List Lit) (l : Lit) → lone t c l ≡ true → negated t l ≡ true → is_false t c ≡ true
-false-lone t c l h n = has_all (negated t) c (λ x k. elim (or_cases (same_lit x l) (negated t x) (all_has (λ y. same_lit y l || negated t y) c x h k)) [
+pub false-others : (t : List Entry) (c : List Lit) (l : Lit) → others_false t c l ≡ true → negated t l ≡ true → is_false t c ≡ true
+false-others t c l h n = has_all (negated t) c (λ x k. elim (or_cases (same_lit x l) (negated t x) (all_has (λ y. same_lit y l || negated t y) c x h k)) [
   | inl s ↦ subst (λ (z : Lit). negated t z ≡ true) (sym (same_lit-is x l s)) n
   | inr r ↦ r
 ])
 
-pub unit-lone : (t : List Entry) (c : List Lit) (l : Lit) → has c l ≡ true → lone t c l ≡ true → in_trail t l ≡ false → negated t l ≡ false → is_unit t c l ≡ true
-unit-lone t c l h k a b = and_from (has c l) (lone t c l && not (named t l.atom)) h (and_from (lone t c l) (not (named t l.atom)) k (not_from_false (named t l.atom) (no_value t l a b)))
+pub unit-others : (t : List Entry) (c : List Lit) (l : Lit) → has c l ≡ true → others_false t c l ≡ true → in_trail t l ≡ false → negated t l ≡ false → is_unit t c l ≡ true
+unit-others t c l h k a b = and_from (has c l) (others_false t c l && not (is_assigned t l.atom)) h (and_from (others_false t c l) (not (is_assigned t l.atom)) k (not_from_false (is_assigned t l.atom) (no_value t l a b)))
 
 -- NEW LITERALS TO WATCH.
 
@@ -110,11 +110,11 @@ two_open t x y e n m = rest_from t (record { first = x; second = y }) (both_open
 pub restless : (t : List Entry) (w : Watched) → rests t w ≡ false → (in_trail t w.first ≡ false) × (in_trail t w.second ≡ false)
 restless t w h = let p = or_parts (in_trail t w.first) _ h in (p.0, (or_parts (in_trail t w.second) _ p.1).0)
 
-pub unit_first : (t : List Entry) (c : List Lit) (w : Watched) → has c w.first ≡ true → lone t c w.first ≡ true → rests t w ≡ false → negated t w.first ≡ false → (is_unit t c w.first ≡ true) × (is_open t w ≡ true)
-unit_first t c w h l r n = (unit-lone t c w.first h l (restless t w r).0 n, or_left (not (negated t w.first)) (not (negated t w.second)) (not_from_false (negated t w.first) n))
+pub unit_first : (t : List Entry) (c : List Lit) (w : Watched) → has c w.first ≡ true → others_false t c w.first ≡ true → rests t w ≡ false → negated t w.first ≡ false → (is_unit t c w.first ≡ true) × (is_open t w ≡ true)
+unit_first t c w h l r n = (unit-others t c w.first h l (restless t w r).0 n, or_left (not (negated t w.first)) (not (negated t w.second)) (not_from_false (negated t w.first) n))
 
-pub unit_second : (t : List Entry) (c : List Lit) (w : Watched) → has c w.second ≡ true → lone t c w.second ≡ true → in_trail t w.second ≡ false → negated t w.second ≡ false → (is_unit t c w.second ≡ true) × (is_open t w ≡ true)
-unit_second t c w h l r n = (unit-lone t c w.second h l r n, or_right (not (negated t w.first)) (not (negated t w.second)) (not_from_false (negated t w.second) n))
+pub unit_second : (t : List Entry) (c : List Lit) (w : Watched) → has c w.second ≡ true → others_false t c w.second ≡ true → in_trail t w.second ≡ false → negated t w.second ≡ false → (is_unit t c w.second ≡ true) × (is_open t w ≡ true)
+unit_second t c w h l r n = (unit-others t c w.second h l r n, or_right (not (negated t w.first)) (not (negated t w.second)) (not_from_false (negated t w.second) n))
 
 -- one literal, counted
 pub open-one : (t : List Entry) (l : Lit) → (open_in t (l ∷ []) == 1) ≡ not (negated t l)

@@ -2,4 +2,4 @@ pub mod Watches
 pub mod Ready
 pub mod Early
 pub mod Reduced
-pub mod Spent
+pub mod Exhausted

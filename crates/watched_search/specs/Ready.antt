@@ -40,5 +40,5 @@ pub record IsMet (budget : ℕ) (q : PlainProblem) (t : List Entry) (ls : List L
   pub whole : chain.start ≡ q.clauses
 
 -- a search may go on
-abbrev pub MayGo : List (List Lit) → List Entry → Watches → Type 0
-MayGo cs t w = (length cs < 2 ^ 32) × IsResumed cs t w
+abbrev pub MayContinue : List (List Lit) → List Entry → Watches → Type 0
+MayContinue cs t w = (length cs < 2 ^ 32) × IsResumed cs t w

@@ -15,7 +15,7 @@ use guided_ints::tested;
 use items::Items;
 use lin_rows::Row;
 use proof_lines::{AtomKind, Lit, Problem, RowStep};
-use sat_core::drawing::{Drawn, pick, row_of_sign};
+use sat_core::row_assignments::{RowAssignment, pick, row_of_sign};
 use search_logs::Trail;
 use std::alloc::{AllocError, Global};
 use theory_api::{Theory, TheoryAnswer};
@@ -39,15 +39,15 @@ pub enum Said {
 }
 
 // Adds a literal and its row, where the trail has the literal and its atom stands for a row.
-fn draw_lit(
+fn assign_lit(
     alloc: Global,
     problem: &Problem,
     trail: &Trail,
-    drawn: &mut Drawn,
+    assignment: &mut RowAssignment,
     lit: Lit,
 ) -> Result<(), AllocError>
-    requires { AreHeld problem.now.atoms trail.now drawn.old.lits drawn.old.rows }
-    ensures { OnOk result (AreHeld problem.now.atoms trail.now drawn.new.lits drawn.new.rows) }
+    requires { AreHeld problem.now.atoms trail.now assignment.old.lits assignment.old.rows }
+    ensures { OnOk result (AreHeld problem.now.atoms trail.now assignment.new.lits assignment.new.rows) }
 {
     if !trail.holds(lit) {
         return Ok(());
@@ -55,30 +55,30 @@ fn draw_lit(
     match problem.atoms.get(lit.atom as usize) {
         Some(AtomKind::Row(row)) => {
             let row = row_of_sign(alloc, row, lit.positive)?;
-            or_drop!(drawn.lits.push(lit); row);
-            drawn.rows.push(row)
+            or_drop!(assignment.lits.push(lit); row);
+            assignment.rows.push(row)
         }
         _ => Ok(()),
     }
 }
 
 // Those of some literals that a trail has and whose atoms stand for rows, and their rows.
-fn draw_held(
+fn held_assignment(
     alloc: Global,
     problem: &Problem,
     trail: &Trail,
     lits: &[Lit],
-) -> Result<Drawn, AllocError>
+) -> Result<RowAssignment, AllocError>
     ensures { IfOk result (λ d. AreHeld problem.now.atoms trail.now d.lits d.rows) }
 {
-    let mut drawn = Drawn {
+    let mut assignment = RowAssignment {
         lits: Items::new(alloc),
         rows: Items::new(alloc),
     };
     for lit in lits {
-        draw_lit(alloc, problem, trail, &mut drawn, *lit)?;
+        assign_lit(alloc, problem, trail, &mut assignment, *lit)?;
     }
-    Ok(drawn)
+    Ok(assignment)
 }
 
 // Asks about rows: a solver that may stop only where all atoms have values, and else the guide in place of it.
@@ -112,33 +112,39 @@ pub(crate) fn ask_rows<T: Theory>(
     ensures { IfOk result (λ said. IsSaid said problem.now trail.now) }
 {
     problem.law_fits();
-    let drawn = draw_held(alloc, problem, trail, lits)?;
-    let Some(answer) = answer_of(alloc, theory, drawn.rows.as_slice(), problem.ints, early) else {
-        drop(drawn);
+    let assignment = held_assignment(alloc, problem, trail, lits)?;
+    let Some(answer) = answer_of(
+        alloc,
+        theory,
+        assignment.rows.as_slice(),
+        problem.ints,
+        early,
+    ) else {
+        drop(assignment);
         return Ok(Said::Nothing);
     };
     match answer {
         TheoryAnswer::Model(numbers) => {
-            drop(drawn);
+            drop(assignment);
             Ok(Said::Model(numbers))
         }
         TheoryAnswer::Conflict { used, steps } => {
             let picked =
-                or_drop!(pick(alloc, drawn.lits.as_slice(), used.as_slice()); used, steps, drawn);
+                or_drop!(pick(alloc, assignment.lits.as_slice(), used.as_slice()); used, steps, assignment);
             drop(used);
-            drop(drawn);
+            drop(assignment);
             Ok(Said::Clash(Clash {
                 used: picked,
                 steps,
             }))
         }
         TheoryAnswer::Memory => {
-            drop(drawn);
+            drop(assignment);
             Err(AllocError)
         }
         other => {
             drop(other);
-            drop(drawn);
+            drop(assignment);
             Ok(Said::Nothing)
         }
     }

@@ -1,11 +1,11 @@
 // What helps a search to decide well. Nothing is promised of it but that what it names has no value.
 ghost use Rattle.std.specs.Prelude.{◌≡◌, ◌<◌, ◌^◌, ℕ, true, false, length, MatchOption, IfSome};
-ghost use Rattle.search_logs.specs.Trails.{named};
+ghost use Rattle.search_logs.specs.Trails.{is_assigned};
 
 use crate::row_hints::RowHints;
 use decision_queue::{DecisionQueue, Order};
 use proof_lines::{AtomKind, Lit, Problem};
-use sat_core::finding::unnamed;
+use sat_core::finding::unassigned;
 use search_logs::Trail;
 use std::alloc::{AllocError, Global};
 use std::cmp::min;
@@ -31,11 +31,11 @@ fn is_plain(problem: &Problem, atom: u32) -> bool {
 
 // The first atom of a queue that has no value. Those before it are taken out.
 fn first_unassigned(queue: &mut DecisionQueue, trail: &Trail, atoms: u32) -> Option<u32>
-    ensures { IfSome result (λ a. (a < atoms) × (named trail.now a ≡ false)) }
+    ensures { IfSome result (λ a. (a < atoms) × (is_assigned trail.now a ≡ false)) }
 {
     for _ in 0..atoms {
         let atom = queue.first()?;
-        if atom < atoms && !trail.names(atom) {
+        if atom < atoms && !trail.is_assigned(atom) {
             return Some(atom);
         }
         queue.remove_first();
@@ -85,7 +85,7 @@ impl Hints {
     // Puts the atoms that the trail has no more among those that may have no value.
     fn reopen(&mut self, problem: &Problem, trail: &Trail) -> Result<(), AllocError> {
         while let Some(atom) = self.assigned.pop() {
-            if trail.names(atom) {
+            if trail.is_assigned(atom) {
                 self.assigned.push(atom)?;
                 return Ok(());
             }
@@ -129,11 +129,11 @@ impl Hints {
 
     /// An atom that has no value: a plain one, as long as there is one.
     pub(crate) fn undecided(&mut self, trail: &Trail, atoms: u32) -> Option<u32>
-        ensures { MatchOption result ((a : ℕ) → a < atoms → named trail.now a ≡ true) (λ a. (a < atoms) × (named trail.now a ≡ false)) }
+        ensures { MatchOption result ((a : ℕ) → a < atoms → is_assigned trail.now a ≡ true) (λ a. (a < atoms) × (is_assigned trail.now a ≡ false)) }
     {
         match first_unassigned(&mut self.queue, trail, atoms) {
             Some(atom) => Some(atom),
-            None => unnamed(trail, atoms),
+            None => unassigned(trail, atoms),
         }
     }
 

@@ -51,7 +51,7 @@
 //
 // Definitions, in the order in which a reader needs them: specs/Watches (clauses at rest, what is watched), specs/Ready (where the
 // watched literals stand between the steps of a search), specs/Early (what is known of the rows that are asked about early), specs/Reduced (what an implicant says),
-// specs/Spent (when another order of decisions is tried).
+// specs/Exhausted (when another order of decisions is tried).
 #![tactic(auto)]
 
 /// The value of a call; where it fails, lets go of these values and ends with its error. Values that are let go by name are let go

@@ -1,7 +1,7 @@
 // What a clause is under a trail, and which of its literals it is to watch.
 ghost use Rattle.std.specs.Prelude.{◌≡◌, ◌≤◌, ◌⊎◌, not, true, false, MatchOption};
 ghost use Rattle.proof_lines.specs.Clauses.{has, same_lit, distinct};
-ghost use Rattle.search_logs.specs.Trails.{in_trail, negated, is_false, lone, before_last, has_decision, open_in};
+ghost use Rattle.search_logs.specs.Trails.{in_trail, negated, is_false, others_false, before_last, has_decision, open_in};
 ghost use Rattle.watched_search.specs.Watches.{rests, turned, IsSteady, IsLook};
 
 use proof_lines::Lit;
@@ -59,7 +59,7 @@ fn open_in(trail: &Trail, lits: &[Lit]) -> Option<Lit>
 
 // Another literal that isn't false.
 fn open_beside(trail: &Trail, lits: &[Lit], one: Lit) -> Option<Lit>
-    ensures { MatchOption result (lone trail.now lits.now one ≡ true) (λ l. (has lits.now l ≡ true) × (negated trail.now l ≡ false) × (same_lit l one ≡ false)) }
+    ensures { MatchOption result (others_false trail.now lits.now one ≡ true) (λ l. (has lits.now l ≡ true) × (negated trail.now l ≡ false) × (same_lit l one ≡ false)) }
 {
     for lit in lits {
         if !lit.same(one) && !trail.negates(*lit) {
@@ -78,7 +78,7 @@ fn is_open_before(trail: &Trail, lit: Lit) -> bool
 
 // Another literal that isn't false before the last decision.
 fn open_before_beside(trail: &Trail, lits: &[Lit], one: Lit) -> Option<Lit>
-    ensures { MatchOption result (lone (before_last trail.now) lits.now one ≡ true) (λ l. (has lits.now l ≡ true) × (negated (before_last trail.now) l ≡ false) × (same_lit l one ≡ false)) }
+    ensures { MatchOption result (others_false (before_last trail.now) lits.now one ≡ true) (λ l. (has lits.now l ≡ true) × (negated (before_last trail.now) l ≡ false) × (same_lit l one ≡ false)) }
 {
     for lit in lits {
         if !lit.same(one) && is_open_before(trail, *lit) {

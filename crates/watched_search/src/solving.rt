@@ -5,16 +5,16 @@ ghost use Rattle.lin_rows.specs.Rows.{Row as PlainRow};
 ghost use Rattle.proof_lines.specs.declared.clause.Lit.{Lit as PlainLit};
 ghost use Rattle.proof_lines.specs.Clauses.{is_empty};
 ghost use Rattle.proof_lines.specs.Problems.{PlainProblem};
-ghost use Rattle.search_logs.specs.Trails.{named, Settled};
-ghost use Rattle.sat_core.specs.declared.asking.Outcome.TheVariants.{Memory};
+ghost use Rattle.search_logs.specs.Trails.{is_assigned, Settled};
+ghost use Rattle.sat_core.specs.declared.checking.Outcome.TheVariants.{Memory};
 ghost use Rattle.sat_core.specs.Answers.{AreRowsOf, IsAnswer, ShowsNone};
 ghost use Rattle.theory_api.specs.Laws.{all_below};
 ghost use Rattle.sat_core.specs.Searching.{InSearch, InChain, IsRefutation};
-ghost use Rattle.sat_core.specs.Outcomes.{IsOutcome, IsPushed, IfGoes};
+ghost use Rattle.sat_core.specs.Outcomes.{IsOutcome, IsPushed, IfContinue};
 ghost use Rattle.watched_search.specs.Watches.{AllKept, AreAtRest};
-ghost use Rattle.watched_search.specs.Ready.{IsReady, IsMet, MayPush, MayGo};
+ghost use Rattle.watched_search.specs.Ready.{IsReady, IsMet, MayPush, MayContinue};
 ghost use Rattle.watched_search.specs.Early.{IsClash};
-ghost use Rattle.watched_search.specs.Spent.{is_spent};
+ghost use Rattle.watched_search.specs.Exhausted.{is_exhausted};
 
 use crate::early::{Clash, Said, ask_rows};
 use crate::hints::Hints;
@@ -26,11 +26,11 @@ use decision_queue::Order;
 use items::Items;
 use proof_lines::problem::law_rows;
 use proof_lines::{Line, Lit, Problem, RangeEvidence, RowsEvidence};
-use sat_core::Answer;
-use sat_core::asking::{Outcome, ask, refute};
-use sat_core::explaining::explain;
+use sat_core::analyzing::analyze;
+use sat_core::checking::{Outcome, refute};
 use sat_core::finding::Found;
 use sat_core::growing::atom_count;
+use sat_core::{Answer, checking};
 use search_logs::{Entry, Trail};
 use std::alloc::{AllocError, Global};
 use theory_api::Theory;
@@ -57,7 +57,7 @@ fn assign(
     requires few { length problem.now.clauses < 2 ^ 32 }
     requires watched { MayPush reason problem.now.clauses trail.old state.old.index.watches }
     ensures pushed { IsPushed result trail.old lit reason trail.new }
-    ensures ready { IfGoes result (IsReady problem.now.clauses trail.new state.new.index) }
+    ensures ready { IfContinue result (IsReady problem.now.clauses trail.new state.new.index) }
 {
     if state.hints.note(problem, lit).is_err() {
         return Outcome::Memory;
@@ -66,12 +66,12 @@ fn assign(
         .index
         .push(alloc, problem, trail, Entry { lit, reason })
     {
-        Ok(()) => Outcome::Goes,
+        Ok(()) => Outcome::Continue,
         Err(_) => Outcome::Memory,
     }
 }
 
-// Where the search goes on, lets the further clauses watch: the trail was cut, or there are more atoms.
+// Where the search continues, lets the further clauses watch: the trail was cut, or there are more atoms.
 fn resume(
     alloc: Global,
     problem: &Problem,
@@ -79,17 +79,17 @@ fn resume(
     state: &mut SearchState,
     outcome: Outcome,
 ) -> Outcome
-    requires may_go { IfGoes outcome (MayGo problem.now.clauses trail.now state.old.index.watches) }
+    requires may_continue { IfContinue outcome (MayContinue problem.now.clauses trail.now state.old.index.watches) }
     ensures same { (result ≡ outcome) ⊎ (result ≡ Memory) }
-    ensures ready { IfGoes result (IsReady problem.now.clauses trail.now state.new.index) }
+    ensures ready { IfContinue result (IsReady problem.now.clauses trail.now state.new.index) }
 {
     match outcome {
-        Outcome::Goes => {
+        Outcome::Continue => {
             let Ok(()) = state.hints.cut(problem, trail) else {
                 return Outcome::Memory;
             };
             match state.index.resume(alloc, problem, trail) {
-                Ok(()) => Outcome::Goes,
+                Ok(()) => Outcome::Continue,
                 Err(_) => Outcome::Memory,
             }
         }
@@ -97,7 +97,7 @@ fn resume(
     }
 }
 
-// Explains why a clause is false.
+// Analyzes why a clause is false.
 fn analyze_conflict(
     alloc: Global,
     grown: &mut Problem,
@@ -110,13 +110,13 @@ fn analyze_conflict(
     requires chain { IsMet budget grown.old trail.old log.old start }
     requires kept { AllKept grown.old.clauses trail.old state.old.index.watches }
     ensures outcome { (split stop : Bool) (p : PlainProblem) → InChain (record { problem = p; split = split }) budget (length log.old) grown.old trail.old log.old start → IsOutcome result split stop p budget grown.old trail.old log.old grown.new trail.new log.new }
-    ensures ready { IfGoes result (IsReady grown.new.clauses trail.new state.new.index) }
+    ensures ready { IfContinue result (IsReady grown.new.clauses trail.new state.new.index) }
 {
-    let outcome = explain(alloc, grown, trail, log, start, budget).outcome();
+    let outcome = analyze(alloc, grown, trail, log, start, budget).outcome();
     resume(alloc, grown, trail, state, outcome)
 }
 
-// Asks the solver about the rows of a trail that may name some atoms only, where that is due. Rows in conflict are answered.
+// Asks the solver about the rows of a trail that may assign some atoms only, where that is due. Rows in conflict are answered.
 fn theory_propagate<T: Theory>(
     alloc: Global,
     theory: &mut T,
@@ -154,7 +154,7 @@ fn analyze_theory_conflict(
     requires refutation { IsRefutation budget grown.old trail.old log.old clash.used clash.steps }
     requires kept { AllKept grown.old.clauses trail.old state.old.index.watches }
     ensures outcome { (split stop : Bool) (p : PlainProblem) → InSearch (record { problem = p; split = split }) budget grown.old trail.old log.old → IsOutcome result split stop p budget grown.old trail.old log.old grown.new trail.new log.new }
-    ensures ready { IfGoes result (IsReady grown.new.clauses trail.new state.new.index) }
+    ensures ready { IfContinue result (IsReady grown.new.clauses trail.new state.new.index) }
 {
     let Clash { used, steps } = clash;
     let outcome = refute(alloc, grown, trail, log, used, steps, budget).outcome();
@@ -174,14 +174,14 @@ fn check_trail<T: Theory>(
 ) -> Outcome
     requires search { InSearch (record { problem = problem.now; split = T.MAY_SPLIT }) budget grown.old trail.old log.old }
     requires settled { Settled trail.old grown.old.clauses }
-    requires named { (a : ℕ) → a < length grown.old.atoms → named trail.old a ≡ true }
+    requires assigned { (a : ℕ) → a < length grown.old.atoms → is_assigned trail.old a ≡ true }
     requires kept { AllKept grown.old.clauses trail.old state.old.index.watches }
     requires rest { AreAtRest (length grown.old.clauses) trail.old state.old.index.watches }
     requires taken { T.MAY_SPLIT ≡ false → (lits : List PlainLit) (rows : List PlainRow) → AreRowsOf problem.now.atoms lits rows → T.takes rows problem.now.ints }
     ensures outcome { IsOutcome result T.MAY_SPLIT T.MAY_STOP problem.now budget grown.old trail.old log.old grown.new trail.new log.new }
-    ensures ready { IfGoes result (IsReady grown.new.clauses trail.new state.new.index) }
+    ensures ready { IfContinue result (IsReady grown.new.clauses trail.new state.new.index) }
 {
-    match ask(alloc, theory, problem, grown, trail, log, budget) {
+    match checking::final_check(alloc, theory, problem, grown, trail, log, budget) {
         Ok(outcome) => resume(alloc, grown, trail, state, outcome),
         Err(_) => Outcome::Memory,
     }
@@ -200,12 +200,12 @@ fn final_check<T: Theory>(
 ) -> Outcome
     requires search { InSearch (record { problem = problem.now; split = T.MAY_SPLIT }) budget grown.old trail.old log.old }
     requires settled { Settled trail.old grown.old.clauses }
-    requires named { (a : ℕ) → a < length grown.old.atoms → named trail.old a ≡ true }
+    requires assigned { (a : ℕ) → a < length grown.old.atoms → is_assigned trail.old a ≡ true }
     requires kept { AllKept grown.old.clauses trail.old state.old.index.watches }
     requires rest { AreAtRest (length grown.old.clauses) trail.old state.old.index.watches }
     requires taken { T.MAY_SPLIT ≡ false → (lits : List PlainLit) (rows : List PlainRow) → AreRowsOf problem.now.atoms lits rows → T.takes rows problem.now.ints }
     ensures outcome { IsOutcome result T.MAY_SPLIT T.MAY_STOP problem.now budget grown.old trail.old log.old grown.new trail.new log.new }
-    ensures ready { IfGoes result (IsReady grown.new.clauses trail.new state.new.index) }
+    ensures ready { IfContinue result (IsReady grown.new.clauses trail.new state.new.index) }
 {
     let lits = state.hints.rows.lits.as_slice();
     let Ok(reduced) = ask_reduced(alloc, theory, problem, grown, trail, lits) else {
@@ -220,7 +220,7 @@ fn final_check<T: Theory>(
     }
 }
 
-// One step: a conflict is explained at once; then what is forced is taken to be true. Where neither is left to do, the solver of rows
+// One step: a conflict is analyzed at once; then what is forced is taken to be true. Where neither is left to do, the solver of rows
 // is asked, if rows were added that its last numbers don't satisfy, and then an atom is decided; where all atoms have values, the
 // solver is asked in any case.
 fn advance<T: Theory>(
@@ -237,7 +237,7 @@ fn advance<T: Theory>(
     requires ready { IsReady grown.old.clauses trail.old state.old.index }
     requires taken { T.MAY_SPLIT ≡ false → (lits : List PlainLit) (rows : List PlainRow) → AreRowsOf problem.now.atoms lits rows → T.takes rows problem.now.ints }
     ensures outcome { IsOutcome result T.MAY_SPLIT T.MAY_STOP problem.now budget grown.old trail.old log.old grown.new trail.new log.new }
-    ensures ready { IfGoes result (IsReady grown.new.clauses trail.new state.new.index) }
+    ensures ready { IfContinue result (IsReady grown.new.clauses trail.new state.new.index) }
 {
     let Ok(found) = state.index.find(alloc, grown, trail) else {
         return Outcome::Memory;
@@ -293,10 +293,10 @@ fn search_on<T: Theory>(
         match advance(
             alloc, theory, problem, grown, trail, &mut log, state, budget,
         ) {
-            Outcome::Goes => {}
+            Outcome::Continue => {}
             Outcome::Refuted => return Answer::Unsat(log),
             Outcome::Found(interpretation) => return Answer::Sat(interpretation),
-            Outcome::Spent => return Answer::Lines(log),
+            Outcome::BudgetExhausted => return Answer::Lines(log),
             Outcome::Rows { used, steps } => {
                 return Answer::Rows(RowsEvidence { log, used, steps });
             }
@@ -356,8 +356,8 @@ fn few_of(budget: u32) -> u32
 }
 
 // Whether the budget of lines was spent.
-fn is_spent(answer: &Answer) -> bool
-    ensures { result ≡ is_spent answer.now }
+fn is_exhausted(answer: &Answer) -> bool
+    ensures { result ≡ is_exhausted answer.now }
 {
     match answer {
         Answer::Lines(_) => true,
@@ -378,7 +378,7 @@ fn search_in_both<T: Theory>(
     ensures { IsAnswer T.MAY_SPLIT T.MAY_STOP problem.now budget result }
 {
     let answer = search_in(alloc, problem, theory, Order::Activity, budget);
-    if !is_spent(&answer) || budget <= FEW {
+    if !is_exhausted(&answer) || budget <= FEW {
         return answer;
     }
     drop(answer);
@@ -395,7 +395,7 @@ fn search<T: Theory>(alloc: Global, problem: &Problem, theory: &mut T, budget: u
         return Answer::Unsat(Items::new(alloc));
     }
     let answer = search_in(alloc, problem, theory, Order::Number, few_of(budget));
-    if !is_spent(&answer) {
+    if !is_exhausted(&answer) {
         return answer;
     }
     drop(answer);

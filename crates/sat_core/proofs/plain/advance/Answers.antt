@@ -1,13 +1,13 @@
 use Rattle.std.proofs.Common.{◌≡◌, ℕ, ◌<◌, true, length, Some, None, sym, subst}
 use Rattle.proof_lines.specs.Clauses.{lit_of}
-use Rattle.sat_core.specs.declared.asking.Outcome.{Outcome}
+use Rattle.sat_core.specs.declared.checking.Outcome.{Outcome}
 use Rattle.sat_core.specs.Outcomes.{IsOutcome}
 use Rattle.sat_core.proofs.Resolving.{chain_begins}
-use Rattle.sat_core.proofs.Outcomes.{aim_of, explained-outcome, pushed-outcome, forced-step}
+use Rattle.sat_core.proofs.Outcomes.{aim_of, analyzed-outcome, pushed-outcome, forced-step}
 use Rattle.sat_core.proofs.plain.advance.Goals as goal
 
-pub explain-requires : goal.explain-requires
-explain-requires g c =
+pub analyze-requires : goal.analyze-requires
+analyze-requires g c =
     let h = c.in-Conflict.ensures in
     record {
       aim = aim_of c.args.problem.now g.T.Theory.MAY_SPLIT;
@@ -18,9 +18,9 @@ explain-requires g c =
 pub returns-in-Conflict : goal.returns-in-Conflict
 returns-in-Conflict g c =
     let h = c.in-Conflict.ensures in
-    subst (λ (z : Outcome). IsOutcome z g.T.Theory.MAY_SPLIT g.T.Theory.MAY_STOP c.args.problem.now c.args.budget c.args.grown.now c.args.trail.now c.args.log.now c.explain.new.problem c.explain.new.trail c.explain.new.log) (sym c.outcome.ensures)
-    (explained-outcome c.explain.result g.T.Theory.MAY_SPLIT g.T.Theory.MAY_STOP c.args.problem.now c.args.budget c.args.grown.now c.args.trail.now c.args.log.now c.in-Conflict.start c.explain.new.problem c.explain.new.trail c.explain.new.log
-    (chain_begins (aim_of c.args.problem.now g.T.Theory.MAY_SPLIT) c.args.budget c.args.grown.now c.args.trail.now c.args.log.now c.in-Conflict.start c.requires.search h.0 h.1 h.2) c.explain.ensures)
+    subst (λ (z : Outcome). IsOutcome z g.T.Theory.MAY_SPLIT g.T.Theory.MAY_STOP c.args.problem.now c.args.budget c.args.grown.now c.args.trail.now c.args.log.now c.analyze.new.problem c.analyze.new.trail c.analyze.new.log) (sym c.outcome.ensures)
+    (analyzed-outcome c.analyze.result g.T.Theory.MAY_SPLIT g.T.Theory.MAY_STOP c.args.problem.now c.args.budget c.args.grown.now c.args.trail.now c.args.log.now c.in-Conflict.start c.analyze.new.problem c.analyze.new.trail c.analyze.new.log
+    (chain_begins (aim_of c.args.problem.now g.T.Theory.MAY_SPLIT) c.args.budget c.args.grown.now c.args.trail.now c.args.log.now c.in-Conflict.start c.requires.search h.0 h.1 h.2) c.analyze.ensures)
 
 pub returns-in-Forced : goal.returns-in-Forced
 returns-in-Forced g c =

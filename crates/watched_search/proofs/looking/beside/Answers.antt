@@ -1,5 +1,5 @@
 use Rattle.proof_lines.specs.Clauses.{flip}
-use Rattle.watched_search.proofs.Steady.{apart-turned, out-last, steady-apart, steady-lone}
+use Rattle.watched_search.proofs.Steady.{apart-turned, out-last, steady-apart, steady-others}
 use Rattle.watched_search.proofs.looking.beside.Goals as goal
 
 pub returns-in-Some-clause-steady : goal.returns-in-Some-clause-steady
@@ -15,4 +15,4 @@ returns-in-Some-open_before_beside-clause-steady c =
     steady-apart t c.args.one c.in-Some-open_before_beside.other (apart-turned c.in-Some-open_before_beside.other c.args.one e.2) (out-last t (flip c.args.one) c.requires.open) e.1
 
 pub returns-in-None-clause-steady : goal.returns-in-None-clause-steady
-returns-in-None-clause-steady c = steady-lone c.args.trail.now c.args.lits.now c.args.one c.args.one c.requires.set c.requires.wide c.in-None.ensures
+returns-in-None-clause-steady c = steady-others c.args.trail.now c.args.lits.now c.args.one c.args.one c.requires.set c.requires.wide c.in-None.ensures

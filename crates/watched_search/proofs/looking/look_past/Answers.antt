@@ -1,9 +1,9 @@
 use Rattle.std.proofs.Common.{sym, ◌∙◌}
-use Rattle.watched_search.proofs.Steady.{steady-moved, steady-both, two_open, false-lone, unit_first, unit_second}
+use Rattle.watched_search.proofs.Steady.{steady-moved, steady-both, two_open, false-others, unit_first, unit_second}
 use Rattle.watched_search.proofs.looking.look_past.Goals as goal
 
 pub returns-then-negates-clause-look : goal.returns-then-negates-clause-look
-returns-then-negates-clause-look c = false-lone c.args.trail.now c.args.lits.now c.args.pair.second c.in_default.ensures (sym c.negates.ensures ∙ c.if-negates.true)
+returns-then-negates-clause-look c = false-others c.args.trail.now c.args.lits.now c.args.pair.second c.in_default.ensures (sym c.negates.ensures ∙ c.if-negates.true)
 
 pub returns-in_default-clause-look : goal.returns-in_default-clause-look
 returns-in_default-clause-look c = unit_second c.args.trail.now c.args.lits.now c.args.pair c.requires.second c.in_default.ensures c.requires.second_not_true (sym c.negates.ensures ∙ c.if-negates.false)

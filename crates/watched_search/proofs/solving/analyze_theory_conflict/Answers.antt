@@ -1,16 +1,16 @@
 use Rattle.std.proofs.Common.{sym, subst}
-use Rattle.sat_core.specs.declared.asking.Outcome.{Outcome}
-use Rattle.sat_core.specs.Outcomes.{IsOutcome, IfGoes}
+use Rattle.sat_core.specs.declared.checking.Outcome.{Outcome}
+use Rattle.sat_core.specs.Outcomes.{IsOutcome, IfContinue}
 use Rattle.sat_core.proofs.Outcomes.{learned-outcome}
-use Rattle.watched_search.specs.Ready.{MayGo}
-use Rattle.watched_search.proofs.Going.{outcome_stays}
-use Rattle.watched_search.proofs.Rows.{learned-go}
+use Rattle.watched_search.specs.Ready.{MayContinue}
+use Rattle.watched_search.proofs.Continuing.{outcome_stays}
+use Rattle.watched_search.proofs.Rows.{learned-continue}
 use Rattle.watched_search.proofs.solving.analyze_theory_conflict.Goals as goal
 
 pub resume-requires : goal.resume-requires
 resume-requires c = record {
-  may_go = subst (λ (z : Outcome). IfGoes z (MayGo c.refute.new.grown.clauses c.refute.new.trail c.args.state.now.index.watches)) (sym c.outcome-outcome.ensures)
-      (learned-go c.refute.result c.args.budget c.args.grown.now c.args.trail.now c.args.log.now c.refute.new.grown c.refute.new.trail c.refute.new.log c.requires.refutation.aim c.args.state.now.index.watches c.requires.refutation.search c.requires.kept c.refute.ensures);
+  may_continue = subst (λ (z : Outcome). IfContinue z (MayContinue c.refute.new.grown.clauses c.refute.new.trail c.args.state.now.index.watches)) (sym c.outcome-outcome.ensures)
+      (learned-continue c.refute.result c.args.budget c.args.grown.now c.args.trail.now c.args.log.now c.refute.new.grown c.refute.new.trail c.refute.new.log c.requires.refutation.aim c.args.state.now.index.watches c.requires.refutation.search c.requires.kept c.refute.ensures);
 }
 
 pub returns-clause-outcome : goal.returns-clause-outcome

@@ -3,7 +3,7 @@ use Rattle.std.specs.Prelude.{IfSome}
 use Rattle.sat_core.specs.declared.answer.Answer.{Answer}
 use Rattle.sat_core.specs.Answers.{IsAnswer}
 use Rattle.sat_core.proofs.Ends.{at_once}
-use Rattle.watched_search.proofs.Proposals.{spent-uneasy}
+use Rattle.watched_search.proofs.Proposals.{exhausted-uneasy}
 use Rattle.watched_search.proofs.solving.search.Goals as goal
 
 pub returns-then-holds_empty : goal.returns-then-holds_empty
@@ -11,7 +11,7 @@ returns-then-holds_empty g c = at_once g.T.Theory.MAY_SPLIT c.args.problem.now c
 
 pub proposed-requires : goal.proposed-requires
 proposed-requires g c = record {
-  uneasy = spent-uneasy g.T.Theory.MAY_SPLIT g.T.Theory.MAY_STOP c.args.problem.now c.few_of.result c.search_in-answer.result c.search_in-answer.ensures (sym c.is_spent.ensures ∙ c.if-not-is_spent.false);
+  uneasy = exhausted-uneasy g.T.Theory.MAY_SPLIT g.T.Theory.MAY_STOP c.args.problem.now c.few_of.result c.search_in-answer.result c.search_in-answer.ensures (sym c.is_exhausted.ensures ∙ c.if-not-is_exhausted.false);
 }
 
 pub returns-in-Ok-Some : goal.returns-in-Ok-Some

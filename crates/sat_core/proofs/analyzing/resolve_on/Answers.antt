@@ -1,0 +1,10 @@
+use Rattle.std.proofs.Common.{◌≡◌, true, length, List, sym, subst}
+use Rattle.proof_lines.specs.declared.clause.Lit.{Lit}
+use Rattle.proof_lines.specs.Problems.{atoms_below}
+use Rattle.sat_core.proofs.Keeping.{resolved-below}
+use Rattle.sat_core.proofs.analyzing.resolve_on.Goals as goal
+
+pub add_clause-requires : goal.add_clause-requires
+add_clause-requires c =
+    subst (λ (z : List Lit). atoms_below (length c.args.problem.now.atoms) z ≡ true) (sym c.in_ok-clause.ensures)
+    (resolved-below c.args.problem.now c.law_fits.ensures c.args.lit c.args.reason c.args.reached c.requires.reason c.requires.reached)

@@ -1,0 +1,21 @@
+use Rattle.std.proofs.Common.{ℕ, List, length, ap, subst}
+use Rattle.lin_rows.specs.Rows.{Row}
+use Rattle.proof_lines.specs.Problems.{PlainProblem}
+use Rattle.theory_api.specs.Laws.{IsAnswer}
+use Rattle.sat_core.proofs.Outcomes.{places-so, takes-so}
+use Rattle.sat_core.proofs.checking.final_check.Goals as goal
+
+pub check-answer-requires-clause-places : goal.check-answer-requires-clause-places
+check-answer-requires-clause-places g c =
+    places-so c.args.grown.now c.args.trail.now (length c.args.grown.now.atoms) c.in_ok-assignment.assignment.lits c.in_ok-assignment.assignment.rows c.as_slice.result.now c.grown.inside.ints c.law_fits.ensures c.in_ok-assignment.ensures c.as_slice.ensures (ap (λ (z : PlainProblem). z.ints) c.grown.view_is)
+
+pub check-answer-requires-clause-taken : goal.check-answer-requires-clause-taken
+check-answer-requires-clause-taken g c =
+    takes-so g.T.Theory.MAY_SPLIT g.T.Theory.takes c.args.problem.now c.args.budget c.args.grown.now c.args.trail.now c.args.log.now (length c.args.grown.now.atoms) c.in_ok-assignment.assignment.lits c.in_ok-assignment.assignment.rows c.as_slice.result.now c.grown.inside.ints
+    g.met.T.Theory.takes_all c.requires.taken c.requires.search c.in_ok-assignment.ensures c.as_slice.ensures (ap (λ (z : PlainProblem). z.ints) c.grown.view_is)
+    (places-so c.args.grown.now c.args.trail.now (length c.args.grown.now.atoms) c.in_ok-assignment.assignment.lits c.in_ok-assignment.assignment.rows c.as_slice.result.now c.grown.inside.ints c.law_fits.ensures c.in_ok-assignment.ensures c.as_slice.ensures (ap (λ (z : PlainProblem). z.ints) c.grown.view_is))
+
+pub follow-requires-clause-answered : goal.follow-requires-clause-answered
+follow-requires-clause-answered g c =
+    subst (λ (z : List Row). IsAnswer g.T.Theory.MAY_SPLIT g.T.Theory.MAY_STOP c.args.grown.now.ints z c.check-answer.result) c.as_slice.ensures
+    (subst (λ (z : ℕ). IsAnswer g.T.Theory.MAY_SPLIT g.T.Theory.MAY_STOP z c.as_slice.result.now c.check-answer.result) (ap (λ (z : PlainProblem). z.ints) c.grown.view_is) c.check-answer.ensures)

@@ -1,0 +1,289 @@
+// What follows for a search from what its solver says of the rows of a complete trail.
+ghost use Rattle.std.specs.Prelude.{◌≡◌, ◌<◌, ◌≤◌, ◌^◌, ◌++◌, ◌∷◌, [], nat_lt, ℕ, List, true, false, map, length, slice_index_or, OnOk, IfOk};
+ghost use Rattle.std.specs.List.{list_all};
+ghost use Rattle.lin_rows.specs.Numbers.{in_range};
+ghost use Rattle.lin_rows.specs.Rows.{Row as PlainRow};
+ghost use Rattle.proof_lines.specs.declared.clause.Lit.{Lit as PlainLit};
+ghost use Rattle.proof_lines.specs.declared.line.Line.TheVariants.{Split};
+ghost use Rattle.proof_lines.specs.Splits.{at_most};
+ghost use Rattle.proof_lines.specs.Clauses.{lit_of};
+ghost use Rattle.theory_api.specs.Laws.{IsAnswer as IsTheoryAnswer};
+ghost use Rattle.search_logs.specs.Trails.{in_trail, is_assigned, Settled};
+ghost use Rattle.search_logs.specs.SearchLogs.{with_row};
+ghost use Rattle.sat_core.specs.Answers.{AreRowsOf};
+ghost use Rattle.sat_core.specs.Searching.{InSearch, IsRefutation, IsLearned, IsRowAssignment, lit_at};
+ghost use Rattle.sat_core.specs.Outcomes.{IsOutcome, outcome_of, IfContinue, IsStay, IsSplitOff};
+
+use crate::analyzing::{Analyzed, analyze, learn};
+use crate::growing::add_row;
+use crate::row_assignments::{RowAssignment, pick, row_assignment, truths};
+use items::Items;
+use proof_lines::splitting::at_most;
+use proof_lines::{Interpretation, Line, Lit, Problem, RangeWhat, RowStep};
+use search_logs::Trail;
+use std::alloc::{AllocError, Global};
+use theory_api::{Theory, TheoryAnswer};
+
+/// What a step of the search came to.
+#[derive(Drop)]
+pub enum Outcome {
+    /// The search goes on.
+    Continue,
+    /// The empty clause was reached.
+    Refuted,
+    /// All clauses are true.
+    Found(Interpretation),
+    /// The log has as many lines as it may.
+    BudgetExhausted,
+    /// The solver stopped at too many rows.
+    Rows {
+        used: Items<Lit>,
+        steps: Items<RowStep>,
+    },
+    /// The solver stopped at a number beyond its range.
+    Range {
+        used: Items<Lit>,
+        steps: Items<RowStep>,
+        what: RangeWhat,
+    },
+    Memory,
+}
+
+impl Analyzed {
+    /// What a step comes to that analyzes a conflict.
+    pub fn outcome(self) -> Outcome
+        ensures { result ≡ outcome_of self }
+    {
+        match self {
+            Analyzed::Empty => Outcome::Refuted,
+            Analyzed::Cut => Outcome::Continue,
+            Analyzed::BudgetExhausted => Outcome::BudgetExhausted,
+            Analyzed::Memory => Outcome::Memory,
+        }
+    }
+}
+
+/// Learns from rows in conflict: literals of a settled trail, whose rows the steps refute.
+pub fn refute(
+    alloc: Global,
+    grown: &mut Problem,
+    trail: &mut Trail,
+    log: &mut Items<Line>,
+    used: Items<Lit>,
+    steps: Items<RowStep>,
+    budget: u32,
+) -> Analyzed
+    requires { IsRefutation budget grown.old trail.old log.old used steps }
+    ensures { IsLearned result budget grown.old trail.old log.old grown.new trail.new log.new }
+{
+    if log.len() >= budget as usize {
+        return Analyzed::BudgetExhausted;
+    }
+    let Ok(start) = learn(alloc, grown, trail, log, used, steps) else {
+        return Analyzed::Memory;
+    };
+    analyze(alloc, grown, trail, log, start, budget)
+}
+
+// Why whole numbers are to be split.
+#[derive(Drop)]
+struct Cause {
+    used: Items<Lit>,
+    steps: Items<RowStep>,
+    low: u32,
+    high: u32,
+    values: Items<i128>,
+}
+
+// Writes a Split line and adds its atom.
+fn add_split(
+    alloc: Global,
+    grown: &mut Problem,
+    log: &mut Items<Line>,
+    place: u32,
+    at: &i128,
+    cause: Cause,
+) -> Result<(), AllocError>
+    requires place { place < grown.old.ints }
+    requires fits { in_range at.now ≡ true }
+    ensures { OnOk result ((grown.new ≡ with_row grown.old (at_most place at.now)) × (log.new ≡ log.old ++ Split place at.now cause.used cause.steps cause.low cause.high cause.values ∷ []) × (length grown.new.atoms < 2 ^ 32)) }
+{
+    let row = at_most(alloc, place, at)?;
+    let Cause {
+        used,
+        steps,
+        low,
+        high,
+        values,
+    } = cause;
+    log.push(Line::Split {
+        place,
+        at: *at,
+        used,
+        steps,
+        low,
+        high,
+        values,
+    })?;
+    add_row(grown, row)
+}
+
+// The literals with some numbers among those that stand for rows.
+fn picked(
+    alloc: Global,
+    assignment: RowAssignment,
+    used: Items<u32>,
+) -> Result<Items<Lit>, AllocError>
+    requires { list_all (λ u. nat_lt u (length assignment.lits)) used ≡ true }
+    ensures { IfOk result (λ out. out ≡ map (lit_at assignment.lits) used) }
+{
+    let lits = pick(alloc, assignment.lits.as_slice(), used.as_slice());
+    drop(used);
+    drop(assignment);
+    lits
+}
+
+// The cause of a split, from the answer of the solver.
+fn cause_of(
+    alloc: Global,
+    assignment: RowAssignment,
+    used: Items<u32>,
+    steps: Items<RowStep>,
+    low: u32,
+    high: u32,
+    values: Items<i128>,
+) -> Result<Cause, AllocError>
+    requires { list_all (λ u. nat_lt u (length assignment.lits)) used ≡ true }
+    ensures used { IfOk result (λ c. c.used ≡ map (lit_at assignment.lits) used) }
+    ensures rest { IfOk result (λ c. (c.steps ≡ steps) × (c.low ≡ low) × (c.high ≡ high) × (c.values ≡ values)) }
+{
+    let used = or_drop!(picked(alloc, assignment, used); steps, values);
+    Ok(Cause {
+        used,
+        steps,
+        low,
+        high,
+        values,
+    })
+}
+
+// Splits whole numbers, unless the log has as many lines as it may.
+fn split(
+    alloc: Global,
+    grown: &mut Problem,
+    log: &mut Items<Line>,
+    place: u32,
+    at: &i128,
+    cause: Cause,
+    budget: u32,
+) -> Result<Outcome, AllocError>
+    requires place { place < grown.old.ints }
+    requires fits { in_range at.now ≡ true }
+    ensures { IfOk result (λ o. IsSplitOff o budget grown.old log.old (at_most place at.now) (Split place at.now cause.used cause.steps cause.low cause.high cause.values) grown.new log.new) }
+{
+    if log.len() >= budget as usize {
+        drop(cause);
+        return Ok(Outcome::BudgetExhausted);
+    }
+    add_split(alloc, grown, log, place, at, cause)?;
+    Ok(Outcome::Continue)
+}
+
+// The interpretation that the truth values of a trail are with some numbers.
+fn interpretation(
+    alloc: Global,
+    problem: &Problem,
+    trail: &Trail,
+    ints: Items<i128>,
+) -> Result<Interpretation, AllocError>
+    requires { length problem.now.atoms < 2 ^ 32 }
+    ensures ints { IfOk result (λ i. i.ints ≡ ints) }
+    ensures many { IfOk result (λ i. length i.truths ≡ length problem.now.atoms) }
+    ensures each { IfOk result (λ i. (a : ℕ) → a < length problem.now.atoms → slice_index_or i.truths a false ≡ in_trail trail.now (lit_of a true)) }
+{
+    let truths = or_drop!(truths(alloc, trail, problem.atoms.len()); ints);
+    Ok(Interpretation { truths, ints })
+}
+
+// What follows from an answer of the solver about the rows of a settled trail that assigns all atoms.
+fn follow<T: Theory>(
+    alloc: Global,
+    problem: &Problem,
+    grown: &mut Problem,
+    trail: &mut Trail,
+    log: &mut Items<Line>,
+    assignment: RowAssignment,
+    answer: TheoryAnswer,
+    budget: u32,
+) -> Result<Outcome, AllocError>
+    requires search { InSearch (record { problem = problem.now; split = T.MAY_SPLIT }) budget grown.old trail.old log.old }
+    requires settled { Settled trail.old grown.old.clauses }
+    requires assigned { (a : ℕ) → a < length grown.old.atoms → is_assigned trail.old a ≡ true }
+    requires rows { IsRowAssignment grown.old.atoms trail.old (length grown.old.atoms) assignment.lits assignment.rows }
+    requires answered { IsTheoryAnswer T.MAY_SPLIT T.MAY_STOP grown.old.ints assignment.rows answer }
+    ensures outcome { IfOk result (λ o. IsOutcome o T.MAY_SPLIT T.MAY_STOP problem.now budget grown.old trail.old log.old grown.new trail.new log.new) }
+    ensures stays { IfOk result (λ o. IfContinue o (IsStay grown.old.clauses trail.old grown.new.clauses trail.new)) }
+{
+    match answer {
+        TheoryAnswer::Model(ints) => {
+            problem.law_fits();
+            drop(assignment);
+            let found = interpretation(alloc, problem, trail, ints)?;
+            Ok(Outcome::Found(found))
+        }
+        TheoryAnswer::Conflict { used, steps } => {
+            let used = or_drop!(picked(alloc, assignment, used); steps);
+            Ok(refute(alloc, grown, trail, log, used, steps, budget).outcome())
+        }
+        TheoryAnswer::Split {
+            place,
+            at,
+            used,
+            steps,
+            low,
+            high,
+            values,
+        } => {
+            assignment.law_rows();
+            let cause = cause_of(alloc, assignment, used, steps, low, high, values)?;
+            split(alloc, grown, log, place, &at, cause, budget)
+        }
+        TheoryAnswer::Rows { used, steps } => {
+            let used = or_drop!(picked(alloc, assignment, used); steps);
+            Ok(Outcome::Rows { used, steps })
+        }
+        TheoryAnswer::Range { used, steps, what } => {
+            let used = or_drop!(picked(alloc, assignment, used); steps, what);
+            Ok(Outcome::Range { used, steps, what })
+        }
+        TheoryAnswer::Memory => {
+            drop(assignment);
+            Err(AllocError)
+        }
+    }
+}
+
+/// Asks the solver about the rows of a settled trail that assigns all atoms.
+pub fn final_check<T: Theory>(
+    alloc: Global,
+    theory: &mut T,
+    problem: &Problem,
+    grown: &mut Problem,
+    trail: &mut Trail,
+    log: &mut Items<Line>,
+    budget: u32,
+) -> Result<Outcome, AllocError>
+    requires search { InSearch (record { problem = problem.now; split = T.MAY_SPLIT }) budget grown.old trail.old log.old }
+    requires settled { Settled trail.old grown.old.clauses }
+    requires assigned { (a : ℕ) → a < length grown.old.atoms → is_assigned trail.old a ≡ true }
+    requires taken { T.MAY_SPLIT ≡ false → (lits : List PlainLit) (rows : List PlainRow) → AreRowsOf problem.now.atoms lits rows → T.takes rows problem.now.ints }
+    ensures outcome { IfOk result (λ o. IsOutcome o T.MAY_SPLIT T.MAY_STOP problem.now budget grown.old trail.old log.old grown.new trail.new log.new) }
+    ensures stays { IfOk result (λ o. IfContinue o (IsStay grown.old.clauses trail.old grown.new.clauses trail.new)) }
+{
+    grown.law_fits();
+    let assignment = row_assignment(alloc, grown, trail)?;
+    let answer = theory.check(alloc, assignment.rows.as_slice(), grown.ints);
+    follow::<T>(
+        alloc, problem, grown, trail, log, assignment, answer, budget,
+    )
+}

@@ -1,5 +1,0 @@
-use Rattle.watched_search.specs.Early.{AreHeld}
-use Rattle.watched_search.proofs.early.draw_held.Given as goal
-
-abbrev pub invariant-loop-lit : goal.invariant-loop-lit
-invariant-loop-lit l = AreHeld l.problem.atoms l.trail l.drawn.lits l.drawn.rows
