@@ -44,20 +44,27 @@ fn add_literals(
             })?;
             Ok(name)
         }
+        GroundFormula::NotAtom(atom) => {
+            clause.insert(Lit {
+                atom: *atom,
+                positive: signed(!sign, true),
+            })?;
+            Ok(name)
+        }
         GroundFormula::Not(inner) => add_literals(!sign, name, inner, clause),
-        GroundFormula::And(left, right) => {
+        GroundFormula::And(both) => {
             if sign {
                 return add_name(name, clause);
             }
-            let next = add_literals(false, name, left, clause)?;
-            add_literals(false, next, right, clause)
+            let next = add_literals(false, name, &both.0, clause)?;
+            add_literals(false, next, &both.1, clause)
         }
-        GroundFormula::Or(left, right) => {
+        GroundFormula::Or(both) => {
             if !sign {
                 return add_name(name, clause);
             }
-            let next = add_literals(true, name, left, clause)?;
-            add_literals(true, next, right, clause)
+            let next = add_literals(true, name, &both.0, clause)?;
+            add_literals(true, next, &both.1, clause)
         }
     }
 }
@@ -119,33 +126,37 @@ pub fn write_whole(
             let _ = write_clause(alloc, sign, front, next, form, out)?;
             Ok(next)
         }
+        GroundFormula::NotAtom(_) => {
+            let _ = write_clause(alloc, sign, front, next, form, out)?;
+            Ok(next)
+        }
         GroundFormula::Not(inner) => write_whole(alloc, !sign, front, next, inner, out),
-        GroundFormula::And(left, right) => {
+        GroundFormula::And(both) => {
             if sign {
-                let after = write_whole(alloc, true, front, next, left, out)?;
-                return write_whole(alloc, true, front, after, right, out);
+                let after = write_whole(alloc, true, front, next, &both.0, out)?;
+                return write_whole(alloc, true, front, after, &both.1, out);
             }
             let from = write_clause(alloc, false, front, next, form, out)?;
             let start = Naming {
                 name: next,
                 next: from,
             };
-            let after = write_parts(alloc, false, start, left, out)?;
-            let end = write_parts(alloc, false, after, right, out)?;
+            let after = write_parts(alloc, false, start, &both.0, out)?;
+            let end = write_parts(alloc, false, after, &both.1, out)?;
             Ok(end.next)
         }
-        GroundFormula::Or(left, right) => {
+        GroundFormula::Or(both) => {
             if !sign {
-                let after = write_whole(alloc, false, front, next, left, out)?;
-                return write_whole(alloc, false, front, after, right, out);
+                let after = write_whole(alloc, false, front, next, &both.0, out)?;
+                return write_whole(alloc, false, front, after, &both.1, out);
             }
             let from = write_clause(alloc, true, front, next, form, out)?;
             let start = Naming {
                 name: next,
                 next: from,
             };
-            let after = write_parts(alloc, true, start, left, out)?;
-            let end = write_parts(alloc, true, after, right, out)?;
+            let after = write_parts(alloc, true, start, &both.0, out)?;
+            let end = write_parts(alloc, true, after, &both.1, out)?;
             Ok(end.next)
         }
     }
@@ -168,34 +179,35 @@ fn write_parts(
     match form {
         GroundFormula::Truth(_) => unreachable!(),
         GroundFormula::Lit(_, _) => Ok(at),
+        GroundFormula::NotAtom(_) => Ok(at),
         GroundFormula::Not(inner) => write_parts(alloc, !sign, at, inner, out),
-        GroundFormula::And(left, right) => {
+        GroundFormula::And(both) => {
             if sign {
                 let front = Some(Lit {
                     atom: at.name,
                     positive: false,
                 });
-                let after = write_whole(alloc, true, front, at.next, left, out)?;
-                let next = write_whole(alloc, true, front, after, right, out)?;
+                let after = write_whole(alloc, true, front, at.next, &both.0, out)?;
+                let next = write_whole(alloc, true, front, after, &both.1, out)?;
                 let name = at.name.checked_add(1).ok_or(AllocError)?;
                 return Ok(Naming { name, next });
             }
-            let after = write_parts(alloc, false, at, left, out)?;
-            write_parts(alloc, false, after, right, out)
+            let after = write_parts(alloc, false, at, &both.0, out)?;
+            write_parts(alloc, false, after, &both.1, out)
         }
-        GroundFormula::Or(left, right) => {
+        GroundFormula::Or(both) => {
             if !sign {
                 let front = Some(Lit {
                     atom: at.name,
                     positive: false,
                 });
-                let after = write_whole(alloc, false, front, at.next, left, out)?;
-                let next = write_whole(alloc, false, front, after, right, out)?;
+                let after = write_whole(alloc, false, front, at.next, &both.0, out)?;
+                let next = write_whole(alloc, false, front, after, &both.1, out)?;
                 let name = at.name.checked_add(1).ok_or(AllocError)?;
                 return Ok(Naming { name, next });
             }
-            let after = write_parts(alloc, true, at, left, out)?;
-            write_parts(alloc, true, after, right, out)
+            let after = write_parts(alloc, true, at, &both.0, out)?;
+            write_parts(alloc, true, after, &both.1, out)
         }
     }
 }
