@@ -1,7 +1,7 @@
 // The clauses of a bare formula: each "and" inside an "or" is named by a new atom. A sign goes with each part: where it is false, the
 // negation of that part is written, so that an "and" is an "or" and an "or" is an "and".
-ghost use Rattle.std.specs.Prelude.{◌≡◌, ◌+◌, ◌∷◌, ◌++◌, [], true, IfOk, OnOk};
-ghost use Rattle.ground_numbers.specs.Clauses.{names, literals, new_names, inner_names, written, whole, parts, in_front, clause_of, clauses_of, names_of};
+ghost use Rattle.std.specs.Prelude.{◌≡◌, ◌+◌, ◌∷◌, ◌++◌, [], true, None, IfOk, OnOk};
+ghost use Rattle.ground_numbers.specs.Clauses.{any, names, literals, new_names, inner_names, written, whole, parts, in_front, clause_of, clauses_of, names_of};
 ghost use Rattle.proof_lines.specs.Clauses.{join, lit_of};
 ghost use Rattle.ground_atoms.specs.Formulas.{form_of};
 ghost use Rattle.clausify.specs.Formulas.{is_bare, is_bare_if_unsettled, normal, folded_of};
@@ -102,6 +102,30 @@ fn write_clause(
 {
     let mut clause = clause_after(alloc, front)?;
     let next = add_literals(sign, name, form, &mut clause)?;
+    out.push(clause)?;
+    Ok(next)
+}
+
+// Appends the clause of the parts of "or" of two formulas. `name` names its first "and".
+fn write_clause_of_two(
+    alloc: Global,
+    name: u32,
+    left: &GroundFormula,
+    right: &GroundFormula,
+    out: &mut Items<Clause>,
+) -> Result<u32, AllocError>
+    requires left { is_bare (form_of left.now) ≡ true }
+    requires right { is_bare (form_of right.now) ≡ true }
+    ensures made { OnOk result
+        (out.new
+        ≡ out.old
+        ++ clause_of None name (any (normal true (form_of left.now)) (normal true (form_of right.now))) ∷ []) }
+    ensures next { IfOk result
+        (λ n. n ≡ name + names (any (normal true (form_of left.now)) (normal true (form_of right.now)))) }
+{
+    let mut clause = Clause::empty(alloc);
+    let beside = add_literals(true, name, left, &mut clause)?;
+    let next = add_literals(true, beside, right, &mut clause)?;
     out.push(clause)?;
     Ok(next)
 }
@@ -210,6 +234,33 @@ fn write_parts(
             write_parts(alloc, true, after, &both.1, out)
         }
     }
+}
+
+/// Appends the clauses of "or" of two bare formulas. `next` is the next naming atom.
+pub fn write_either(
+    alloc: Global,
+    next: u32,
+    left: &GroundFormula,
+    right: &GroundFormula,
+    out: &mut Items<Clause>,
+) -> Result<u32, AllocError>
+    requires left { is_bare (form_of left.now) ≡ true }
+    requires right { is_bare (form_of right.now) ≡ true }
+    ensures made { OnOk result
+        (out.new
+        ≡ out.old
+        ++ written (whole None) next (any (normal true (form_of left.now)) (normal true (form_of right.now)))) }
+    ensures next { IfOk result
+        (λ n. n ≡ next + new_names (any (normal true (form_of left.now)) (normal true (form_of right.now)))) }
+{
+    let from = write_clause_of_two(alloc, next, left, right, out)?;
+    let start = Naming {
+        name: next,
+        next: from,
+    };
+    let after = write_parts(alloc, true, start, left, out)?;
+    let end = write_parts(alloc, true, after, right, out)?;
+    Ok(end.next)
 }
 
 /// Appends the clauses of a folded formula. `next` is the next naming atom.
