@@ -20,9 +20,10 @@ pub fn is_bare(form: &GroundFormula) -> bool
     match form {
         GroundFormula::Truth(_) => false,
         GroundFormula::Lit(_, _) => true,
+        GroundFormula::NotAtom(_) => true,
         GroundFormula::Not(inner) => is_bare(inner),
-        GroundFormula::And(left, right) => is_bare(left) && is_bare(right),
-        GroundFormula::Or(left, right) => is_bare(left) && is_bare(right),
+        GroundFormula::And(parts) => is_bare(&parts.0) && is_bare(&parts.1),
+        GroundFormula::Or(parts) => is_bare(&parts.0) && is_bare(&parts.1),
     }
 }
 

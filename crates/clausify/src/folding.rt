@@ -20,10 +20,10 @@ fn fold_all(alloc: Global, left: Folded, right: Folded) -> Result<Folded, AllocE
         Folded::Unsettled(f) => match right {
             Folded::Settled(true) => Ok(Folded::Unsettled(f)),
             Folded::Settled(false) => Ok(Folded::Settled(false)),
-            Folded::Unsettled(g) => Ok(Folded::Unsettled(GroundFormula::And(
-                Box::new(alloc, f)?,
-                Box::new(alloc, g)?,
-            ))),
+            Folded::Unsettled(g) => Ok(Folded::Unsettled(GroundFormula::And(Box::new(
+                alloc,
+                (f, g),
+            )?))),
         },
     }
 }
@@ -40,10 +40,10 @@ fn fold_any(alloc: Global, left: Folded, right: Folded) -> Result<Folded, AllocE
         Folded::Unsettled(f) => match right {
             Folded::Settled(true) => Ok(Folded::Settled(true)),
             Folded::Settled(false) => Ok(Folded::Unsettled(f)),
-            Folded::Unsettled(g) => Ok(Folded::Unsettled(GroundFormula::Or(
-                Box::new(alloc, f)?,
-                Box::new(alloc, g)?,
-            ))),
+            Folded::Unsettled(g) => Ok(Folded::Unsettled(GroundFormula::Or(Box::new(
+                alloc,
+                (f, g),
+            )?))),
         },
     }
 }
@@ -73,15 +73,18 @@ pub fn folded(alloc: Global, sign: bool, form: &GroundFormula) -> Result<Folded,
         GroundFormula::Lit(atom, positive) => {
             Ok(Folded::Unsettled(GroundFormula::Lit(*atom, signed(sign, *positive))))
         }
+        GroundFormula::NotAtom(atom) => {
+            Ok(Folded::Unsettled(GroundFormula::Lit(*atom, signed(!sign, true))))
+        }
         GroundFormula::Not(inner) => folded(alloc, !sign, inner),
-        GroundFormula::And(left, right) => {
-            let f = folded(alloc, sign, left)?;
-            let g = folded(alloc, sign, right)?;
+        GroundFormula::And(parts) => {
+            let f = folded(alloc, sign, &parts.0)?;
+            let g = folded(alloc, sign, &parts.1)?;
             fold(alloc, sign, f, g)
         }
-        GroundFormula::Or(left, right) => {
-            let f = folded(alloc, sign, left)?;
-            let g = folded(alloc, sign, right)?;
+        GroundFormula::Or(parts) => {
+            let f = folded(alloc, sign, &parts.0)?;
+            let g = folded(alloc, sign, &parts.1)?;
             fold(alloc, !sign, f, g)
         }
     }

@@ -1,17 +1,67 @@
 // The clauses of a list of formulas, and the atoms that name their parts.
 ghost use Rattle.std.specs.Prelude.{◌≡◌, ◌+◌, ◌++◌, true, IfOk, OnOk, map};
-ghost use Rattle.ground_numbers.specs.Clauses.{folded, clauses_of, names_of, all_clauses, all_names};
+ghost use Rattle.ground_numbers.specs.Numbered.{disjunction};
+ghost use Rattle.ground_numbers.specs.Clauses.{unsettled, folded, fold_any, clauses_of, names_of, all_clauses, all_names};
 ghost use Rattle.ground_atoms.specs.Formulas.{form_of};
+ghost use Rattle.clausify.specs.Formulas.{is_bare, is_bare_if_unsettled, normal, folded_of};
 
-use crate::bare::is_bare;
+use crate::bare::{Folded, is_bare};
 use crate::folding::folded;
-use crate::writing::{write_folded, write_whole};
+use crate::writing::{write_either, write_folded, write_whole};
 use ground_atoms::GroundFormula;
 use items::Items;
 use proof_lines::Clause;
 use std::alloc::{AllocError, Global};
 
-// Appends the clauses of a formula. `next` is the next naming atom. Most formulas are bare, and then nothing is made but their clauses.
+// Appends the clauses of "or" of a folded formula and a bare one.
+fn write_beside(
+    alloc: Global,
+    next: u32,
+    left: &Folded,
+    right: &GroundFormula,
+    out: &mut Items<Clause>,
+) -> Result<u32, AllocError>
+    requires left { is_bare_if_unsettled left.now ≡ true }
+    requires right { is_bare (form_of right.now) ≡ true }
+    ensures made { OnOk result
+        (out.new
+        ≡ out.old
+        ++ clauses_of next (fold_any (folded_of left.now) (unsettled (normal true (form_of right.now))))) }
+    ensures next { IfOk result
+        (λ n. n
+        ≡ next
+        + names_of (fold_any (folded_of left.now) (unsettled (normal true (form_of right.now))))) }
+{
+    match left {
+        Folded::Settled(true) => Ok(next),
+        Folded::Settled(false) => write_whole(alloc, true, None, next, right, out),
+        Folded::Unsettled(plain) => write_either(alloc, next, plain, right, out),
+    }
+}
+
+#[tactic(auto, using(crate::proofs::Straight::folded_beside))]
+// Appends the clauses of "or" of a formula and a bare one, which is written as it stands.
+fn write_or(
+    alloc: Global,
+    next: u32,
+    left: &GroundFormula,
+    right: &GroundFormula,
+    out: &mut Items<Clause>,
+) -> Result<u32, AllocError>
+    requires { is_bare (form_of right.now) ≡ true }
+    ensures made { OnOk result
+        (out.new
+        ≡ out.old
+        ++ clauses_of next (folded true (disjunction (form_of left.now) (form_of right.now)))) }
+    ensures next { IfOk result
+        (λ n. n ≡ next + names_of (folded true (disjunction (form_of left.now) (form_of right.now)))) }
+{
+    let plain = folded(alloc, true, left)?;
+    write_beside(alloc, next, &plain, right, out)
+}
+
+// Appends the clauses of a formula. `next` is the next naming atom. Most formulas are bare, and then nothing is made but their
+// clauses; of most others what follows an "or" is.
 fn write_formula(
     alloc: Global,
     next: u32,
@@ -24,8 +74,15 @@ fn write_formula(
     if is_bare(form) {
         return write_whole(alloc, true, None, next, form, out);
     }
-    let plain = folded(alloc, true, form)?;
-    write_folded(alloc, next, &plain, out)
+    match form {
+        GroundFormula::Or(parts) if is_bare(&parts.1) => {
+            write_or(alloc, next, &parts.0, &parts.1, out)
+        }
+        _ => {
+            let plain = folded(alloc, true, form)?;
+            write_folded(alloc, next, &plain, out)
+        }
+    }
 }
 
 /// Appends the clauses of these formulas in turn. `next` is the first naming atom, and the answer the next one.

@@ -1,7 +1,7 @@
 // The clauses of a bare formula: each "and" inside an "or" is named by a new atom. A sign goes with each part: where it is false, the
 // negation of that part is written, so that an "and" is an "or" and an "or" is an "and".
-ghost use Rattle.std.specs.Prelude.{◌≡◌, ◌+◌, ◌∷◌, ◌++◌, [], true, IfOk, OnOk};
-ghost use Rattle.ground_numbers.specs.Clauses.{names, literals, new_names, inner_names, written, whole, parts, in_front, clause_of, clauses_of, names_of};
+ghost use Rattle.std.specs.Prelude.{◌≡◌, ◌+◌, ◌∷◌, ◌++◌, [], true, None, IfOk, OnOk};
+ghost use Rattle.ground_numbers.specs.Clauses.{any, names, literals, new_names, inner_names, written, whole, parts, in_front, clause_of, clauses_of, names_of};
 ghost use Rattle.proof_lines.specs.Clauses.{join, lit_of};
 ghost use Rattle.ground_atoms.specs.Formulas.{form_of};
 ghost use Rattle.clausify.specs.Formulas.{is_bare, is_bare_if_unsettled, normal, folded_of};
@@ -44,20 +44,27 @@ fn add_literals(
             })?;
             Ok(name)
         }
+        GroundFormula::NotAtom(atom) => {
+            clause.insert(Lit {
+                atom: *atom,
+                positive: signed(!sign, true),
+            })?;
+            Ok(name)
+        }
         GroundFormula::Not(inner) => add_literals(!sign, name, inner, clause),
-        GroundFormula::And(left, right) => {
+        GroundFormula::And(both) => {
             if sign {
                 return add_name(name, clause);
             }
-            let next = add_literals(false, name, left, clause)?;
-            add_literals(false, next, right, clause)
+            let next = add_literals(false, name, &both.0, clause)?;
+            add_literals(false, next, &both.1, clause)
         }
-        GroundFormula::Or(left, right) => {
+        GroundFormula::Or(both) => {
             if !sign {
                 return add_name(name, clause);
             }
-            let next = add_literals(true, name, left, clause)?;
-            add_literals(true, next, right, clause)
+            let next = add_literals(true, name, &both.0, clause)?;
+            add_literals(true, next, &both.1, clause)
         }
     }
 }
@@ -99,6 +106,30 @@ fn write_clause(
     Ok(next)
 }
 
+// Appends the clause of the parts of "or" of two formulas. `name` names its first "and".
+fn write_clause_of_two(
+    alloc: Global,
+    name: u32,
+    left: &GroundFormula,
+    right: &GroundFormula,
+    out: &mut Items<Clause>,
+) -> Result<u32, AllocError>
+    requires left { is_bare (form_of left.now) ≡ true }
+    requires right { is_bare (form_of right.now) ≡ true }
+    ensures made { OnOk result
+        (out.new
+        ≡ out.old
+        ++ clause_of None name (any (normal true (form_of left.now)) (normal true (form_of right.now))) ∷ []) }
+    ensures next { IfOk result
+        (λ n. n ≡ name + names (any (normal true (form_of left.now)) (normal true (form_of right.now)))) }
+{
+    let mut clause = Clause::empty(alloc);
+    let beside = add_literals(true, name, left, &mut clause)?;
+    let next = add_literals(true, beside, right, &mut clause)?;
+    out.push(clause)?;
+    Ok(next)
+}
+
 /// Appends the clauses of a bare formula, each after the literal in front, if any. `next` is the next naming atom.
 #[cycle(writing)]
 pub fn write_whole(
@@ -119,33 +150,37 @@ pub fn write_whole(
             let _ = write_clause(alloc, sign, front, next, form, out)?;
             Ok(next)
         }
+        GroundFormula::NotAtom(_) => {
+            let _ = write_clause(alloc, sign, front, next, form, out)?;
+            Ok(next)
+        }
         GroundFormula::Not(inner) => write_whole(alloc, !sign, front, next, inner, out),
-        GroundFormula::And(left, right) => {
+        GroundFormula::And(both) => {
             if sign {
-                let after = write_whole(alloc, true, front, next, left, out)?;
-                return write_whole(alloc, true, front, after, right, out);
+                let after = write_whole(alloc, true, front, next, &both.0, out)?;
+                return write_whole(alloc, true, front, after, &both.1, out);
             }
             let from = write_clause(alloc, false, front, next, form, out)?;
             let start = Naming {
                 name: next,
                 next: from,
             };
-            let after = write_parts(alloc, false, start, left, out)?;
-            let end = write_parts(alloc, false, after, right, out)?;
+            let after = write_parts(alloc, false, start, &both.0, out)?;
+            let end = write_parts(alloc, false, after, &both.1, out)?;
             Ok(end.next)
         }
-        GroundFormula::Or(left, right) => {
+        GroundFormula::Or(both) => {
             if !sign {
-                let after = write_whole(alloc, false, front, next, left, out)?;
-                return write_whole(alloc, false, front, after, right, out);
+                let after = write_whole(alloc, false, front, next, &both.0, out)?;
+                return write_whole(alloc, false, front, after, &both.1, out);
             }
             let from = write_clause(alloc, true, front, next, form, out)?;
             let start = Naming {
                 name: next,
                 next: from,
             };
-            let after = write_parts(alloc, true, start, left, out)?;
-            let end = write_parts(alloc, true, after, right, out)?;
+            let after = write_parts(alloc, true, start, &both.0, out)?;
+            let end = write_parts(alloc, true, after, &both.1, out)?;
             Ok(end.next)
         }
     }
@@ -168,36 +203,64 @@ fn write_parts(
     match form {
         GroundFormula::Truth(_) => unreachable!(),
         GroundFormula::Lit(_, _) => Ok(at),
+        GroundFormula::NotAtom(_) => Ok(at),
         GroundFormula::Not(inner) => write_parts(alloc, !sign, at, inner, out),
-        GroundFormula::And(left, right) => {
+        GroundFormula::And(both) => {
             if sign {
                 let front = Some(Lit {
                     atom: at.name,
                     positive: false,
                 });
-                let after = write_whole(alloc, true, front, at.next, left, out)?;
-                let next = write_whole(alloc, true, front, after, right, out)?;
+                let after = write_whole(alloc, true, front, at.next, &both.0, out)?;
+                let next = write_whole(alloc, true, front, after, &both.1, out)?;
                 let name = at.name.checked_add(1).ok_or(AllocError)?;
                 return Ok(Naming { name, next });
             }
-            let after = write_parts(alloc, false, at, left, out)?;
-            write_parts(alloc, false, after, right, out)
+            let after = write_parts(alloc, false, at, &both.0, out)?;
+            write_parts(alloc, false, after, &both.1, out)
         }
-        GroundFormula::Or(left, right) => {
+        GroundFormula::Or(both) => {
             if !sign {
                 let front = Some(Lit {
                     atom: at.name,
                     positive: false,
                 });
-                let after = write_whole(alloc, false, front, at.next, left, out)?;
-                let next = write_whole(alloc, false, front, after, right, out)?;
+                let after = write_whole(alloc, false, front, at.next, &both.0, out)?;
+                let next = write_whole(alloc, false, front, after, &both.1, out)?;
                 let name = at.name.checked_add(1).ok_or(AllocError)?;
                 return Ok(Naming { name, next });
             }
-            let after = write_parts(alloc, true, at, left, out)?;
-            write_parts(alloc, true, after, right, out)
+            let after = write_parts(alloc, true, at, &both.0, out)?;
+            write_parts(alloc, true, after, &both.1, out)
         }
     }
+}
+
+/// Appends the clauses of "or" of two bare formulas. `next` is the next naming atom.
+pub fn write_either(
+    alloc: Global,
+    next: u32,
+    left: &GroundFormula,
+    right: &GroundFormula,
+    out: &mut Items<Clause>,
+) -> Result<u32, AllocError>
+    requires left { is_bare (form_of left.now) ≡ true }
+    requires right { is_bare (form_of right.now) ≡ true }
+    ensures made { OnOk result
+        (out.new
+        ≡ out.old
+        ++ written (whole None) next (any (normal true (form_of left.now)) (normal true (form_of right.now)))) }
+    ensures next { IfOk result
+        (λ n. n ≡ next + new_names (any (normal true (form_of left.now)) (normal true (form_of right.now)))) }
+{
+    let from = write_clause_of_two(alloc, next, left, right, out)?;
+    let start = Naming {
+        name: next,
+        next: from,
+    };
+    let after = write_parts(alloc, true, start, left, out)?;
+    let end = write_parts(alloc, true, after, right, out)?;
+    Ok(end.next)
 }
 
 /// Appends the clauses of a folded formula. `next` is the next naming atom.

@@ -1,3 +1,4 @@
 pub mod Same
 pub mod Sums
 pub mod Numbering
+pub mod Guessing

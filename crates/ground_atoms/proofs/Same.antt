@@ -6,12 +6,13 @@ use Rattle.std.specs.Str.{bytes_eq}
 use Rattle.std.specs.Bool.{Decides, one_answer}
 use Rattle.std.specs.Cmp.{unsigned_Decides}
 use Rattle.std.specs.Cmp.Lexicographic.{bytes_decides}
-use Rattle.ground_numbers.specs.Numbers.{same_atoms, same_integers}
+use Rattle.ground_numbers.specs.Numbers.{Atom, has_number, same_atoms, same_integers}
 use Rattle.ground_numbers.specs.Stages.{stage_of}
 use Rattle.ground_atoms.specs.declared.atom.Atom.{Atom as CodeAtom}
 use Rattle.ground_atoms.specs.declared.atom.Atom.TheVariants as atom
 use Rattle.ground_atoms.specs.declared.atom.IntName.{IntName}
 use Rattle.ground_atoms.specs.declared.atom.IntName.TheVariants as name
+use Rattle.ground_atoms.specs.Known.{Known, reading_of_atom, unless_known, know_atom}
 use Rattle.ground_atoms.specs.Symbols.{atom_of, integer_of}
 use Rattle.ground_atoms.specs.contracts.atom.AtomPartialEq.TheImpl as atoms
 use Rattle.ground_atoms.specs.contracts.atom.IntNamePartialEq.TheImpl as names
@@ -122,3 +123,9 @@ integer_place x ys = place_along integer_of (names.eq-value.it x) (same_integers
 
 pub integers_known : (x : IntName) (ys : List IntName) → map integer_of (if list_any (names.eq-value.it x) ys then ys else ys ++ x ∷ []) ≡ cond (list_any (same_integers (integer_of x)) (map integer_of ys)) (map integer_of ys) (map integer_of ys ++ integer_of x ∷ [])
 integers_known x ys = inserted integer_of ys x _ _ (integer_among x ys)
+
+-- ---- an atom that has a number: nothing is new
+
+pub atom_stays : (k : Known) (a : Atom) → has_number k.table a ≡ true → k ≡ know_atom k a
+atom_stays k a e =
+    ap (λ (b : Bool). record { table = record { atoms = cond b k.table.atoms (k.table.atoms ++ a ∷ []); ints = k.table.ints }; named = unless_known b k.named (reading_of_atom a) }) (sym e)

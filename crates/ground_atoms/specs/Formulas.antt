@@ -1,7 +1,7 @@
 -- What the formulas of a program are.
-use Rattle.std.specs.Prelude.{ℕ, Option, Some, None, List, map}
+use Rattle.std.specs.Prelude.{ℕ, true, Option, Some, None, List, map}
 use Rattle.ground_numbers.specs.Numbered.{Numbered, known, literal, negation, conjunction, disjunction}
-use Rattle.ground_atoms.specs.declared.formula.GroundFormula.{GroundFormula, Truth, Lit, Not', And', Or'}
+use Rattle.ground_atoms.specs.declared.formula.GroundFormula.{GroundFormula, Truth, Lit, NotAtom, Not', And', Or'}
 use Rattle.ground_atoms.specs.declared.call.GroundArg.{GroundArg}
 use Rattle.ground_atoms.specs.declared.call.GroundArg.TheVariants as arg
 
@@ -9,9 +9,10 @@ use Rattle.ground_atoms.specs.declared.call.GroundArg.TheVariants as arg
 abbrev pub form_of : GroundFormula → Numbered
 form_of (Truth b) = known b
 form_of (Lit n s) = literal n s
+form_of (NotAtom n) = negation (literal n true)
 form_of (Not' l f) = negation (form_of f)
-form_of (And' l f m g) = conjunction (form_of f) (form_of g)
-form_of (Or' l f m g) = disjunction (form_of f) (form_of g)
+form_of (And' l f g) = conjunction (form_of f) (form_of g)
+form_of (Or' l f g) = disjunction (form_of f) (form_of g)
 
 -- the constant that an argument is, none for a whole number
 abbrev pub const_of_arg : GroundArg → Option ℕ

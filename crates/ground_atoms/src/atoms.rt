@@ -1,5 +1,5 @@
 // The numbering: which atoms and integer names have numbers, and which readings they name.
-ghost use Rattle.std.specs.Prelude.{◌≡◌, ◌++◌, IfOk, OnOk, slice_get, option_copied, map};
+ghost use Rattle.std.specs.Prelude.{◌≡◌, ◌++◌, true, IfOk, IfSome, OnOk, slice_get, option_copied, map};
 ghost use Rattle.std.specs.Option.{option_map};
 ghost use Rattle.ground_numbers.specs.Numbers as numbers;
 ghost use Rattle.ground_atoms.specs.Symbols.{atom_of, integer_of, reading_of};
@@ -7,6 +7,7 @@ ghost use Rattle.ground_atoms.specs.Known.{Known, nothing, know_atom, know_integ
 ghost use Rattle.ground_problem.specs.Definitions.{reading_of_integer};
 
 use crate::atom::{Atom, IntName, NamedReading};
+use crate::guesses::{Guesses, slot_of};
 use indexmap::IndexSet;
 use items::Items;
 use spec_core::Thing;
@@ -14,12 +15,14 @@ use std::alloc::{AllocError, Global};
 use std::marker::Model;
 
 /// The atoms and the integer names so far, in the order of their numbers, and the readings that they name, in the order in which
-/// they were first named. Equal ones have one number, and a number stays.
+/// they were first named. Equal ones have one number, and a number stays. A number is guessed first, and the guess is tested; that is
+/// cheaper than to look the atom up, and most atoms are asked for again soon.
 #[derive(Drop)]
 pub struct Atoms {
     atoms: IndexSet<Atom>,
     ints: IndexSet<IntName>,
     named: Items<NamedReading>,
+    guesses: Guesses,
     alloc: Global,
 }
 
@@ -43,13 +46,43 @@ impl Atoms {
             atoms: IndexSet::new(alloc),
             ints: IndexSet::new(alloc),
             named: Items::new(alloc),
+            guesses: Guesses::new(alloc),
             alloc,
         }
     }
 
-    #[tactic(auto, using(crate::proofs::Same::atoms_known, crate::proofs::Same::atom_place, crate::proofs::Same::atom_among))]
+    // The number that is guessed for an atom, where an equal one has it.
+    fn guessed(&self, slot: usize, atom: &Atom) -> Option<u32>
+        ensures known { IfSome result (λ n. self.now ≡ know_atom self.now (atom_of atom.now)) }
+        ensures number { IfSome result (λ n. n ≡ numbers.number_of self.now.table (atom_of atom.now)) }
+    {
+        let number = self.guesses.at(slot);
+        if number as usize >= self.atoms.len() {
+            return None;
+        }
+        match self.atoms.get_index(number as usize) {
+            Some(other) if *atom == *other => Some(number),
+            _ => None,
+        }
+    }
+
     /// The number of an atom: the place of an equal one, else the next number. After a refusal others keep their numbers.
     pub fn number_of(&mut self, atom: Atom) -> Result<u32, AllocError>
+        ensures known { OnOk result (self.new ≡ know_atom self.old (atom_of atom)) }
+        ensures number { IfOk result (λ n. n ≡ numbers.number_of self.old.table (atom_of atom)) }
+    {
+        let slot = slot_of(&atom);
+        if let Some(number) = self.guessed(slot, &atom) {
+            return Ok(number);
+        }
+        let number = self.looked_up(atom)?;
+        self.guesses.keep(slot, number);
+        Ok(number)
+    }
+
+    #[tactic(auto, using(crate::proofs::Same::atoms_known, crate::proofs::Same::atom_place, crate::proofs::Same::atom_among))]
+    // The same, without a guess.
+    fn looked_up(&mut self, atom: Atom) -> Result<u32, AllocError>
         ensures known { OnOk result (self.new ≡ know_atom self.old (atom_of atom)) }
         ensures number { IfOk result (λ n. n ≡ numbers.number_of self.old.table (atom_of atom)) }
     {

@@ -10,6 +10,7 @@ pub mod atom;
 pub mod atoms;
 pub mod call;
 pub mod formula;
+mod guesses;
 pub mod keyed_row;
 pub mod laws;
 pub mod part;

@@ -58,12 +58,13 @@ fn holds(rt: &impl Abort, found: &Interpretation, atoms: &Atoms, formula: &Groun
         GroundFormula::Lit(atom, positive) => {
             literal_is_true(rt, found, atoms, *atom) == *positive
         }
+        GroundFormula::NotAtom(atom) => !literal_is_true(rt, found, atoms, *atom),
         GroundFormula::Not(part) => !holds(rt, found, atoms, part),
-        GroundFormula::And(left, right) => {
-            holds(rt, found, atoms, left) && holds(rt, found, atoms, right)
+        GroundFormula::And(parts) => {
+            holds(rt, found, atoms, &parts.0) && holds(rt, found, atoms, &parts.1)
         }
-        GroundFormula::Or(left, right) => {
-            holds(rt, found, atoms, left) || holds(rt, found, atoms, right)
+        GroundFormula::Or(parts) => {
+            holds(rt, found, atoms, &parts.0) || holds(rt, found, atoms, &parts.1)
         }
     }
 }

@@ -10,7 +10,10 @@ use std::alloc::{AllocError, Global};
 pub fn negated(alloc: Global, inner: GroundFormula) -> Result<GroundFormula, AllocError>
     ensures { IfOk result (λ f. form_of f ≡ negation (form_of inner)) }
 {
-    Ok(GroundFormula::Not(Box::new(alloc, inner)?))
+    match inner {
+        GroundFormula::Lit(atom, true) => Ok(GroundFormula::NotAtom(atom)),
+        other => Ok(GroundFormula::Not(Box::new(alloc, other)?)),
+    }
 }
 
 /// Two formulas joined by "and".
@@ -21,9 +24,7 @@ pub fn both(
 ) -> Result<GroundFormula, AllocError>
     ensures { IfOk result (λ f. form_of f ≡ conjunction (form_of left) (form_of right)) }
 {
-    let left = Box::new(alloc, left)?;
-    let right = Box::new(alloc, right)?;
-    Ok(GroundFormula::And(left, right))
+    Ok(GroundFormula::And(Box::new(alloc, (left, right))?))
 }
 
 /// Two formulas joined by "or".
@@ -34,7 +35,5 @@ pub fn either(
 ) -> Result<GroundFormula, AllocError>
     ensures { IfOk result (λ f. form_of f ≡ disjunction (form_of left) (form_of right)) }
 {
-    let left = Box::new(alloc, left)?;
-    let right = Box::new(alloc, right)?;
-    Ok(GroundFormula::Or(left, right))
+    Ok(GroundFormula::Or(Box::new(alloc, (left, right))?))
 }

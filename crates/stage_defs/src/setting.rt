@@ -37,7 +37,7 @@ pub fn const_of(setting: &Setting<'_>, vars: &[u32], element: Elem) -> u32
     }
 }
 
-/// The constants that stand for these elements.
+/// The constants that stand for these elements, of which there are at most three.
 pub fn tuple_of(
     alloc: Global,
     setting: &Setting<'_>,
@@ -46,9 +46,21 @@ pub fn tuple_of(
 ) -> Result<Tuple, AllocError>
     ensures { IfOk result (λ t. t ≡ consts_of (caller_in setting.now) vars.now elements.now) }
 {
-    let mut consts = Vec::new(alloc);
-    for element in elements {
-        consts.push(const_of(setting, vars, *element))?;
+    match elements {
+        [] => Tuple::of(alloc, &[]),
+        [a] => Tuple::of(alloc, &[const_of(setting, vars, *a)]),
+        [a, b] => Tuple::of(
+            alloc,
+            &[const_of(setting, vars, *a), const_of(setting, vars, *b)],
+        ),
+        [a, b, c] => Tuple::of(
+            alloc,
+            &[
+                const_of(setting, vars, *a),
+                const_of(setting, vars, *b),
+                const_of(setting, vars, *c),
+            ],
+        ),
+        _ => Err(AllocError),
     }
-    Tuple::of(alloc, consts.as_slice())
 }
