@@ -1,14 +1,13 @@
 // Logs over plain clauses: Resolve and Drop lines.
-use crate::making::{FIRST, NOT_FIRST, SECOND, add, drop_line, plain, resolve};
-use items::Items;
+use crate::making::{FIRST, NOT_FIRST, SECOND, Short, add, line, log_of, plain};
 use proof_kernel::{Checked, Kernel, KernelRefused, check_lines, check_log};
-use proof_lines::{Line, LineRefused, Problem, Why};
+use proof_lines::{LineRefused, Problem, Why};
 use std::alloc::Global;
 use std::process::Abort;
 
 /// One plain atom and the clauses `+0` and `-0`.
 fn opposites(rt: &impl Abort, alloc: Global) -> Problem {
-    plain(rt, alloc, 1, &[FIRST], &[NOT_FIRST])
+    plain(rt, alloc, 1, &[&[FIRST], &[NOT_FIRST]])
 }
 
 /// A kernel before the first line of a log over them.
@@ -16,28 +15,28 @@ fn begun(rt: &impl Abort, alloc: Global) -> Kernel {
     Kernel::new(alloc, opposites(rt, alloc)).expect(rt, "memory")
 }
 
-/// The left clause, the right clause and the pivot of each line of a log, and the answer to the log.
-type Case = (&'static [(u32, u32, u32)], Result<Checked, KernelRefused>);
+/// A log, and the answer to it.
+type Case = (&'static [Short], Result<Checked, KernelRefused>);
 
 static CASES: [Case; 5] = [
-    (&[(0, 1, 0)], Ok(Checked { lines: 1 })),
+    (&[Short::Resolve(0, 1, 0)], Ok(Checked { lines: 1 })),
     (&[], Err(KernelRefused::NoEmptyClause)),
     (
-        &[(0, 1, 1)],
+        &[Short::Resolve(0, 1, 1)],
         Err(KernelRefused::BadLine {
             line: 0,
             why: Why::Place,
         }),
     ),
     (
-        &[(0, 2, 0)],
+        &[Short::Resolve(0, 2, 0)],
         Err(KernelRefused::BadLine {
             line: 0,
             why: Why::Place,
         }),
     ),
     (
-        &[(0, 0, 0)],
+        &[Short::Resolve(0, 0, 0)],
         Err(KernelRefused::BadLine {
             line: 0,
             why: Why::Pivot,
@@ -45,20 +44,7 @@ static CASES: [Case; 5] = [
     ),
 ];
 
-fn log_of(rt: &impl Abort, alloc: Global, lines: &[(u32, u32, u32)]) -> Items<Line> {
-    let mut log = Items::new(alloc);
-    for (left, right, pivot) in lines {
-        log.push(resolve(*left, *right, *pivot))
-            .expect(rt, "memory");
-    }
-    log
-}
-
-fn judged(
-    rt: &impl Abort,
-    alloc: Global,
-    lines: &[(u32, u32, u32)],
-) -> Result<Checked, KernelRefused> {
+fn judged(rt: &impl Abort, alloc: Global, lines: &[Short]) -> Result<Checked, KernelRefused> {
     let problem = opposites(rt, alloc);
     let log = log_of(rt, alloc, lines);
     let told = check_log(alloc, &problem, log.as_slice());
@@ -77,14 +63,14 @@ fn logs_of_opposite_clauses_are_judged(rt: HostRuntime) {
 
 /// Two plain atoms and the clauses `+0 +1` and `-0 +1`.
 fn joined(rt: &impl Abort, alloc: Global) -> Problem {
-    plain(rt, alloc, 2, &[FIRST, SECOND], &[NOT_FIRST, SECOND])
+    plain(rt, alloc, 2, &[&[FIRST, SECOND], &[NOT_FIRST, SECOND]])
 }
 
 /// Whether a log that resolves those clauses some times is fresh and as long as a budget.
 fn spent(
     rt: &impl Abort,
     alloc: Global,
-    lines: &[(u32, u32, u32)],
+    lines: &[Short],
     budget: u32,
 ) -> Result<(), KernelRefused> {
     let problem = joined(rt, alloc);
@@ -105,8 +91,8 @@ fn missing(line: u32) -> Result<(), KernelRefused> {
 
 #[test]
 fn a_fresh_log_of_the_budget_is_evidence(rt: HostRuntime) {
-    let once = &[(0, 1, 0)];
-    let twice = &[(0, 1, 0), (0, 1, 0)];
+    let once = &[Short::Resolve(0, 1, 0)];
+    let twice = &[Short::Resolve(0, 1, 0), Short::Resolve(0, 1, 0)];
     let told = [
         spent(&rt, rt.alloc(), once, 1),
         spent(&rt, rt.alloc(), once, 2),
@@ -115,83 +101,76 @@ fn a_fresh_log_of_the_budget_is_evidence(rt: HostRuntime) {
     assert!(rt; told == [Ok(()), missing(1), missing(2)]);
 }
 
-/// The answer of a kernel to a Drop line.
-fn dropped(
-    rt: &impl Abort,
-    alloc: Global,
-    kernel: &mut Kernel,
-    numbers: &[u32],
-) -> Result<(), LineRefused> {
-    add(kernel, drop_line(rt, alloc, numbers))
-}
+/// What a kernel says behind some lines: how many clauses there are and how many live, and whether the log is fresh and has the empty
+/// clause.
+type Says = (u32, u32, bool, bool);
+
+/// Lines with the answer to each, and what the kernel says behind them.
+type Run = (&'static [(Short, Result<(), LineRefused>)], Says);
 
 const GONE: Result<(), LineRefused> = Err(LineRefused::Bad(Why::Dropped));
 
-/// The answers where a clause is dropped, dropped again and named, how many clauses there are and how many live, and whether all
-/// are fresh.
-fn drop_twice(rt: &impl Abort, alloc: Global) -> ([Result<(), LineRefused>; 3], (u32, u32), bool) {
+const PLACE: Result<(), LineRefused> = Err(LineRefused::Bad(Why::Place));
+
+static RUNS: &[Run] = &[
+    // a clause is dropped, dropped again and named
+    (
+        &[
+            (Short::Drop(&[1]), Ok(())),
+            (Short::Drop(&[1]), GONE),
+            (Short::Resolve(0, 1, 0), GONE),
+        ],
+        (2, 1, false, false),
+    ),
+    // a number names nothing, there is none, and one stands twice
+    (
+        &[
+            (Short::Drop(&[0, 2]), PLACE),
+            (Short::Drop(&[]), PLACE),
+            (Short::Drop(&[1, 0, 1]), GONE),
+        ],
+        (2, 2, true, false),
+    ),
+    // an empty clause that is dropped counts
+    (
+        &[
+            (Short::Resolve(0, 1, 0), Ok(())),
+            (Short::Drop(&[2]), Ok(())),
+        ],
+        (3, 2, false, true),
+    ),
+];
+
+/// What a kernel over opposite clauses says behind some lines, which it has to answer so.
+fn said_behind(rt: &impl Abort, alloc: Global, lines: &[(Short, Result<(), LineRefused>)]) -> Says {
     let mut kernel = begun(rt, alloc);
-    let told = [
-        dropped(rt, alloc, &mut kernel, &[1]),
-        dropped(rt, alloc, &mut kernel, &[1]),
-        add(&mut kernel, resolve(0, 1, 0)),
-    ];
-    let counts = (kernel.clause_count(), kernel.live_count());
-    let fresh = kernel.all_fresh();
+    for (short, want) in lines {
+        let told = add(&mut kernel, line(rt, alloc, *short));
+        assert!(rt; told == *want);
+    }
+    let says = (
+        kernel.clause_count(),
+        kernel.live_count(),
+        kernel.all_fresh(),
+        kernel.has_empty(),
+    );
     drop(kernel);
-    (told, counts, fresh)
+    says
 }
 
 #[test]
 fn clauses_are_dropped_once(rt: HostRuntime) {
-    let (told, counts, fresh) = drop_twice(&rt, rt.alloc());
-    assert!(rt; told == [Ok(()), GONE, GONE]);
-    assert!(rt; counts == (2, 1) && !fresh);
-}
-
-/// The answers where a number names nothing, there is none, and one stands twice, and how many clauses live.
-fn wrong_drops(rt: &impl Abort, alloc: Global) -> ([Result<(), LineRefused>; 3], u32) {
-    let mut kernel = begun(rt, alloc);
-    let told = [
-        dropped(rt, alloc, &mut kernel, &[0, 2]),
-        dropped(rt, alloc, &mut kernel, &[]),
-        dropped(rt, alloc, &mut kernel, &[1, 0, 1]),
-    ];
-    let live = kernel.live_count();
-    drop(kernel);
-    (told, live)
-}
-
-#[test]
-fn drops_are_refused(rt: HostRuntime) {
-    let (told, live) = wrong_drops(&rt, rt.alloc());
-    let place = Err(LineRefused::Bad(Why::Place));
-    assert!(rt; told == [place, place, GONE]);
-    assert!(rt; live == 2);
-}
-
-/// Whether there was an empty clause once it is dropped.
-fn empty_dropped(rt: &impl Abort, alloc: Global) -> ([Result<(), LineRefused>; 2], bool) {
-    let mut kernel = begun(rt, alloc);
-    let told = [
-        add(&mut kernel, resolve(0, 1, 0)),
-        dropped(rt, alloc, &mut kernel, &[2]),
-    ];
-    let empty = kernel.has_empty();
-    drop(kernel);
-    (told, empty)
-}
-
-#[test]
-fn a_dropped_empty_clause_counts(rt: HostRuntime) {
-    let (told, empty) = empty_dropped(&rt, rt.alloc());
-    assert!(rt; told == [Ok(()), Ok(())] && empty);
+    for (lines, want) in RUNS {
+        let says = said_behind(&rt, rt.alloc(), lines);
+        assert!(rt; says == *want);
+    }
 }
 
 /// Whether there is an empty clause before and after a kernel begins anew, and how many atoms and clauses there are then.
 fn anew(rt: &impl Abort, alloc: Global) -> ([bool; 2], (u32, u32)) {
     let mut kernel = begun(rt, alloc);
-    add(&mut kernel, resolve(0, 1, 0)).expect(rt, "a resolvent");
+    let resolvent = line(rt, alloc, Short::Resolve(0, 1, 0));
+    add(&mut kernel, resolvent).expect(rt, "a resolvent");
     let before = kernel.has_empty();
     kernel.restart(joined(rt, alloc)).expect(rt, "memory");
     let after = kernel.has_empty();

@@ -25,13 +25,23 @@ pub const NOT_FIRST: Lit = Lit {
     positive: false,
 };
 
+pub const NOT_SECOND: Lit = Lit {
+    atom: 1,
+    positive: false,
+};
+
+/// A line of a log in short. Farkas and Split lines use one literal and have no steps.
+#[derive(Clone, Copy)]
+pub enum Short {
+    Resolve(u32, u32, u32),
+    Farkas,
+    Split,
+    Drop(&'static [u32]),
+}
+
 /// A list of these items.
 pub fn items<T: Copy>(rt: &impl Abort, alloc: Global, list: &[T]) -> Items<T> {
     Items::from_slice(alloc, list).expect(rt, "memory")
-}
-
-pub fn resolve(left: u32, right: u32, pivot: u32) -> Line {
-    Line::Resolve { left, right, pivot }
 }
 
 pub fn farkas(rt: &impl Abort, alloc: Global, used: &[Lit], steps: &[RowStep]) -> Line {
@@ -41,10 +51,33 @@ pub fn farkas(rt: &impl Abort, alloc: Global, used: &[Lit], steps: &[RowStep]) -
     }
 }
 
-pub fn drop_line(rt: &impl Abort, alloc: Global, numbers: &[u32]) -> Line {
-    Line::Drop {
-        clauses: items(rt, alloc, numbers),
+/// A line in full.
+pub fn line(rt: &impl Abort, alloc: Global, short: Short) -> Line {
+    match short {
+        Short::Resolve(left, right, pivot) => Line::Resolve { left, right, pivot },
+        Short::Farkas => farkas(rt, alloc, &[FIRST], &[]),
+        Short::Split => Line::Split {
+            place: 0,
+            at: 0,
+            used: items(rt, alloc, &[FIRST]),
+            steps: Items::new(alloc),
+            low: 0,
+            high: 0,
+            values: Items::new(alloc),
+        },
+        Short::Drop(numbers) => Line::Drop {
+            clauses: items(rt, alloc, numbers),
+        },
     }
+}
+
+/// A log in full.
+pub fn log_of(rt: &impl Abort, alloc: Global, lines: &[Short]) -> Items<Line> {
+    let mut log = Items::new(alloc);
+    for short in lines {
+        log.push(line(rt, alloc, *short)).expect(rt, "memory");
+    }
+    log
 }
 
 fn fits(number: i128) -> bool
@@ -88,16 +121,17 @@ fn clause(rt: &impl Abort, alloc: Global, lits: &[Lit]) -> Clause {
     Clause::of(alloc, lits).expect(rt, "memory")
 }
 
-/// Plain atoms and two clauses.
-pub fn plain(rt: &impl Abort, alloc: Global, atoms: u32, first: &[Lit], second: &[Lit]) -> Problem {
+/// Plain atoms and these clauses.
+pub fn plain(rt: &impl Abort, alloc: Global, atoms: u32, clauses: &[&[Lit]]) -> Problem {
     let mut kinds = Items::new(alloc);
     for _ in 0..atoms {
         kinds.push(AtomKind::Plain).expect(rt, "memory");
     }
-    let mut clauses = Items::new(alloc);
-    clauses.push(clause(rt, alloc, first)).expect(rt, "memory");
-    clauses.push(clause(rt, alloc, second)).expect(rt, "memory");
-    made(rt, kinds, 0, clauses)
+    let mut list = Items::new(alloc);
+    for lits in clauses {
+        list.push(clause(rt, alloc, lits)).expect(rt, "memory");
+    }
+    made(rt, kinds, 0, list)
 }
 
 /// Atom 0 and atom 1 for two rows over x0 and x1, atom 2 plain, and no clauses.

@@ -1,6 +1,152 @@
 // Worked examples of upgraded logs: where the clauses of a log are dropped, that an upgraded log is upgraded already, and that the
 // kernel accepts it.
-#[cfg(test)]
-mod logs;
-#[cfg(test)]
-mod making;
+use crate::making::{FIRST, NOT_FIRST, NOT_SECOND, SECOND, Short, log_of, plain};
+use log_drops::upgrade_log;
+use proof_kernel::check_log;
+use proof_lines::{Line, Lit};
+use std::alloc::Global;
+use std::process::Abort;
+
+/// Whether a line is the one that is meant.
+fn is_line(line: &Line, short: Short) -> bool {
+    match (line, short) {
+        (Line::Resolve { left, right, pivot }, Short::Resolve(a, b, c)) => {
+            *left == a && *right == b && *pivot == c
+        }
+        (Line::Farkas { .. }, Short::Farkas) => true,
+        (Line::Split { .. }, Short::Split) => true,
+        (Line::Drop { clauses }, Short::Drop(numbers)) => clauses.as_slice() == numbers,
+        _ => false,
+    }
+}
+
+/// Whether a log is the one that is meant.
+fn is_log(log: &[Line], lines: &[Short]) -> bool {
+    if log.len() != lines.len() {
+        return false;
+    }
+    for i in 0..log.len() {
+        if !is_line(&log[i], lines[i]) {
+            return false;
+        }
+    }
+    true
+}
+
+/// Whether the upgraded log of some lines is the one that is meant.
+fn becomes(rt: &impl Abort, alloc: Global, lines: &[Short], want: &[Short]) -> bool {
+    let log = log_of(rt, alloc, lines);
+    let upgraded = upgrade_log(alloc, log.as_slice()).expect(rt, "memory");
+    let found = is_log(upgraded.as_slice(), want);
+    drop(upgraded);
+    drop(log);
+    found
+}
+
+/// A log and the upgraded one.
+type Case = (&'static [Short], &'static [Short]);
+
+/// Clauses are dropped behind the line that names them last; the first of these logs is upgraded already.
+static CASES: [Case; 6] = [
+    (
+        &[
+            Short::Resolve(7, 3, 2),
+            Short::Drop(&[3, 7]),
+            Short::Resolve(6, 4, 1),
+            Short::Drop(&[4, 6]),
+            Short::Resolve(1, 10, 5),
+            Short::Drop(&[1, 10]),
+            Short::Resolve(12, 11, 6),
+            Short::Drop(&[11, 12]),
+        ],
+        &[
+            Short::Resolve(7, 3, 2),
+            Short::Drop(&[3, 7]),
+            Short::Resolve(6, 4, 1),
+            Short::Drop(&[4, 6]),
+            Short::Resolve(1, 10, 5),
+            Short::Drop(&[1, 10]),
+            Short::Resolve(12, 11, 6),
+            Short::Drop(&[11, 12]),
+        ],
+    ),
+    (
+        &[
+            Short::Resolve(7, 3, 2),
+            Short::Resolve(6, 4, 1),
+            Short::Resolve(1, 10, 5),
+            Short::Resolve(12, 11, 6),
+        ],
+        &[
+            Short::Resolve(7, 3, 2),
+            Short::Drop(&[3, 7]),
+            Short::Resolve(6, 4, 1),
+            Short::Drop(&[4, 6]),
+            Short::Resolve(1, 10, 5),
+            Short::Drop(&[1, 10]),
+            Short::Resolve(12, 11, 6),
+            Short::Drop(&[11, 12]),
+        ],
+    ),
+    (
+        &[Short::Resolve(2, 1, 1), Short::Resolve(2, 3, 0)],
+        &[
+            Short::Resolve(2, 1, 1),
+            Short::Drop(&[1]),
+            Short::Resolve(2, 3, 0),
+            Short::Drop(&[2, 3]),
+        ],
+    ),
+    (
+        &[
+            Short::Drop(&[5]),
+            Short::Resolve(4, 4, 0),
+            Short::Drop(&[4]),
+            Short::Drop(&[]),
+        ],
+        &[Short::Resolve(4, 4, 0), Short::Drop(&[4])],
+    ),
+    (
+        &[
+            Short::Farkas,
+            Short::Split,
+            Short::Drop(&[0]),
+            Short::Farkas,
+        ],
+        &[Short::Farkas, Short::Split, Short::Farkas],
+    ),
+    (&[], &[]),
+];
+
+#[test]
+fn clauses_are_dropped_behind_the_line_that_names_them_last(rt: HostRuntime) {
+    for (lines, want) in &CASES {
+        let found = becomes(&rt, rt.alloc(), lines, want);
+        assert!(rt; found);
+    }
+}
+
+static CLAUSES: &[&[Lit]] = &[&[FIRST], &[NOT_FIRST, SECOND], &[NOT_SECOND]];
+
+/// How many lines of the log and of the upgraded one are accepted.
+fn accepted(rt: &impl Abort, alloc: Global, lines: &[Short]) -> [Option<u32>; 2] {
+    let problem = plain(rt, alloc, 2, CLAUSES);
+    let log = log_of(rt, alloc, lines);
+    let upgraded = upgrade_log(alloc, log.as_slice()).expect(rt, "memory");
+    let first = check_log(alloc, &problem, log.as_slice());
+    let second = check_log(alloc, &problem, upgraded.as_slice());
+    drop(upgraded);
+    drop(log);
+    drop(problem);
+    [
+        first.ok().map(|checked| checked.lines),
+        second.ok().map(|checked| checked.lines),
+    ]
+}
+
+#[test]
+fn the_kernel_accepts_the_upgraded_log(rt: HostRuntime) {
+    let lines = [Short::Resolve(0, 1, 0), Short::Resolve(3, 2, 1)];
+    let found = accepted(&rt, rt.alloc(), &lines);
+    assert!(rt; found == [Some(2), Some(4)]);
+}

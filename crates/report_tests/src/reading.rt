@@ -1,12 +1,13 @@
 // Reports that are read: line by line, and whole.
 
-use crate::examples::{FLAG, RAISING};
 use crate::reports::{RAISED, RAISED_DROPPING, REFUTED, UP};
 use crate::running::{Answer, read_by_lines, spec};
+use example_specs::{FLAG, RAISED as RAISING};
 use proof_report::{Block, ReportKind, ReportRefused};
 use report_bytes::read_report;
 use spec_core::Spec;
 use std::alloc::Global;
+use std::process::Abort;
 
 /// A specification, a text, how many of its last bytes are left out, and what is answered to its lines.
 type Case = (&'static [u8], &'static [u8], usize, Answer);
@@ -21,14 +22,19 @@ static CASES: [Case; 7] = [
     (FLAG, RAISED, 0, Answer::Line(3, ReportKind::Obligation)),
 ];
 
+// What is answered to the lines of a report without so many of its last bytes.
+fn answered(rt: &impl Abort, alloc: Global, text: &[u8], report: &[u8], cut: usize) -> Answer {
+    let spec = spec(rt, alloc, text);
+    let len = report.len().saturating_sub(cut);
+    let found = read_by_lines(rt, alloc, &spec, &report[..len]);
+    drop(spec);
+    found
+}
+
 #[test]
 fn reports_are_read(rt: HostRuntime) {
-    let alloc = rt.alloc();
     for (text, report, cut, want) in &CASES {
-        let spec = spec(&rt, alloc, text);
-        let len = report.len().saturating_sub(*cut);
-        let found = read_by_lines(&rt, alloc, &spec, &report[..len]);
-        drop(spec);
+        let found = answered(&rt, rt.alloc(), text, report, *cut);
         assert!(&rt; found == *want);
     }
 }
@@ -45,17 +51,23 @@ fn read(alloc: Global, spec: &Spec, text: &[u8]) -> Answer {
     }
 }
 
+// Whether a text is read, and no front of it.
+fn is_read_whole(alloc: Global, spec: &Spec, text: &[u8]) -> bool {
+    for len in 1..text.len() {
+        if !matches!(read(alloc, spec, &text[..len]), Answer::Line(_, _)) {
+            return false;
+        }
+    }
+    read(alloc, spec, text) == Answer::Accepted(0, 0, 0)
+        && read(alloc, spec, b"") == Answer::Line(1, ReportKind::Form)
+}
+
 #[test]
 fn a_cut_report_is_refused(rt: HostRuntime) {
-    let alloc = rt.alloc();
-    let spec = spec(&rt, alloc, FLAG);
-    assert!(&rt; read(alloc, &spec, UP) == Answer::Accepted(0, 0, 0));
-    assert!(&rt; read(alloc, &spec, b"") == Answer::Line(1, ReportKind::Form));
-    for len in 1..UP.len() {
-        let refused = matches!(read(alloc, &spec, &UP[..len]), Answer::Line(_, _));
-        assert!(&rt; refused);
-    }
+    let spec = spec(&rt, rt.alloc(), FLAG);
+    let whole = is_read_whole(rt.alloc(), &spec, UP);
     drop(spec);
+    assert!(&rt; whole);
 }
 
 fn begin_at(blocks: &[Block], lines: &[u32]) -> bool {
@@ -87,15 +99,24 @@ fn is_read(
     }
 }
 
+// Whether a text is such a report on a specification, with the default budget.
+fn is_report(
+    rt: &impl Abort,
+    alloc: Global,
+    text: &[u8],
+    report: &[u8],
+    version: u8,
+    lines: &[u32],
+) -> bool {
+    let spec = spec(rt, alloc, text);
+    let same = is_read(alloc, &spec, report, version, 10_000, lines);
+    drop(spec);
+    same
+}
+
 #[test]
 fn lines_are_counted(rt: HostRuntime) {
-    let alloc = rt.alloc();
-    let flag = spec(&rt, alloc, FLAG);
-    let first = is_read(alloc, &flag, UP, 1, 10_000, &[5]);
-    drop(flag);
-    let raising = spec(&rt, alloc, RAISING);
-    let second = is_read(alloc, &raising, RAISED, 1, 10_000, &[5, 7, 10]);
-    let third = is_read(alloc, &raising, RAISED_DROPPING, 2, 10_000, &[5, 7, 11]);
-    drop(raising);
-    assert!(&rt; first && second && third);
+    assert!(&rt; is_report(&rt, rt.alloc(), FLAG, UP, 1, &[5]));
+    assert!(&rt; is_report(&rt, rt.alloc(), RAISING, RAISED, 1, &[5, 7, 10]));
+    assert!(&rt; is_report(&rt, rt.alloc(), RAISING, RAISED_DROPPING, 2, &[5, 7, 11]));
 }

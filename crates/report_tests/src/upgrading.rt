@@ -1,11 +1,14 @@
 // Reports on a flag that an operation raises, and the upgraded ones.
 
-use crate::examples::RAISING;
 use crate::reports::{
     DROPPED_LATE, NAMES_DROPPED, RAISED, RAISED_CUT, RAISED_DROPPING, SPENT, SPENT_UPGRADED,
 };
 use crate::running::{Answer, spec, upgraded, verified};
+use example_specs::RAISED as RAISING;
 use proof_report::ReportKind;
+use spec_core::Spec;
+use std::alloc::Global;
+use std::process::Abort;
 
 /// A report, its counts, and the upgraded one.
 type Case = (&'static [u8], Answer, &'static [u8]);
@@ -19,15 +22,18 @@ static CASES: [Case; 5] = [
     (SPENT_UPGRADED, Answer::Accepted(2, 0, 1), SPENT_UPGRADED),
 ];
 
+fn check_upgraded(rt: &impl Abort, alloc: Global, spec: &Spec) {
+    for (report, counts, want) in &CASES {
+        let (answer, written) = upgraded(rt, alloc, spec, report, &[], &[], want);
+        assert!(rt; answer == *counts && written);
+        assert!(rt; verified(rt, alloc, spec, want, 100, &[]) == *counts);
+    }
+}
+
 #[test]
 fn reports_that_stand_are_upgraded(rt: HostRuntime) {
-    let alloc = rt.alloc();
-    let spec = spec(&rt, alloc, RAISING);
-    for (report, counts, want) in &CASES {
-        let (answer, written) = upgraded(&rt, alloc, &spec, report, &[], &[], want);
-        assert!(&rt; answer == *counts && written);
-        assert!(&rt; verified(&rt, alloc, &spec, want, 100, &[]) == *counts);
-    }
+    let spec = spec(&rt, rt.alloc(), RAISING);
+    check_upgraded(&rt, rt.alloc(), &spec);
     drop(spec);
 }
 
@@ -48,14 +54,18 @@ static STOPS: [Stop; 5] = [
     (RAISED, &[], &[2], Answer::WriteFault, 200),
 ];
 
+fn check_stopped(rt: &impl Abort, alloc: Global, spec: &Spec, whole: &[u8]) {
+    for (report, reads, writes, want, count) in &STOPS {
+        assert!(rt; *count <= whole.len());
+        let front = &whole[..*count];
+        let (answer, written) = upgraded(rt, alloc, spec, report, reads, writes, front);
+        assert!(rt; answer == *want && written);
+    }
+}
+
 #[test]
 fn others_are_refused_and_writes_may_fail(rt: HostRuntime) {
-    let alloc = rt.alloc();
-    let spec = spec(&rt, alloc, RAISING);
-    for (report, reads, writes, want, count) in &STOPS {
-        let front = &RAISED_DROPPING[..*count];
-        let (answer, written) = upgraded(&rt, alloc, &spec, report, reads, writes, front);
-        assert!(&rt; answer == *want && written);
-    }
+    let spec = spec(&rt, rt.alloc(), RAISING);
+    check_stopped(&rt, rt.alloc(), &spec, RAISED_DROPPING);
     drop(spec);
 }

@@ -1,12 +1,14 @@
 // Reports that are verified: accepted ones, and what is wrong with those that were changed.
 
-use crate::examples::{FLAG, LOWERED, ODD, RAISING};
+use crate::examples::ODD;
 use crate::reports::{
     COMBINED, DOWN, FEW, NAMES_DROPPED, NEGATIVE, NOT_SPENT, OTHER_PIVOT, OTHER_PIVOT_CUT,
     OVER_BUDGET, RAISED, RAISED_DROPPING, SHORT_LOG, SPENT, UNCOMBINED, UP, UP_CUT, UP_UNENDED,
 };
 use crate::running::{Answer, spec, verified};
+use example_specs::{FLAG, NO_FLAG as LOWERED, RAISED as RAISING};
 use proof_report::ReportKind;
+use spec_core::Spec;
 use std::alloc::Global;
 use std::process::Abort;
 
@@ -77,13 +79,16 @@ static SOURCES: [(usize, &'static [u32], Answer); 6] = [
     (8, &[12], Answer::Fault),
 ];
 
+fn check_pieces(rt: &impl Abort, alloc: Global, spec: &Spec, report: &[u8]) {
+    for (piece, fail_at, want) in &SOURCES {
+        let found = verified(rt, alloc, spec, report, *piece, fail_at);
+        assert!(rt; found == *want);
+    }
+}
+
 #[test]
 fn reports_come_in_pieces_and_reads_fail(rt: HostRuntime) {
-    let alloc = rt.alloc();
-    let spec = spec(&rt, alloc, FLAG);
-    for (piece, fail_at, want) in &SOURCES {
-        let found = verified(&rt, alloc, &spec, UP, *piece, fail_at);
-        assert!(&rt; found == *want);
-    }
+    let spec = spec(&rt, rt.alloc(), FLAG);
+    check_pieces(&rt, rt.alloc(), &spec, UP);
     drop(spec);
 }

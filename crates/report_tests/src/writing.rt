@@ -1,8 +1,8 @@
 // Reports that are written: a block, and whole ones as they were read.
 
-use crate::examples::FLAG;
 use crate::reports::VERDICTS;
 use crate::running::spec;
+use example_specs::FLAG;
 use items::Items;
 use obligation_list::{Obligation, list};
 use proof_report::{Report, Verdict, write_end, write_head, write_verdict};
@@ -21,16 +21,23 @@ fn write_block(rt: &impl Abort, alloc: Global, spec: &Spec, verdict: &Verdict, o
     write_verdict(alloc, spec, Obligation::Init { inv: 0 }, verdict, out).expect(rt, "memory");
 }
 
-#[test]
-fn a_block_is_written(rt: HostRuntime) {
-    let alloc = rt.alloc();
-    let spec = spec(&rt, alloc, FLAG);
+// Whether the block of a flag's obligation, which an empty log proves, is this text.
+fn is_written(rt: &impl Abort, alloc: Global, spec: &Spec, text: &[u8]) -> bool {
     let verdict = Verdict::Proved(Items::new(alloc));
     let mut out = Vec::new(alloc);
-    write_block(&rt, alloc, &spec, &verdict, &mut out);
+    write_block(rt, alloc, spec, &verdict, &mut out);
     drop(verdict);
+    let same = out.as_slice() == text;
+    drop(out);
+    same
+}
+
+#[test]
+fn a_block_is_written(rt: HostRuntime) {
+    let spec = spec(&rt, rt.alloc(), FLAG);
+    let same = is_written(&rt, rt.alloc(), &spec, b"init alive\nproved 0\n");
     drop(spec);
-    assert!(&rt; out.as_slice() == b"init alive\nproved 0\n".as_slice());
+    assert!(&rt; same);
 }
 
 fn tally_of(verdict: &Verdict) -> Tally {
@@ -82,12 +89,15 @@ fn is_written_again(rt: &impl Abort, alloc: Global, spec: &Spec, text: &[u8]) ->
     same
 }
 
+fn check_written_again(rt: &impl Abort, alloc: Global, spec: &Spec) {
+    for text in VERDICTS {
+        assert!(rt; is_written_again(rt, alloc, spec, text));
+    }
+}
+
 #[test]
 fn what_is_read_is_written_so(rt: HostRuntime) {
-    let alloc = rt.alloc();
-    let spec = spec(&rt, alloc, FLAG);
-    for text in VERDICTS {
-        assert!(&rt; is_written_again(&rt, alloc, &spec, text));
-    }
+    let spec = spec(&rt, rt.alloc(), FLAG);
+    check_written_again(&rt, rt.alloc(), &spec);
     drop(spec);
 }

@@ -5,11 +5,12 @@ ghost use Rattle.spec_core.specs.Typed.{same_sort as same_sort_of, sort_of_kind 
 ghost use Rattle.conflict_variants.specs.Keyed.{sort_of_parameter as sort_of_parameter_of};
 
 use crate::examples::{
-    BANK_SUGGESTION, KEPT, KEPT_BEFORE, KEPT_BEHIND, NAMED, NAMED_SUGGESTION, PURSES, SETS,
-    SETS_SUGGESTION, SHOP, SHOP_SUGGESTION, TOURNAMENTS, TOURNAMENTS_SUGGESTION, VAST, WITHDRAWALS,
+    BANK_SUGGESTION, KEPT, KEPT_BEFORE, KEPT_BEHIND, NAMED, NAMED_SUGGESTION, SETS_SUGGESTION,
+    SHOP_SUGGESTION, TOURNAMENTS_SUGGESTION, VAST,
 };
 use crate::running::{spec, suggested};
 use conflict_variants::{bare, keyed};
+use example_specs::{PURSES, SETS, SHOP, TOURNAMENTS, WITHDRAWALS};
 use spec_core::{Elem, Kind, Spec};
 use std::alloc::Global;
 use std::process::Abort;
@@ -37,74 +38,89 @@ const ONE_OF_THREE: SuggestTally = SuggestTally {
     unknown: 0,
 };
 
-#[test]
-fn suggests_for_withdrawals(rt: HostRuntime) {
-    assert!(rt; is_suggested(&rt, rt.alloc(), WITHDRAWALS, ONE_OF_THREE, BANK_SUGGESTION));
-}
+/// A specification, how many of its pairs are needed, free and unknown, and the suggestion for it.
+type Row = (&'static [u8], SuggestTally, &'static [u8]);
+
+static ROWS: &[Row] = &[
+    (WITHDRAWALS, ONE_OF_THREE, BANK_SUGGESTION),
+    // the same with tokens
+    (PURSES, ONE_OF_THREE, BANK_SUGGESTION),
+    (SETS, ONE_OF_THREE, SETS_SUGGESTION),
+    // names that are in use
+    (NAMED, ONE_OF_THREE, NAMED_SUGGESTION),
+    (
+        TOURNAMENTS,
+        SuggestTally {
+            needed: 6,
+            free: 15,
+            unknown: 0,
+        },
+        TOURNAMENTS_SUGGESTION,
+    ),
+    // modes
+    (
+        SHOP,
+        SuggestTally {
+            needed: 2,
+            free: 4,
+            unknown: 0,
+        },
+        SHOP_SUGGESTION,
+    ),
+];
 
 #[test]
-fn suggests_the_same_with_tokens(rt: HostRuntime) {
-    assert!(rt; is_suggested(&rt, rt.alloc(), PURSES, ONE_OF_THREE, BANK_SUGGESTION));
+fn suggests_what_must_conflict(rt: HostRuntime) {
+    for (text, counts, suggestion) in ROWS {
+        let same = is_suggested(&rt, rt.alloc(), text, *counts, suggestion);
+        assert!(rt; same);
+    }
 }
 
-#[test]
-fn suggests_for_sets(rt: HostRuntime) {
-    assert!(rt; is_suggested(&rt, rt.alloc(), SETS, ONE_OF_THREE, SETS_SUGGESTION));
-}
-
-#[test]
-fn suggests_for_names_in_use(rt: HostRuntime) {
-    assert!(rt; is_suggested(&rt, rt.alloc(), NAMED, ONE_OF_THREE, NAMED_SUGGESTION));
-}
-
-#[test]
-fn suggests_for_tournaments(rt: HostRuntime) {
-    let counts = SuggestTally {
-        needed: 6,
-        free: 15,
-        unknown: 0,
-    };
-    assert!(rt; is_suggested(&rt, rt.alloc(), TOURNAMENTS, counts, TOURNAMENTS_SUGGESTION));
-}
-
-#[test]
-fn suggests_for_modes(rt: HostRuntime) {
-    let counts = SuggestTally {
-        needed: 2,
-        free: 4,
-        unknown: 0,
-    };
-    assert!(rt; is_suggested(&rt, rt.alloc(), SHOP, counts, SHOP_SUGGESTION));
+/// Whether what is suggested begins and ends so, and so many pairs are needed, free and unknown.
+fn is_between(
+    rt: &impl Abort,
+    alloc: Global,
+    text: &[u8],
+    counts: SuggestTally,
+    before: &[u8],
+    behind: &[u8],
+) -> bool {
+    let spec = spec(rt, alloc, text);
+    let (found, tally) = suggested(rt, alloc, &spec, 10_000);
+    drop(spec);
+    let same = tally == counts
+        && found.as_slice().starts_with(before)
+        && found.as_slice().ends_with(behind);
+    drop(found);
+    same
 }
 
 #[test]
 fn leaves_a_pair_unknown(rt: HostRuntime) {
-    let alloc = rt.alloc();
-    let spec = spec(&rt, alloc, VAST);
-    let (found, tally) = suggested(&rt, alloc, &spec, 10_000);
-    drop(spec);
-    let good = tally.unknown == 1
-        && found.as_slice().starts_with(
-            b"cise suggest 1\npairs 3\nfree big big\nunknown big less\nstable big 2 less\nundecided range ",
-        )
-        && found.as_slice().ends_with(
-            b"\nfree less less\nsummary needed 0 free 2 unknown 1\nundecided\n",
-        );
-    drop(found);
-    assert!(rt; good);
+    let counts = SuggestTally {
+        needed: 0,
+        free: 2,
+        unknown: 1,
+    };
+    let before = b"cise suggest 1
+pairs 3
+free big big
+unknown big less
+stable big 2 less
+undecided range ";
+    let behind = b"
+free less less
+summary needed 0 free 2 unknown 1
+undecided
+";
+    assert!(rt; is_between(&rt, rt.alloc(), VAST, counts, before, behind));
 }
 
 #[test]
 fn leaves_it_open_whether_parameters_are_enough(rt: HostRuntime) {
-    let alloc = rt.alloc();
-    let spec = spec(&rt, alloc, KEPT);
-    let (found, tally) = suggested(&rt, alloc, &spec, 10_000);
-    drop(spec);
-    let good = tally == ONE_OF_THREE
-        && found.as_slice().starts_with(KEPT_BEFORE)
-        && found.as_slice().ends_with(KEPT_BEHIND);
-    drop(found);
-    assert!(rt; good);
+    let (before, behind) = (KEPT_BEFORE, KEPT_BEHIND);
+    assert!(rt; is_between(&rt, rt.alloc(), KEPT, ONE_OF_THREE, before, behind));
 }
 
 /// Whether the answers are for three pairs, of which the second alone is tried at parameters, once.

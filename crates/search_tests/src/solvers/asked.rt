@@ -9,13 +9,17 @@ use lin_rows::{Row, RowTerm, row_of};
 use linear_ints::Eliminator;
 use proof_lines::{RangeWhat, RowStep};
 use std::alloc::{AllocError, Global};
+use std::process::Abort;
 use theory_api::{Theory, TheoryAnswer};
 
 /// The coefficients of a row by place, and its bound.
 pub type Line<'a> = (&'a [i128], i128);
 
+/// The rows of a system, how many names they have, and what a solver says of them.
+pub type Case = (&'static [Line<'static>], u32, Told);
+
 /// What a solver said, with the first value where there are values.
-#[derive(Clone, Copy, Debug, PartialEq)]
+#[derive(Clone, Copy, PartialEq)]
 pub enum Told {
     Model { first: i128 },
     Conflict,
@@ -187,7 +191,25 @@ pub fn tell(alloc: Global, lines: &[Line], ints: u32) -> Told {
 /// What the solver that cutting planes guide says of the rows of lines.
 pub fn tell_planes(alloc: Global, lines: &[Line], ints: u32) -> Told {
     match rows_of(alloc, lines) {
-        Ok(rows) => ask(&mut CuttingPlanes::new(), alloc, rows.as_slice(), ints),
+        Ok(rows) => {
+            let told = ask(&mut CuttingPlanes::new(), alloc, rows.as_slice(), ints);
+            drop(rows);
+            told
+        }
         Err(_) => Told::Nothing,
+    }
+}
+
+/// Checks what the elimination solver says of each system.
+pub fn check_all(rt: &impl Abort, alloc: Global, cases: &[Case]) {
+    for (lines, ints, want) in cases {
+        assert!(rt; tell(alloc, lines, *ints) == *want, "at {lines:?}");
+    }
+}
+
+/// Checks what the solver that cutting planes guide says of each system.
+pub fn check_planes(rt: &impl Abort, alloc: Global, cases: &[Case]) {
+    for (lines, ints, want) in cases {
+        assert!(rt; tell_planes(alloc, lines, *ints) == *want, "at {lines:?}");
     }
 }

@@ -3,10 +3,14 @@ use crate::solvers::asked::{Line, all_within, first_of, row_with, rows_of};
 use diff_bounds::{DiffBounds, takes};
 use lin_rows::{Row, RowTerm};
 use std::alloc::{AllocError, Global};
+use std::process::Abort;
 use theory_api::{Theory, TheoryAnswer};
 
+/// The rows of a system, how many names they have, and what the solver says of them.
+pub type Case = (&'static [Line<'static>], u32, Said);
+
 /// What the solver of difference rows said.
-#[derive(Clone, Copy, Debug, PartialEq)]
+#[derive(Clone, Copy, PartialEq)]
 pub enum Said {
     /// The first value.
     Model { first: i128 },
@@ -49,6 +53,13 @@ pub fn say_lines(alloc: Global, lines: &[Line], ints: u32) -> Said {
             said
         }
         Err(_) => Said::Nothing,
+    }
+}
+
+/// Checks what the solver says of each system.
+pub fn check_all(rt: &impl Abort, alloc: Global, cases: &[Case]) {
+    for (lines, ints, want) in cases {
+        assert!(rt; say_lines(alloc, lines, *ints) == *want, "at {lines:?}");
     }
 }
 

@@ -5,10 +5,14 @@ use linear_ints::Eliminator;
 use proof_lines::{AtomKind, Clause, Lit, Problem};
 use sat_core::{Answer, solve_plain};
 use std::alloc::{AllocError, Global};
+use std::process::Abort;
 use watched_search::search;
 
+/// The rows of a system, how many names they have, and what the search finds.
+pub type Search = (&'static [Line<'static>], u32, Found);
+
 /// What the search found.
-#[derive(Clone, Copy, Debug, PartialEq)]
+#[derive(Clone, Copy, PartialEq)]
 pub enum Found {
     Unsat,
     Sat,
@@ -87,5 +91,15 @@ pub fn find_within(alloc: Global, lines: &[Line], ints: u32, budget: u32) -> Fou
             told(answer)
         }
         _ => Found::Nothing,
+    }
+}
+
+/// Checks what the search finds for each system within twenty lines.
+pub fn check_searches(rt: &impl Abort, alloc: Global, cases: &[Search]) {
+    for (lines, ints, want) in cases {
+        assert!(rt;
+            find_within(alloc, lines, *ints, 20) == *want,
+            "at {lines:?}"
+        );
     }
 }
