@@ -95,6 +95,7 @@ key_sort d a p = unwrap_or (sort_of_parameter d a p) 0
 abbrev pub keyed : Specification → ℕ → ℕ → ℕ → ℕ → Specification
 keyed d a p b q =
     with_tokens d
-    (keyed_token (first_name d) (key_sort d a p) ∷ keyed_token (second_name d) (key_sort d a p) ∷ [])
+    (keyed_token (first_name d) (key_sort d a p) ∷ keyed_token (second_name d) (key_sort d a p)
+        ∷ [])
     (keyed_rule ∷ [])
     (keyed_from a p b q 0 d.operations)

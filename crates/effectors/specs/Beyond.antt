@@ -32,4 +32,6 @@ pub record IsFirstBeyond (s : Listing) (b : Beyond) : Type 0 where
 abbrev pub first_beyond : ℕ → List (List (List ℕ × ℤ)) → Option Beyond
 first_beyond k [] = None
 first_beyond k ([] ∷ counters) = first_beyond (suc k) counters
-first_beyond k ((e ∷ es) ∷ counters) = cond (in_state_range e.1) (first_beyond k (es ∷ counters)) (Some (record { counter = k; key = e.0; value = e.1 }))
+first_beyond k ((e ∷ es) ∷ counters) =
+    cond (in_state_range e.1) (first_beyond k (es ∷ counters))
+    (Some (record { counter = k; key = e.0; value = e.1 }))

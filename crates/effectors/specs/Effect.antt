@@ -54,12 +54,16 @@ count_changed w r args (Set n) v = term_of w r args [] n
 -- what a tuple reads after these updates, from what it reads before them
 abbrev pub has_after : World → Reads → List ℤ → ℕ → List ℕ → List UpdateLine → Bool → Bool
 has_after w r args k t [] b = b
-has_after w r args k t (u ∷ us) b = has_after w r args k t us (cond (acts w r args (thing.Relation k) t u) (has_changed u.change b) b)
+has_after w r args k t (u ∷ us) b =
+    has_after w r args k t us (cond (acts w r args (thing.Relation k) t u)
+    (has_changed u.change b) b)
 
 -- what a key reads after these updates, from what it reads before them
 abbrev pub count_after : World → Reads → List ℤ → ℕ → List ℕ → List UpdateLine → ℤ → ℤ
 count_after w r args k t [] v = v
-count_after w r args k t (u ∷ us) v = count_after w r args k t us (cond (acts w r args (thing.Counter k) t u) (count_changed w r args u.change v) v)
+count_after w r args k t (u ∷ us) v =
+    count_after w r args k t us (cond (acts w r args (thing.Counter k) t u)
+    (count_changed w r args u.change v) v)
 
 -- a list made from the members of another and their places
 abbrev pub numbered : {X Y : Type 0} → (ℕ → X → Y) → ℕ → List X → List Y
@@ -69,8 +73,10 @@ numbered f n (x ∷ xs) = f n x ∷ numbered f (suc n) xs
 -- The state after a call: for each relation the tuples whose new reading is true, for each counter all keys with their new values.
 abbrev pub after_call : Specification → World → Call → Reads → Listing
 after_call d w c r = record {
-  relations = numbered (λ k it. filter (λ t. has_after w r c.args k t (op_of d c.op).updates (r.has k t)) (tuples w it.places)) 0 d.relations;
-  counters = numbered (λ k it. map (λ t. (t, count_after w r c.args k t (op_of d c.op).updates (r.count k t))) (tuples w it.keys)) 0 d.counters;
+  relations = numbered (λ k it. filter (λ t. has_after w r c.args k t (op_of d c.op).updates
+      (r.has k t)) (tuples w it.places)) 0 d.relations;
+  counters = numbered (λ k it. map (λ t. (t, count_after w r c.args k t (op_of d c.op).updates
+      (r.count k t))) (tuples w it.keys)) 0 d.counters;
 }
 
 -- what the state after a call reads

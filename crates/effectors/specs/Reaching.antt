@@ -18,7 +18,8 @@ abbrev pub matching : World → List ℤ → List ℕ → List Spot → List (Li
 matching w args [] xs = [] ∷ []
 matching w args (s ∷ ss) [] = []
 matching w args (s ∷ ss) (Every ∷ xs) = each_before (below (size_of w s)) (matching w args ss xs)
-matching w args (s ∷ ss) (One e ∷ xs) = each_before (elem_of w args [] e ∷ []) (matching w args ss xs)
+matching w args (s ∷ ss) (One e ∷ xs) =
+    each_before (elem_of w args [] e ∷ []) (matching w args ss xs)
 
 -- the tuples or keys that an update reaches
 abbrev pub reached : Specification → World → List ℤ → UpdateLine → List (List ℕ)
@@ -26,11 +27,13 @@ reached d w args u = matching w args (places_of d u.thing) u.at
 
 -- readings, but those of a relation at these tuples from other ones
 abbrev pub with_tuples : ℕ → List (List ℕ) → Reads → Reads → Reads
-with_tuples k ts n r = record { has = λ j q. cond ((j == k) && is_in q ts) (n.has j q) (r.has j q); count = r.count }
+with_tuples k ts n r =
+    record { has = λ j q. cond ((j == k) && is_in q ts) (n.has j q) (r.has j q); count = r.count }
 
 -- readings, but those of a counter at these keys from other ones
 abbrev pub with_keys : ℕ → List (List ℕ) → Reads → Reads → Reads
-with_keys k ts n r = record { has = r.has; count = λ j q. cond ((j == k) && is_in q ts) (n.count j q) (r.count j q) }
+with_keys k ts n r =
+    record { has = r.has; count = λ j q. cond ((j == k) && is_in q ts) (n.count j q) (r.count j q) }
 
 -- readings, but those of a thing at these tuples or keys from other ones
 abbrev pub with_thing : Thing → List (List ℕ) → Reads → Reads → Reads
@@ -40,7 +43,8 @@ with_thing (thing.Counter k) ts n r = with_keys k ts n r
 -- readings, but those that the updates reach from other ones
 abbrev pub with_updates : Specification → World → List ℤ → List UpdateLine → Reads → Reads → Reads
 with_updates d w args [] n r = r
-with_updates d w args (u ∷ us) n r = with_updates d w args us n (with_thing u.thing (reached d w args u) n r)
+with_updates d w args (u ∷ us) n r =
+    with_updates d w args us n (with_thing u.thing (reached d w args u) n r)
 
 -- the values of a thing at these keys are in the range of a state
 abbrev pub thing_in_range : Thing → List (List ℕ) → Reads → Bool

@@ -7,5 +7,6 @@ use Rattle.effectors.specs.Beyond.{Beyond}
 -- a refusal names the value that is beyond, and there is none where none is
 abbrev pub refused_by : Option ApplyRefused → Option Beyond → Type 0
 refused_by None beyond = beyond ≡ None
-refused_by (Some (Range k key value)) beyond = beyond ≡ Some (record { counter = k; key = key; value = value })
+refused_by (Some (Range k key value)) beyond =
+    beyond ≡ Some (record { counter = k; key = key; value = value })
 refused_by (Some Memory) beyond = ⊥

@@ -54,7 +54,8 @@ pub record Agree (s : System) (events : List (Event s.Call)) (one other : List �
 abbrev pub SystemConverges : System → Type 0
 SystemConverges s =
     (events : List (Event s.Call)) → IsExecution s events →
-    (one other : List ℕ) → IsOrder events one → IsOrder events other → AreIn one other → AreIn other one →
+    (one other : List ℕ) → IsOrder events one → IsOrder events other → AreIn one other →
+    AreIn other one →
     Agree s events one other
 
 -- what every system keeps: the initial state is a state, effects lead from states to states, and conflict is symmetric

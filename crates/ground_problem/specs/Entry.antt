@@ -72,7 +72,8 @@ are_ruled rule t u =
 abbrev pub unmatched : Rule → Caller → Take → Caller → Take → List Symbolic
 unmatched rule a t b u = cond (are_ruled rule t u)
     (negated (all_parts
-    (one_element_each [] (rule.left.vars ++ rule.right.vars) (consts_of a [] t.args ++ consts_of b [] u.args))) ∷ [])
+    (one_element_each [] (rule.left.vars ++ rule.right.vars)
+        (consts_of a [] t.args ++ consts_of b [] u.args))) ∷ [])
     []
 
 -- A rule matches no takes line of the one call and none of the other: first with its left pattern at the one, then at the other.

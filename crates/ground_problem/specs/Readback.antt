@@ -36,7 +36,8 @@ element_at d ob m c = element_of m (constants_of d ob).sorts c
 -- each sort has the classes of its constants as elements, and each declared constant is its class
 abbrev pub world_of : Specification → Obligation → Interpretation → World
 world_of d ob m = record {
-  sizes = map (λ s. length (classes m (constants_of d ob).sorts s)) (range_with_len 0 (length d.sorts));
+  sizes = map (λ s. length (classes m (constants_of d ob).sorts s))
+      (range_with_len 0 (length d.sorts));
   consts = map (element_at d ob m) (range_with_len 0 (length d.consts));
 }
 
@@ -57,7 +58,9 @@ arguments_from e f from (p ∷ ps) =
 abbrev pub call_of : Specification → Obligation → Interpretation → ℕ → ℕ → Call
 call_of d ob m n o = record {
   op = o;
-  args = arguments_from (λ i. element_at d ob m (unwrap_or (get_or (caller (constants_of d ob) n).params i None) 0)) (λ i. m.int (argument n i)) 0 (op_of d o).params;
+  args = arguments_from (λ i. element_at d ob m
+      (unwrap_or (get_or (caller (constants_of d ob) n).params i None) 0))
+      (λ i. m.int (argument n i)) 0 (op_of d o).params;
 }
 
 -- the calls of operations that stand from this place on
@@ -93,7 +96,8 @@ held_count val at (u ∷ us) t = cond (bytes_eq (val u) t) (at u) (held_count va
 abbrev pub entry_of : Specification → Obligation → Interpretation → Reads
 entry_of d ob m = record {
   has = λ k t. held (map (element_at d ob m)) (m.has [] k) (named_at d ob (thing.Relation k)) t;
-  count = λ k t. held_count (map (element_at d ob m)) (λ u. m.int (reading [] k u)) (named_at d ob (thing.Counter k)) t;
+  count = λ k t. held_count (map (element_at d ob m)) (λ u. m.int (reading [] k u))
+      (named_at d ob (thing.Counter k)) t;
 }
 
 -- A state reads what an interpretation says of the entry; that of an initial obligation is the initial state.

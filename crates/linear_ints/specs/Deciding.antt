@@ -17,16 +17,19 @@ pub record Says (held : List Row) (earlier : List Choice) (place : ℕ) (i : ℕ
   pub below : i < length held
   pub row : is_row (row_at held i) ≡ true
   pub filled : is_filled_but earlier place (row_at held i) ≡ true
-  pub bound_is : IsBound bound (value_at (chosen_point earlier) (row_at held i).terms -ℤ (row_at held i).bound) (size (row_at held i) place)
+  pub bound_is : IsBound bound (value_at (chosen_point earlier) (row_at held i).terms -ℤ
+      (row_at held i).bound) (size (row_at held i) place)
 
 -- the lowest value that the lower rows of a place allow: that of a lower row, or the least of a state
 abbrev pub Lowest : List Row → List Choice → ℕ → ℤ → Type 0
 Lowest held earlier place low =
     (low ≡ neg_ℤ (pos (10 ^ 15)))
-    ⊎ ((i : ℕ) × (coefficient_at (row_at held i).terms place <ℤ pos 0) × Says held earlier place i low)
+    ⊎ ((i : ℕ) × (coefficient_at (row_at held i).terms place <ℤ pos 0)
+    × Says held earlier place i low)
 
 -- the highest value that the upper rows of a place allow: that of an upper row, or the greatest of a state
 abbrev pub Highest : List Row → List Choice → ℕ → ℤ → Type 0
 Highest held earlier place high =
     (high ≡ pos (10 ^ 15))
-    ⊎ ((j : ℕ) × (pos 0 <ℤ coefficient_at (row_at held j).terms place) × Says held earlier place j (neg_ℤ high))
+    ⊎ ((j : ℕ) × (pos 0 <ℤ coefficient_at (row_at held j).terms place)
+    × Says held earlier place j (neg_ℤ high))

@@ -44,8 +44,10 @@ pub record IsFaultAt (before : List ℕ) (place : ℕ) (held : List Row) (values
 -- the bounds of both sides of a stage
 pub record AreBounds (t : Tableau) (k : ℕ) (values : List ℤ) (low_row : ℕ) (low : ℤ) (high_row : ℕ)
     (high : ℤ) : Type 0 where
-  pub lows : IsGreatest false (take k t.order) (place_at t.order k) t.held values (length t.held) low_row low
-  pub highs : IsGreatest true (take k t.order) (place_at t.order k) t.held values (length t.held) high_row (neg_ℤ high)
+  pub lows : IsGreatest false (take k t.order) (place_at t.order k) t.held values
+      (length t.held) low_row low
+  pub highs : IsGreatest true (take k t.order) (place_at t.order k) t.held values
+      (length t.held) high_row (neg_ℤ high)
 
 -- as many zeros as there are names
 pub record AreZeros (n : ℕ) (values : List ℤ) : Type 0 where

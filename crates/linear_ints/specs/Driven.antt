@@ -19,7 +19,8 @@ pub record Raises (earlier : List Choice) (c : Choice) (r : Row) : Type 0 where
   pub new : is_named earlier c.place ≡ false
   pub sign : coefficient_at r.terms c.place <ℤ pos 0
   pub filled : is_filled_but earlier c.place r ≡ true
-  pub ceiling : IsCeiling c.value (value_at (chosen_point earlier) r.terms -ℤ r.bound) (size r c.place)
+  pub ceiling : IsCeiling c.value (value_at (chosen_point earlier) r.terms -ℤ r.bound)
+      (size r c.place)
 
 -- a row whose names but the choice's place have values gives the choice's value as its floor
 pub record Lowers (earlier : List Choice) (c : Choice) (r : Row) : Type 0 where

@@ -13,7 +13,8 @@ use Rattle.linear_ints.specs.Ceilings.{IsBound}
 -- a row names no place before, and its coefficient at the place has the side's sign
 abbrev pub is_on : Bool → List ℕ → ℕ → Row → Bool
 is_on upper before place r =
-    cond upper (is_positive (coefficient_at r.terms place)) (is_negative (coefficient_at r.terms place))
+    cond upper (is_positive (coefficient_at r.terms place))
+        (is_negative (coefficient_at r.terms place))
     && names_none before r
 
 -- a number is one of a row on a side of a place
@@ -25,7 +26,8 @@ is_on_at upper before place held i =
 pub record IsSide (upper : Bool) (before : List ℕ) (place : ℕ) (held : List Row) (n : ℕ)
     (numbers : List ℕ) : Type 0 where
   pub sound : (a : ℕ) → a < length numbers
-      → (slice_index_or numbers a 0 < n) × (is_on upper before place (row_at held (slice_index_or numbers a 0)) ≡ true)
+      → (slice_index_or numbers a 0 < n) × (is_on upper before place
+      (row_at held (slice_index_or numbers a 0)) ≡ true)
   pub complete : (i : ℕ) → i < n → is_on upper before place (row_at held i) ≡ true
       → (a : ℕ) × (a < length numbers) × (slice_index_or numbers a 0 ≡ i)
 

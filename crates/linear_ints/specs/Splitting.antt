@@ -33,5 +33,6 @@ highest {x} {place} {low} {high} m = floor_of (high.bound -ℤ m.high_rest) (siz
 abbrev pub WholeOrSplit : {x : ℕ → ℤ} {place : ℕ} {low high : Row} → Meet x place low high
     → List Row → List RowStep → ℕ → ℕ → Type 0
 WholeOrSplit {x} {place} {low} {high} m given steps i j =
-    ((row_true (with_value x place (highest m)) low ≡ true) × (row_true (with_value x place (highest m)) high ≡ true))
+    ((row_true (with_value x place (highest m)) low ≡ true)
+        × (row_true (with_value x place (highest m)) high ≡ true))
     ⊎ (splits given steps place (highest m) i j (values_of x place (low ∷ high ∷ [])) ≡ Ok tt)

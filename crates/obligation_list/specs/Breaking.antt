@@ -65,26 +65,30 @@ pub record MayRunTogether (d : Specification) (w : World) (r : Reads) (a b : Cal
   pub apart : conflicts d w a b ≡ false
 
 -- An invariant is false at the elements in a state, which is the initial one.
-pub record BreaksInit (d : Specification) (i : ℕ) (w : World) (r : Reads) (es : List ℕ) : Type 0 where
+pub record BreaksInit (d : Specification) (i : ℕ) (w : World) (r : Reads)
+    (es : List ℕ) : Type 0 where
   pub start : r ≡ reads (initial d w)
   pub fails : line_at w r [] (invariant_line d i) es ≡ false
 
 -- An invariant is false at the elements after a call. Every invariant was true before it, and so was its precondition.
-pub record BreaksSafety (d : Specification) (o i : ℕ) (w : World) (r : Reads) (a : Call) (es : List ℕ) : Type 0 where
+pub record BreaksSafety (d : Specification) (o i : ℕ) (w : World) (r : Reads) (a : Call)
+    (es : List ℕ) : Type 0 where
   pub call : IsCallOf d w o a
   pub invariant : inv d w r ≡ true
   pub ready : pre d w a r ≡ true
   pub fails : line_at w (after d w a r) [] (invariant_line d i) es ≡ false
 
 -- Two calls may run together, and after both in the one order and in the other a thing doesn't read the same at the elements.
-pub record BreaksCommute (d : Specification) (o p : ℕ) (x : Thing) (w : World) (r : Reads) (a b : Call) (es : List ℕ) : Type 0 where
+pub record BreaksCommute (d : Specification) (o p : ℕ) (x : Thing) (w : World) (r : Reads)
+    (a b : Call) (es : List ℕ) : Type 0 where
   pub first : IsCallOf d w o a
   pub second : IsCallOf d w p b
   pub together : MayRunTogether d w r a b
   pub fails : reads_same x es (after d w b (after d w a r)) (after d w a (after d w b r)) ≡ false
 
 -- Two calls may run together, and a requires line of the first is false at the elements after the second.
-pub record BreaksStable (d : Specification) (o l p : ℕ) (w : World) (r : Reads) (a b : Call) (es : List ℕ) : Type 0 where
+pub record BreaksStable (d : Specification) (o l p : ℕ) (w : World) (r : Reads) (a b : Call)
+    (es : List ℕ) : Type 0 where
   pub first : IsCallOf d w o a
   pub second : IsCallOf d w p b
   pub together : MayRunTogether d w r a b
@@ -109,7 +113,8 @@ BreaksIn d (Stable o l p) w r (a ∷ b ∷ c ∷ cs) es = ⊥
 
 -- A world, a state, calls and elements break an obligation: the world, the state and the elements fit, and the calls and elements
 -- break it in the state.
-pub record Breaks (d : Specification) (ob : Obligation) (w : World) (s : Listing) (cs : List Call) (es : List ℕ) : Type 0 where
+pub record Breaks (d : Specification) (ob : Obligation) (w : World) (s : Listing) (cs : List Call)
+    (es : List ℕ) : Type 0 where
   pub world : is_world d w ≡ true
   pub state : is_state d w s ≡ true
   pub elements : fits_places w (elements_of d ob) es ≡ true

@@ -20,7 +20,9 @@ either_writes d o p x = writes (op_of d o).updates x || writes (op_of d p).updat
 
 -- the relations and then the counters
 abbrev pub things : Specification → List Thing
-things d = map (λ k. thing.Relation k) (below (length d.relations)) ++ map (λ k. thing.Counter k) (below (length d.counters))
+things d =
+    map (λ k. thing.Relation k) (below (length d.relations))
+    ++ map (λ k. thing.Counter k) (below (length d.counters))
 
 -- Each invariant is true in the initial state.
 abbrev pub init_obligations : Specification → List Obligation
@@ -50,7 +52,8 @@ stable_from d o = flat_map (stable_of d o) (below (length (op_of d o).requires_)
 abbrev pub obligations_of : Specification → List Obligation
 obligations_of d =
     let operations = below (length d.operations) in
-    init_obligations d ++ flat_map (safety_of d) operations ++ flat_map (commute_from d) operations ++ flat_map (stable_from d) operations
+    init_obligations d ++ flat_map (safety_of d) operations ++ flat_map (commute_from d) operations
+        ++ flat_map (stable_from d) operations
 
 -- a thing of the specification
 abbrev pub IsThing : Specification → Thing → Type 0
@@ -61,5 +64,7 @@ IsThing d (thing.Counter k) = k < length d.counters
 abbrev pub IsObligation : Specification → Obligation → Type 0
 IsObligation d (Init i) = i < length d.invariants
 IsObligation d (Safety o i) = (o < length d.operations) × (i < length d.invariants)
-IsObligation d (Commute o p x) = (o ≤ p) × (p < length d.operations) × IsThing d x × (either_writes d o p x ≡ true)
-IsObligation d (Stable o l p) = (o < length d.operations) × (l < length (op_of d o).requires_) × (p < length d.operations)
+IsObligation d (Commute o p x) =
+    (o ≤ p) × (p < length d.operations) × IsThing d x × (either_writes d o p x ≡ true)
+IsObligation d (Stable o l p) =
+    (o < length d.operations) × (l < length (op_of d o).requires_) × (p < length d.operations)

@@ -16,7 +16,8 @@ use Rattle.obligation_list.specs.Breaking.{requires_line, line_at, reads_same, e
 use Rattle.obligation_list.specs.Starting.{starts}
 
 -- A witness refutes an obligation: it breaks it, no sort has more than 100 elements, and numbers are in the range of a state.
-pub record IsRefutation (d : Specification) (ob : Obligation) (w : World) (s : Listing) (cs : List Call) (es : List ℕ) : Type 0 where
+pub record IsRefutation (d : Specification) (ob : Obligation) (w : World) (s : Listing)
+    (cs : List Call) (es : List ℕ) : Type 0 where
   pub breaks : Breaks d ob w s cs es
   pub sizes : list_all (λ n. nat_le n 100) w.sizes ≡ true
   pub numbers : list_all (λ c. list_all in_state_range c.args) cs ≡ true
@@ -37,19 +38,25 @@ refutes_init d i w r es = starts d w r && not (line_at w r [] (invariant_line d 
 
 -- a call that is ready in a state with the invariants leads to one in which an invariant fails, at these elements
 abbrev pub refutes_safety : Specification → ℕ → ℕ → World → Reads → Call → List ℕ → Bool
-refutes_safety d o i w r a es = is_call_of d w o a && inv d w r && pre d w a r && not (line_at w (after d w a r) [] (invariant_line d i) es)
+refutes_safety d o i w r a es =
+    is_call_of d w o a && inv d w r && pre d w a r
+    && not (line_at w (after d w a r) [] (invariant_line d i) es)
 
 -- two calls of these operations that may run together
 abbrev pub are_together : Specification → ℕ → ℕ → World → Reads → Call → Call → Bool
 are_together d o p w r a b = is_call_of d w o a && is_call_of d w p b && may_run_together d w r a b
 
 -- two calls that may run together leave different readings of the thing in their two orders, at these elements
-abbrev pub refutes_commute : Specification → ℕ → ℕ → Thing → World → Reads → Call → Call → List ℕ → Bool
-refutes_commute d o p x w r a b es = are_together d o p w r a b && not (reads_same x es (after d w b (after d w a r)) (after d w a (after d w b r)))
+abbrev pub refutes_commute : Specification → ℕ → ℕ → Thing → World → Reads → Call → Call → List ℕ
+    → Bool
+refutes_commute d o p x w r a b es =
+    are_together d o p w r a b && not (reads_same x es (after d w b (after d w a r))
+    (after d w a (after d w b r)))
 
 -- after the second of two calls that may run together, a requires line of the first fails, at these elements
 abbrev pub refutes_stable : Specification → ℕ → ℕ → ℕ → World → Reads → Call → Call → List ℕ → Bool
-refutes_stable d o l p w r a b es = are_together d o p w r a b && not (line_at w (after d w b r) a.args (requires_line d o l) es)
+refutes_stable d o l p w r a b es =
+    are_together d o p w r a b && not (line_at w (after d w b r) a.args (requires_line d o l) es)
 
 -- these calls and elements refute an obligation in a state
 abbrev pub refutes_in : Specification → Obligation → World → Reads → List Call → List ℕ → Bool

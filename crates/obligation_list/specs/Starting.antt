@@ -22,5 +22,8 @@ starts_everywhere d w x sorts r = list_all (λ t. starts_at d x t r) (tuples w s
 
 -- all things do
 abbrev pub starts : Specification → World → Reads → Bool
-starts d w r = all_below (length d.relations) (λ k. starts_everywhere d w (thing.Relation k) (relation_places d k) r)
-    && all_below (length d.counters) (λ k. starts_everywhere d w (thing.Counter k) (counter_keys d k) r)
+starts d w r =
+    all_below (length d.relations) (λ k. starts_everywhere d w (thing.Relation k)
+    (relation_places d k) r)
+    && all_below (length d.counters) (λ k. starts_everywhere d w (thing.Counter k)
+    (counter_keys d k) r)

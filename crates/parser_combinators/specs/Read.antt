@@ -45,7 +45,8 @@ unfoldable pub times : {A : Type 0} → (Kind → Bool) → (List Token → Read
     → Read (List A)
 times starts r zero ws = Ok ([], ws)
 times starts r (suc n) ws =
-    if starts (next (seen ws)) then (r ws >>= λ x. times starts r n x.1 >>= λ y. Ok (x.0 ∷ y.0, y.1))
+    if starts (next (seen ws)) then (r ws >>= λ x. times starts r n x.1 >>= λ y. Ok
+        (x.0 ∷ y.0, y.1))
     else Ok ([], ws)
 
 -- each one takes a word, so this is as often as there are some
@@ -104,4 +105,5 @@ between x = x.1.0
 abbrev pub group_at : {A : Type 0} → (List Token → Read A) → List Token → Read (List A)
 group_at r =
     mapped list_of
-    (perhaps (is_key keys.Open) (mapped between (both (sign_at keys.Open) (both (listed_at r) (sign_at keys.Close)))))
+    (perhaps (is_key keys.Open) (mapped between
+        (both (sign_at keys.Open) (both (listed_at r) (sign_at keys.Close)))))

@@ -51,10 +51,17 @@ abbrev pub is_forced : World → Reads → List ℤ → List ℕ → ℕ → For
 is_forced w r args vars n true_form b = b
 is_forced w r args vars n false_form b = not b
 is_forced w r args vars n (not_form f) b = is_forced w r args vars n f (not b)
-is_forced w r args vars n (and_form f g) b = cond b (is_forced w r args vars n f true && is_forced w r args vars n g true) (is_forced w r args vars n f false || is_forced w r args vars n g false)
-is_forced w r args vars n (or_form f g) b = cond b (is_forced w r args vars n f true || is_forced w r args vars n g true) (is_forced w r args vars n f false && is_forced w r args vars n g false)
-is_forced w r args vars n (implies_form f g) b = cond b (is_forced w r args vars n f false || is_forced w r args vars n g true) (is_forced w r args vars n f true && is_forced w r args vars n g false)
+is_forced w r args vars n (and_form f g) b =
+    cond b (is_forced w r args vars n f true && is_forced w r args vars n g true)
+    (is_forced w r args vars n f false || is_forced w r args vars n g false)
+is_forced w r args vars n (or_form f g) b =
+    cond b (is_forced w r args vars n f true || is_forced w r args vars n g true)
+    (is_forced w r args vars n f false && is_forced w r args vars n g false)
+is_forced w r args vars n (implies_form f g) b =
+    cond b (is_forced w r args vars n f false || is_forced w r args vars n g true)
+    (is_forced w r args vars n f true && is_forced w r args vars n g false)
 is_forced w r args vars n (has_form k es) b = atom_forced w r args vars n (has_form k es) b
 is_forced w r args vars n (same_form x y) b = atom_forced w r args vars n (same_form x y) b
 is_forced w r args vars n (differ_form x y) b = atom_forced w r args vars n (differ_form x y) b
-is_forced w r args vars n (compare_form t c u) b = atom_forced w r args vars n (compare_form t c u) b
+is_forced w r args vars n (compare_form t c u) b =
+    atom_forced w r args vars n (compare_form t c u) b

@@ -28,7 +28,8 @@ IsJudged lines (Err e) (Ok c) = ⊥
 IsJudged lines (Err e) (Err NoEmptyClause) = ⊥
 
 -- a log with evidence: the first bad line, or else, with the number of lines, whether the evidence of a test is there
-abbrev pub judged : (State → Bool) → List Line → Result State (ℕ × Why) → Result (Unit {0}) (ℕ × Why)
+abbrev pub judged : (State → Bool) → List Line → Result State (ℕ × Why)
+    → Result (Unit {0}) (ℕ × Why)
 judged test lines (Err e) = Err e
 judged test lines (Ok s) = cond (test s) (Ok tt) (Err (length lines, Evidence))
 
@@ -41,7 +42,8 @@ Answers given (Err NoMemory) = Unit {0}
 
 -- the evidence of a spent budget: the log is fresh and has exactly so many lines
 abbrev pub lines_judged : PlainProblem → List Line → ℕ → Result (Unit {0}) (ℕ × Why)
-lines_judged p lines budget = judged (λ s. (length lines == budget) && is_fresh s) lines (run p lines)
+lines_judged p lines budget =
+    judged (λ s. (length lines == budget) && is_fresh s) lines (run p lines)
 
 -- the evidence of too many rows
 abbrev pub rows_judged : PlainProblem → RowsEvidence → Result (Unit {0}) (ℕ × Why)
@@ -49,4 +51,5 @@ rows_judged p e = judged (λ s. is_fresh s && rows_hold s e.used e.steps) e.log 
 
 -- the evidence of a number beyond the range
 abbrev pub range_judged : PlainProblem → RangeEvidence → Result (Unit {0}) (ℕ × Why)
-range_judged p e = judged (λ s. is_fresh s && range_holds s e.used e.steps e.what) e.log (run p e.log)
+range_judged p e =
+    judged (λ s. is_fresh s && range_holds s e.used e.steps e.what) e.log (run p e.log)

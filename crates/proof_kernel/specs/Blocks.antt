@@ -18,7 +18,8 @@ block_within slots c b = list_any (number_within slots c) b.numbers
 
 -- one of the clauses of all blocks lies within another one
 abbrev pub finds_in_blocks : List (Option (List Lit)) → Blocks → List Lit → Bool
-finds_in_blocks slots blocks c = list_any (block_within slots c) blocks.full.items || block_within slots c blocks.last
+finds_in_blocks slots blocks c =
+    list_any (block_within slots c) blocks.full.items || block_within slots c blocks.last
 
 -- the clause of a slot has a literal of a spot
 abbrev pub slot_has : ℕ → ℕ → Option (List Lit) → Bool
@@ -37,7 +38,8 @@ mask_bit masks k i = bit_at (slice_index_or masks k 0) i
 pub record BlockFits (m : ℕ) (slots : List (Option (List Lit))) (b : Block) : Type 0 where
   pub few : length b.numbers ≤ 128
   pub sized : length b.masks.items ≡ m
-  pub told : (k i : ℕ) → mask_bit b.masks.items k i ≡ 1 → slice_index_or (map (number_has m slots k) b.numbers) i false ≡ true
+  pub told : (k i : ℕ) → mask_bit b.masks.items k i ≡ 1
+      → slice_index_or (map (number_has m slots k) b.numbers) i false ≡ true
 
 -- the set bits of each block tell so
 abbrev pub AllFit : ℕ → List (Option (List Lit)) → List Block → Type 0
@@ -60,11 +62,15 @@ RulesOut marks masks out = (i : ℕ) → IsClearAt marks masks i → bit_at out 
 
 -- the clause at each place whose bit is set doesn't lie within another one
 abbrev pub AreNotWithin : List (Option (List Lit)) → List Lit → List ℕ → ℕ → Type 0
-AreNotWithin slots c numbers out = (i d : ℕ) → i < length numbers → bit_at out i ≡ 1 → number_within slots c (slice_index_or numbers i d) ≡ false
+AreNotWithin slots c numbers out =
+    (i d : ℕ) → i < length numbers → bit_at out i ≡ 1
+    → number_within slots c (slice_index_or numbers i d) ≡ false
 
 -- a bit that is set was set before, or is that of a place in the mask of a clause's spot
 abbrev pub BitsAre : ℕ → List Lit → ℕ → List ℕ → List ℕ → Type 0
-BitsAre m c place old new = (k i : ℕ) → mask_bit new k i ≡ 1 → (mask_bit old k i ≡ 1) ⊎ ((i ≡ place) × (stands_in (spots m c) k ≡ true))
+BitsAre m c place old new =
+    (k i : ℕ) → mask_bit new k i ≡ 1 → (mask_bit old k i ≡ 1)
+    ⊎ ((i ≡ place) × (stands_in (spots m c) k ≡ true))
 
 -- a block has one clause more, at the next place
 pub record PutsNumber (m : ℕ) (c : List Lit) (number : ℕ) (old new : Block) : Type 0 where
@@ -79,7 +85,8 @@ pub record IsEmptyBlock (m : ℕ) (b : Block) : Type 0 where
 
 -- blocks without clauses
 pub record HasNoClause (m : ℕ) (blocks : Blocks) : Type 0 where
-  pub none : (slots : List (Option (List Lit))) (c : List Lit) → finds_in_blocks slots blocks c ≡ false
+  pub none : (slots : List (Option (List Lit))) (c : List Lit)
+      → finds_in_blocks slots blocks c ≡ false
   pub fits : (slots : List (Option (List Lit))) → BlocksFit m slots blocks
 
 -- the last block stands behind the full ones, and an empty one has its place
@@ -89,5 +96,7 @@ pub record MovesLast (m : ℕ) (old new : Blocks) : Type 0 where
 
 -- the blocks have one clause more
 pub record PutsInBlocks (m : ℕ) (c : List Lit) (number : ℕ) (old new : Blocks) : Type 0 where
-  pub found : (slots : List (Option (List Lit))) (d : List Lit) → finds_in_blocks slots new d ≡ (finds_in_blocks slots old d || number_within slots d number)
-  pub fits : (slots : List (Option (List Lit))) → slice_index_or slots number None ≡ Some c → BlocksFit m slots old → BlocksFit m slots new
+  pub found : (slots : List (Option (List Lit))) (d : List Lit)
+      → finds_in_blocks slots new d ≡ (finds_in_blocks slots old d || number_within slots d number)
+  pub fits : (slots : List (Option (List Lit))) → slice_index_or slots number None ≡ Some c
+      → BlocksFit m slots old → BlocksFit m slots new

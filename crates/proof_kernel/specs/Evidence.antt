@@ -13,7 +13,8 @@ use Rattle.proof_lines.specs.Evidence.{row_limit, rows_shown, range_shown}
 
 -- a clause is new among earlier ones: it contains none of them, holds no atom both ways and isn't empty
 abbrev pub is_new : List (List Lit) → List Lit → Bool
-is_new earlier c = not (list_any (λ d. sub d c) earlier) && (not (holds_both_ways c) && not (is_empty c))
+is_new earlier c =
+    not (list_any (λ d. sub d c) earlier) && (not (holds_both_ways c) && not (is_empty c))
 
 -- each clause is new among the earlier ones and those before it
 abbrev pub each_new : List (List Lit) → List (List Lit) → Bool
@@ -22,7 +23,9 @@ each_new earlier (c ∷ cs) = is_new earlier c && each_new (earlier ++ c ∷ [])
 
 -- no line dropped a clause, and the clause of each line is new among the problem's clauses and those of earlier lines
 abbrev pub is_fresh : State → Bool
-is_fresh s = list_all (λ o. is_some o) s.slots && each_new (live_of (take s.given s.slots)) (live_of (drop s.given s.slots))
+is_fresh s =
+    list_all (λ o. is_some o) s.slots && each_new (live_of (take s.given s.slots))
+    (live_of (drop s.given s.slots))
 
 -- THE EVIDENCE AFTER A LOG. In both, no atom is used both ways, and the rows and steps keep the rules of a Farkas line but for its
 -- contradiction.
@@ -30,8 +33,10 @@ is_fresh s = list_all (λ o. is_some o) s.slots && each_new (live_of (take s.giv
 -- too many rows, all different
 abbrev pub rows_hold : State → List Lit → List RowStep → Bool
 rows_hold s used steps =
-    (length used + length steps == row_limit) && (not (holds_both_ways used) && rows_shown steps (line_rows s.atoms used steps))
+    (length used + length steps == row_limit)
+        && (not (holds_both_ways used) && rows_shown steps (line_rows s.atoms used steps))
 
 -- a number beyond the range
 abbrev pub range_holds : State → List Lit → List RowStep → RangeWhat → Bool
-range_holds s used steps what = not (holds_both_ways used) && range_shown steps what (line_rows s.atoms used steps)
+range_holds s used steps what =
+    not (holds_both_ways used) && range_shown steps what (line_rows s.atoms used steps)

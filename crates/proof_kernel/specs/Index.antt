@@ -29,7 +29,9 @@ slot_within c None = false
 
 -- the spots of an entry are spots of a clause
 abbrev pub spots_among : ℕ → List Lit → Entry → Bool
-spots_among m c e = stands_in (spots m c) e.second && (stands_in (spots m c) e.third && stands_in (spots m c) e.fourth)
+spots_among m c e =
+    stands_in (spots m c) e.second && (stands_in (spots m c) e.third
+    && stands_in (spots m c) e.fourth)
 
 -- the spots of an entry are spots of a clause, and the clause of its number lies within that clause
 abbrev pub entry_within : ℕ → List (Option (List Lit)) → List Lit → Entry → Bool
@@ -37,7 +39,8 @@ entry_within m slots c e = spots_among m c e && slot_within c (slice_index_or sl
 
 -- an entry within a clause stands in a list of the clause's spots
 abbrev pub finds : ℕ → List (Option (List Lit)) → List (List Entry) → List Lit → Bool
-finds m slots lists c = list_any (λ k. list_any (entry_within m slots c) (slice_index_or lists k [])) (spots m c)
+finds m slots lists c =
+    list_any (λ k. list_any (entry_within m slots c) (slice_index_or lists k [])) (spots m c)
 
 -- the lists have one entry more, for the clause of a number, in the list of one of its spots
 pub record PutsOne (m : ℕ) (c : List Lit) (number : ℕ) (old new : List (List Entry)) : Type 0 where
@@ -50,7 +53,8 @@ pub record PutsOne (m : ℕ) (c : List Lit) (number : ℕ) (old new : List (List
   pub second_spot : stands_in (spots m c) second ≡ true
   pub third_spot : stands_in (spots m c) third ≡ true
   pub fourth_spot : stands_in (spots m c) fourth ≡ true
-  pub lists : new ≡ slice_set old at (slice_index_or old at [] ++ record { number = number; second = second; third = third; fourth = fourth } ∷ [])
+  pub lists : new ≡ slice_set old at (slice_index_or old at [] ++ record { number = number;
+      second = second; third = third; fourth = fourth } ∷ [])
 
 -- marks on the spots of some literals, set or taken away
 abbrev pub with_marks : ℕ → List Bool → List Lit → Bool → List Bool
@@ -83,11 +87,14 @@ marked_slot_within m marks c None = false
 
 -- an entry has marked spots alone, and so has its clause, which lies within another one
 abbrev pub marked_within : ℕ → List Bool → List (Option (List Lit)) → List Lit → Entry → Bool
-marked_within m marks slots c e = all_marked marks e && marked_slot_within m marks c (slice_index_or slots e.number None)
+marked_within m marks slots c e =
+    all_marked marks e && marked_slot_within m marks c (slice_index_or slots e.number None)
 
 -- an entry with marked spots whose clause lies within this one stands in a list of this clause's spots
-abbrev pub finds_marked : ℕ → List Bool → List (Option (List Lit)) → List (List Entry) → List Lit → Bool
-finds_marked m marks slots lists c = list_any (λ k. list_any (marked_within m marks slots c) (slice_index_or lists k [])) (spots m c)
+abbrev pub finds_marked : ℕ → List Bool → List (Option (List Lit)) → List (List Entry) → List Lit
+    → Bool
+finds_marked m marks slots lists c =
+    list_any (λ k. list_any (marked_within m marks slots c) (slice_index_or lists k [])) (spots m c)
 
 -- the marked spots are those of a clause
 abbrev pub MarksAre : ℕ → List Bool → List Lit → Type 0

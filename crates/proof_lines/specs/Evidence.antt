@@ -72,7 +72,8 @@ in_state v = nat_le (unsigned_abs v) (10 ^ 15)
 abbrev pub values_fit : List Row → ℕ → ℕ → List ℤ → Bool
 values_fit rows i place values =
     (nat_lt i (length rows) && not (is_zero (coefficient_at (row_at rows i).terms place)))
-    && ((length values == length (other_names place (row_at rows i ∷ []))) && list_all in_state values)
+    && ((length values == length (other_names place (row_at rows i ∷ [])))
+    && list_all in_state values)
 
 -- the sum of a row's terms at names other than the place, with these values for them, where it stays in range
 abbrev pub rest_with : Row → ℕ → List ℤ → Option ℤ

@@ -7,5 +7,6 @@ use Rattle.proof_lines.specs.Clauses.{has, same_lit, flip}
 -- other literals.
 pub data Forced (cs : List (List Lit)) : Lit → Type 0 where
   by_clause : (i : ℕ) → i < length cs → (l : Lit) → has (slice_index_or cs i []) l ≡ true
-      → ((k : Lit) → has (slice_index_or cs i []) k ≡ true → same_lit k l ≡ false → Forced cs (flip k))
+      → ((k : Lit) → has (slice_index_or cs i []) k ≡ true → same_lit k l ≡ false
+      → Forced cs (flip k))
       → Forced cs l

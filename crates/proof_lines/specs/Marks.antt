@@ -14,4 +14,5 @@ place l = 2 * l.atom + sign_place l.positive
 
 -- up to its length, a table has marks at the places of some literals and of no others
 abbrev pub HasMarks : List Bool → List Lit → Type 0
-HasMarks marks c = (l : Lit) → place l < length marks → slice_index_or marks (place l) false ≡ has c l
+HasMarks marks c =
+    (l : Lit) → place l < length marks → slice_index_or marks (place l) false ≡ has c l

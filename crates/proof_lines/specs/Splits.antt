@@ -84,7 +84,8 @@ split_point place low high values = point (other_names place (low ∷ high ∷ [
 abbrev pub split_cause : ℕ → ℤ → Row → Row → List ℤ → Result (Unit {0}) Why
 split_cause place at low high values =
     need
-    (is_negative (coefficient_at low.terms place) && is_positive (coefficient_at high.terms place)) SplitCause
+    (is_negative (coefficient_at low.terms place)
+        && is_positive (coefficient_at high.terms place)) SplitCause
     (with_rests at place
     low (rest_at (split_point place low high values) low)
     high (rest_at (split_point place low high values) high))

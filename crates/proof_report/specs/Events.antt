@@ -55,7 +55,9 @@ with_verdict (range log r) t = with_undecided t
 
 -- what the verdicts come to: rejected where one is refuted, else undecided where one is undecided
 abbrev pub outcome_of : Tally → Outcome
-outcome_of t = if nat_lt 0 t.refuted then outcomes.Rejected else (if nat_lt 0 t.undecided then outcomes.Undecided else outcomes.Accepted)
+outcome_of t =
+    if nat_lt 0 t.refuted then outcomes.Rejected
+    else (if nat_lt 0 t.undecided then outcomes.Undecided else outcomes.Accepted)
 
 -- ---- the lines of a block, before those behind it
 
@@ -92,7 +94,9 @@ call_lines (c ∷ cs) es = events.Shown (shown.Call c) ∷ call_lines cs es
 -- a witness: its world, what is true, the values, the calls, and the elements
 abbrev pub witness_lines : PartialWitness → List ℕ → List Event → List Event
 witness_lines p xs es =
-    size_lines 0 p.world.sizes (const_lines 0 p.world.consts (fact_lines p.facts (reading_lines p.readings (call_lines p.calls (events.Shown (shown.At xs) ∷ es)))))
+    size_lines 0 p.world.sizes (const_lines 0 p.world.consts
+        (fact_lines p.facts (reading_lines p.readings
+        (call_lines p.calls (events.Shown (shown.At xs) ∷ es)))))
 
 -- a verdict: its word, and what shows it
 abbrev pub verdict_lines : VerdictForm → List Event → List Event
@@ -100,27 +104,36 @@ verdict_lines (proved log) es = events.Begin (word.Proved (length log)) ∷ log_
 verdict_lines (refuted p xs) es = events.Begin word.Refuted ∷ witness_lines p xs es
 verdict_lines instances es = events.Begin word.Instances ∷ es
 verdict_lines (lines log) es = events.Begin (word.Lines (length log)) ∷ log_lines log es
-verdict_lines (rows log r) es = events.Begin (word.Rows (length log)) ∷ log_lines log (events.Rows r ∷ es)
-verdict_lines (range log r) es = events.Begin (word.Range (length log)) ∷ log_lines log (events.Range r ∷ es)
+verdict_lines (rows log r) es =
+    events.Begin (word.Rows (length log)) ∷ log_lines log (events.Rows r ∷ es)
+verdict_lines (range log r) es =
+    events.Begin (word.Range (length log)) ∷ log_lines log (events.Range r ∷ es)
 
 -- ---- a whole report
 
 -- the blocks behind those that were counted, the summary and the last word
 abbrev pub block_lines : Tally → List VerdictForm → List Event
 block_lines t [] = events.Summary t ∷ events.Last (outcome_of t) ∷ []
-block_lines t (v ∷ vs) = events.Opened (told t) ∷ verdict_lines v (block_lines (with_verdict v t) vs)
+block_lines t (v ∷ vs) =
+    events.Opened (told t) ∷ verdict_lines v (block_lines (with_verdict v t) vs)
 
 -- The lines of a report.
 abbrev pub report_lines : Specification → ReportForm → List Event
-report_lines d r = events.Title r.version ∷ events.Budget r.budget ∷ events.Count (obligation_count d) ∷ block_lines no_verdicts r.verdicts
+report_lines d r =
+    events.Title r.version ∷ events.Budget r.budget ∷ events.Count (obligation_count d)
+    ∷ block_lines no_verdicts r.verdicts
 
 -- ---- their words
 
 -- the words of a line of a witness
 abbrev pub shown_words : Specification → Shown → List (List ℕ)
-shown_words d (shown.Fact f) = codes "true" ∷ get_or (relation_names d) f.relation [] ∷ map decimal f.tuple
-shown_words d (shown.Reading r) = codes "count" ∷ get_or (counter_names d) r.counter [] ∷ (map decimal r.key ++ signed_decimal r.value ∷ [])
-shown_words d (shown.Call c) = codes "call" ∷ get_or (operation_names d) c.op [] ∷ map signed_decimal c.args
+shown_words d (shown.Fact f) =
+    codes "true" ∷ get_or (relation_names d) f.relation [] ∷ map decimal f.tuple
+shown_words d (shown.Reading r) =
+    codes "count" ∷ get_or (counter_names d) r.counter []
+    ∷ (map decimal r.key ++ signed_decimal r.value ∷ [])
+shown_words d (shown.Call c) =
+    codes "call" ∷ get_or (operation_names d) c.op [] ∷ map signed_decimal c.args
 shown_words d (shown.At es) = codes "at" ∷ map decimal es
 
 -- The words of the line that says something.

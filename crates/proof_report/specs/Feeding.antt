@@ -119,7 +119,9 @@ count_line = case (record { to = events.Count; from = from_count }) obligations_
 
 -- the first line of the block of this obligation
 abbrev pub opened_line : Specification → ℕ → Format Event
-opened_line d i = case (record { to = λ u. events.Opened i; from = from_opened i }) (obligation_format d (obligation_at d i))
+opened_line d i =
+    case (record { to = λ u. events.Opened i; from = from_opened i })
+    (obligation_format d (obligation_at d i))
 
 -- the line of a verdict
 abbrev pub begin_line : Format Event
@@ -131,11 +133,14 @@ log_line drops = case (record { to = events.Log; from = from_log }) (log_format 
 
 -- the line of this sort's size
 abbrev pub size_line : Specification → ℕ → Format Event
-size_line d i = case (record { to = events.Size i; from = from_size i }) (size_format (get_or d.sorts i []))
+size_line d i =
+    case (record { to = events.Size i; from = from_size i }) (size_format (get_or d.sorts i []))
 
 -- the line of this constant's element
 abbrev pub const_line : Specification → World → ℕ → Format Event
-const_line d w j = case (record { to = events.Const j; from = from_const j }) (const_format (const_at d j).name (size_of w (const_at d j).sort))
+const_line d w j =
+    case (record { to = events.Const j; from = from_const j })
+    (const_format (const_at d j).name (size_of w (const_at d j).sort))
 
 -- a line of a witness after its world, from where on things may come
 abbrev pub shown_line : Specification → World → Due → Format Event
@@ -179,15 +184,21 @@ drops_in version log_of.Range = false
 
 -- from where on things may come in a witness: before its first value, before its first call, and behind that
 abbrev pub due_facts : Specification → Obligation → PartialWitness → Due
-due_facts d ob p = record { relation = relation_due (last_of p.facts); counter = counter_due (last_of p.readings); elements = element_count d ob }
+due_facts d ob p =
+    record { relation = relation_due (last_of p.facts); counter = counter_due (last_of p.readings);
+    elements = element_count d ob }
 
 -- before its first call, where values were shown
 abbrev pub due_readings : Specification → Obligation → PartialWitness → Due
-due_readings d ob p = record { relation = length d.relations; counter = counter_due (last_of p.readings); elements = element_count d ob }
+due_readings d ob p =
+    record { relation = length d.relations; counter = counter_due (last_of p.readings);
+    elements = element_count d ob }
 
 -- where calls were shown
 abbrev pub due_calls : Specification → Obligation → Due
-due_calls d ob = record { relation = length d.relations; counter = length d.counters; elements = element_count d ob }
+due_calls d ob =
+    record { relation = length d.relations; counter = length d.counters;
+    elements = element_count d ob }
 
 -- The format of the line that may come at a place. None may come after the last.
 abbrev pub place_line : Specification → ℕ → Tally → Place → Format Event
@@ -202,9 +213,12 @@ place_line d version t places.Rows = rows_line
 place_line d version t places.Range = range_line
 place_line d version t (places.Sizes w) = size_line d (length w.sizes)
 place_line d version t (places.Consts w) = const_line d w (length w.consts)
-place_line d version t (places.Showing stages.Facts p) = shown_line d p.world (due_facts d (obligation_at d (told t)) p)
-place_line d version t (places.Showing stages.Readings p) = shown_line d p.world (due_readings d (obligation_at d (told t)) p)
-place_line d version t (places.Showing stages.Calls p) = shown_line d p.world (due_calls d (obligation_at d (told t)))
+place_line d version t (places.Showing stages.Facts p) =
+    shown_line d p.world (due_facts d (obligation_at d (told t)) p)
+place_line d version t (places.Showing stages.Readings p) =
+    shown_line d p.world (due_readings d (obligation_at d (told t)) p)
+place_line d version t (places.Showing stages.Calls p) =
+    shown_line d p.world (due_calls d (obligation_at d (told t)))
 place_line d version t places.Last = last_line
 place_line d version t places.Over = none
 
@@ -216,7 +230,8 @@ line_at d s = place_line d s.version s.tally s.place
 
 -- two tallies are equal
 abbrev pub same_tally : Tally → Tally → Bool
-same_tally t u = (t.proved == u.proved) && ((t.refuted == u.refuted) && (t.undecided == u.undecided))
+same_tally t u =
+    (t.proved == u.proved) && ((t.refuted == u.refuted) && (t.undecided == u.undecided))
 
 -- two last words are equal
 abbrev pub same_outcome : Outcome → Outcome → Bool
@@ -235,9 +250,11 @@ call_or_end ob p (shown.At es) = length p.calls == call_count ob
 -- what a witness may show next: facts rise, values rise and stand behind them, and then come the calls and the elements
 abbrev pub may_show : Obligation → Place → Shown → Bool
 may_show ob (places.Showing stages.Facts p) (shown.Fact f) = fact_behind (last_of p.facts) f
-may_show ob (places.Showing stages.Facts p) (shown.Reading r) = reading_behind (last_of p.readings) r
+may_show ob (places.Showing stages.Facts p) (shown.Reading r) =
+    reading_behind (last_of p.readings) r
 may_show ob (places.Showing stages.Facts p) s = call_or_end ob p s
-may_show ob (places.Showing stages.Readings p) (shown.Reading r) = reading_behind (last_of p.readings) r
+may_show ob (places.Showing stages.Readings p) (shown.Reading r) =
+    reading_behind (last_of p.readings) r
 may_show ob (places.Showing stages.Readings p) s = call_or_end ob p s
 may_show ob (places.Showing stages.Calls p) s = call_or_end ob p s
 may_show ob _ s = false
@@ -280,7 +297,9 @@ no_witness w = record { world = w; facts = []; readings = []; calls = [] }
 
 -- where the world has its sizes, and where it has its constants too
 abbrev pub at_consts : Specification → World → Place
-at_consts d w = if length w.consts == length d.consts then places.Showing stages.Facts (no_witness w) else places.Consts w
+at_consts d w =
+    if length w.consts == length d.consts then places.Showing stages.Facts (no_witness w)
+    else places.Consts w
 
 -- where the world has its sizes, if all were shown
 abbrev pub at_sizes : Specification → World → Place
@@ -293,7 +312,8 @@ no_world = record { sizes = []; consts = [] }
 -- the state after the line of a verdict
 abbrev pub begun : Specification → VerdictWord → ℕ → Tally → State
 begun d (word.Proved n) version t = log_left log_of.Proved n version t
-begun d word.Refuted version t = record { version = version; place = at_sizes d no_world; tally = t }
+begun d word.Refuted version t =
+    record { version = version; place = at_sizes d no_world; tally = t }
 begun d word.Instances version t = closed version (with_undecided t)
 begun d (word.Lines n) version t = log_left log_of.Lines n version t
 begun d (word.Rows n) version t = log_left log_of.Rows n version t
@@ -324,15 +344,18 @@ named d e p = p
 
 -- what was shown, with one more tuple
 abbrev pub with_fact : Fact → PartialWitness → PartialWitness
-with_fact f p = record { world = p.world; facts = p.facts ++ f ∷ []; readings = p.readings; calls = p.calls }
+with_fact f p =
+    record { world = p.world; facts = p.facts ++ f ∷ []; readings = p.readings; calls = p.calls }
 
 -- with one more value
 abbrev pub with_reading : Reading → PartialWitness → PartialWitness
-with_reading r p = record { world = p.world; facts = p.facts; readings = p.readings ++ r ∷ []; calls = p.calls }
+with_reading r p =
+    record { world = p.world; facts = p.facts; readings = p.readings ++ r ∷ []; calls = p.calls }
 
 -- with one more call
 abbrev pub with_call : Call → PartialWitness → PartialWitness
-with_call c p = record { world = p.world; facts = p.facts; readings = p.readings; calls = p.calls ++ c ∷ [] }
+with_call c p =
+    record { world = p.world; facts = p.facts; readings = p.readings; calls = p.calls ++ c ∷ [] }
 
 -- what was shown, at a place behind the world
 abbrev pub shown_at : Place → PartialWitness
@@ -419,12 +442,14 @@ is_over _ = false
 
 infixl 10 ◌>>=◌
 -- goes on with what was read, or stops at the fault
-abbrev pub ◌>>=◌ : {A B : Type 0} → Result A ReportKind → (A → Result B ReportKind) → Result B ReportKind
+abbrev pub ◌>>=◌ : {A B : Type 0} → Result A ReportKind → (A → Result B ReportKind)
+    → Result B ReportKind
 (Ok x) >>= f = f x
 (Err k) >>= f = Err k
 
 -- what lines say and the state behind them, or the first fault
-unfoldable pub fed_all : Specification → State → List (List (List ℕ)) → Result (List Event × State) ReportKind
+unfoldable pub fed_all : Specification → State → List (List (List ℕ))
+    → Result (List Event × State) ReportKind
 fed_all d s [] = Ok ([], s)
 fed_all d s (line ∷ lines) = fed d s line >>= λ x. fed_all d x.1 lines >>= λ y. Ok (x.0 ∷ y.0, y.1)
 

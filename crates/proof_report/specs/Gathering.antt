@@ -33,7 +33,9 @@ pub record Gathered : Type 0 where
 
 -- the witness that was gathered
 abbrev pub gathered_witness : Gathered → PartialWitness
-gathered_witness g = record { world = record { sizes = g.sizes; consts = g.consts }; facts = g.facts; readings = g.readings; calls = g.calls }
+gathered_witness g =
+    record { world = record { sizes = g.sizes; consts = g.consts }; facts = g.facts;
+    readings = g.readings; calls = g.calls }
 
 -- the verdict of this word, with what was gathered
 abbrev pub gathered_verdict : VerdictWord → Gathered → VerdictForm
@@ -49,7 +51,8 @@ abbrev pub with_shown : Shown → Gathered → Gathered
 with_shown (shown.Fact f) g = record g { facts = f ∷ g.facts }
 with_shown (shown.Reading r) g = record g { readings = r ∷ g.readings }
 with_shown (shown.Call c) g = record g { calls = c ∷ g.calls }
-with_shown (shown.At es) g = record g { sizes = []; consts = []; facts = []; readings = []; calls = []; elements = es }
+with_shown (shown.At es) g =
+    record g { sizes = []; consts = []; facts = []; readings = []; calls = []; elements = es }
 
 -- what a line says, in front of what was gathered from those behind it
 abbrev pub with_event : Event → Gathered → Gathered
@@ -88,4 +91,6 @@ gather (e ∷ es) = with_event e (gather es)
 
 -- The report that lines say.
 abbrev pub report_of : List Event → ReportForm
-report_of es = record { version = (gather es).version; budget = (gather es).budget; verdicts = (gather es).verdicts }
+report_of es =
+    record { version = (gather es).version; budget = (gather es).budget;
+    verdicts = (gather es).verdicts }

@@ -35,12 +35,14 @@ log_text log = flat_map (λ l. line_text (line_format.put l)) log
 -- the sizes of the sorts from a place on, and the elements of the constants
 abbrev pub sizes_text : Specification → ℕ → List ℕ → List ℕ
 sizes_text d i [] = []
-sizes_text d i (n ∷ ns) = line_text ((size_format (get_or d.sorts i [])).put n) ++ sizes_text d (suc i) ns
+sizes_text d i (n ∷ ns) =
+    line_text ((size_format (get_or d.sorts i [])).put n) ++ sizes_text d (suc i) ns
 
 -- the elements of the constants from one on
 abbrev pub consts_text : Specification → ℕ → List ℕ → List ℕ
 consts_text d j [] = []
-consts_text d j (e ∷ es) = line_text (codes "const" ∷ (const_at d j).name ∷ decimal e ∷ []) ++ consts_text d (suc j) es
+consts_text d j (e ∷ es) =
+    line_text (codes "const" ∷ (const_at d j).name ∷ decimal e ∷ []) ++ consts_text d (suc j) es
 
 -- the calls
 abbrev pub calls_text : Specification → List Call → List ℕ
@@ -49,28 +51,37 @@ calls_text d cs = flat_map (λ c. line_text (codes "call" ∷ (call_format d).pu
 -- the world, what holds in the state, the calls and the elements
 abbrev pub witness_text : Specification → Witness → List ℕ
 witness_text d w =
-    sizes_text d 0 w.world.sizes ++ (consts_text d 0 w.world.consts ++ (state_text d w.world (reads w.state)
+    sizes_text d 0 w.world.sizes ++ (consts_text d 0 w.world.consts
+        ++ (state_text d w.world (reads w.state)
     ++ (calls_text d w.calls ++ line_text (codes "at" ∷ flat_map count_format.put w.elements))))
 
 -- a log, and the evidence that there are too many rows
 abbrev pub rows_text : RowsEvidence → List ℕ
-rows_text e = line_text (verdict_format.put (word.Rows (length e.log))) ++ (log_text e.log ++ line_text (rows_format.put (record { used = e.used; steps = e.steps })))
+rows_text e =
+    line_text (verdict_format.put (word.Rows (length e.log)))
+    ++ (log_text e.log ++ line_text (rows_format.put (record { used = e.used; steps = e.steps })))
 
 -- a log, and the evidence that a number is beyond its range
 abbrev pub range_text : RangeEvidence → List ℕ
-range_text e = line_text (verdict_format.put (word.Range (length e.log))) ++ (log_text e.log ++ line_text (range_format.put (record { used = e.used; steps = e.steps; what = e.what })))
+range_text e =
+    line_text (verdict_format.put (word.Range (length e.log)))
+    ++ (log_text e.log ++ line_text (range_format.put
+    (record { used = e.used; steps = e.steps; what = e.what })))
 
 -- why an obligation is undecided, with the evidence
 abbrev pub cause_text : Cause → List ℕ
 cause_text causes.Instances = line_text (verdict_format.put word.Instances)
-cause_text (causes.Lines log) = line_text (verdict_format.put (word.Lines (length log))) ++ log_text log
+cause_text (causes.Lines log) =
+    line_text (verdict_format.put (word.Lines (length log))) ++ log_text log
 cause_text (causes.Rows e) = rows_text e
 cause_text (causes.Range e) = range_text e
 
 -- a verdict with what shows it
 abbrev pub verdict_text : Specification → Verdict → List ℕ
-verdict_text d (verdicts.Proved log) = line_text (verdict_format.put (word.Proved (length log))) ++ log_text log
-verdict_text d (verdicts.Refuted w) = line_text (verdict_format.put word.Refuted) ++ witness_text d w
+verdict_text d (verdicts.Proved log) =
+    line_text (verdict_format.put (word.Proved (length log))) ++ log_text log
+verdict_text d (verdicts.Refuted w) =
+    line_text (verdict_format.put word.Refuted) ++ witness_text d w
 verdict_text d (verdicts.Undecided cause) = cause_text cause
 
 -- A block: the line of the obligation, and its verdict.
@@ -79,7 +90,9 @@ block_text d ob v = line_text (obligation_words d ob) ++ verdict_text d v
 
 -- The lines before the blocks.
 abbrev pub head_text : Specification → ℕ → ℕ → List ℕ
-head_text d version budget = line_text (title_format.put version) ++ (line_text (budget_format.put budget) ++ line_text (obligations_format.put (obligation_count d)))
+head_text d version budget =
+    line_text (title_format.put version) ++ (line_text (budget_format.put budget)
+    ++ line_text (obligations_format.put (obligation_count d)))
 
 -- The lines behind them.
 abbrev pub end_text : Tally → List ℕ

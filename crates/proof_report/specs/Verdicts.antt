@@ -71,7 +71,9 @@ no_const = record { name = []; sort = 0 }
 -- the size of each sort from a place on
 abbrev pub are_sizes : Specification → ℕ → List ℕ → Bool
 are_sizes d i [] = i == length d.sorts
-are_sizes d i (n ∷ ns) = nat_lt i (length d.sorts) && ((size_format (get_or d.sorts i [])).fits n && are_sizes d (suc i) ns)
+are_sizes d i (n ∷ ns) =
+    nat_lt i (length d.sorts) && ((size_format (get_or d.sorts i [])).fits n
+    && are_sizes d (suc i) ns)
 
 -- the constant at a place
 abbrev pub const_at : Specification → ℕ → Const
@@ -80,7 +82,9 @@ const_at d j = get_or d.consts j no_const
 -- the element of each constant from a place on
 abbrev pub are_consts : Specification → World → ℕ → List ℕ → Bool
 are_consts d w j [] = j == length d.consts
-are_consts d w j (e ∷ es) = nat_lt j (length d.consts) && ((const_format (const_at d j).name (size_of w (const_at d j).sort)).fits e && are_consts d w (suc j) es)
+are_consts d w j (e ∷ es) =
+    nat_lt j (length d.consts) && ((const_format (const_at d j).name
+    (size_of w (const_at d j).sort)).fits e && are_consts d w (suc j) es)
 
 -- a tuple or key of one thing stands before one of another: by the thing, and then by the first element that differs
 abbrev pub stands_before : ℕ → List ℕ → ℕ → List ℕ → Bool
@@ -99,7 +103,9 @@ relation_due (Some f) = f.relation
 -- rising facts of a world, behind one
 abbrev pub are_facts : Specification → World → Option Fact → List Fact → Bool
 are_facts d w last [] = true
-are_facts d w last (f ∷ fs) = ((fact_format d w (relation_due last)).fits f && fact_behind last f) && are_facts d w (Some f) fs
+are_facts d w last (f ∷ fs) =
+    ((fact_format d w (relation_due last)).fits f && fact_behind last f)
+    && are_facts d w (Some f) fs
 
 -- a value stands behind another one, by its counter and its key
 abbrev pub reading_behind : Option Reading → Reading → Bool
@@ -114,12 +120,15 @@ counter_due (Some r) = r.counter
 -- values at rising keys of a world, behind one
 abbrev pub are_readings : Specification → World → Option Reading → List Reading → Bool
 are_readings d w last [] = true
-are_readings d w last (r ∷ rs) = ((reading_format d w (counter_due last)).fits r && reading_behind last r) && are_readings d w (Some r) rs
+are_readings d w last (r ∷ rs) =
+    ((reading_format d w (counter_due last)).fits r && reading_behind last r)
+    && are_readings d w (Some r) rs
 
 -- the calls that an obligation speaks of, behind so many; of which operations isn't asked
 abbrev pub are_calls : Specification → Obligation → ℕ → List Call → Bool
 are_calls d ob n [] = n == call_count ob
-are_calls d ob n (c ∷ cs) = ((call_format d).fits c && nat_lt n (call_count ob)) && are_calls d ob (suc n) cs
+are_calls d ob n (c ∷ cs) =
+    ((call_format d).fits c && nat_lt n (call_count ob)) && are_calls d ob (suc n) cs
 
 -- as many elements as the obligation asks for
 abbrev pub are_elements : Specification → Obligation → List ℕ → Bool
@@ -129,7 +138,8 @@ are_elements d ob es = (at_format (element_count d ob)).fits es
 abbrev pub is_witness : Specification → Obligation → PartialWitness → List ℕ → Bool
 is_witness d ob p es =
     are_sizes d 0 p.world.sizes && (are_consts d p.world 0 p.world.consts
-    && (are_facts d p.world None p.facts && (are_readings d p.world None p.readings && (are_calls d ob 0 p.calls && are_elements d ob es))))
+    && (are_facts d p.world None p.facts && (are_readings d p.world None p.readings
+    && (are_calls d ob 0 p.calls && are_elements d ob es))))
 
 -- ---- verdicts
 
@@ -145,7 +155,9 @@ is_verdict d version ob (range log r) = is_log false log && range_format.fits r
 -- a verdict on each obligation from a place on
 abbrev pub are_verdicts : Specification → ℕ → ℕ → List VerdictForm → Bool
 are_verdicts d version i [] = i == obligation_count d
-are_verdicts d version i (v ∷ vs) = nat_lt i (obligation_count d) && (is_verdict d version (obligation_at d i) v && are_verdicts d version (suc i) vs)
+are_verdicts d version i (v ∷ vs) =
+    nat_lt i (obligation_count d) && (is_verdict d version (obligation_at d i) v
+    && are_verdicts d version (suc i) vs)
 
 -- A report: a version of the format, the budget, and a verdict on each obligation in order.
 pub record ReportForm : Type 0 where
@@ -155,4 +167,6 @@ pub record ReportForm : Type 0 where
 
 -- A report that can be written and read.
 abbrev pub is_report : Specification → ReportForm → Bool
-is_report d r = title_format.fits r.version && (budget_format.fits r.budget && are_verdicts d r.version 0 r.verdicts)
+is_report d r =
+    title_format.fits r.version && (budget_format.fits r.budget
+    && are_verdicts d r.version 0 r.verdicts)

@@ -31,8 +31,10 @@ thing_name d (thing.Counter k) = (get_or d.counters k no_counter).name
 abbrev pub obligation_words : Specification → Obligation → List (List ℕ)
 obligation_words d (Init i) = codes "init" ∷ invariant_name d i ∷ []
 obligation_words d (Safety o i) = codes "safety" ∷ operation_name d o ∷ invariant_name d i ∷ []
-obligation_words d (Commute o p x) = codes "commute" ∷ operation_name d o ∷ operation_name d p ∷ thing_name d x ∷ []
-obligation_words d (Stable o l p) = codes "stable" ∷ operation_name d o ∷ decimal (l + 1) ∷ operation_name d p ∷ []
+obligation_words d (Commute o p x) =
+    codes "commute" ∷ operation_name d o ∷ operation_name d p ∷ thing_name d x ∷ []
+obligation_words d (Stable o l p) =
+    codes "stable" ∷ operation_name d o ∷ decimal (l + 1) ∷ operation_name d p ∷ []
 
 -- the words of this obligation, and no others
 abbrev pub obligation_format : Specification → Obligation → Format (Unit {0})
@@ -64,7 +66,9 @@ of_verdict (words.Range n) = inr (inr (inr (inr (inr n))))
 
 -- the word of a cause, with the number of log lines where there is a log
 abbrev pub cause_words : Format (Unit {0} ⊎ (ℕ ⊎ (ℕ ⊎ ℕ)))
-cause_words = or_else (codes "instances") nothing (or_else (codes "lines") count_format (or_else (codes "rows") count_format (behind (codes "range") count_format)))
+cause_words =
+    or_else (codes "instances") nothing (or_else (codes "lines") count_format
+    (or_else (codes "rows") count_format (behind (codes "range") count_format)))
 
 -- `undecided` and a cause
 abbrev pub undecided_words : Format (Unit {0} ⊎ (ℕ ⊎ (ℕ ⊎ ℕ)))
@@ -72,7 +76,8 @@ undecided_words = behind (codes "undecided") cause_words
 
 -- the words of a verdict, by the first
 abbrev pub verdict_words : Format (ℕ ⊎ (Unit {0} ⊎ (Unit {0} ⊎ (ℕ ⊎ (ℕ ⊎ ℕ)))))
-verdict_words = or_else (codes "proved") count_format (or_else (codes "refuted") nothing undecided_words)
+verdict_words =
+    or_else (codes "proved") count_format (or_else (codes "refuted") nothing undecided_words)
 
 -- `proved K`, `refuted`, or `undecided` and a cause
 abbrev pub verdict_format : Format VerdictWord

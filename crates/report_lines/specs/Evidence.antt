@@ -37,7 +37,10 @@ values_words = both used_words decision_words
 
 -- the parts of the evidence of a range, by its first word
 abbrev pub RangeParts : Type 0
-RangeParts = ((List Lit × List RowStep) × (ℕ × (ℕ × ℕ))) ⊎ (((List Lit × List RowStep) × (ℕ × (ℕ × List ℤ))) ⊎ ((List Lit × List RowStep) × (ℕ × (ℕ × List ℤ))))
+RangeParts =
+    ((List Lit × List RowStep) × (ℕ × (ℕ × ℕ)))
+    ⊎ (((List Lit × List RowStep) × (ℕ × (ℕ × List ℤ)))
+    ⊎ ((List Lit × List RowStep) × (ℕ × (ℕ × List ℤ))))
 
 -- the evidence of these parts
 abbrev pub to_range : RangeParts → RangeLine
@@ -57,7 +60,9 @@ of_range r = of_what (r.used, r.steps) r.what
 
 -- the words of the evidence of a range
 abbrev pub range_words : Format RangeParts
-range_words = or_else (codes "product") product_words (or_else (codes "value") values_words (behind (codes "sum") values_words))
+range_words =
+    or_else (codes "product") product_words (or_else (codes "value") values_words
+    (behind (codes "sum") values_words))
 
 -- `product ..`, `value ..` or `sum ..`
 abbrev pub range_format : Format RangeLine

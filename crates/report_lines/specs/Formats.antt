@@ -70,7 +70,9 @@ place_from i (n ∷ names) w = if bytes_eq w n then Some i else place_from (suc 
 
 -- one of some names, by its place, from a place on
 abbrev pub among : ℕ → List (List ℕ) → Format ℕ
-among from names = word (λ k. get_or names k []) (place_from from (drop from names)) (λ k. nat_le from k && nat_lt k (length names))
+among from names =
+    word (λ k. get_or names k []) (place_from from (drop from names))
+    (λ k. nat_le from k && nat_lt k (length names))
 
 -- ---- words behind one another
 
@@ -153,7 +155,9 @@ none = record { put = λ a. []; get = λ ws. None; fits = λ a. false }
 -- reads the one form where this word stands, and else the other
 abbrev pub or_at : {A B : Type 0} → List ℕ → Format A → Format B → List (List ℕ) → Read (A ⊎ B)
 or_at k f g [] = g.get [] >>= λ x. Some (inr x.0, x.1)
-or_at k f g (w ∷ ws) = if bytes_eq w k then (f.get ws >>= λ x. Some (inl x.0, x.1)) else (g.get (w ∷ ws) >>= λ x. Some (inr x.0, x.1))
+or_at k f g (w ∷ ws) =
+    if bytes_eq w k then (f.get ws >>= λ x. Some (inl x.0, x.1))
+    else (g.get (w ∷ ws) >>= λ x. Some (inr x.0, x.1))
 
 -- writes either form
 abbrev pub or_put : {A B : Type 0} → List ℕ → Format A → Format B → A ⊎ B → List (List ℕ)
@@ -178,7 +182,9 @@ times_at f (suc n) ws = f.get ws >>= λ x. times_at f n x.1 >>= λ y. Some (x.0 
 
 -- this many values of a format, one after the other
 abbrev pub times : {A : Type 0} → Format A → ℕ → Format (List A)
-times f n = record { put = flat_map f.put; get = times_at f n; fits = λ xs. (length xs == n) && list_all f.fits xs }
+times f n =
+    record { put = flat_map f.put; get = times_at f n;
+    fits = λ xs. (length xs == n) && list_all f.fits xs }
 
 -- their number, and then that many
 abbrev pub counted : {A : Type 0} → ℕ → Format A → Format (List A)
@@ -229,8 +235,10 @@ read f ws = whole_of (f.get ws)
 
 -- What is read is written so, and fits; and what fits is read again, whatever stands behind it.
 pub record IsExact {A : Type 0} (f : Format A) : Type 0 where
-  pub ok : (ws : List (List ℕ)) (a : A) (rest : List (List ℕ)) → f.get ws ≡ Some (a, rest) → (ws ≡ f.put a ++ rest) × (f.fits a ≡ true)
-  pub again : (a : A) (rest : List (List ℕ)) → f.fits a ≡ true → f.get (f.put a ++ rest) ≡ Some (a, rest)
+  pub ok : (ws : List (List ℕ)) (a : A) (rest : List (List ℕ)) → f.get ws ≡ Some (a, rest)
+      → (ws ≡ f.put a ++ rest) × (f.fits a ≡ true)
+  pub again : (a : A) (rest : List (List ℕ)) → f.fits a ≡ true
+      → f.get (f.put a ++ rest) ≡ Some (a, rest)
 
 -- What is written are words without a space and without a line feed.
 pub record IsClean {A : Type 0} (f : Format A) : Type 0 where
@@ -239,4 +247,5 @@ pub record IsClean {A : Type 0} (f : Format A) : Type 0 where
 -- A line that fits is read as the value that it was written from, and a line that is read is the one that is written.
 pub record IsLine {A : Type 0} (f : Format A) : Type 0 where
   pub written : (a : A) → f.fits a ≡ true → read f (parts (joined (f.put a))) ≡ Some a
-  pub only_that : (line : List ℕ) (a : A) → read f (parts line) ≡ Some a → (line ≡ joined (f.put a)) × (f.fits a ≡ true)
+  pub only_that : (line : List ℕ) (a : A) → read f (parts line) ≡ Some a
+      → (line ≡ joined (f.put a)) × (f.fits a ≡ true)

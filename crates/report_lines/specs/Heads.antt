@@ -33,7 +33,9 @@ of_tally t = (t.proved, (t.refuted, t.undecided))
 
 -- the counts of verdicts, each with its word
 abbrev pub counts_format : Format (ℕ × (ℕ × ℕ))
-counts_format = behind (codes "proved") (both count_format (behind (codes "refuted") (both count_format (behind (codes "undecided") count_format))))
+counts_format =
+    behind (codes "proved") (both count_format
+    (behind (codes "refuted") (both count_format (behind (codes "undecided") count_format))))
 
 -- `summary` and the counts
 abbrev pub summary_format : Format Tally
@@ -53,7 +55,9 @@ of_outcome outcomes.Undecided = inr (inr tt)
 
 -- one of three words
 abbrev pub outcome_words : Format (Unit {0} ⊎ (Unit {0} ⊎ Unit {0}))
-outcome_words = or_else (codes "accepted") nothing (or_else (codes "rejected") nothing (key (codes "undecided")))
+outcome_words =
+    or_else (codes "accepted") nothing (or_else (codes "rejected") nothing
+    (key (codes "undecided")))
 
 -- the last word
 abbrev pub outcome_format : Format Outcome

@@ -24,7 +24,9 @@ with_sign sign (Some n) = Some (record { atom = n; positive = sign })
 -- the literal that a word spells: a sign and a number
 abbrev pub literal_of : List ℕ → Option Lit
 literal_of [] = None
-literal_of (b ∷ bs) = if b == 43 then with_sign true (size_read bs) else (if b == 45 then with_sign false (size_read bs) else None)
+literal_of (b ∷ bs) =
+    if b == 43 then with_sign true (size_read bs)
+    else (if b == 45 then with_sign false (size_read bs) else None)
 
 -- a literal whose atom a line can name
 abbrev pub small_literal : Option Lit → Option Lit
@@ -75,7 +77,9 @@ drop_words = counted most_count count_format
 
 -- the parts of a line of a log, by its first word
 abbrev pub LineParts : Type 0
-LineParts = (ℕ × (ℕ × ℕ)) ⊎ ((List Lit × List RowStep) ⊎ ((ℕ × (ℤ × ((List Lit × List RowStep) × (ℕ × (ℕ × List ℤ))))) ⊎ List ℕ))
+LineParts =
+    (ℕ × (ℕ × ℕ)) ⊎ ((List Lit × List RowStep)
+    ⊎ ((ℕ × (ℤ × ((List Lit × List RowStep) × (ℕ × (ℕ × List ℤ))))) ⊎ List ℕ))
 
 -- the line of these parts
 abbrev pub to_line : LineParts → Line
@@ -88,12 +92,15 @@ to_line (inr (inr (inr cs))) = Drop cs
 abbrev pub of_line : Line → LineParts
 of_line (Resolve left right pivot) = inl (left, (right, pivot))
 of_line (Farkas used steps) = inr (inl (used, steps))
-of_line (Split place at used steps low high values) = inr (inr (inl (place, (at, ((used, steps), (low, (high, values)))))))
+of_line (Split place at used steps low high values) =
+    inr (inr (inl (place, (at, ((used, steps), (low, (high, values)))))))
 of_line (Drop clauses) = inr (inr (inr clauses))
 
 -- the words of a line, by its first
 abbrev pub line_words : Format LineParts
-line_words = or_else (codes "r") resolve_words (or_else (codes "f") used_words (or_else (codes "s") split_words (behind (codes "d") drop_words)))
+line_words =
+    or_else (codes "r") resolve_words (or_else (codes "f") used_words
+    (or_else (codes "s") split_words (behind (codes "d") drop_words)))
 
 -- `r C D A`, `f ..`, `s ..` or `d ..`
 abbrev pub line_format : Format Line

@@ -55,7 +55,8 @@ of_fact f = (f.relation, f.tuple)
 
 -- behind `true`: a relation, which isn't before one of this number, and a tuple of it
 abbrev pub fact_words : Specification → World → ℕ → Format (ℕ × List ℕ)
-fact_words d w from = chain (among from (relation_names d)) (λ k. tuple_words w (relation_places d k))
+fact_words d w from =
+    chain (among from (relation_names d)) (λ k. tuple_words w (relation_places d k))
 
 -- a tuple that is true
 abbrev pub fact_format : Specification → World → ℕ → Format Fact
@@ -75,7 +76,9 @@ is_other v = not (int_eq v (pos 0))
 
 -- behind `count`: a counter, which isn't before one of this number, a key of it, and the value there, which isn't 0
 abbrev pub reading_words : Specification → World → ℕ → Format (ℕ × (List ℕ × ℤ))
-reading_words d w from = chain (among from (counter_names d)) (λ k. both (tuple_words w (counter_keys d k)) (only is_other value_format))
+reading_words d w from =
+    chain (among from (counter_names d)) (λ k. both (tuple_words w (counter_keys d k))
+    (only is_other value_format))
 
 -- a value that isn't 0
 abbrev pub reading_format : Specification → World → ℕ → Format Reading
@@ -143,7 +146,10 @@ of_shown (shown.At es) = inr (inr (inr es))
 
 -- the words of a line of a witness, by its first
 abbrev pub shown_words : Specification → World → Due → Format ShownParts
-shown_words d w due = or_else (codes "true") (fact_format d w due.relation) (or_else (codes "count") (reading_format d w due.counter) (or_else (codes "call") (call_format d) (behind (codes "at") (at_format due.elements))))
+shown_words d w due =
+    or_else (codes "true") (fact_format d w due.relation)
+    (or_else (codes "count") (reading_format d w due.counter)
+    (or_else (codes "call") (call_format d) (behind (codes "at") (at_format due.elements))))
 
 -- `true REL E ..`, `count CTR E .. V`, `call OP A ..` or `at E ..`
 abbrev pub shown_format : Specification → World → Due → Format Shown

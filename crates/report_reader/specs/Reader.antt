@@ -109,7 +109,8 @@ abbrev pub reads_of : PartialWitness → Reads
 reads_of p = with_readings (with_facts nothing p.facts) p.readings
 
 -- A witness is what was shown, with these elements.
-pub record IsShownBy (d : Specification) (p : PartialWitness) (es : List ℕ) (w : Witness) : Type 0 where
+pub record IsShownBy (d : Specification) (p : PartialWitness) (es : List ℕ)
+    (w : Witness) : Type 0 where
   pub world : w.world ≡ p.world
   pub state : reads w.state ≡ reads_of p
   pub fits : is_state d p.world w.state ≡ true
@@ -124,7 +125,8 @@ IsEnd d (Some (end_refuted p es)) (Some (ended.Refuted w)) = IsShownBy d p es w
 IsEnd d (Some end_instances) (Some ended.Instances) = Unit {0}
 IsEnd d (Some end_lines) (Some ended.Lines) = Unit {0}
 IsEnd d (Some (end_rows r)) (Some (ended.Rows used steps)) = (used ≡ r.used) × (steps ≡ r.steps)
-IsEnd d (Some (end_range r)) (Some (ended.Range used steps what)) = (used ≡ r.used) × (steps ≡ r.steps) × (what ≡ r.what)
+IsEnd d (Some (end_range r)) (Some (ended.Range used steps what)) =
+    (used ≡ r.used) × (steps ≡ r.steps) × (what ≡ r.what)
 IsEnd d _ _ = ⊥
 
 -- What is told of a line: whether it begins a verdict, is a line of a log, or is the last one of a block.
@@ -137,11 +139,14 @@ pub record Tells (d : Specification) (s : State) (e : Event) (f : Fed) : Type 0 
 
 -- a tuple fits the world
 abbrev pub fact_fits : Specification → World → Fact → Bool
-fact_fits d w f = nat_lt f.relation (length d.relations) && fits_places w (relation_places d f.relation) f.tuple
+fact_fits d w f =
+    nat_lt f.relation (length d.relations) && fits_places w (relation_places d f.relation) f.tuple
 
 -- a key and its value fit the world
 abbrev pub reading_fits : Specification → World → Reading → Bool
-reading_fits d w r = nat_lt r.counter (length d.counters) && (fits_places w (counter_keys d r.counter) r.key && in_state_range r.value)
+reading_fits d w r =
+    nat_lt r.counter (length d.counters) && (fits_places w (counter_keys d r.counter) r.key
+    && in_state_range r.value)
 
 -- what was shown fits
 pub record IsShowing (d : Specification) (p : PartialWitness) : Type 0 where
@@ -166,7 +171,8 @@ IsKept d t (places.Log k n) = told t < obligation_count d
 IsKept d t places.Rows = told t < obligation_count d
 IsKept d t places.Range = told t < obligation_count d
 IsKept d t (places.Sizes w) = (told t < obligation_count d) × AreSizes d w × (w.consts ≡ [])
-IsKept d t (places.Consts w) = (told t < obligation_count d) × AreSizes d w × (length w.sizes ≡ length d.sorts) × AreConsts d w
+IsKept d t (places.Consts w) =
+    (told t < obligation_count d) × AreSizes d w × (length w.sizes ≡ length d.sorts) × AreConsts d w
 IsKept d t (places.Showing stage p) = (told t < obligation_count d) × IsShowing d p
 IsKept d t _ = told t ≤ obligation_count d
 
@@ -179,13 +185,15 @@ budget_of _ = None
 
 -- What is answered to a line that says something, with the state behind it.
 abbrev pub IsTaken : Specification → State → Event → State → Result Told Refusal → Type 0
-IsTaken d s e u (Ok x) = (judged d s (Some e) ≡ Ok (e, u)) × Tells d s e x.fed × (x.budget ≡ budget_of e)
+IsTaken d s e u (Ok x) =
+    (judged d s (Some e) ≡ Ok (e, u)) × Tells d s e x.fed × (x.budget ≡ budget_of e)
 IsTaken d s e u (Err (refusal.Line k)) = (judged d s (Some e) ≡ Err k) × (u ≡ s)
 IsTaken d s e u (Err refusal.Memory) = u ≡ s
 
 -- What is answered to a line of these words.
 abbrev pub IsStep : Specification → State → List (List ℕ) → State → Result Told Refusal → Type 0
-IsStep d s words u (Ok x) = (e : Event) × (fed d s words ≡ Ok (e, u)) × Tells d s e x.fed × (x.budget ≡ budget_of e)
+IsStep d s words u (Ok x) =
+    (e : Event) × (fed d s words ≡ Ok (e, u)) × Tells d s e x.fed × (x.budget ≡ budget_of e)
 IsStep d s words u (Err (refusal.Line k)) = (fed d s words ≡ Err k) × (u ≡ s)
 IsStep d s words u (Err refusal.Memory) = u ≡ s
 
@@ -206,12 +214,16 @@ stated None before = before
 stated (Some n) before = Some n
 
 -- the reader after a line that was read, or the line's fault
-abbrev pub read_on : ReaderForm → Result (Event × State) ReportKind → Result (Event × ReaderForm) Fault
-read_on r (Ok x) = Ok (x.0, record { spec = r.spec; state = x.1; number = suc r.number; budget = stated (budget_of x.0) r.budget; fault = None })
+abbrev pub read_on : ReaderForm → Result (Event × State) ReportKind
+    → Result (Event × ReaderForm) Fault
+read_on r (Ok x) =
+    Ok (x.0, record { spec = r.spec; state = x.1; number = suc r.number;
+    budget = stated (budget_of x.0) r.budget; fault = None })
 read_on r (Err k) = Err (record { number = suc r.number; kind = k })
 
 -- the reader after a line; a fault that it has met already stays
-abbrev pub read_behind : ReaderForm → List (List ℕ) → Option Fault → Result (Event × ReaderForm) Fault
+abbrev pub read_behind : ReaderForm → List (List ℕ) → Option Fault
+    → Result (Event × ReaderForm) Fault
 read_behind r words (Some f) = Err f
 read_behind r words None = read_on r (fed r.spec r.state words)
 
@@ -222,7 +234,9 @@ read_line r text = read_behind r (parts text) r.fault
 -- What is answered to the next line. A fault stays, and want of memory changes nothing.
 abbrev pub IsAnswered : ReaderForm → List ℕ → ReaderForm → Result Fed ReportRefused → Type 0
 IsAnswered r text q (Ok f) = (e : Event) × (read_line r text ≡ Ok (e, q)) × Tells r.spec r.state e f
-IsAnswered r text q (Err (refused.Line n k)) = (read_line r text ≡ Err (record { number = n; kind = k })) × (q ≡ record r { fault = Some (record { number = n; kind = k }) })
+IsAnswered r text q (Err (refused.Line n k)) =
+    (read_line r text ≡ Err (record { number = n; kind = k }))
+    × (q ≡ record r { fault = Some (record { number = n; kind = k }) })
 IsAnswered r text q (Err refused.Memory) = q ≡ r
 
 -- what is wrong where the lines end: the first fault, or that a line is missing

@@ -13,7 +13,8 @@ use Rattle.report_upgrader.specs.declared.refused.UpgradeRefused.{UpgradeRefused
 use Rattle.report_upgrader.specs.declared.refused.UpgradeRefused.TheVariants as refused
 
 -- Bytes are those of a report whose verdicts have no fault, so many of each kind; and a text is that of the upgraded report.
-pub record IsUpgradedText (d : Specification) (bytes : List ℕ) (tally : Tally) (text : List ℕ) : Type 0 where
+pub record IsUpgradedText (d : Specification) (bytes : List ℕ) (tally : Tally)
+    (text : List ℕ) : Type 0 where
   pub accepted : IsAccepted d bytes tally
   pub text_is : text ≡ report_bytes d (upgraded_report accepted.report)
 
@@ -21,7 +22,8 @@ pub record IsUpgradedText (d : Specification) (bytes : List ℕ) (tally : Tally)
 abbrev pub IsFront : Specification → List ℕ → Option (List ℕ) → Option (List ℕ) → Type 0
 IsFront d bytes before after =
     Keeps before after
-    ⊎ ((tally : Tally) × (text : List ℕ) × (n : ℕ) × (length bytes ≤ most_report_bytes) × IsUpgradedText d bytes tally text × Appends before after (take n text))
+    ⊎ ((tally : Tally) × (text : List ℕ) × (n : ℕ) × (length bytes ≤ most_report_bytes)
+    × IsUpgradedText d bytes tally text × Appends before after (take n text))
 
 -- a report that doesn't stand is refused as it is verified
 abbrev pub refused_as : VerifyRefused → UpgradeRefused
@@ -32,17 +34,24 @@ refused_as verifying.Memory = refused.Memory
 
 -- What is answered to bytes, by what the sink held before and after. A report that stands is upgraded. One that doesn't is refused as it
 -- is verified, and nothing is written.
-abbrev pub IsUpgraded : Specification → List ℕ → Option (List ℕ) → Option (List ℕ) → Result Tally UpgradeRefused → Type 0
-IsUpgraded d bytes before after (Ok tally) = (length bytes ≤ most_report_bytes) × (text : List ℕ) × IsUpgradedText d bytes tally text × Appends before after text
-IsUpgraded d bytes before after (Err refused.Long) = IsVerified d bytes (Err verifying.Long) × Keeps before after
-IsUpgraded d bytes before after (Err (refused.Line n k)) = IsVerified d bytes (Err (verifying.Line n k)) × Keeps before after
+abbrev pub IsUpgraded : Specification → List ℕ → Option (List ℕ) → Option (List ℕ)
+    → Result Tally UpgradeRefused → Type 0
+IsUpgraded d bytes before after (Ok tally) =
+    (length bytes ≤ most_report_bytes) × (text : List ℕ) × IsUpgradedText d bytes tally text
+    × Appends before after text
+IsUpgraded d bytes before after (Err refused.Long) =
+    IsVerified d bytes (Err verifying.Long) × Keeps before after
+IsUpgraded d bytes before after (Err (refused.Line n k)) =
+    IsVerified d bytes (Err (verifying.Line n k)) × Keeps before after
 IsUpgraded d bytes before after (Err refused.Fault) = Keeps before after
 IsUpgraded d bytes before after (Err refused.WriteFault) = IsFront d bytes before after
 IsUpgraded d bytes before after (Err refused.Memory) = IsFront d bytes before after
 
 -- What is answered to the bytes that a source gives.
-abbrev pub IsUpgradedFrom : Specification → Option (List ℕ) → Option (List ℕ) → Option (List ℕ) → Result Tally UpgradeRefused → Type 0
-IsUpgradedFrom d told before after result = (bytes : List ℕ) × Tells told bytes × IsUpgraded d bytes before after result
+abbrev pub IsUpgradedFrom : Specification → Option (List ℕ) → Option (List ℕ) → Option (List ℕ)
+    → Result Tally UpgradeRefused → Type 0
+IsUpgradedFrom d told before after result =
+    (bytes : List ℕ) × Tells told bytes × IsUpgraded d bytes before after result
 
 -- An answer to all bytes that a source gave.
 abbrev pub IsOnAll : Result Tally UpgradeRefused → Type 0

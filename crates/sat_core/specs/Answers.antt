@@ -55,11 +55,13 @@ pub record IsModelOf (p : PlainProblem) (i : Interpretation) : Type 0 where
   pub ints : length i.ints ≡ p.ints
   pub in_range : list_all in_state i.ints ≡ true
   pub makes_true : makes_true (meaning_of i) p ≡ true
-  pub atoms_true : (a : ℕ) → a < length p.atoms → atom_true (meaning_of i) p.atoms a ≡ slice_index_or i.truths a false
+  pub atoms_true : (a : ℕ) → a < length p.atoms
+      → atom_true (meaning_of i) p.atoms a ≡ slice_index_or i.truths a false
   pub unrefuted : AreRefuted p.clauses → ⊥
 
 -- LINES: a fresh search log of exactly `budget` lines
-pub record IsExhausted (split : Bool) (p : PlainProblem) (budget : ℕ) (log : List Line) : Type 0 where
+pub record IsExhausted (split : Bool) (p : PlainProblem) (budget : ℕ)
+    (log : List Line) : Type 0 where
   pub judged : lines_judged p log budget ≡ Ok tt
   pub whole : length log ≡ budget
   pub makes : PlainProblem
@@ -69,7 +71,9 @@ pub record IsExhausted (split : Bool) (p : PlainProblem) (budget : ℕ) (log : L
   pub hard : AreRefuted p.clauses → length p.atoms ≤ budget → ⊥
 
 -- the literals of a stop stand in a settled trail for all clauses of the problem and of the log, and the steps eliminate
-pub record IsStopped (split : Bool) (p : PlainProblem) (budget : ℕ) (log : List Line) (used : List Lit) (steps : List RowStep) (what : Option RangeWhat) (held : List Row) : Type 0 where
+pub record IsStopped (split : Bool) (p : PlainProblem) (budget : ℕ) (log : List Line)
+    (used : List Lit) (steps : List RowStep) (what : Option RangeWhat)
+    (held : List Row) : Type 0 where
   pub within : length log ≤ budget
   pub makes : PlainProblem
   pub searched : IsSearched p log makes
@@ -81,13 +85,15 @@ pub record IsStopped (split : Bool) (p : PlainProblem) (budget : ℕ) (log : Lis
   pub unrefuted : AreRefuted p.clauses → ⊥
 
 -- ROWS: evidence that the rows became too many
-pub record IsTooLong (split : Bool) (p : PlainProblem) (budget : ℕ) (e : RowsEvidence) : Type 0 where
+pub record IsTooLong (split : Bool) (p : PlainProblem) (budget : ℕ)
+    (e : RowsEvidence) : Type 0 where
   pub judged : rows_judged p e ≡ Ok tt
   pub held : List Row
   pub stopped : IsStopped split p budget e.log e.used e.steps None held
 
 -- RANGE: evidence of a number beyond its range, with chosen values
-pub record IsTooLarge (split : Bool) (p : PlainProblem) (budget : ℕ) (e : RangeEvidence) : Type 0 where
+pub record IsTooLarge (split : Bool) (p : PlainProblem) (budget : ℕ)
+    (e : RangeEvidence) : Type 0 where
   pub judged : range_judged p e ≡ Ok tt
   pub held : List Row
   pub stopped : IsStopped split p budget e.log e.used e.steps (Some e.what) held

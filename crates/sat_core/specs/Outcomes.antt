@@ -14,14 +14,20 @@ use Rattle.sat_core.specs.Answers.{IsRefuted, IsModelOf, IsExhausted, IsTooLong,
 use Rattle.sat_core.specs.Searching.{InSearch, IsBackjump, work}
 
 -- what a step of a search comes to: it continues, with less left to do, or it ends with an answer
-abbrev pub IsOutcome : Outcome → Bool → Bool → PlainProblem → ℕ → PlainProblem → List Entry → List Line → PlainProblem → List Entry → List Line → Type 0
+abbrev pub IsOutcome : Outcome → Bool → Bool → PlainProblem → ℕ → PlainProblem → List Entry
+    → List Line → PlainProblem → List Entry → List Line → Type 0
 IsOutcome Continue split stop p budget q t ls r u ms =
-    InSearch (record { problem = p; split = split }) budget r u ms × (work (record { problem = p; split = split }) budget r u ms < work (record { problem = p; split = split }) budget q t ls)
+    InSearch (record { problem = p; split = split }) budget r u ms
+        × (work (record { problem = p; split = split }) budget r u ms
+        < work (record { problem = p; split = split }) budget q t ls)
 IsOutcome Refuted split stop p budget q t ls r u ms = IsRefuted split p budget ms
 IsOutcome (Found i) split stop p budget q t ls r u ms = IsModelOf p i
 IsOutcome BudgetExhausted split stop p budget q t ls r u ms = IsExhausted split p budget ms
-IsOutcome (Rows used steps) split stop p budget q t ls r u ms = (stop ≡ true) × IsTooLong split p budget (record { log = ms; used = used; steps = steps })
-IsOutcome (Range used steps what) split stop p budget q t ls r u ms = (stop ≡ true) × IsTooLarge split p budget (record { log = ms; used = used; steps = steps; what = what })
+IsOutcome (Rows used steps) split stop p budget q t ls r u ms =
+    (stop ≡ true) × IsTooLong split p budget (record { log = ms; used = used; steps = steps })
+IsOutcome (Range used steps what) split stop p budget q t ls r u ms =
+    (stop ≡ true) × IsTooLarge split p budget
+    (record { log = ms; used = used; steps = steps; what = what })
 IsOutcome Memory split stop p budget q t ls r u ms = Unit {0}
 
 -- a literal was pushed
@@ -35,8 +41,10 @@ IsPushed (Rows used steps) t l reason u = ⊥
 IsPushed (Range used steps what) t l reason u = ⊥
 
 -- a Split line was written and its atom added, or the log has as many lines as it may
-abbrev pub IsSplitOff : Outcome → ℕ → PlainProblem → List Line → Row → Line → PlainProblem → List Line → Type 0
-IsSplitOff Continue budget q ls row line r ms = (length ls < budget) × (r ≡ with_row q row) × (ms ≡ ls ++ line ∷ []) × (length r.atoms < 2 ^ 32)
+abbrev pub IsSplitOff : Outcome → ℕ → PlainProblem → List Line → Row → Line → PlainProblem
+    → List Line → Type 0
+IsSplitOff Continue budget q ls row line r ms =
+    (length ls < budget) × (r ≡ with_row q row) × (ms ≡ ls ++ line ∷ []) × (length r.atoms < 2 ^ 32)
 IsSplitOff Refuted budget q ls row line r ms = ⊥
 IsSplitOff (Found i) budget q ls row line r ms = ⊥
 IsSplitOff BudgetExhausted budget q ls row line r ms = (budget ≤ length ls) × (r ≡ q) × (ms ≡ ls)

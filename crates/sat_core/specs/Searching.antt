@@ -31,8 +31,11 @@ use Rattle.sat_core.specs.Answers.{AreRowsOf, IsEasy, IsRefuted, IsExhausted}
 
 -- what stands in the way of a decision
 abbrev pub IsFound : Found → List (List Lit) → List Entry → Type 0
-IsFound (Conflict i) cs t = (i < length cs) × (is_false t (slice_index_or cs i []) ≡ true) × (distinct (slice_index_or cs i []) ≡ true)
-IsFound (OfForced i l) cs t = (i < length cs) × (is_unit t (slice_index_or cs i []) l ≡ true) × NoneFalse t cs
+IsFound (Conflict i) cs t =
+    (i < length cs) × (is_false t (slice_index_or cs i []) ≡ true)
+    × (distinct (slice_index_or cs i []) ≡ true)
+IsFound (OfForced i l) cs t =
+    (i < length cs) × (is_unit t (slice_index_or cs i []) l ≡ true) × NoneFalse t cs
 IsFound Nothing cs t = Settled t cs × NoneFalse t cs
 
 -- what a search is for: its problem, and whether its solver of rows may split
@@ -46,7 +49,8 @@ pub record Keeps (a : Aim) (budget : ℕ) (q : PlainProblem) (ls : List Line) : 
   pub runs : run a.problem ls ≡ Ok (standing (length a.problem.clauses) q)
   pub fresh : IsFresh (length a.problem.clauses) q.clauses
   pub first : Grows a.problem.clauses q.clauses
-  pub atoms : (i : ℕ) → i < length a.problem.atoms → slice_get q.atoms i ≡ slice_get a.problem.atoms i
+  pub atoms : (i : ℕ) → i < length a.problem.atoms
+      → slice_get q.atoms i ≡ slice_get a.problem.atoms i
   pub atom_count : length q.atoms ≡ length a.problem.atoms + splits ls
   pub ints : q.ints ≡ a.problem.ints
   pub clause_count : length q.clauses + splits ls ≡ length a.problem.clauses + length ls
@@ -58,17 +62,21 @@ pub record Keeps (a : Aim) (budget : ℕ) (q : PlainProblem) (ls : List Line) : 
 
 -- between chains: the trail is one for all clauses, no clause is false before its newest literal, and while forced literals
 -- alone decide, nothing else was done
-pub record InSearch (a : Aim) (budget : ℕ) (q : PlainProblem) (t : List Entry) (ls : List Line) : Type 0 where
+pub record InSearch (a : Aim) (budget : ℕ) (q : PlainProblem) (t : List Entry)
+    (ls : List Line) : Type 0 where
   pub keeps : Keeps a budget q ls
   pub trail : IsTrail q.clauses t
   pub calm : IsCalm q.clauses t
   pub below : (x : ℕ) → is_assigned t x ≡ true → x < length q.atoms
   pub search : SearchLog a.problem ls q between
-  pub early : AreRefuted a.problem.clauses → (has_decision t ≡ false) × (ls ≡ []) × (q.clauses ≡ a.problem.clauses)
-  pub easy : IsEasy a.problem → (ls ≡ []) × (q.clauses ≡ a.problem.clauses) × (has_decision t ≡ false → (l : Lit) → in_trail t l ≡ true → Forced a.problem.clauses l)
+  pub early : AreRefuted a.problem.clauses → (has_decision t ≡ false) × (ls ≡ [])
+      × (q.clauses ≡ a.problem.clauses)
+  pub easy : IsEasy a.problem → (ls ≡ []) × (q.clauses ≡ a.problem.clauses)
+      × (has_decision t ≡ false → (l : Lit) → in_trail t l ≡ true → Forced a.problem.clauses l)
 
 -- in a chain, which has reached the clause with number i; the log had `before` lines when the clause was met with which it began
-pub record InChain (a : Aim) (budget before : ℕ) (q : PlainProblem) (t : List Entry) (ls : List Line) (i : ℕ) : Type 0 where
+pub record InChain (a : Aim) (budget before : ℕ) (q : PlainProblem) (t : List Entry)
+    (ls : List Line) (i : ℕ) : Type 0 where
   pub keeps : Keeps a budget q ls
   pub start : List (List Lit)
   pub from : List Entry
@@ -77,11 +85,13 @@ pub record InChain (a : Aim) (budget before : ℕ) (q : PlainProblem) (t : List 
   pub search : SearchLog a.problem ls q (within start from (slice_index_or q.clauses i []))
   pub since : before ≤ length ls
   pub grew : is_done from (slice_index_or q.clauses i []) ≡ true → before < length ls
-  pub early : AreRefuted a.problem.clauses → (has_decision t ≡ false) × (length ls + length t ≤ length a.problem.atoms)
+  pub early : AreRefuted a.problem.clauses → (has_decision t ≡ false)
+      × (length ls + length t ≤ length a.problem.atoms)
   pub uneasy : IsEasy a.problem → ⊥
 
 -- a chain on its way, whatever search it belongs to
-pub record IsChain (budget : ℕ) (q : PlainProblem) (t : List Entry) (ls : List Line) (i : ℕ) : Type 0 where
+pub record IsChain (budget : ℕ) (q : PlainProblem) (t : List Entry) (ls : List Line)
+    (i : ℕ) : Type 0 where
   pub aim : Aim
   pub before : ℕ
   pub chain : InChain aim budget before q t ls i
@@ -93,65 +103,97 @@ IsBefore u (e ∷ t) = ((is_decision e ≡ true) × (u ≡ t)) ⊎ IsBefore u t
 
 -- A BACKJUMP from a trail for some clauses to a shorter one for more clauses, none of which is false: the further clauses are open in
 -- two literals before the last decision that is left
-pub record IsBackjump (cs : List (List Lit)) (t : List Entry) (ds : List (List Lit)) (u : List Entry) : Type 0 where
+pub record IsBackjump (cs : List (List Lit)) (t : List Entry) (ds : List (List Lit))
+    (u : List Entry) : Type 0 where
   pub shorter : IsBefore u t
   pub grows : Grows cs ds
   pub none_false : NoneFalse u ds
-  pub wide : has_decision u ≡ true → (k : ℕ) → length cs ≤ k → k < length ds → 2 ≤ open_in (before_last u) (slice_index_or ds k [])
+  pub wide : has_decision u ≡ true → (k : ℕ) → length cs ≤ k → k < length ds
+      → 2 ≤ open_in (before_last u) (slice_index_or ds k [])
 
 -- whatever search a chain belongs to, its going on belongs to it too, and is of the same chain
-abbrev pub GoesOn : ℕ → PlainProblem → List Entry → List Line → ℕ → PlainProblem → List Entry → List Line → ℕ → Type 0
-GoesOn budget q t ls i r u ms j = (a : Aim) (before : ℕ) (x : InChain a budget before q t ls i) → (y : InChain a budget before r u ms j) × (y.start ≡ x.start) × (y.from ≡ x.from)
+abbrev pub GoesOn : ℕ → PlainProblem → List Entry → List Line → ℕ → PlainProblem → List Entry
+    → List Line → ℕ → Type 0
+GoesOn budget q t ls i r u ms j =
+    (a : Aim) (before : ℕ) (x : InChain a budget before q t ls i)
+    → (y : InChain a budget before r u ms j) × (y.start ≡ x.start) × (y.from ≡ x.from)
 
 -- how the resolving of a chain ended
-abbrev pub IsChained : Chained → ℕ → PlainProblem → List Entry → List Line → ℕ → PlainProblem → List Entry → List Line → Type 0
-IsChained (Done j) budget q t ls i r u ms = GoesOn budget q t ls i r u ms j × (is_done u (slice_index_or r.clauses j []) ≡ true)
-IsChained (BudgetExhausted j) budget q t ls i r u ms = GoesOn budget q t ls i r u ms j × (is_done u (slice_index_or r.clauses j []) ≡ false) × (budget ≤ length ms)
+abbrev pub IsChained : Chained → ℕ → PlainProblem → List Entry → List Line → ℕ → PlainProblem
+    → List Entry → List Line → Type 0
+IsChained (Done j) budget q t ls i r u ms =
+    GoesOn budget q t ls i r u ms j × (is_done u (slice_index_or r.clauses j []) ≡ true)
+IsChained (BudgetExhausted j) budget q t ls i r u ms =
+    GoesOn budget q t ls i r u ms j × (is_done u (slice_index_or r.clauses j []) ≡ false)
+    × (budget ≤ length ms)
 IsChained Memory budget q t ls i r u ms = Unit {0}
 
 -- the trail is cut back after a chain, whatever search it belongs to
 abbrev pub IsBackjumpAfter : PlainProblem → List Entry → ℕ → List Entry → Type 0
-IsBackjumpAfter q t i u = (a : Aim) (budget before : ℕ) (ls : List Line) (x : InChain a budget before q t ls i) → is_done t (slice_index_or q.clauses i []) ≡ true → has_decision t ≡ true → InSearch a budget q u ls × (before < length ls) × IsBackjump x.start t q.clauses u
+IsBackjumpAfter q t i u =
+    (a : Aim) (budget before : ℕ) (ls : List Line) (x : InChain a budget before q t ls i)
+    → is_done t (slice_index_or q.clauses i []) ≡ true → has_decision t ≡ true
+    → InSearch a budget q u ls × (before < length ls) × IsBackjump x.start t q.clauses u
 
 -- the trail is cut back to where the chain of a false clause may begin
 abbrev pub IsLevel : List Entry → List Entry → List Lit → Type 0
-IsLevel t u c = (cs : List (List Lit)) → IsTrail cs t → Settled t cs → is_false t c ≡ true → Begins cs u c × ((x : ℕ) → is_assigned u x ≡ true → is_assigned t x ≡ true) × ((u ≡ t) ⊎ IsBefore u t)
+IsLevel t u c =
+    (cs : List (List Lit)) → IsTrail cs t → Settled t cs → is_false t c ≡ true
+    → Begins cs u c × ((x : ℕ) → is_assigned u x ≡ true → is_assigned t x ≡ true)
+    × ((u ≡ t) ⊎ IsBefore u t)
 
 -- how a chain ended, whatever search it belongs to
-abbrev pub IsAnalyzed : Analyzed → ℕ → PlainProblem → List Entry → List Line → ℕ → PlainProblem → List Entry → List Line → Type 0
-IsAnalyzed Empty budget q t ls i r u ms = (a : Aim) (before : ℕ) → InChain a budget before q t ls i → IsRefuted a.split a.problem budget ms
-IsAnalyzed Cut budget q t ls i r u ms = (a : Aim) (before : ℕ) (x : InChain a budget before q t ls i) → InSearch a budget r u ms × (before < length ms) × IsBackjump x.start t r.clauses u
-IsAnalyzed ExhaustedThere budget q t ls i r u ms = (a : Aim) (before : ℕ) → InChain a budget before q t ls i → IsExhausted a.split a.problem budget ms
+abbrev pub IsAnalyzed : Analyzed → ℕ → PlainProblem → List Entry → List Line → ℕ → PlainProblem
+    → List Entry → List Line → Type 0
+IsAnalyzed Empty budget q t ls i r u ms =
+    (a : Aim) (before : ℕ) → InChain a budget before q t ls i
+    → IsRefuted a.split a.problem budget ms
+IsAnalyzed Cut budget q t ls i r u ms =
+    (a : Aim) (before : ℕ) (x : InChain a budget before q t ls i)
+    → InSearch a budget r u ms × (before < length ms) × IsBackjump x.start t r.clauses u
+IsAnalyzed ExhaustedThere budget q t ls i r u ms =
+    (a : Aim) (before : ℕ) → InChain a budget before q t ls i
+    → IsExhausted a.split a.problem budget ms
 IsAnalyzed NoMemory budget q t ls i r u ms = Unit {0}
 
 -- what is left to do: lines, and then atoms. There are never more atoms than the problem's and one for each line
 abbrev pub work : Aim → ℕ → PlainProblem → List Entry → List Line → ℕ
-work a budget q t ls = (budget - length ls) * (length a.problem.atoms + budget + 1) + free (length q.atoms) t
+work a budget q t ls =
+    (budget - length ls) * (length a.problem.atoms + budget + 1) + free (length q.atoms) t
 
 -- the literals with some numbers
 abbrev pub lit_at : List Lit → ℕ → Lit
 lit_at lits u = slice_index_or lits u (record { atom = 0; positive = true })
 
 -- the literals of a trail over the first atoms that stand for rows, and their rows
-pub record IsRowAssignment (atoms : List AtomKind) (t : List Entry) (first : ℕ) (lits : List Lit) (rows : List Row) : Type 0 where
+pub record IsRowAssignment (atoms : List AtomKind) (t : List Entry) (first : ℕ) (lits : List Lit)
+    (rows : List Row) : Type 0 where
   pub stand : AreRowsOf atoms lits rows
   pub in_it : list_all (in_trail t) lits ≡ true
-  pub covers : (x : ℕ) (r : Row) → x < first → slice_get atoms x ≡ Some (OfRow r) → list_any (λ l. l.atom == x) lits ≡ true
+  pub covers : (x : ℕ) (r : Row) → x < first → slice_get atoms x ≡ Some (OfRow r)
+      → list_any (λ l. l.atom == x) lits ≡ true
 
 -- a Farkas line over literals of a settled trail keeps its rule, in whatever search
-pub record IsRefutation (budget : ℕ) (q : PlainProblem) (t : List Entry) (ls : List Line) (used : List Lit) (steps : List RowStep) : Type 0 where
+pub record IsRefutation (budget : ℕ) (q : PlainProblem) (t : List Entry) (ls : List Line)
+    (used : List Lit) (steps : List RowStep) : Type 0 where
   pub aim : Aim
   pub search : InSearch aim budget q t ls
   pub settled : Settled t q.clauses
   pub in_it : list_all (in_trail t) used ≡ true
-  pub taken : (given : ℕ) → next (standing given q) (Farkas used steps) ≡ Ok (standing given (with_clause q (negations used)))
+  pub taken : (given : ℕ) → next (standing given q) (Farkas used steps)
+      ≡ Ok (standing given (with_clause q (negations used)))
   pub uneasy : (a : Aim) → InSearch a budget q t ls → IsEasy a.problem → ⊥
 
 -- how the learning from rows in conflict ended, whatever search it belongs to
-abbrev pub IsLearned : Analyzed → ℕ → PlainProblem → List Entry → List Line → PlainProblem → List Entry → List Line → Type 0
-IsLearned Empty budget q t ls r u ms = (a : Aim) → InSearch a budget q t ls → IsRefuted a.split a.problem budget ms
-IsLearned Cut budget q t ls r u ms = (a : Aim) → InSearch a budget q t ls → InSearch a budget r u ms × (length ls < length ms) × IsBackjump q.clauses t r.clauses u
-IsLearned ExhaustedThere budget q t ls r u ms = (a : Aim) → InSearch a budget q t ls → IsExhausted a.split a.problem budget ms
+abbrev pub IsLearned : Analyzed → ℕ → PlainProblem → List Entry → List Line → PlainProblem
+    → List Entry → List Line → Type 0
+IsLearned Empty budget q t ls r u ms =
+    (a : Aim) → InSearch a budget q t ls → IsRefuted a.split a.problem budget ms
+IsLearned Cut budget q t ls r u ms =
+    (a : Aim) → InSearch a budget q t ls → InSearch a budget r u ms × (length ls < length ms)
+    × IsBackjump q.clauses t r.clauses u
+IsLearned ExhaustedThere budget q t ls r u ms =
+    (a : Aim) → InSearch a budget q t ls → IsExhausted a.split a.problem budget ms
 IsLearned NoMemory budget q t ls r u ms = Unit {0}
 
 -- THE SIGN OF A DECISION: an atom's row is decided by its truth where all numbers are 0, and a plain atom to true.

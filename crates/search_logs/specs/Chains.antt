@@ -18,7 +18,8 @@ pub record Added (t : List Entry) (c : List Lit) : Type 0 where
   pub two : has_decision t ≡ true → 2 ≤ open_in (before_last t) c
 
 -- the clause with number i is false, and the trail is taken back as far as the chain has come
-pub record Analyzing (start : List (List Lit)) (t0 : List Entry) (cs : List (List Lit)) (t : List Entry) (i : ℕ) : Type 0 where
+pub record Analyzing (start : List (List Lit)) (t0 : List Entry) (cs : List (List Lit))
+    (t : List Entry) (i : ℕ) : Type 0 where
   pub there : i < length cs
   pub false_now : is_false t (slice_index_or cs i []) ≡ true
   pub trail : IsTrail start t
@@ -33,7 +34,8 @@ pub record Analyzing (start : List (List Lit)) (t0 : List Entry) (cs : List (Lis
 
 -- cutting back after a chain: no clause is false, and all that came since the start but the one with number i have two literals
 -- from the last decision on
-pub record Cutting (start : List (List Lit)) (cs : List (List Lit)) (t : List Entry) (i : ℕ) : Type 0 where
+pub record Cutting (start : List (List Lit)) (cs : List (List Lit)) (t : List Entry)
+    (i : ℕ) : Type 0 where
   pub trail : IsTrail start t
   pub grows : Grows start cs
   pub added : (k : ℕ) → length start ≤ k → k < length cs → k ≢ i → Added t (slice_index_or cs k [])

@@ -8,8 +8,12 @@ use Rattle.search_logs.specs.declared.trail.Entry.{Entry}
 
 -- a literal is stored as its atom and its sign
 abbrev pub lit_code : Coded Lit
-lit_code = code_by (ℕ × Bool) (coded× coded_ℕ coded_bool) (λ l. (l.atom, l.positive)) (λ p. record { atom = p.0; positive = p.1 }) (λ _. refl)
+lit_code =
+    code_by (ℕ × Bool) (coded× coded_ℕ coded_bool) (λ l. (l.atom, l.positive))
+    (λ p. record { atom = p.0; positive = p.1 }) (λ _. refl)
 
 -- an entry is stored as its literal and its reason
 abbrev pub entry_code : Coded Entry
-entry_code = code_by (Lit × Option ℕ) (coded× lit_code (coded_option coded_ℕ)) (λ e. (e.lit, e.reason)) (λ p. record { lit = p.0; reason = p.1 }) (λ _. refl)
+entry_code =
+    code_by (Lit × Option ℕ) (coded× lit_code (coded_option coded_ℕ)) (λ e. (e.lit, e.reason))
+    (λ p. record { lit = p.0; reason = p.1 }) (λ _. refl)

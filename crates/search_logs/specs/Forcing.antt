@@ -11,11 +11,15 @@ use Rattle.proof_lines.specs.Forced.{Forced}
 
 -- the negations of all literals of some clause are forced
 abbrev pub AreRefuted : List (List Lit) → Type 0
-AreRefuted cs = (i : ℕ) × (i < length cs) × ((l : Lit) → has (slice_index_or cs i []) l ≡ true → Forced cs (flip l))
+AreRefuted cs =
+    (i : ℕ) × (i < length cs) × ((l : Lit) → has (slice_index_or cs i []) l ≡ true
+    → Forced cs (flip l))
 
 -- no clause is so, and each holds a forced literal
 abbrev pub AreSatisfied : List (List Lit) → Type 0
-AreSatisfied cs = (AreRefuted cs → ⊥) × ((i : ℕ) → i < length cs → (l : Lit) × (has (slice_index_or cs i []) l ≡ true) × Forced cs l)
+AreSatisfied cs =
+    (AreRefuted cs → ⊥) × ((i : ℕ) → i < length cs
+    → (l : Lit) × (has (slice_index_or cs i []) l ≡ true) × Forced cs l)
 
 -- an atom that stands for nothing but itself
 abbrev pub is_plain : AtomKind → Bool

@@ -5,5 +5,7 @@ use Rattle.proof_lines.specs.Clauses.{has, sub, flip}
 
 -- no clause after the first ones contains an earlier one or holds an atom both ways
 pub record IsFresh (first : ℕ) (cs : List (List Lit)) : Type 0 where
-  pub new : (k : ℕ) → first ≤ k → k < length cs → (j : ℕ) → j < k → sub (slice_index_or cs j []) (slice_index_or cs k []) ≡ false
-  pub one_way : (k : ℕ) → first ≤ k → k < length cs → (l : Lit) → has (slice_index_or cs k []) l ≡ true → has (slice_index_or cs k []) (flip l) ≡ false
+  pub new : (k : ℕ) → first ≤ k → k < length cs → (j : ℕ) → j < k
+      → sub (slice_index_or cs j []) (slice_index_or cs k []) ≡ false
+  pub one_way : (k : ℕ) → first ≤ k → k < length cs → (l : Lit)
+      → has (slice_index_or cs k []) l ≡ true → has (slice_index_or cs k []) (flip l) ≡ false

@@ -47,7 +47,8 @@ top_place [] = 0
 top_place (n ∷ places) = n
 
 -- the places of all literals and of the decisions
-pub record IsIndexed (positive negative : List (Option ℕ)) (decisions : List ℕ) (t : List Entry) : Type 0 where
+pub record IsIndexed (positive negative : List (Option ℕ)) (decisions : List ℕ)
+    (t : List Entry) : Type 0 where
   pub positive_places : ArePlaces positive true t
   pub negative_places : ArePlaces negative false t
   pub decisions_places : reverse decisions ≡ decision_places t

@@ -31,7 +31,8 @@ form_of-formula_of false_form = refl
 form_of-formula_of (not_form f) = λ i. not_form (form_of-formula_of f i)
 form_of-formula_of (and_form f g) = λ i. and_form (form_of-formula_of f i) (form_of-formula_of g i)
 form_of-formula_of (or_form f g) = λ i. or_form (form_of-formula_of f i) (form_of-formula_of g i)
-form_of-formula_of (implies_form f g) = λ i. implies_form (form_of-formula_of f i) (form_of-formula_of g i)
+form_of-formula_of (implies_form f g) =
+    λ i. implies_form (form_of-formula_of f i) (form_of-formula_of g i)
 form_of-formula_of (has_form k es) = refl
 form_of-formula_of (same_form a b) = refl
 form_of-formula_of (differ_form a b) = refl

@@ -44,7 +44,8 @@ fits_places w (s ∷ ss) (e ∷ es) = nat_lt e (size_of w s) && fits_places w ss
 
 -- A world gives each sort a size, and each constant an element of its sort.
 abbrev pub is_world : Specification → World → Bool
-is_world d w = (length w.sizes == length d.sorts) && fits_places w (map (λ c. c.sort) d.consts) w.consts
+is_world d w =
+    (length w.sizes == length d.sorts) && fits_places w (map (λ c. c.sort) d.consts) w.consts
 
 -- an element of the sort, or any whole number
 abbrev pub is_argument : World → Kind → ℤ → Bool
@@ -67,7 +68,8 @@ abbrev pub lists_fit : World → List Relation → List (List (List ℕ)) → Bo
 lists_fit w [] [] = true
 lists_fit w [] (l ∷ ls) = false
 lists_fit w (r ∷ rs) [] = false
-lists_fit w (r ∷ rs) (l ∷ ls) = list_all (λ tuple. fits_places w r.places tuple) l && lists_fit w rs ls
+lists_fit w (r ∷ rs) (l ∷ ls) =
+    list_all (λ tuple. fits_places w r.places tuple) l && lists_fit w rs ls
 
 -- for each counter a list, of keys that hold elements of its sorts
 abbrev pub values_fit : World → List Counter → List (List (List ℕ × ℤ)) → Bool
@@ -116,13 +118,15 @@ elem_exists w args vars (Var n) = nat_lt n (length vars)
 
 -- what stands at the places exists, and is an element of their sorts
 abbrev pub elems_fit : World → List ℤ → List ℕ → List ℕ → List Elem → Bool
-elems_fit w args vars places es = list_all (elem_exists w args vars) es && fits_places w places (elems_of w args vars es)
+elems_fit w args vars places es =
+    list_all (elem_exists w args vars) es && fits_places w places (elems_of w args vars es)
 
 -- the argument exists, or the counter does and its keys fit
 abbrev pub body_fits : Specification → World → List ℤ → List ℕ → Body → Bool
 body_fits d w args vars body.One = true
 body_fits d w args vars (body.Param n) = nat_lt n (length args)
-body_fits d w args vars (body.Count k es) = nat_lt k (length d.counters) && elems_fit w args vars (counter_keys d k) es
+body_fits d w args vars (body.Count k es) =
+    nat_lt k (length d.counters) && elems_fit w args vars (counter_keys d k) es
 
 -- a coefficient in range, and a body that fits
 abbrev pub summand_fits : Specification → World → List ℤ → List ℕ → Summand → Bool
@@ -130,7 +134,8 @@ summand_fits d w args vars s = in_literal_range s.coef && body_fits d w args var
 
 -- few summands, each of which fits
 abbrev pub term_fits : Specification → World → List ℤ → List ℕ → Term → Bool
-term_fits d w args vars t = nat_le (length t.summands) most_summands && list_all (summand_fits d w args vars) t.summands
+term_fits d w args vars t =
+    nat_le (length t.summands) most_summands && list_all (summand_fits d w args vars) t.summands
 
 -- Arguments and variables fit a formula: all that it names exists, each reading has its places or keys, what stands there
 -- is an element of the sort, and terms are within the limits.
@@ -141,10 +146,12 @@ form_fits d w args vars (not_form f) = form_fits d w args vars f
 form_fits d w args vars (and_form f g) = form_fits d w args vars f && form_fits d w args vars g
 form_fits d w args vars (or_form f g) = form_fits d w args vars f && form_fits d w args vars g
 form_fits d w args vars (implies_form f g) = form_fits d w args vars f && form_fits d w args vars g
-form_fits d w args vars (has_form k es) = nat_lt k (length d.relations) && elems_fit w args vars (relation_places d k) es
+form_fits d w args vars (has_form k es) =
+    nat_lt k (length d.relations) && elems_fit w args vars (relation_places d k) es
 form_fits d w args vars (same_form a b) = elem_exists w args vars a && elem_exists w args vars b
 form_fits d w args vars (differ_form a b) = elem_exists w args vars a && elem_exists w args vars b
-form_fits d w args vars (compare_form t c u) = term_fits d w args vars t && term_fits d w args vars u
+form_fits d w args vars (compare_form t c u) =
+    term_fits d w args vars t && term_fits d w args vars u
 
 -- a line without a quantifier
 abbrev pub is_plain : Prefix → Bool
@@ -154,11 +161,14 @@ is_plain Exists = false
 
 -- a plain line has no variables, and no line more than three, of sorts that exist
 abbrev pub vars_fit : World → Line → Bool
-vars_fit w l = nat_le (length l.vars) (if is_plain l.prefix then 0 else most_variables) && list_all (λ s. nat_lt s (length w.sizes)) l.vars
+vars_fit w l =
+    nat_le (length l.vars) (if is_plain l.prefix then 0 else most_variables)
+    && list_all (λ s. nat_lt s (length w.sizes)) l.vars
 
 -- Arguments fit a line: with each choice of elements for its variables they fit its body.
 abbrev pub line_fits : Specification → World → List ℤ → Line → Bool
-line_fits d w args l = vars_fit w l && list_all (λ vars. form_fits d w args vars l.body) (tuples w l.vars)
+line_fits d w args l =
+    vars_fit w l && list_all (λ vars. form_fits d w args vars l.body) (tuples w l.vars)
 
 -- ---- updates and takings at arguments
 
@@ -168,7 +178,8 @@ spots_fit w args [] [] = true
 spots_fit w args [] (x ∷ xs) = false
 spots_fit w args (s ∷ ss) [] = false
 spots_fit w args (s ∷ ss) (Every ∷ xs) = spots_fit w args ss xs
-spots_fit w args (s ∷ ss) (One e ∷ xs) = elem_exists w args [] e && nat_lt (elem_of w args [] e) (size_of w s) && spots_fit w args ss xs
+spots_fit w args (s ∷ ss) (One e ∷ xs) =
+    elem_exists w args [] e && nat_lt (elem_of w args [] e) (size_of w s) && spots_fit w args ss xs
 
 -- relations are inserted into and removed from; counters are added to and set, by terms that fit
 abbrev pub change_fits : Specification → World → List ℤ → Thing → Change → Bool
@@ -178,19 +189,25 @@ change_fits d w args (thing.Relation k) (Add t) = false
 change_fits d w args (thing.Relation k) (Set t) = false
 change_fits d w args (thing.Counter k) Insert = false
 change_fits d w args (thing.Counter k) Remove = false
-change_fits d w args (thing.Counter k) (Add t) = nat_lt k (length d.counters) && term_fits d w args [] t
-change_fits d w args (thing.Counter k) (Set t) = nat_lt k (length d.counters) && term_fits d w args [] t
+change_fits d w args (thing.Counter k) (Add t) =
+    nat_lt k (length d.counters) && term_fits d w args [] t
+change_fits d w args (thing.Counter k) (Set t) =
+    nat_lt k (length d.counters) && term_fits d w args [] t
 
 -- Arguments fit an update.
 abbrev pub update_fits : Specification → World → List ℤ → UpdateLine → Bool
-update_fits d w args u = change_fits d w args u.thing u.change && spots_fit w args (places_of d u.thing) u.at && form_fits d w args [] u.guard
+update_fits d w args u =
+    change_fits d w args u.thing u.change && spots_fit w args (places_of d u.thing) u.at
+    && form_fits d w args [] u.guard
 
 -- Arguments fit a taking.
 abbrev pub take_fits : Specification → World → List ℤ → Take → Bool
-take_fits d w args t = nat_lt t.token (length d.tokens) && elems_fit w args [] (token_places d t.token) t.args
+take_fits d w args t =
+    nat_lt t.token (length d.tokens) && elems_fit w args [] (token_places d t.token) t.args
 
 -- All that an operation asks and does fits at these arguments, and is within the limits.
-pub record OperationFits (d : Specification) (w : World) (args : List ℤ) (o : Operation) : Type 0 where
+pub record OperationFits (d : Specification) (w : World) (args : List ℤ)
+    (o : Operation) : Type 0 where
   pub requires_ : list_all (line_fits d w args) o.requires_ ≡ true
   pub observes : list_all (line_fits d w args) o.observes ≡ true
   pub updates : list_all (update_fits d w args) o.updates ≡ true
@@ -204,5 +221,7 @@ pub record OperationFits (d : Specification) (w : World) (args : List ℤ) (o : 
 
 -- Two readings agree at each tuple of elements of each relation's places, and at each key of each counter.
 pub record AgreeOn (d : Specification) (w : World) (r s : Reads) : Type 0 where
-  pub has : (k : ℕ) (t : List ℕ) → k < length d.relations → fits_places w (relation_places d k) t ≡ true → r.has k t ≡ s.has k t
-  pub count : (k : ℕ) (t : List ℕ) → k < length d.counters → fits_places w (counter_keys d k) t ≡ true → r.count k t ≡ s.count k t
+  pub has : (k : ℕ) (t : List ℕ) → k < length d.relations
+      → fits_places w (relation_places d k) t ≡ true → r.has k t ≡ s.has k t
+  pub count : (k : ℕ) (t : List ℕ) → k < length d.counters
+      → fits_places w (counter_keys d k) t ≡ true → r.count k t ≡ s.count k t

@@ -22,4 +22,6 @@ values_agree (l ∷ ls) (o ∷ os) = agrees_at_keys l o && values_agree ls os
 
 -- what either lists, both read
 abbrev pub same_listing : Listing → Listing → Bool
-same_listing s t = lists_within s.relations t.relations && lists_within t.relations s.relations && values_agree s.counters t.counters && values_agree t.counters s.counters
+same_listing s t =
+    lists_within s.relations t.relations && lists_within t.relations s.relations
+    && values_agree s.counters t.counters && values_agree t.counters s.counters

@@ -40,7 +40,8 @@ no_token = record { name = []; places = [] }
 
 -- what stands for an operation that isn't there
 abbrev pub no_operation : Operation
-no_operation = record { name = []; params = []; requires_ = []; updates = []; takes = []; observes = [] }
+no_operation =
+    record { name = []; params = []; requires_ = []; updates = []; takes = []; observes = [] }
 
 -- what stands for a line that isn't there
 abbrev pub no_line : Line

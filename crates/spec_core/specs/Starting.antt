@@ -14,6 +14,7 @@ pub record StartsAs (w : World) (r : Relation) (ts : List (List ℕ)) : Type 0 w
 
 -- keys with values that read as a counter does in the initial state
 pub record CountsAs (w : World) (c : Counter) (es : List (List ℕ × ℤ)) : Type 0 where
-  pub count : (q : List ℕ) → count_in es q ≡ count_in (map (λ key. (key, c.initial)) (tuples w c.keys)) q
+  pub count : (q : List ℕ) → count_in es q ≡ count_in
+      (map (λ key. (key, c.initial)) (tuples w c.keys)) q
   pub listed : (q : List ℕ) → is_in q (listed_keys es) ≡ true → fits_places w c.keys q ≡ true
   pub counts : is_counts es ≡ true

@@ -26,7 +26,9 @@ count_in (e ∷ es) q = cond (bytes_eq q e.0) e.1 (count_in es q)
 
 -- what isn't listed reads false or 0
 abbrev pub reads : Listing → Reads
-reads s = record { has = λ k t. is_in t (get_or s.relations k []); count = λ k t. count_in (get_or s.counters k []) t }
+reads s =
+    record { has = λ k t. is_in t (get_or s.relations k []);
+    count = λ k t. count_in (get_or s.counters k []) t }
 
 -- every reading false or 0
 abbrev pub nothing : Reads
@@ -34,11 +36,13 @@ nothing = record { has = λ k t. false; count = λ k t. pos 0 }
 
 -- the readings with one of a relation changed, and with one of a counter
 abbrev pub with_has : Reads → ℕ → List ℕ → Bool → Reads
-with_has r k t b = record { has = λ j q. cond ((j == k) && bytes_eq q t) b (r.has j q); count = r.count }
+with_has r k t b =
+    record { has = λ j q. cond ((j == k) && bytes_eq q t) b (r.has j q); count = r.count }
 
 -- the same readings but for one counter's value at one key
 abbrev pub with_count : Reads → ℕ → List ℕ → ℤ → Reads
-with_count r k t v = record { has = r.has; count = λ j q. cond ((j == k) && bytes_eq q t) v (r.count j q) }
+with_count r k t v =
+    record { has = r.has; count = λ j q. cond ((j == k) && bytes_eq q t) v (r.count j q) }
 
 -- the keys that are listed
 abbrev pub listed_keys : List (List ℕ × ℤ) → List (List ℕ)

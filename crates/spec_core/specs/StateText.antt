@@ -20,19 +20,25 @@ true_line name tuple = codes "true " ++ name ++ spaced tuple ++ 10 ∷ []
 
 -- `count` and a key with its value, as `count balance 0 -30`; a value of 0 isn't written
 abbrev pub count_line : List ℕ → List ℕ × ℤ → List ℕ
-count_line name e = cond (int_eq e.1 (pos 0)) [] (codes "count " ++ name ++ spaced e.0 ++ 32 ∷ [] ++ signed_decimal e.1 ++ 10 ∷ [])
+count_line name e =
+    cond (int_eq e.1 (pos 0)) [] (codes "count " ++ name ++ spaced e.0 ++ 32 ∷ []
+    ++ signed_decimal e.1 ++ 10 ∷ [])
 
 -- ---- the text of readings in a world
 
 -- of each relation, those from a number on, the tuples that read true, rising
 abbrev pub relation_lines : World → Reads → ℕ → List Relation → List ℕ
 relation_lines w r from [] = []
-relation_lines w r from (x ∷ rs) = flat_map (true_line x.name) (filter (r.has from) (tuples w x.places)) ++ relation_lines w r (suc from) rs
+relation_lines w r from (x ∷ rs) =
+    flat_map (true_line x.name) (filter (r.has from) (tuples w x.places))
+    ++ relation_lines w r (suc from) rs
 
 -- of each counter, those from a number on, the keys whose value isn't 0, rising
 abbrev pub counter_lines : World → Reads → ℕ → List Counter → List ℕ
 counter_lines w r from [] = []
-counter_lines w r from (c ∷ cs) = flat_map (λ key. count_line c.name (key, r.count from key)) (tuples w c.keys) ++ counter_lines w r (suc from) cs
+counter_lines w r from (c ∷ cs) =
+    flat_map (λ key. count_line c.name (key, r.count from key)) (tuples w c.keys)
+    ++ counter_lines w r (suc from) cs
 
 -- The text of a state, as it is read in a world: the tuples by relation, then the keys with their values by counter.
 abbrev pub state_text : Specification → World → Reads → List ℕ

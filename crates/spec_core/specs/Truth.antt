@@ -66,7 +66,8 @@ truth w r args vars (implies_form f g) = not (truth w r args vars f) || truth w 
 truth w r args vars (has_form k es) = r.has k (elems_of w args vars es)
 truth w r args vars (same_form a b) = elem_of w args vars a == elem_of w args vars b
 truth w r args vars (differ_form a b) = not (elem_of w args vars a == elem_of w args vars b)
-truth w r args vars (compare_form t c u) = compare_of c (term_of w r args vars t) (term_of w r args vars u)
+truth w r args vars (compare_form t c u) =
+    compare_of c (term_of w r args vars t) (term_of w r args vars u)
 
 -- a line begins with `exists`
 abbrev pub is_exists : Prefix → Bool

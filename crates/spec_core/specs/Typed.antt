@@ -68,7 +68,8 @@ abbrev pub elems_typed : Specification → List Parameter → List ℕ → List 
 elems_typed d params vars [] [] = true
 elems_typed d params vars [] (e ∷ es) = false
 elems_typed d params vars (s ∷ ss) [] = false
-elems_typed d params vars (s ∷ ss) (e ∷ es) = is_sort (sort_of d params vars e) s && elems_typed d params vars ss es
+elems_typed d params vars (s ∷ ss) (e ∷ es) =
+    is_sort (sort_of d params vars e) s && elems_typed d params vars ss es
 
 -- ---- terms and formulas
 
@@ -86,7 +87,8 @@ is_number (Some p) = is_int p.kind
 abbrev pub body_typed : Specification → List Parameter → List ℕ → Body → Bool
 body_typed d params vars body.One = true
 body_typed d params vars (body.Param n) = is_number (slice_get params n)
-body_typed d params vars (body.Count k es) = nat_lt k (length d.counters) && elems_typed d params vars (counter_keys d k) es
+body_typed d params vars (body.Count k es) =
+    nat_lt k (length d.counters) && elems_typed d params vars (counter_keys d k) es
 
 -- a coefficient in range, and a typed body
 abbrev pub summand_typed : Specification → List Parameter → List ℕ → Summand → Bool
@@ -94,7 +96,8 @@ summand_typed d params vars s = in_literal_range s.coef && body_typed d params v
 
 -- few summands, each typed
 abbrev pub term_typed : Specification → List Parameter → List ℕ → Term → Bool
-term_typed d params vars t = nat_le (length t.summands) most_summands && list_all (summand_typed d params vars) t.summands
+term_typed d params vars t =
+    nat_le (length t.summands) most_summands && list_all (summand_typed d params vars) t.summands
 
 -- what a formula names exists, and what stands at each place is of its sort; compared elements are of one sort
 abbrev pub form_typed : Specification → List Parameter → List ℕ → Form → Bool
@@ -103,11 +106,16 @@ form_typed d params vars false_form = true
 form_typed d params vars (not_form f) = form_typed d params vars f
 form_typed d params vars (and_form f g) = form_typed d params vars f && form_typed d params vars g
 form_typed d params vars (or_form f g) = form_typed d params vars f && form_typed d params vars g
-form_typed d params vars (implies_form f g) = form_typed d params vars f && form_typed d params vars g
-form_typed d params vars (has_form k es) = nat_lt k (length d.relations) && elems_typed d params vars (relation_places d k) es
-form_typed d params vars (same_form a b) = same_sort (sort_of d params vars a) (sort_of d params vars b)
-form_typed d params vars (differ_form a b) = same_sort (sort_of d params vars a) (sort_of d params vars b)
-form_typed d params vars (compare_form t c u) = term_typed d params vars t && term_typed d params vars u
+form_typed d params vars (implies_form f g) =
+    form_typed d params vars f && form_typed d params vars g
+form_typed d params vars (has_form k es) =
+    nat_lt k (length d.relations) && elems_typed d params vars (relation_places d k) es
+form_typed d params vars (same_form a b) =
+    same_sort (sort_of d params vars a) (sort_of d params vars b)
+form_typed d params vars (differ_form a b) =
+    same_sort (sort_of d params vars a) (sort_of d params vars b)
+form_typed d params vars (compare_form t c u) =
+    term_typed d params vars t && term_typed d params vars u
 
 -- how many parts a formula has: truth values, connectives, readings and comparisons
 abbrev pub nodes : Form → ℕ
@@ -137,7 +145,8 @@ depth (compare_form t c u) = 1
 
 -- a formula with few parts that doesn't nest too deep
 abbrev pub is_formula : Specification → List Parameter → List ℕ → Form → Bool
-is_formula d params vars f = nat_le (nodes f) most_nodes && nat_le (depth f) most_depth && form_typed d params vars f
+is_formula d params vars f =
+    nat_le (nodes f) most_nodes && nat_le (depth f) most_depth && form_typed d params vars f
 
 -- sorts that exist, at most so many
 abbrev pub are_sorts : Specification → ℕ → List ℕ → Bool
@@ -145,7 +154,9 @@ are_sorts d most ss = nat_le (length ss) most && list_all (λ s. nat_lt s (lengt
 
 -- a line with few variables, and none where it is plain
 abbrev pub is_line : Specification → List Parameter → Line → Bool
-is_line d params l = are_sorts d (if is_plain l.prefix then 0 else most_variables) l.vars && is_formula d params l.vars l.body
+is_line d params l =
+    are_sorts d (if is_plain l.prefix then 0 else most_variables) l.vars
+    && is_formula d params l.vars l.body
 
 -- ---- operations
 
@@ -187,16 +198,22 @@ change_typed d params (thing.Relation k) (Add t) = false
 change_typed d params (thing.Relation k) (Set t) = false
 change_typed d params (thing.Counter k) Insert = false
 change_typed d params (thing.Counter k) Remove = false
-change_typed d params (thing.Counter k) (Add t) = nat_lt k (length d.counters) && term_typed d params [] t
-change_typed d params (thing.Counter k) (Set t) = nat_lt k (length d.counters) && term_typed d params [] t
+change_typed d params (thing.Counter k) (Add t) =
+    nat_lt k (length d.counters) && term_typed d params [] t
+change_typed d params (thing.Counter k) (Set t) =
+    nat_lt k (length d.counters) && term_typed d params [] t
 
 -- a change, spots and a guard that are typed
 abbrev pub is_update : Specification → List Parameter → UpdateLine → Bool
-is_update d params u = change_typed d params u.thing u.change && spots_typed d params (places_of d u.thing) u.at && is_formula d params [] u.guard
+is_update d params u =
+    change_typed d params u.thing u.change && spots_typed d params (places_of d u.thing) u.at
+    && is_formula d params [] u.guard
 
 -- a taking of a token, shared in language version 2 alone
 abbrev pub is_take : Specification → List Parameter → Take → Bool
-is_take d params t = nat_lt t.token (length d.tokens) && elems_typed d params [] (token_places d t.token) t.args && (not t.shared || (d.version == 2))
+is_take d params t =
+    nat_lt t.token (length d.tokens) && elems_typed d params [] (token_places d t.token) t.args
+    && (not t.shared || (d.version == 2))
 
 -- parameters with distinct names, requires lines, updates, takings and, in version 2 alone, observes lines, within the limits
 abbrev pub is_operation : Specification → Operation → Bool
@@ -206,7 +223,8 @@ is_operation d o =
     && nat_le (length o.requires_) most_requires && list_all (is_line d o.params) o.requires_
     && nat_le (length o.updates) most_updates && list_all (is_update d o.params) o.updates
     && nat_le (length o.takes) most_takes && list_all (is_take d o.params) o.takes
-    && nat_le (length o.observes) (if d.version == 2 then most_observes else 0) && list_all (is_line d o.params) o.observes
+    && nat_le (length o.observes) (if d.version == 2 then most_observes else 0)
+    && list_all (is_line d o.params) o.observes
 
 -- ---- the other parts
 
@@ -224,7 +242,8 @@ is_token d t = are_sorts d most_places t.places
 
 -- a token that exists, and a variable for each of its places
 abbrev pub is_pattern : Specification → Pattern → Bool
-is_pattern d p = nat_lt p.token (length d.tokens) && (length p.vars == length (token_places d p.token))
+is_pattern d p =
+    nat_lt p.token (length d.tokens) && (length p.vars == length (token_places d p.token))
 
 -- a variable stands at places of one sort alone
 abbrev pub agree_on : List (ℕ × ℕ) → ℕ × ℕ → Bool
@@ -232,7 +251,8 @@ agree_on xs x = list_all (λ y. not (x.0 == y.0) || (x.1 == y.1)) xs
 
 -- the variables of a rule, each with the sort of its place
 abbrev pub sorts_of_vars : Specification → Rule → List (ℕ × ℕ)
-sorts_of_vars d r = zip r.left.vars (token_places d r.left.token) ++ zip r.right.vars (token_places d r.right.token)
+sorts_of_vars d r =
+    zip r.left.vars (token_places d r.left.token) ++ zip r.right.vars (token_places d r.right.token)
 
 -- two patterns, in which no variable stands at places of two sorts
 abbrev pub is_rule : Specification → Rule → Bool
@@ -270,7 +290,8 @@ global_names d = d.sorts ++ names_from_consts d
 -- constants of sorts that exist, few of each
 abbrev pub consts_typed : Specification → Bool
 consts_typed d = list_all (λ c. nat_lt c.sort (length d.sorts)) d.consts
-    && list_all (λ s. nat_le (count_by (λ c. c.sort == s) d.consts) most_constants) (below (length d.sorts))
+    && list_all (λ s. nat_le (count_by (λ c. c.sort == s) d.consts) most_constants)
+    (below (length d.sorts))
 
 -- A specification is well formed: all that it names exists and is of the sort that its place needs, its names are words and
 -- distinct, and it is within the limits of the language.

@@ -17,4 +17,5 @@ are_within (s ∷ ss) (e ∷ es) = in_span s e && are_within ss es
 -- a test of each choice of elements of these spans, behind those chosen before
 abbrev pub all_within : List Span → List ℕ → (List ℕ → Bool) → Bool
 all_within [] chosen p = p chosen
-all_within (s ∷ ss) chosen p = all_below s.to (λ e. nat_lt e s.from || all_within ss (chosen ++ e ∷ []) p)
+all_within (s ∷ ss) chosen p =
+    all_below s.to (λ e. nat_lt e s.from || all_within ss (chosen ++ e ∷ []) p)

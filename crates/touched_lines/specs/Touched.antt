@@ -52,22 +52,27 @@ spot_span w args size (One y) rest = single (elem_of w args [] y) size
 abbrev pub span_at : World → List ℤ → ℕ → ℕ → List Elem → List Spot → Span
 span_at w args size n [] xs = whole size
 span_at w args size n (e ∷ es) [] = whole size
-span_at w args size n (e ∷ es) (x ∷ xs) = cond (is_var n e) (spot_span w args size x (span_at w args size n es xs)) (span_at w args size n es xs)
+span_at w args size n (e ∷ es) (x ∷ xs) =
+    cond (is_var n e) (spot_span w args size x (span_at w args size n es xs))
+    (span_at w args size n es xs)
 
 -- and to variables of these sorts, numbered on from n
 abbrev pub spans_from : World → List ℤ → List Elem → List Spot → ℕ → List ℕ → List Span
 spans_from w args es xs n [] = []
-spans_from w args es xs n (s ∷ ss) = span_at w args (size_of w s) n es xs ∷ spans_from w args es xs (suc n) ss
+spans_from w args es xs n (s ∷ ss) =
+    span_at w args (size_of w s) n es xs ∷ spans_from w args es xs (suc n) ss
 
 -- ---- the truth of a line's body there
 
 -- at all elements at which the reading at these places is one that the spots reach
 abbrev pub true_where : World → Reads → List ℤ → Line → List Elem → List Spot → Bool
-true_where w r args l es xs = all_within (spans_from w args es xs 0 l.vars) [] (λ vars. truth w r [] vars l.body)
+true_where w r args l es xs =
+    all_within (spans_from w args es xs 0 l.vars) [] (λ vars. truth w r [] vars l.body)
 
 -- at all elements at which the reading of a thing at these places is one that an update reaches
 abbrev pub true_reached : World → Reads → List ℤ → Line → List UpdateLine → Thing → List Elem → Bool
-true_reached w r args l us x es = list_all (λ (u : UpdateLine). cond (is_thing u.thing x) (true_where w r args l es u.at) true) us
+true_reached w r args l us x es =
+    list_all (λ (u : UpdateLine). cond (is_thing u.thing x) (true_where w r args l es u.at) true) us
 
 -- the same of each reading in a body
 abbrev pub body_true : World → Reads → List ℤ → Line → List UpdateLine → Body → Bool
@@ -90,4 +95,5 @@ form_true w r args l us (implies_form f g) = form_true w r args l us f && form_t
 form_true w r args l us (has_form k es) = true_reached w r args l us (thing.Relation k) es
 form_true w r args l us (same_form a b) = true
 form_true w r args l us (differ_form a b) = true
-form_true w r args l us (compare_form t c u) = term_true w r args l us t && term_true w r args l us u
+form_true w r args l us (compare_form t c u) =
+    term_true w r args l us t && term_true w r args l us u

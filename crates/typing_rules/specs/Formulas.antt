@@ -222,7 +222,8 @@ vars_of (Some p) = p.vars
 -- a formula with its variables
 abbrev pub sentence_fault : Scope → Sentence → Option Fault
 sentence_fault sc s =
-    variables_fault sc (vars_of s.prefix) otherwise formula_fault (with_vars sc (vars_of s.prefix)) s.body
+    variables_fault sc (vars_of s.prefix) otherwise formula_fault
+        (with_vars sc (vars_of s.prefix)) s.body
 
 -- the prefix of a quantifier
 abbrev pub quantified : Quantifier → CorePrefix

@@ -18,14 +18,17 @@ use Rattle.watched_search.specs.declared.early.Said.{Said}
 use Rattle.watched_search.specs.declared.early.Said.TheVariants.{Model, Clash, Nothing}
 
 -- some literals of a trail, which need not be all, and the row that each stands for
-pub record AreHeld (atoms : List AtomKind) (t : List Entry) (lits : List Lit) (rows : List Row) : Type 0 where
+pub record AreHeld (atoms : List AtomKind) (t : List Entry) (lits : List Lit)
+    (rows : List Row) : Type 0 where
   pub stand : AreRowsOf atoms lits rows
   pub in_it : list_all (in_trail t) lits ≡ true
 
 -- CLASH: literals of a trail over atoms with rows, and steps with which the Farkas line over them keeps its rule
-pub record IsClash (q : PlainProblem) (t : List Entry) (used : List Lit) (steps : List RowStep) : Type 0 where
+pub record IsClash (q : PlainProblem) (t : List Entry) (used : List Lit)
+    (steps : List RowStep) : Type 0 where
   pub in_it : list_all (in_trail t) used ≡ true
-  pub refuted : (given : ℕ) → next (standing given q) (Farkas used steps) ≡ Ok (standing given (with_clause q (negations used)))
+  pub refuted : (given : ℕ) → next (standing given q) (Farkas used steps)
+      ≡ Ok (standing given (with_clause q (negations used)))
   pub with_rows : are_plain q.atoms ≡ true → ⊥
 
 -- what a solver says of rows of a trail. Nothing is concluded from numbers: they help to decide

@@ -14,7 +14,8 @@ use Rattle.watched_search.specs.Watches.{AllKept, AllWatched, AreAtRest, IsResum
 
 -- the clause with a number is false, or all clauses are watched
 abbrev pub IsReadyWith : Option ℕ → List (List Lit) → List Entry → Watches → Type 0
-IsReadyWith (Some i) cs t w = (i < length cs) × (is_false t (slice_index_or cs i []) ≡ true) × AllKept cs t w
+IsReadyWith (Some i) cs t w =
+    (i < length cs) × (is_false t (slice_index_or cs i []) ≡ true) × AllKept cs t w
 IsReadyWith None cs t w = AllWatched cs t w
 
 -- the clause that a propagation found is false, or all clauses are watched
@@ -33,7 +34,8 @@ MayPush None cs t w = AllKept cs t w × AreAtRest (length cs) t w
 MayPush (Some i) cs t w = AllWatched cs t w
 
 -- the chain of a clause that is false, over all clauses of a problem
-pub record IsMet (budget : ℕ) (q : PlainProblem) (t : List Entry) (ls : List Line) (i : ℕ) : Type 0 where
+pub record IsMet (budget : ℕ) (q : PlainProblem) (t : List Entry) (ls : List Line)
+    (i : ℕ) : Type 0 where
   pub aim : Aim
   pub before : ℕ
   pub chain : InChain aim budget before q t ls i

@@ -21,7 +21,8 @@ HasTruth (OfRow r) numbers value = row_true (point_of numbers) r ≡ value
 
 -- each of the first atoms does
 abbrev pub HaveTruths : ℕ → List AtomKind → List ℤ → List Bool → Type 0
-HaveTruths n atoms numbers truths = (a : ℕ) → a < n → HasTruth (slice_index_or atoms a Plain) numbers (truth_in truths a)
+HaveTruths n atoms numbers truths =
+    (a : ℕ) → a < n → HasTruth (slice_index_or atoms a Plain) numbers (truth_in truths a)
 
 -- what is known of a whole trail from an implicant: an interpretation of the problem, or literals of the trail whose rows are
 -- refuted, or nothing

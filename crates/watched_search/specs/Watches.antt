@@ -21,7 +21,8 @@ list_at lists k = slice_index_or lists k []
 
 -- what some lists hold, others hold too
 abbrev pub Keeps : List (List ℕ) → List (List ℕ) → Type 0
-Keeps lists others = (k n : ℕ) → is_among n (list_at lists k) ≡ true → is_among n (list_at others k) ≡ true
+Keeps lists others =
+    (k n : ℕ) → is_among n (list_at lists k) ≡ true → is_among n (list_at others k) ≡ true
 
 -- the number of the list of a literal
 abbrev pub code : Lit → ℕ
@@ -30,7 +31,9 @@ code l = l.atom * 2 + cond l.positive 1 0
 -- a clause that watches two literals is AT REST under a trail: one of them is true, or they are two and neither is false. So the
 -- clause is neither unit nor false
 abbrev pub rests : List Entry → Watched → Bool
-rests t w = in_trail t w.first || (in_trail t w.second || (not (same_lit w.first w.second) && (not (negated t w.first) && not (negated t w.second))))
+rests t w =
+    in_trail t w.first || (in_trail t w.second
+    || (not (same_lit w.first w.second) && (not (negated t w.first) && not (negated t w.second))))
 
 -- a watched literal isn't false, so neither is the clause
 abbrev pub is_open : List Entry → Watched → Bool
@@ -46,14 +49,18 @@ IsSteady t w = (u : List Entry) → IsBefore u t → rests u w ≡ true
 
 -- the literals that a clause watches
 abbrev pub pair_at : List Watched → ℕ → Watched
-pair_at pairs i = slice_index_or pairs i (record { first = record { atom = 0; positive = true }; second = record { atom = 0; positive = true } })
+pair_at pairs i =
+    slice_index_or pairs i (record { first = record { atom = 0; positive = true };
+    second = record { atom = 0; positive = true } })
 
 -- a clause stands in the list of a literal, or that list is being gone through, and the clause is still to come
 abbrev pub is_listed : List (List ℕ) → ℕ → List ℕ → ℕ → Lit → Bool
-is_listed lists from left i l = is_among i (list_at lists (code l)) || ((code l == from) && is_among i left)
+is_listed lists from left i l =
+    is_among i (list_at lists (code l)) || ((code l == from) && is_among i left)
 
 -- a clause watches two of its literals, whose lists have it, and is at rest with them before each decision
-pub record IsKept (c : List Lit) (t : List Entry) (from : ℕ) (left : List ℕ) (lists : List (List ℕ)) (i : ℕ) (w : Watched) : Type 0 where
+pub record IsKept (c : List Lit) (t : List Entry) (from : ℕ) (left : List ℕ) (lists : List (List ℕ))
+    (i : ℕ) (w : Watched) : Type 0 where
   pub has_first : has c w.first ≡ true
   pub has_second : has c w.second ≡ true
   pub first_listed : is_listed lists from left i w.first ≡ true
@@ -66,16 +73,19 @@ is_quiet t left units i w = is_among i left || (rests t w || (is_open t w && is_
 
 -- the first `n` clauses are kept so, where the clauses of `left`, which stood in the list with the number `from`, are still to be
 -- looked at
-pub record AreKept (n : ℕ) (cs : List (List Lit)) (t : List Entry) (from : ℕ) (left : List ℕ) (w : Watches) : Type 0 where
+pub record AreKept (n : ℕ) (cs : List (List Lit)) (t : List Entry) (from : ℕ) (left : List ℕ)
+    (w : Watches) : Type 0 where
   pub many : length w.pairs.items ≡ n
-  pub each : (i : ℕ) → i < n → IsKept (slice_index_or cs i []) t from left w.lists.items i (pair_at w.pairs.items i)
+  pub each : (i : ℕ) → i < n → IsKept (slice_index_or cs i []) t from left w.lists.items i
+      (pair_at w.pairs.items i)
 
 -- all clauses are kept so, and none is left to be looked at
 abbrev pub AllKept : List (List Lit) → List Entry → Watches → Type 0
 AllKept cs t w = AreKept (length cs) cs t 0 [] w
 
 -- the first `n` clauses are kept so, and quiet
-pub record AreWatched (n : ℕ) (cs : List (List Lit)) (t : List Entry) (from : ℕ) (left : List ℕ) (w : Watches) : Type 0 where
+pub record AreWatched (n : ℕ) (cs : List (List Lit)) (t : List Entry) (from : ℕ) (left : List ℕ)
+    (w : Watches) : Type 0 where
   pub kept : AreKept n cs t from left w
   pub quiet : (i : ℕ) → i < n → is_quiet t left w.units i (pair_at w.pairs.items i) ≡ true
 
@@ -94,7 +104,8 @@ pub record IsResumed (cs : List (List Lit)) (t : List Entry) (w : Watches) : Typ
   pub rest : AreAtRest (length w.pairs.items) t w
   pub many : length w.pairs.items ≤ length cs
   pub none_false : NoneFalse t cs
-  pub wide : has_decision t ≡ true → (k : ℕ) → length w.pairs.items ≤ k → k < length cs → 2 ≤ open_in (before_last t) (slice_index_or cs k [])
+  pub wide : has_decision t ≡ true → (k : ℕ) → length w.pairs.items ≤ k → k < length cs
+      → 2 ≤ open_in (before_last t) (slice_index_or cs k [])
 
 -- what a step leaves as it was for all clauses but one
 pub record IsMoved (i : ℕ) (w u : Watches) : Type 0 where
