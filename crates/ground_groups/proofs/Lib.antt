@@ -8,3 +8,4 @@ pub mod Triples
 pub mod Started
 pub mod Tuples
 pub mod MoreThings
+pub mod Twice

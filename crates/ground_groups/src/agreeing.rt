@@ -1,5 +1,5 @@
 // Equal constants have equal readings at the entry.
-ghost use Rattle.std.specs.Prelude.{◌≡◌, ◌+◌, ◌<◌, ◌≤◌, ◌++◌, ◌∷◌, [], cond, length, map, drop, take, None, Some, IfOk, OnOk};
+ghost use Rattle.std.specs.Prelude.{◌≡◌, ◌+◌, ◌-◌, ◌<◌, ◌≤◌, ◌++◌, ◌∷◌, [], cond, length, map, drop, take, None, Some, IfOk, OnOk};
 ghost use Rattle.std.specs.Ordering.{nat_cmp, is_lt};
 ghost use Rattle.std.specs.Cmp.Lexicographic.{slice_cmp};
 ghost use Rattle.std.specs.List.{filter, flat_map};
@@ -9,18 +9,21 @@ ghost use Rattle.spec_core.specs.declared.update.Thing.TheVariants as thing;
 ghost use Rattle.ground_problem.specs.Symbols as symbols;
 ghost use Rattle.ground_problem.specs.Equality as equality;
 ghost use Rattle.ground_numbers.specs.Numbered.{known};
+ghost use Rattle.ground_numbers.specs.Numbers.{has_atom, number_of};
+ghost use Rattle.ground_atoms.specs.Known.{know_atom};
 ghost use Rattle.ground_atoms.specs.Symbols.{reading_of};
 ghost use Rattle.ground_atoms.specs.Formulas.{form_of};
 ghost use Rattle.stage_defs.specs.Settings.{IsMade};
 ghost use Rattle.stage_defs.specs.Parts as parts;
-ghost use Rattle.ground_groups.specs.Limited.{Appends};
+ghost use Rattle.ground_problem.specs.Problem.{most_formulas};
+ghost use Rattle.ground_groups.specs.Limited.{Appends, HasRoomFor, pair_count};
 
-use crate::adding::has_room;
-use crate::differing::{reading, sum};
+use crate::adding::{MOST_FORMULAS, has_room};
+use crate::differing::sum;
 use crate::parts::{all_of, join_lengths, join_same};
 use crate::refused::GroundRefused;
 use effectors::is_thing;
-use ground_atoms::{Atoms, GroundFormula, NamedReading};
+use ground_atoms::{Atom, Atoms, GroundFormula, NamedReading, Tuple};
 use items::Items;
 use spec_core::{Spec, Thing};
 use stage_defs::{both, either, equal, negated};
@@ -45,52 +48,29 @@ fn tuples_same(
     Ok(all)
 }
 
-// A relation that holds of the one tuple holds of the other.
-fn holds_too(
+// The number of a relation's reading at the entry.
+fn number_at(
     atoms: &mut Atoms,
     alloc: Global,
-    spec: &Spec,
     relation: u8,
-    left: &[u32],
-    right: &[u32],
-) -> Result<GroundFormula, AllocError>
-    ensures { IfOk result
-        (λ f. IsMade atoms.old
-        (symbols.either (symbols.negated (symbols.has [] relation left.now))
-        (symbols.has [] relation right.now))
-        atoms.new f) }
+    tuple: &[u32],
+) -> Result<u32, AllocError>
+    ensures known { OnOk result (atoms.new ≡ know_atom atoms.old (has_atom [] relation tuple.now)) }
+    ensures number { IfOk result (λ n. n ≡ number_of atoms.old.table (has_atom [] relation tuple.now)) }
 {
-    let first = reading(atoms, alloc, spec, 0, relation, left)?;
-    let premise = negated(alloc, first)?;
-    let second = reading(atoms, alloc, spec, 0, relation, right)?;
-    either(alloc, premise, second)
+    let tuple = Tuple::of(alloc, tuple)?;
+    atoms.number_of(Atom::Has {
+        stage: 0,
+        relation,
+        tuple,
+    })
 }
 
-// A relation holds of the one tuple where it holds of the other.
-fn holds_where(
-    atoms: &mut Atoms,
-    alloc: Global,
-    spec: &Spec,
-    relation: u8,
-    left: &[u32],
-    right: &[u32],
-) -> Result<GroundFormula, AllocError>
-    ensures { IfOk result
-        (λ f. IsMade atoms.old
-        (symbols.either (symbols.has [] relation left.now)
-        (symbols.negated (symbols.has [] relation right.now)))
-        atoms.new f) }
-{
-    let first = reading(atoms, alloc, spec, 0, relation, left)?;
-    let second = reading(atoms, alloc, spec, 0, relation, right)?;
-    let premise = negated(alloc, second)?;
-    either(alloc, first, premise)
-}
-
+#[tactic(auto, using(crate::proofs::Twice::read_twice))]
+// A relation holds of both tuples or of neither. Each reading is looked up once, and stands in the formula twice.
 fn relation_same(
     atoms: &mut Atoms,
     alloc: Global,
-    spec: &Spec,
     relation: u8,
     left: &[u32],
     right: &[u32],
@@ -99,8 +79,18 @@ fn relation_same(
         (λ f. IsMade atoms.old (equality.readings_same (thing.Relation relation) left.now right.now)
         atoms.new f) }
 {
-    let to = holds_too(atoms, alloc, spec, relation, left, right)?;
-    let fro = holds_where(atoms, alloc, spec, relation, left, right)?;
+    let first = number_at(atoms, alloc, relation, left)?;
+    let second = number_at(atoms, alloc, relation, right)?;
+    let to = either(
+        alloc,
+        GroundFormula::NotAtom(first),
+        GroundFormula::Lit(second, true),
+    )?;
+    let fro = either(
+        alloc,
+        GroundFormula::Lit(first, true),
+        GroundFormula::NotAtom(second),
+    )?;
     both(alloc, to, fro)
 }
 
@@ -133,7 +123,7 @@ fn readings_same(
     ensures { IfOk result (λ f. IsMade atoms.old (equality.readings_same thing left.now right.now) atoms.new f) }
 {
     match thing {
-        Thing::Relation(relation) => relation_same(atoms, alloc, spec, relation, left, right),
+        Thing::Relation(relation) => relation_same(atoms, alloc, relation, left, right),
         Thing::Counter(counter) => counter_same(atoms, alloc, spec, counter, left, right),
     }
 }
@@ -257,29 +247,15 @@ fn place_of(tuple: &[u32], tuples: &[Items<u32>]) -> usize
 fn inserted(
     alloc: Global,
     tuple: &[u32],
-    tuples: &[Items<u32>],
+    tuples: Items<Items<u32>>,
 ) -> Result<Items<Items<u32>>, AllocError>
-    ensures { IfOk result (λ us. us ≡ equality.insert_rising tuple.now tuples.now) }
+    ensures { IfOk result (λ us. us ≡ equality.insert_rising tuple.now tuples) }
 {
-    let place = place_of(tuple, tuples);
-    let mut more = Items::new(alloc);
-    copy_tuples(alloc, &tuples[..place], &mut more)?;
-    more.push(Items::from_slice(alloc, tuple)?)?;
-    copy_tuples(alloc, &tuples[place..], &mut more)?;
-    Ok(more)
-}
-
-fn copy_tuples(
-    alloc: Global,
-    tuples: &[Items<u32>],
-    out: &mut Items<Items<u32>>,
-) -> Result<(), AllocError>
-    ensures { OnOk result (out.new ≡ out.old ++ tuples.now) }
-{
-    for tuple in tuples {
-        out.push(Items::from_slice(alloc, tuple.as_slice())?)?;
-    }
-    Ok(())
+    let place = place_of(tuple, tuples.as_slice());
+    let copy = Items::from_slice(alloc, tuple)?;
+    let mut more = tuples.into_vec();
+    more.insert(place, copy)?;
+    Ok(Items::from_vec(more))
 }
 
 // Rising tuples, with that of a reading where it is one of this thing.
@@ -295,7 +271,7 @@ fn with_reading(
         (equality.insert_rising reading.now.tuple tuples) tuples) }
 {
     if is_thing(reading.thing, thing) {
-        return inserted(alloc, reading.tuple.consts(), tuples.as_slice());
+        return inserted(alloc, reading.tuple.consts(), tuples);
     }
     Ok(tuples)
 }
@@ -319,6 +295,49 @@ fn rising(
     Ok(tuples)
 }
 
+#[tactic(auto, using(crate::proofs::Counted::pairs_more))]
+// How many pairs so many tuples make.
+fn count_pairs(tuples: usize) -> usize
+    ensures { result ≤ pair_count tuples }
+{
+    let mut pairs: usize = 0;
+    for earlier in 0..tuples {
+        pairs = pairs.saturating_add(earlier);
+    }
+    pairs
+}
+
+// Whether there is room for a formula for every two of these tuples. No formula is made for this.
+fn has_room_for_pairs(
+    tuples: &[Items<u32>],
+    out: &Items<GroundFormula>,
+) -> Result<(), GroundRefused>
+    ensures { HasRoomFor result (most_formulas - length out.now) (pair_count (length tuples.now)) }
+{
+    let count = count_pairs(tuples.len());
+    if count > MOST_FORMULAS.saturating_sub(out.len()) {
+        return Err(GroundRefused::TooMany);
+    }
+    Ok(())
+}
+
+// The same for every two of these tuples, or that there is no room for so many.
+fn add_pairs_within(
+    atoms: &mut Atoms,
+    alloc: Global,
+    spec: &Spec,
+    thing: Thing,
+    tuples: &[Items<u32>],
+    out: &mut Items<GroundFormula>,
+) -> Result<(), GroundRefused>
+    ensures { Appends result out.old atoms.old (equality.congruent_pairs thing tuples.now) out.new atoms.new }
+{
+    if let Err(refused) = has_room_for_pairs(tuples, out) {
+        return Err(refused);
+    }
+    add_pairs(atoms, alloc, spec, thing, tuples, out)
+}
+
 // Appends that a thing reads the same at equal tuples among these readings.
 fn add_thing(
     atoms: &mut Atoms,
@@ -334,7 +353,7 @@ fn add_thing(
         out.new atoms.new }
 {
     let tuples = rising(alloc, readings, *thing)?;
-    add_pairs(atoms, alloc, spec, *thing, tuples.as_slice(), out)
+    add_pairs_within(atoms, alloc, spec, *thing, tuples.as_slice(), out)
 }
 
 /// Appends that each of these things reads the same at equal tuples among these readings.
