@@ -5,10 +5,10 @@ use theory_api::{NoInts, Theory, TheoryAnswer, refutes};
 
 #[test]
 fn no_rows_have_the_empty_model(rt: HostRuntime) {
-    match NoInts.check(rt.alloc(), &[], 0) {
-        TheoryAnswer::Model(values) => assert!(rt; values.is_empty()),
-        _ => assert!(rt; false),
-    }
+    let answer = NoInts.check(rt.alloc(), &[], 0);
+    let is_empty = matches!(&answer, TheoryAnswer::Model(values) if values.is_empty());
+    drop(answer);
+    assert!(rt; is_empty);
     assert!(rt; !refutes(&mut NoInts, rt.alloc(), &[], 0));
 }
 

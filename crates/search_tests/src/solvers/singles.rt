@@ -128,16 +128,27 @@ fn family(alloc: Global) -> Result<Vec<Row>, AllocError> {
 // The rows of a number and of its opposite.
 fn add_four(alloc: Global, rows: &mut Vec<Row>, number: i128) -> Result<(), AllocError> {
     let cube = number.saturating_mul(number).saturating_mul(number);
-    let upper = [1, number, cube];
-    let lower = [-1, number.saturating_mul(101), cube];
     let thousands = number.saturating_mul(1000);
-    rows.push(row(alloc, &(&upper, number.saturating_add(1000)))?)?;
-    rows.push(row(alloc, &(&opposite(&upper), 1000i128.saturating_sub(number)))?)?;
-    rows.push(row(alloc, &(&lower, thousands.saturating_add(100_000)))?)?;
-    rows.push(row(
-        alloc,
-        &(&opposite(&lower), 100_000i128.saturating_sub(thousands)),
-    )?)?;
+    let (above, below) = (number.saturating_add(1000), 1000i128.saturating_sub(number));
+    add_pair(alloc, rows, &[1, number, cube], above, below)?;
+    let (above, below) = (
+        thousands.saturating_add(100_000),
+        100_000i128.saturating_sub(thousands),
+    );
+    let lower = [-1, number.saturating_mul(101), cube];
+    add_pair(alloc, rows, &lower, above, below)
+}
+
+// A row, and the one with the opposite coefficients.
+fn add_pair(
+    alloc: Global,
+    rows: &mut Vec<Row>,
+    coefs: &[i128; 3],
+    bound: i128,
+    other: i128,
+) -> Result<(), AllocError> {
+    rows.push(row(alloc, &(coefs.as_slice(), bound))?)?;
+    rows.push(row(alloc, &(opposite(coefs).as_slice(), other))?)?;
     Ok(())
 }
 

@@ -9,6 +9,19 @@ use lin_rows::{Row, RowTerm, row_of};
 use proof_lines::{AtomKind, Clause, Lit, Problem};
 use std::alloc::{AllocError, Global};
 
+/// What was made. Where memory was wanting, a list is let go of first, so that it isn't let go of part by part at each `?`.
+macro_rules! or_drop {
+    ($made:expr, $list:ident) => {
+        match $made {
+            Ok(made) => made,
+            Err(_) => {
+                drop($list);
+                return Err(AllocError);
+            }
+        }
+    };
+}
+
 fn literal(word: &str) -> Option<Lit> {
     let (positive, number) = match word.split_once('-') {
         Some((_, number)) => (false, number),
@@ -27,7 +40,7 @@ fn clause(alloc: Global, part: &str) -> Result<Clause, AllocError> {
     let mut clause = Clause::empty(alloc);
     for word in part.split(' ') {
         if let Some(lit) = literal(word) {
-            clause.insert(lit)?;
+            or_drop!(clause.insert(lit), clause);
         }
     }
     Ok(clause)
@@ -54,7 +67,7 @@ fn terms(alloc: Global, words: &str) -> Result<Vec<RowTerm>, AllocError> {
     let mut place = 0u32;
     for word in words.split(' ') {
         if let Ok(coef) = word.parse::<i128>() {
-            terms.push(RowTerm { place, coef })?;
+            or_drop!(terms.push(RowTerm { place, coef }), terms);
             place = place.saturating_add(1);
         }
     }
@@ -75,11 +88,12 @@ fn kinds(alloc: Global, atoms: usize, parts: &str) -> Result<Items<AtomKind>, Al
     let mut kinds = Items::new(alloc);
     for part in parts.split(';') {
         if let Some((words, bound)) = part.split_once("<= ") {
-            kinds.push(AtomKind::Row(row(alloc, words, bound)?))?;
+            let row = or_drop!(row(alloc, words, bound), kinds);
+            or_drop!(kinds.push(AtomKind::Row(row)), kinds);
         }
     }
     for _ in kinds.len()..atoms {
-        kinds.push(AtomKind::Plain)?;
+        or_drop!(kinds.push(AtomKind::Plain), kinds);
     }
     Ok(kinds)
 }
@@ -88,7 +102,8 @@ fn clauses(alloc: Global, parts: &str) -> Result<Items<Clause>, AllocError> {
     let mut clauses = Items::new(alloc);
     for part in parts.split(';') {
         if part.split_once("<= ").is_none() {
-            clauses.push(clause(alloc, part)?)?;
+            let clause = or_drop!(clause(alloc, part), clauses);
+            or_drop!(clauses.push(clause), clauses);
         }
     }
     Ok(clauses)
