@@ -57,5 +57,7 @@ write_count k size = min k.piece (min size (k.room - length k.held))
 abbrev pub after_write : MemWriter → List ℕ → MemWriter
 after_write k bytes =
     if write_fails k then record k { calls = one_more k.calls; faults = one_more k.faults }
-    else record k { held = k.held ++ take (write_count k (length bytes)) bytes;
-        calls = one_more k.calls }
+    else record k {
+      held = k.held ++ take (write_count k (length bytes)) bytes;
+      calls = one_more k.calls;
+    }

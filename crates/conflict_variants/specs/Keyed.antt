@@ -96,6 +96,6 @@ abbrev pub keyed : Specification → ℕ → ℕ → ℕ → ℕ → Specificati
 keyed d a p b q =
     with_tokens d
     (keyed_token (first_name d) (key_sort d a p) ∷ keyed_token (second_name d) (key_sort d a p)
-        ∷ [])
+    ∷ [])
     (keyed_rule ∷ [])
     (keyed_from a p b q 0 d.operations)

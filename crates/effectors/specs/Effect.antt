@@ -75,8 +75,11 @@ abbrev pub after_call : Specification → World → Call → Reads → Listing
 after_call d w c r = record {
   relations = numbered (λ k it. filter (λ t. has_after w r c.args k t (op_of d c.op).updates
       (r.has k t)) (tuples w it.places)) 0 d.relations;
-  counters = numbered (λ k it. map (λ t. (t, count_after w r c.args k t (op_of d c.op).updates
-      (r.count k t))) (tuples w it.keys)) 0 d.counters;
+  counters = numbered (λ k it. map (λ t. (
+    t,
+    count_after w r c.args k t (op_of d c.op).updates
+        (r.count k t),
+  )) (tuples w it.keys)) 0 d.counters;
 }
 
 -- what the state after a call reads

@@ -110,7 +110,7 @@ abbrev pub atom_sites : Scope → Reading → List Site
 atom_sites sc r =
     used sc a_relation r.name
     ∷ argument_sites sc r (option_map (relation_places sc.design)
-        (relation_meant (sc.names r.name.text)))
+    (relation_meant (sc.names r.name.text)))
 
 -- a name alone in an amount; where it is no parameter and a counter, it has no arguments
 abbrev pub lone_sites : Scope → Mark → Option ℕ → Option ℕ → List Site
@@ -124,7 +124,7 @@ abbrev pub count_sites : Scope → Reading → List Site
 count_sites sc r =
     used sc a_counter r.name
     ∷ argument_sites sc r (option_map (counter_keys sc.design)
-        (counter_meant (sc.names r.name.text)))
+    (counter_meant (sc.names r.name.text)))
 
 -- a name alone, or a counter with its keys
 abbrev pub amount_sites_by : Scope → Reading → List Mark → List Site
@@ -271,7 +271,7 @@ param_sites sc before (p ∷ ps) =
     declared (with_params sc before) p.name
     ∷ one_more which.Parameters most_parameters (length before) p.name.word
     ∷ (kind_sites (with_params sc (before ++ p ∷ [])) p.kind
-        ++ param_sites sc (before ++ p ∷ []) ps)
+    ++ param_sites sc (before ++ p ∷ []) ps)
 
 -- ---- items
 
@@ -332,7 +332,7 @@ abbrev pub pattern_sites : Known → Reading → Reading → Reading → List Si
 pattern_sites k p q r =
     used (scope_in k) a_token r.name
     ∷ pattern_sites_at k p q r (option_map (token_places k.design)
-        (token_meant (k.names r.name.text)))
+    (token_meant (k.names r.name.text)))
 
 -- an invariant that begins with `exists`
 abbrev pub some_sites : ℕ → Quantifier → List Site
@@ -356,7 +356,7 @@ item_sites k (sort_form w m) = heading_sites k which.Sorts most_sorts (length k.
 item_sites k (const_form w m s) =
     declared (scope_in k) m
     ∷ (few_const_sites k.design m (sort_meant (k.names s.text))
-        ++ used (scope_in (with_const k m s)) a_sort s ∷ [])
+    ++ used (scope_in (with_const k m s)) a_sort s ∷ [])
 item_sites k (relation_form w m ps) =
     heading_sites k which.Relations most_relations (length k.design.relations) m
     ++ place_sites (scope_in (with_relation k m ps)) most_places 0 ps

@@ -26,7 +26,7 @@ same_terms-refl (t ∷ ts) =
     and_from (nat_eq t.place t.place) (int_eq t.coef t.coef && same_terms ts ts)
     ((Decides-eqb t.place t.place).1 refl)
     (and_from (int_eq t.coef t.coef) (same_terms ts ts) ((Decides-int_eq t.coef t.coef).1 refl)
-        (same_terms-refl ts))
+    (same_terms-refl ts))
 
 same_terms-is : (ts us : List RowTerm) → same_terms ts us ≡ true → ts ≡ us
 same_terms-is [] [] h = refl

@@ -55,11 +55,15 @@ make k (has s r t) = make_atom k (has_atom s r t)
 make k (at_most t u n) = make_at_most (make_terms true k [] t) u (bound_of t u n)
 make k (negated f) = (let a = make k f in record { known = a.known; form = negation a.form })
 make k (both f g) =
-    (let a = make k f in let b = make a.known g in record { known = b.known;
-        form = conjunction a.form b.form })
+    (let a = make k f in let b = make a.known g in record {
+      known = b.known;
+      form = conjunction a.form b.form;
+    })
 make k (either f g) =
-    (let a = make k f in let b = make a.known g in record { known = b.known;
-        form = disjunction a.form b.form })
+    (let a = make k f in let b = make a.known g in record {
+      known = b.known;
+      form = disjunction a.form b.form;
+    })
 
 -- ---- lists of formulas
 

@@ -59,11 +59,15 @@ steps o (has k r t) = atom_step o (has_atom k r t)
 steps o (at_most t u n) = at_most_step (terms_after true o [] t) u (bound_of t u n)
 steps o (negated f) = negation_step (steps o f)
 steps o (both f g) =
-    (let a = steps o f in let b = steps a.table g in record { table = b.table;
-        form = conjunction a.form b.form })
+    (let a = steps o f in let b = steps a.table g in record {
+      table = b.table;
+      form = conjunction a.form b.form;
+    })
 steps o (either f g) =
-    (let a = steps o f in let b = steps a.table g in record { table = b.table;
-        form = disjunction a.form b.form })
+    (let a = steps o f in let b = steps a.table g in record {
+      table = b.table;
+      form = disjunction a.form b.form;
+    })
 
 -- ---- lists of formulas
 

@@ -73,7 +73,7 @@ abbrev pub unmatched : Rule → Caller → Take → Caller → Take → List Sym
 unmatched rule a t b u = cond (are_ruled rule t u)
     (negated (all_parts
     (one_element_each [] (rule.left.vars ++ rule.right.vars)
-        (consts_of a [] t.args ++ consts_of b [] u.args))) ∷ [])
+    (consts_of a [] t.args ++ consts_of b [] u.args))) ∷ [])
     []
 
 -- A rule matches no takes line of the one call and none of the other: first with its left pattern at the one, then at the other.

@@ -22,6 +22,9 @@ second_factor l r place = least_factor (coefficient_at r.terms place) (coefficie
 -- the sum that cancels a place, with its multipliers
 abbrev pub combined : Row → Row → ℕ → Option Combined
 combined l r place =
-    option_map (λ sum. record { row = sum; first = first_factor l r place;
-        second = second_factor l r place })
+    option_map (λ sum. record {
+      row = sum;
+      first = first_factor l r place;
+      second = second_factor l r place;
+    })
     (row_sum l (first_factor l r place) r (second_factor l r place))

@@ -14,7 +14,7 @@ use Rattle.linear_ints.specs.Ceilings.{IsBound}
 abbrev pub is_on : Bool → List ℕ → ℕ → Row → Bool
 is_on upper before place r =
     cond upper (is_positive (coefficient_at r.terms place))
-        (is_negative (coefficient_at r.terms place))
+    (is_negative (coefficient_at r.terms place))
     && names_none before r
 
 -- a number is one of a row on a side of a place

@@ -34,5 +34,5 @@ abbrev pub WholeOrSplit : {x : ℕ → ℤ} {place : ℕ} {low high : Row} → M
     → List Row → List RowStep → ℕ → ℕ → Type 0
 WholeOrSplit {x} {place} {low} {high} m given steps i j =
     ((row_true (with_value x place (highest m)) low ≡ true)
-        × (row_true (with_value x place (highest m)) high ≡ true))
+    × (row_true (with_value x place (highest m)) high ≡ true))
     ⊎ (splits given steps place (highest m) i j (values_of x place (low ∷ high ∷ [])) ≡ Ok tt)

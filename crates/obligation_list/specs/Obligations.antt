@@ -53,7 +53,7 @@ abbrev pub obligations_of : Specification → List Obligation
 obligations_of d =
     let operations = below (length d.operations) in
     init_obligations d ++ flat_map (safety_of d) operations ++ flat_map (commute_from d) operations
-        ++ flat_map (stable_from d) operations
+    ++ flat_map (stable_from d) operations
 
 -- a thing of the specification
 abbrev pub IsThing : Specification → Thing → Type 0

@@ -46,7 +46,7 @@ unfoldable pub times : {A : Type 0} → (Kind → Bool) → (List Token → Read
 times starts r zero ws = Ok ([], ws)
 times starts r (suc n) ws =
     if starts (next (seen ws)) then (r ws >>= λ x. times starts r n x.1 >>= λ y. Ok
-        (x.0 ∷ y.0, y.1))
+    (x.0 ∷ y.0, y.1))
     else Ok ([], ws)
 
 -- each one takes a word, so this is as often as there are some
@@ -106,4 +106,4 @@ abbrev pub group_at : {A : Type 0} → (List Token → Read A) → List Token �
 group_at r =
     mapped list_of
     (perhaps (is_key keys.Open) (mapped between
-        (both (sign_at keys.Open) (both (listed_at r) (sign_at keys.Close)))))
+    (both (sign_at keys.Open) (both (listed_at r) (sign_at keys.Close)))))

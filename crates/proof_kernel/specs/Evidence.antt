@@ -34,7 +34,7 @@ is_fresh s =
 abbrev pub rows_hold : State → List Lit → List RowStep → Bool
 rows_hold s used steps =
     (length used + length steps == row_limit)
-        && (not (holds_both_ways used) && rows_shown steps (line_rows s.atoms used steps))
+    && (not (holds_both_ways used) && rows_shown steps (line_rows s.atoms used steps))
 
 -- a number beyond the range
 abbrev pub range_holds : State → List Lit → List RowStep → RangeWhat → Bool

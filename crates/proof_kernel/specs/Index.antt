@@ -53,8 +53,12 @@ pub record PutsOne (m : ℕ) (c : List Lit) (number : ℕ) (old new : List (List
   pub second_spot : stands_in (spots m c) second ≡ true
   pub third_spot : stands_in (spots m c) third ≡ true
   pub fourth_spot : stands_in (spots m c) fourth ≡ true
-  pub lists : new ≡ slice_set old at (slice_index_or old at [] ++ record { number = number;
-      second = second; third = third; fourth = fourth } ∷ [])
+  pub lists : new ≡ slice_set old at (slice_index_or old at [] ++ record {
+    number = number;
+    second = second;
+    third = third;
+    fourth = fourth;
+  } ∷ [])
 
 -- marks on the spots of some literals, set or taken away
 abbrev pub with_marks : ℕ → List Bool → List Lit → Bool → List Bool

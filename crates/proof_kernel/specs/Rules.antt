@@ -44,8 +44,13 @@ pub record StateFits (s : State) : Type 0 where
 -- what stands before the first line
 abbrev pub start : PlainProblem → State
 start p =
-    record { atoms = p.atoms; ints = p.ints; given = length p.clauses;
-    slots = map (λ c. Some c) p.clauses; empty = list_any is_empty p.clauses }
+    record {
+      atoms = p.atoms;
+      ints = p.ints;
+      given = length p.clauses;
+      slots = map (λ c. Some c) p.clauses;
+      empty = list_any is_empty p.clauses;
+    }
 
 -- the clause of a number, where it is there and wasn't dropped
 abbrev pub live_clause : State → ℕ → Option (List Lit)
@@ -67,18 +72,23 @@ clause_at s i = clause_or_empty (live_clause s i)
 -- the state with one more clause
 abbrev pub grown : State → List Lit → State
 grown s c =
-    record { atoms = s.atoms; ints = s.ints; given = s.given; slots = s.slots ++ Some c ∷ [];
-    empty = s.empty || is_empty c }
+    record {
+      atoms = s.atoms;
+      ints = s.ints;
+      given = s.given;
+      slots = s.slots ++ Some c ∷ [];
+      empty = s.empty || is_empty c;
+    }
 
 -- RESOLVE. Place: `left` or `right` isn't below the number of clauses, or `pivot` isn't below the number of atoms. Dropped: an
 -- earlier line dropped `left` or `right`. Pivot: the left clause lacks `+pivot`, or the right one lacks `-pivot`.
 abbrev pub resolved : State → ℕ → ℕ → ℕ → Result State Why
 resolved s left right pivot =
     need (nat_lt left (length s.slots) && (nat_lt right (length s.slots)
-        && nat_lt pivot (length s.atoms))) Place
+    && nat_lt pivot (length s.atoms))) Place
     (need (is_live s left && is_live s right) Dropped
     (need (has (clause_at s left) (lit_of pivot true)
-        && has (clause_at s right) (lit_of pivot false)) Pivot
+    && has (clause_at s right) (lit_of pivot false)) Pivot
     (Ok (grown s (resolvent pivot (clause_at s left) (clause_at s right))))))
 
 -- FARKAS. The rules of the used literals and of the steps, then Contradiction. The clause is the opposites of the used literals.
@@ -94,8 +104,13 @@ combined s used steps = then_ (line_rows s.atoms used steps) (combined_after s u
 -- the state with one more atom, which has this row
 abbrev pub named : State → Row → State
 named s r =
-    record { atoms = s.atoms ++ OfRow r ∷ []; ints = s.ints; given = s.given; slots = s.slots;
-    empty = s.empty }
+    record {
+      atoms = s.atoms ++ OfRow r ∷ [];
+      ints = s.ints;
+      given = s.given;
+      slots = s.slots;
+      empty = s.empty;
+    }
 
 -- SplitAgain: an atom has exactly the row `place <= at`
 abbrev pub split_after : State → ℕ → ℤ → List Row → ℕ → ℕ → List ℤ → Result State Why
@@ -103,7 +118,7 @@ split_after s place at rows low high values =
     need (split_fits rows place low high values) Place
     (need (not (list_any (is_at_most place at) s.atoms)) SplitAgain
     (then_ (split_cause place at (row_at rows low) (row_at rows high) values)
-        (λ _. Ok (named s (at_most place at)))))
+    (λ _. Ok (named s (at_most place at)))))
 
 -- the place isn't below the number of integer names; the rules of the used literals and of the steps; then the rest
 abbrev pub split : State → ℕ → ℤ → List Lit → List RowStep → ℕ → ℕ → List ℤ → Result State Why
@@ -125,8 +140,13 @@ cleared slots ns = fold (λ left n. slice_set left n None) slots ns
 -- the state with the clauses of these numbers dropped
 abbrev pub without_clauses : State → List ℕ → State
 without_clauses s ns =
-    record { atoms = s.atoms; ints = s.ints; given = s.given; slots = cleared s.slots ns;
-    empty = s.empty }
+    record {
+      atoms = s.atoms;
+      ints = s.ints;
+      given = s.given;
+      slots = cleared s.slots ns;
+      empty = s.empty;
+    }
 
 -- Place: the list is empty, or one of its numbers isn't below the number of clauses. Dropped: a number stands in it twice,
 -- or an earlier line dropped it.

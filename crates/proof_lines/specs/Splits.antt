@@ -85,7 +85,7 @@ abbrev pub split_cause : ℕ → ℤ → Row → Row → List ℤ → Result (Un
 split_cause place at low high values =
     need
     (is_negative (coefficient_at low.terms place)
-        && is_positive (coefficient_at high.terms place)) SplitCause
+    && is_positive (coefficient_at high.terms place)) SplitCause
     (with_rests at place
     low (rest_at (split_point place low high values) low)
     high (rest_at (split_point place low high values) high))

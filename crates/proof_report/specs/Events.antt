@@ -95,8 +95,8 @@ call_lines (c ∷ cs) es = events.Shown (shown.Call c) ∷ call_lines cs es
 abbrev pub witness_lines : PartialWitness → List ℕ → List Event → List Event
 witness_lines p xs es =
     size_lines 0 p.world.sizes (const_lines 0 p.world.consts
-        (fact_lines p.facts (reading_lines p.readings
-        (call_lines p.calls (events.Shown (shown.At xs) ∷ es)))))
+    (fact_lines p.facts (reading_lines p.readings
+    (call_lines p.calls (events.Shown (shown.At xs) ∷ es)))))
 
 -- a verdict: its word, and what shows it
 abbrev pub verdict_lines : VerdictForm → List Event → List Event

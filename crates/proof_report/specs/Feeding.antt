@@ -185,20 +185,29 @@ drops_in version log_of.Range = false
 -- from where on things may come in a witness: before its first value, before its first call, and behind that
 abbrev pub due_facts : Specification → Obligation → PartialWitness → Due
 due_facts d ob p =
-    record { relation = relation_due (last_of p.facts); counter = counter_due (last_of p.readings);
-    elements = element_count d ob }
+    record {
+      relation = relation_due (last_of p.facts);
+      counter = counter_due (last_of p.readings);
+      elements = element_count d ob;
+    }
 
 -- before its first call, where values were shown
 abbrev pub due_readings : Specification → Obligation → PartialWitness → Due
 due_readings d ob p =
-    record { relation = length d.relations; counter = counter_due (last_of p.readings);
-    elements = element_count d ob }
+    record {
+      relation = length d.relations;
+      counter = counter_due (last_of p.readings);
+      elements = element_count d ob;
+    }
 
 -- where calls were shown
 abbrev pub due_calls : Specification → Obligation → Due
 due_calls d ob =
-    record { relation = length d.relations; counter = length d.counters;
-    elements = element_count d ob }
+    record {
+      relation = length d.relations;
+      counter = length d.counters;
+      elements = element_count d ob;
+    }
 
 -- The format of the line that may come at a place. None may come after the last.
 abbrev pub place_line : Specification → ℕ → Tally → Place → Format Event

@@ -34,8 +34,12 @@ pub record Gathered : Type 0 where
 -- the witness that was gathered
 abbrev pub gathered_witness : Gathered → PartialWitness
 gathered_witness g =
-    record { world = record { sizes = g.sizes; consts = g.consts }; facts = g.facts;
-    readings = g.readings; calls = g.calls }
+    record {
+      world = record { sizes = g.sizes; consts = g.consts };
+      facts = g.facts;
+      readings = g.readings;
+      calls = g.calls;
+    }
 
 -- the verdict of this word, with what was gathered
 abbrev pub gathered_verdict : VerdictWord → Gathered → VerdictForm
@@ -92,5 +96,8 @@ gather (e ∷ es) = with_event e (gather es)
 -- The report that lines say.
 abbrev pub report_of : List Event → ReportForm
 report_of es =
-    record { version = (gather es).version; budget = (gather es).budget;
-    verdicts = (gather es).verdicts }
+    record {
+      version = (gather es).version;
+      budget = (gather es).budget;
+      verdicts = (gather es).verdicts;
+    }

@@ -52,7 +52,7 @@ calls_text d cs = flat_map (λ c. line_text (codes "call" ∷ (call_format d).pu
 abbrev pub witness_text : Specification → Witness → List ℕ
 witness_text d w =
     sizes_text d 0 w.world.sizes ++ (consts_text d 0 w.world.consts
-        ++ (state_text d w.world (reads w.state)
+    ++ (state_text d w.world (reads w.state)
     ++ (calls_text d w.calls ++ line_text (codes "at" ∷ flat_map count_format.put w.elements))))
 
 -- a log, and the evidence that there are too many rows

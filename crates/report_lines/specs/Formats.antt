@@ -183,8 +183,11 @@ times_at f (suc n) ws = f.get ws >>= λ x. times_at f n x.1 >>= λ y. Some (x.0 
 -- this many values of a format, one after the other
 abbrev pub times : {A : Type 0} → Format A → ℕ → Format (List A)
 times f n =
-    record { put = flat_map f.put; get = times_at f n;
-    fits = λ xs. (length xs == n) && list_all f.fits xs }
+    record {
+      put = flat_map f.put;
+      get = times_at f n;
+      fits = λ xs. (length xs == n) && list_all f.fits xs;
+    }
 
 -- their number, and then that many
 abbrev pub counted : {A : Type 0} → ℕ → Format A → Format (List A)

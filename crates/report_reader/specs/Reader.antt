@@ -217,8 +217,16 @@ stated (Some n) before = Some n
 abbrev pub read_on : ReaderForm → Result (Event × State) ReportKind
     → Result (Event × ReaderForm) Fault
 read_on r (Ok x) =
-    Ok (x.0, record { spec = r.spec; state = x.1; number = suc r.number;
-    budget = stated (budget_of x.0) r.budget; fault = None })
+    Ok (
+      x.0,
+      record {
+        spec = r.spec;
+        state = x.1;
+        number = suc r.number;
+        budget = stated (budget_of x.0) r.budget;
+        fault = None;
+      },
+    )
 read_on r (Err k) = Err (record { number = suc r.number; kind = k })
 
 -- the reader after a line; a fault that it has met already stays

@@ -20,8 +20,11 @@ upgraded_version = 2
 -- THE UPGRADED REPORT.
 abbrev pub upgraded_report : ReportForm → ReportForm
 upgraded_report r =
-    record { version = upgraded_version; budget = r.budget;
-    verdicts = map upgraded_verdict r.verdicts }
+    record {
+      version = upgraded_version;
+      budget = r.budget;
+      verdicts = map upgraded_verdict r.verdicts;
+    }
 
 -- whether a log that proves has a number of lines, upgraded, that a report can show
 abbrev pub has_room : VerdictForm → Bool

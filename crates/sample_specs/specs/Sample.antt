@@ -57,8 +57,11 @@ the_rule = record { left = pattern; right = pattern }
 abbrev pub needs : ℕ → Invariant
 needs i = record {
   name = numbered (codes "needs") i;
-  line = record { prefix = Forall; vars = item ∷ [];
-      body = implies_form (has_form i (elem.Var 0 ∷ [])) (has_form (i - 1) (elem.Var 0 ∷ [])) };
+  line = record {
+    prefix = Forall;
+    vars = item ∷ [];
+    body = implies_form (has_form i (elem.Var 0 ∷ [])) (has_form (i - 1) (elem.Var 0 ∷ []));
+  };
 }
 
 -- ---- operations on one item x

@@ -18,8 +18,8 @@ abbrev pub IsOutcome : Outcome → Bool → Bool → PlainProblem → ℕ → Pl
     → List Line → PlainProblem → List Entry → List Line → Type 0
 IsOutcome Continue split stop p budget q t ls r u ms =
     InSearch (record { problem = p; split = split }) budget r u ms
-        × (work (record { problem = p; split = split }) budget r u ms
-        < work (record { problem = p; split = split }) budget q t ls)
+    × (work (record { problem = p; split = split }) budget r u ms
+    < work (record { problem = p; split = split }) budget q t ls)
 IsOutcome Refuted split stop p budget q t ls r u ms = IsRefuted split p budget ms
 IsOutcome (Found i) split stop p budget q t ls r u ms = IsModelOf p i
 IsOutcome BudgetExhausted split stop p budget q t ls r u ms = IsExhausted split p budget ms

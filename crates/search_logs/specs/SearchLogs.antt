@@ -33,8 +33,13 @@ with_row q r = record { atoms = q.atoms ++ OfRow r ∷ []; ints = q.ints; clause
 -- what stands in the proof kernel where nothing was dropped: the first clauses are those of the problem, the others those of lines
 abbrev pub standing : ℕ → PlainProblem → State
 standing given q =
-    record { atoms = q.atoms; ints = q.ints; given = given; slots = map (λ c. Some c) q.clauses;
-    empty = list_any is_empty q.clauses }
+    record {
+      atoms = q.atoms;
+      ints = q.ints;
+      given = given;
+      slots = map (λ c. Some c) q.clauses;
+      empty = list_any is_empty q.clauses;
+    }
 
 -- the line that resolves a clause with a reason of a literal
 abbrev pub resolve_line : Lit → ℕ → ℕ → Line

@@ -27,8 +27,10 @@ count_in (e ∷ es) q = cond (bytes_eq q e.0) e.1 (count_in es q)
 -- what isn't listed reads false or 0
 abbrev pub reads : Listing → Reads
 reads s =
-    record { has = λ k t. is_in t (get_or s.relations k []);
-    count = λ k t. count_in (get_or s.counters k []) t }
+    record {
+      has = λ k t. is_in t (get_or s.relations k []);
+      count = λ k t. count_in (get_or s.counters k []) t;
+    }
 
 -- every reading false or 0
 abbrev pub nothing : Reads

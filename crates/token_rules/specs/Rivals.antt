@@ -71,7 +71,7 @@ abbrev pub rivalry : List Rule → List Take → List Take → Rivalry
 rivalry rules one other =
     cond (are_rivals rules one other)
     (cond (are_tied (key_of one) (key_of other) rules one other)
-        (Tied (key_of one) (key_of other)) Free)
+    (Tied (key_of one) (key_of other)) Free)
     Never
 
 -- for each operation, how its calls can conflict with calls of this one

@@ -223,7 +223,7 @@ vars_of (Some p) = p.vars
 abbrev pub sentence_fault : Scope → Sentence → Option Fault
 sentence_fault sc s =
     variables_fault sc (vars_of s.prefix) otherwise formula_fault
-        (with_vars sc (vars_of s.prefix)) s.body
+    (with_vars sc (vars_of s.prefix)) s.body
 
 -- the prefix of a quantifier
 abbrev pub quantified : Quantifier → CorePrefix

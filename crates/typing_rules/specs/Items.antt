@@ -109,7 +109,7 @@ with_const k m s = record k {
 abbrev pub relation_fault : Known → Mark → List Mark → Option Fault
 relation_fault k m ps =
     heading_fault k which.Relations most_relations
-        (length k.design.relations) m otherwise sorts_fault
+    (length k.design.relations) m otherwise sorts_fault
     (scope_in k) m.text most_places ps
 
 -- the relation that is declared, which is false until its initial value is stated
@@ -207,8 +207,10 @@ initial_design d _ v = d
 -- one more initial value
 abbrev pub with_initial : Known → Mark → Value → Known
 with_initial k m v =
-    record k { design = initial_design k.design (k.names m.text) v;
-        stated = with_name k.stated m.text meaning.Invariant }
+    record k {
+      design = initial_design k.design (k.names m.text) v;
+      stated = with_name k.stated m.text meaning.Invariant;
+    }
 
 -- ---- conflict rules
 
@@ -242,7 +244,7 @@ rule_variables_fault k p q ss ms = None
 abbrev pub pattern_fault_at : Known → Reading → Reading → Reading → Option ℕ → Option Fault
 pattern_fault_at k p q r (Some t) =
     places_fault r.name (token_places k.design t)
-        (length r.args) otherwise rule_variables_fault k p q
+    (length r.args) otherwise rule_variables_fault k p q
     (token_places k.design t) r.args
 pattern_fault_at k p q r None = stranger_fault (scope_in k) r.name
 
@@ -305,8 +307,12 @@ invariant_of k m s = record { name = m.text; line = sentence_of (scope_in k) s }
 -- one more invariant
 abbrev pub with_invariant : Known → Mark → Sentence → Known
 with_invariant k m s =
-    record k { design = record k.design { invariants = k.design.invariants
-        ++ invariant_of k m s ∷ [] } }
+    record k {
+      design = record k.design {
+        invariants = k.design.invariants
+            ++ invariant_of k m s ∷ [];
+      };
+    }
 
 -- one more invariant, or what is wrong with it
 abbrev pub typed_invariant : Known → Mark → Sentence → Result Known Fault
@@ -395,8 +401,17 @@ version_number version.Second = 2
 -- nothing is declared
 abbrev pub nothing_known : Version → Known
 nothing_known v = record {
-  design = record { version = version_number v; sorts = []; consts = []; relations = [];
-      counters = []; tokens = []; rules = []; invariants = []; operations = [] };
+  design = record {
+    version = version_number v;
+    sorts = [];
+    consts = [];
+    relations = [];
+    counters = [];
+    tokens = [];
+    rules = [];
+    invariants = [];
+    operations = [];
+  };
   names = no_names;
   stated = no_names;
 }

@@ -136,7 +136,7 @@ product_fault sc (products.Reading r) = amount_fault sc r
 abbrev pub signed_fault : Scope → ℕ → Signed → Option Fault
 signed_fault sc n s =
     limit_at Summands most_summands
-        (n + 1) s.summand.word otherwise product_fault sc s.summand.product
+    (n + 1) s.summand.word otherwise product_fault sc s.summand.product
 
 -- what is wrong with a term: its summands, in their order
 abbrev pub term_fault : Scope → Term → Option Fault

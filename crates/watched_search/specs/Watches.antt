@@ -50,8 +50,10 @@ IsSteady t w = (u : List Entry) → IsBefore u t → rests u w ≡ true
 -- the literals that a clause watches
 abbrev pub pair_at : List Watched → ℕ → Watched
 pair_at pairs i =
-    slice_index_or pairs i (record { first = record { atom = 0; positive = true };
-    second = record { atom = 0; positive = true } })
+    slice_index_or pairs i (record {
+      first = record { atom = 0; positive = true };
+      second = record { atom = 0; positive = true };
+    })
 
 -- a clause stands in the list of a literal, or that list is being gone through, and the clause is still to come
 abbrev pub is_listed : List (List ℕ) → ℕ → List ℕ → ℕ → Lit → Bool
