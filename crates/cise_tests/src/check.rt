@@ -4,7 +4,8 @@ use crate::running::{ends_with, has_lines, replaced, run_on};
 use example_specs::{
     DEPOSITS, FLAG, MANY, NO_FLAG, PURSES, RAISED, SETS, SHOP, TOURNAMENTS, VAST, WITHDRAWALS,
 };
-use std::alloc::{AllocError, Global};
+use std::alloc::Global;
+use std::process::Abort;
 
 pub const CHECK: &[&str] = &["check", "s.cise"];
 
@@ -48,8 +49,8 @@ const EXACT: [Exact; 4] = [
 #[test]
 fn writes_the_report(rt: HostRuntime) {
     for it in &EXACT {
-        let same = ends_with(rt.alloc(), CHECK, it.spec, b"", it.status, it.text);
-        assert!(rt; same.expect(&rt, "memory"));
+        let same = ends_with(&rt, rt.alloc(), CHECK, it.spec, b"", it.status, it.text);
+        assert!(rt; same);
     }
 }
 
@@ -63,166 +64,184 @@ struct Case {
     without: &'static [u8],
 }
 
-const CASES: [Case; 9] = [
-    Case {
-        words: CHECK,
-        spec: DEPOSITS,
-        status: 0,
-        lines: &[
-            b"obligations 4",
-            b"init solvent",
-            b"safety deposit solvent",
-            b"commute deposit deposit balance",
-            b"stable deposit 1 deposit",
-            b"summary proved 4 refuted 0 undecided 0",
-            b"accepted",
-        ],
-        without: b"refuted",
-    },
-    Case {
-        words: CHECK,
-        spec: WITHDRAWALS,
-        status: 1,
-        lines: &[
-            b"obligations 12",
-            b"stable withdraw 2 withdraw",
-            b"refuted",
-            b"at",
-            b"summary proved 11 refuted 1 undecided 0",
-            b"rejected",
-        ],
-        without: b"undecided",
-    },
-    Case {
-        words: CHECK,
-        spec: PURSES,
-        status: 0,
-        lines: &[
-            b"obligations 12",
-            b"summary proved 12 refuted 0 undecided 0",
-            b"accepted",
-        ],
-        without: b"refuted",
-    },
-    Case {
-        words: CHECK,
-        spec: SETS,
-        status: 1,
-        lines: &[
-            b"obligations 3",
-            b"commute put drop r",
-            b"refuted",
-            b"summary proved 2 refuted 1 undecided 0",
-            b"rejected",
-        ],
-        without: b"undecided",
-    },
-    Case {
-        words: CHECK_SHORT,
-        spec: PURSES,
-        status: 5,
-        lines: &[
-            b"budget 1",
-            b"safety deposit solvent",
-            b"undecided lines 1",
-            b"undecided",
-        ],
-        without: b"refuted",
-    },
-    Case {
-        words: CHECK,
-        spec: ODD,
-        status: 0,
-        lines: &[b"summary proved 4 refuted 0 undecided 0", b"accepted"],
-        without: b"s ",
-    },
-    Case {
-        words: CHECK,
-        spec: RAISED,
-        status: 0,
-        lines: &[b"summary proved 3 refuted 0 undecided 0", b"accepted"],
-        without: b"refuted",
-    },
-    Case {
-        words: CHECK,
-        spec: VAST,
-        status: 5,
-        lines: &[b"safety big alive", b"undecided range", b"undecided"],
-        without: b"refuted",
-    },
-    Case {
-        words: CHECK,
-        spec: SHOP,
-        status: 0,
-        lines: &[
-            b"obligations 12",
-            b"summary proved 12 refuted 0 undecided 0",
-            b"accepted",
-        ],
-        without: b"refuted",
-    },
-];
+/// Specifications that are accepted.
+fn accepted() -> &'static [Case] {
+    &[
+        Case {
+            words: CHECK,
+            spec: DEPOSITS,
+            status: 0,
+            lines: &[
+                b"obligations 4",
+                b"init solvent",
+                b"safety deposit solvent",
+                b"commute deposit deposit balance",
+                b"stable deposit 1 deposit",
+                b"summary proved 4 refuted 0 undecided 0",
+                b"accepted",
+            ],
+            without: b"refuted",
+        },
+        Case {
+            words: CHECK,
+            spec: PURSES,
+            status: 0,
+            lines: &[
+                b"obligations 12",
+                b"summary proved 12 refuted 0 undecided 0",
+                b"accepted",
+            ],
+            without: b"refuted",
+        },
+        Case {
+            words: CHECK,
+            spec: ODD,
+            status: 0,
+            lines: &[b"summary proved 4 refuted 0 undecided 0", b"accepted"],
+            without: b"s ",
+        },
+        Case {
+            words: CHECK,
+            spec: RAISED,
+            status: 0,
+            lines: &[b"summary proved 3 refuted 0 undecided 0", b"accepted"],
+            without: b"refuted",
+        },
+        Case {
+            words: CHECK,
+            spec: SHOP,
+            status: 0,
+            lines: &[
+                b"obligations 12",
+                b"summary proved 12 refuted 0 undecided 0",
+                b"accepted",
+            ],
+            without: b"refuted",
+        },
+    ]
+}
+
+/// Rejected ones.
+fn rejected() -> &'static [Case] {
+    &[
+        Case {
+            words: CHECK,
+            spec: WITHDRAWALS,
+            status: 1,
+            lines: &[
+                b"obligations 12",
+                b"stable withdraw 2 withdraw",
+                b"refuted",
+                b"at",
+                b"summary proved 11 refuted 1 undecided 0",
+                b"rejected",
+            ],
+            without: b"undecided",
+        },
+        Case {
+            words: CHECK,
+            spec: SETS,
+            status: 1,
+            lines: &[
+                b"obligations 3",
+                b"commute put drop r",
+                b"refuted",
+                b"summary proved 2 refuted 1 undecided 0",
+                b"rejected",
+            ],
+            without: b"undecided",
+        },
+    ]
+}
+
+/// Such as stay undecided.
+fn undecided() -> &'static [Case] {
+    &[
+        Case {
+            words: CHECK_SHORT,
+            spec: PURSES,
+            status: 5,
+            lines: &[
+                b"budget 1",
+                b"safety deposit solvent",
+                b"undecided lines 1",
+                b"undecided",
+            ],
+            without: b"refuted",
+        },
+        Case {
+            words: CHECK,
+            spec: VAST,
+            status: 5,
+            lines: &[b"safety big alive", b"undecided range", b"undecided"],
+            without: b"refuted",
+        },
+    ]
+}
 
 /// Whether the verification of a report ends as its check did, and counts the same.
-fn is_verified(alloc: Global, spec: &[u8], report: &[u8], status: u8) -> Result<bool, AllocError> {
-    let verified = run_on(alloc, VERIFY, spec, report)?;
+fn is_verified(rt: &impl Abort, alloc: Global, spec: &[u8], report: &[u8], status: u8) -> bool {
+    let verified = run_on(rt, alloc, VERIFY, spec, report);
     let title = b"cise verify 1\n".as_slice();
     let same = verified.status == status
         && verified.text.starts_with(title)
         && report.ends_with(&verified.text[title.len()..]);
     drop(verified);
-    Ok(same)
+    same
 }
 
 /// Whether a check ends with this status and writes these lines, and its report is verified.
 pub fn is_checked(
+    rt: &impl Abort,
     alloc: Global,
     words: &[&str],
     spec: &[u8],
     status: u8,
     lines: &[&[u8]],
     without: &[u8],
-) -> Result<bool, AllocError> {
-    let ended = run_on(alloc, words, spec, b"")?;
+) -> bool {
+    let ended = run_on(rt, alloc, words, spec, b"");
     let as_wanted = ended.status == status
         && has_lines(&ended.text, lines)
         && !has_lines(&ended.text, &[without]);
-    let verified = is_verified(alloc, spec, &ended.text, status);
+    let verified = is_verified(rt, alloc, spec, &ended.text, status);
     drop(ended);
-    Ok(as_wanted && verified?)
+    as_wanted && verified
+}
+
+fn is_decided(rt: &impl Abort, alloc: Global, it: &Case) -> bool {
+    is_checked(
+        rt, alloc, it.words, it.spec, it.status, it.lines, it.without,
+    )
 }
 
 #[test]
 fn decides_and_verifies(rt: HostRuntime) {
-    for it in &CASES {
-        let checked = is_checked(
-            rt.alloc(),
-            it.words,
-            it.spec,
-            it.status,
-            it.lines,
-            it.without,
-        );
-        assert!(rt; checked.expect(&rt, "memory"));
+    for cases in [accepted(), rejected(), undecided()] {
+        for it in cases {
+            assert!(rt; is_decided(&rt, rt.alloc(), it));
+        }
     }
 }
 
 #[test]
 fn decides_players_and_tournaments(rt: HostRuntime) {
-    let alloc = rt.alloc();
     let all = &[
         b"summary proved 100 refuted 0 undecided 0".as_slice(),
         b"accepted",
     ];
-    let whole = is_checked(alloc, CHECK_LONG, TOURNAMENTS, 0, all, b"refuted");
-    assert!(rt; whole.expect(&rt, "memory"));
-    let free = replaced(
-        alloc,
-        TOURNAMENTS,
-        b"conflict entry ( p , t ) event ( t )\n",
-        b"",
-    );
-    let free = free.expect(&rt, "memory");
+    let alloc = rt.alloc();
+    assert!(rt; is_checked(&rt, alloc, CHECK_LONG, TOURNAMENTS, 0, all, b"refuted"));
+}
+
+/// Tournaments without the rule that entries and events exclude one another.
+pub fn free_tournaments(rt: &impl Abort, alloc: Global) -> Vec<u8> {
+    let rule = b"conflict entry ( p , t ) event ( t )\n";
+    replaced(rt, alloc, TOURNAMENTS, rule, b"")
+}
+
+#[test]
+fn refutes_players_without_tournaments(rt: HostRuntime) {
     let refuted = &[
         b"stable rem_tourn 1 enroll".as_slice(),
         b"refuted",
@@ -231,15 +250,14 @@ fn decides_players_and_tournaments(rt: HostRuntime) {
         b"summary proved 98 refuted 2 undecided 0",
         b"rejected",
     ];
-    let rejected = is_checked(alloc, CHECK_LONG, &free, 1, refuted, b"undecided");
+    let free = free_tournaments(&rt, rt.alloc());
+    let rejected = is_checked(&rt, rt.alloc(), CHECK_LONG, &free, 1, refuted, b"undecided");
     drop(free);
-    assert!(rt; rejected.expect(&rt, "memory"));
+    assert!(rt; rejected);
 }
 
 #[test]
 fn decides_shared_tokens(rt: HostRuntime) {
-    let alloc = rt.alloc();
-    let shared = replaced(alloc, SHOP, b"exclusive", b"shared").expect(&rt, "memory");
     let refuted = &[
         b"commute reprice reprice price".as_slice(),
         b"refuted",
@@ -247,9 +265,10 @@ fn decides_shared_tokens(rt: HostRuntime) {
         b"refuted",
         b"summary proved 10 refuted 2 undecided 0",
     ];
-    let rejected = is_checked(alloc, CHECK, &shared, 1, refuted, b"undecided");
+    let shared = replaced(&rt, rt.alloc(), SHOP, b"exclusive", b"shared");
+    let rejected = is_checked(&rt, rt.alloc(), CHECK, &shared, 1, refuted, b"undecided");
     drop(shared);
-    assert!(rt; rejected.expect(&rt, "memory"));
+    assert!(rt; rejected);
 }
 
 #[test]
@@ -261,6 +280,5 @@ fn gives_up_on_too_many_instances(rt: HostRuntime) {
         b"summary proved 10 refuted 0 undecided 1",
         b"undecided",
     ];
-    let given_up = is_checked(rt.alloc(), CHECK, MANY, 5, last, b"refuted");
-    assert!(rt; given_up.expect(&rt, "memory"));
+    assert!(rt; is_checked(&rt, rt.alloc(), CHECK, MANY, 5, last, b"refuted"));
 }

@@ -1,12 +1,13 @@
 // What stops each command: a source or a sink that fails at a call, and a source without end. Ports that move few bytes at a call stop none.
 use crate::examples::{ODD, RAISED_REPORT};
 use crate::replay::{REPLAY, TWO_WITHDRAWALS};
-use crate::running::{Pieces, Port, ends_from, run_failing, run_on, stopped_runs};
+use crate::running::{Pieces, Port, ends_from, is_alike, run_on, source, stopped_runs};
 use crate::simulate::{GRANTED, SIMULATE};
 use crate::suggestions::SUGGEST;
-use byte_ports::{EndlessSource, MemSource};
+use byte_ports::EndlessSource;
 use example_specs::{FLAG, NO_FLAG, PURSES, RAISED, WITHDRAWALS};
-use std::alloc::{AllocError, Global};
+use std::alloc::Global;
+use std::process::Abort;
 
 const CHECK: &[&str] = &["check", "s.cise"];
 
@@ -26,7 +27,8 @@ struct Run {
     extra: Option<&'static [u8]>,
 }
 
-const RUNS: [Run; 10] = [
+/// Runs that read one input or none.
+static OF_ONE: &[Run] = &[
     Run {
         words: CHECK,
         spec: Some(FLAG),
@@ -47,6 +49,19 @@ const RUNS: [Run; 10] = [
         spec: None,
         extra: None,
     },
+    Run {
+        words: SUGGEST,
+        spec: Some(ODD),
+        extra: None,
+    },
+];
+
+fn of_one() -> &'static [Run] {
+    OF_ONE
+}
+
+/// Runs that read two.
+static OF_BOTH: &[Run] = &[
     Run {
         words: VERIFY,
         spec: Some(RAISED),
@@ -72,12 +87,11 @@ const RUNS: [Run; 10] = [
         spec: Some(PURSES),
         extra: Some(GRANTED),
     },
-    Run {
-        words: SUGGEST,
-        spec: Some(ODD),
-        extra: None,
-    },
 ];
+
+fn of_two() -> &'static [Run] {
+    OF_BOTH
+}
 
 /// Sources that give a hundred bytes at a call, and a sink that takes eight.
 const PIECES: Pieces = Pieces {
@@ -94,60 +108,77 @@ fn calls(bytes: Option<&[u8]>) -> usize {
 }
 
 /// How many calls of a port of a run fail one after the other, up to the first run that none stops.
-fn stopped(alloc: Global, it: &Run, port: Port) -> Result<Option<u32>, AllocError> {
+fn stopped(rt: &impl Abort, alloc: Global, it: &Run, port: Port) -> Option<u32> {
     let (spec, extra) = (it.spec.unwrap_or(b""), it.extra.unwrap_or(b""));
-    stopped_runs(alloc, it.words, spec, extra, PIECES, port)
+    stopped_runs(rt, alloc, it.words, spec, extra, PIECES, port)
+}
+
+/// Whether so many calls failed.
+fn is_count(stopped: Option<u32>, calls: usize) -> bool {
+    matches!(stopped, Some(count) if count as usize == calls)
+}
+
+/// Whether some calls failed.
+fn is_some_count(stopped: Option<u32>) -> bool {
+    matches!(stopped, Some(count) if 0 < count)
+}
+
+/// Whether each call of a port stops a run, and the others end as the run without failing calls.
+fn names_its_ports(rt: &impl Abort, alloc: Global, it: &Run) -> bool {
+    let spec = stopped(rt, alloc, it, Port::Spec);
+    let extra = stopped(rt, alloc, it, Port::Extra);
+    let out = stopped(rt, alloc, it, Port::Out);
+    is_count(spec, calls(it.spec)) && is_count(extra, calls(it.extra)) && is_some_count(out)
 }
 
 #[test]
 fn names_the_port_that_failed(rt: HostRuntime) {
-    let alloc = rt.alloc();
-    for it in &RUNS {
-        let spec = stopped(alloc, it, Port::Spec).expect(&rt, "memory");
-        assert!(rt; matches!(spec, Some(count) if count as usize == calls(it.spec)));
-        let extra = stopped(alloc, it, Port::Extra).expect(&rt, "memory");
-        assert!(rt; matches!(extra, Some(count) if count as usize == calls(it.extra)));
-        let out = stopped(alloc, it, Port::Out).expect(&rt, "memory");
-        assert!(rt; matches!(out, Some(count) if 0 < count));
+    for runs in [of_one(), of_two()] {
+        for it in runs {
+            assert!(rt; names_its_ports(&rt, rt.alloc(), it));
+        }
     }
 }
 
-/// How many calls of a port fail so where a report is verified that `check` wrote of the same specification, and how many reads it takes.
-fn stopped_verifications(alloc: Global, port: Port) -> Result<(Option<u32>, usize), AllocError> {
-    let report = run_on(alloc, CHECK, PURSES, b"")?;
-    let reads = calls(Some(report.text.as_slice()));
-    let stopped = stopped_runs(alloc, VERIFY, PURSES, &report.text, PIECES, port);
-    drop(report);
-    Ok((stopped?, reads))
+/// How many calls of a port fail so where a report of the bank is verified.
+fn stopped_verifications(rt: &impl Abort, alloc: Global, report: &[u8], port: Port) -> Option<u32> {
+    stopped_runs(rt, alloc, VERIFY, PURSES, report, PIECES, port)
+}
+
+/// Whether each call of a port stops the verification of a report.
+fn each_call_stops(rt: &impl Abort, alloc: Global, report: &[u8]) -> bool {
+    let extra = stopped_verifications(rt, alloc, report, Port::Extra);
+    let spec = stopped_verifications(rt, alloc, report, Port::Spec);
+    let out = stopped_verifications(rt, alloc, report, Port::Out);
+    is_count(extra, calls(Some(report)))
+        && is_count(spec, calls(Some(PURSES)))
+        && is_some_count(out)
 }
 
 #[test]
 fn names_each_call_of_a_verification(rt: HostRuntime) {
-    let alloc = rt.alloc();
-    let (extra, reads) = stopped_verifications(alloc, Port::Extra).expect(&rt, "memory");
-    assert!(rt; matches!(extra, Some(count) if count as usize == reads));
-    let (spec, _) = stopped_verifications(alloc, Port::Spec).expect(&rt, "memory");
-    assert!(rt; matches!(spec, Some(count) if count as usize == calls(Some(PURSES))));
-    let (out, _) = stopped_verifications(alloc, Port::Out).expect(&rt, "memory");
-    assert!(rt; matches!(out, Some(count) if 0 < count));
+    let report = run_on(&rt, rt.alloc(), CHECK, PURSES, b"");
+    let stops = each_call_stops(&rt, rt.alloc(), &report.text);
+    drop(report);
+    assert!(rt; stops);
 }
 
 /// Whether a run ends alike where each call moves one byte.
-fn ends_alike(alloc: Global, it: &Run) -> Result<bool, AllocError> {
+fn ends_alike(rt: &impl Abort, alloc: Global, it: &Run) -> bool {
     let one = Pieces { given: 1, taken: 1 };
     let (spec, extra) = (it.spec.unwrap_or(b""), it.extra.unwrap_or(b""));
-    let whole = run_on(alloc, it.words, spec, extra)?;
-    let ended = run_failing(alloc, it.words, spec, extra, one, None)?;
-    let same = ended.status == whole.status && ended.text.as_slice() == whole.text.as_slice();
+    let whole = run_on(rt, alloc, it.words, spec, extra);
+    let same = is_alike(rt, alloc, it.words, spec, extra, one, &whole);
     drop(whole);
-    drop(ended);
-    Ok(same)
+    same
 }
 
 #[test]
 fn reads_and_writes_one_byte_at_a_call(rt: HostRuntime) {
-    for it in &RUNS {
-        assert!(rt; ends_alike(rt.alloc(), it).expect(&rt, "memory"));
+    for runs in [of_one(), of_two()] {
+        for it in runs {
+            assert!(rt; ends_alike(&rt, rt.alloc(), it));
+        }
     }
 }
 
@@ -163,23 +194,27 @@ const OF_TWO: [(&[&str], &[u8]); 4] = [
 ];
 
 /// Whether a run on a flag says so of a second source without end.
-fn refuses_endless(alloc: Global, words: &[&str], text: &[u8]) -> Result<bool, AllocError> {
-    let mut spec = MemSource::new(Vec::from_slice(alloc, FLAG)?, 100, Vec::new(alloc));
-    let refused = ends_from(alloc, words, &mut spec, &mut EndlessSource::new(), 4, text);
+fn refuses_endless(rt: &impl Abort, alloc: Global, words: &[&str], text: &[u8]) -> bool {
+    let mut spec = source(rt, alloc, FLAG, 100, Vec::new(alloc));
+    let mut extra = EndlessSource::new();
+    let refused = ends_from(rt, alloc, words, &mut spec, &mut extra, 4, text);
     drop(spec);
     refused
 }
 
 #[test]
 fn reads_no_more_than_the_limit(rt: HostRuntime) {
-    let alloc = rt.alloc();
     for words in &OF_SPECIFICATIONS {
         let (mut spec, mut extra) = (EndlessSource::new(), EndlessSource::new());
         let text = b"refused specification long\n";
-        let refused = ends_from(alloc, words, &mut spec, &mut extra, 3, text);
-        assert!(rt; refused.expect(&rt, "memory"));
+        let refused = ends_from(&rt, rt.alloc(), words, &mut spec, &mut extra, 3, text);
+        assert!(rt; refused);
     }
+}
+
+#[test]
+fn reads_no_more_than_the_limit_of_a_second_input(rt: HostRuntime) {
     for (words, text) in &OF_TWO {
-        assert!(rt; refuses_endless(alloc, words, text).expect(&rt, "memory"));
+        assert!(rt; refuses_endless(&rt, rt.alloc(), words, text));
     }
 }

@@ -1,6 +1,8 @@
 // The limits of the language: the largest text within each, and one that goes past it.
-use crate::printing::{is_spelled, refuses};
-use std::alloc::{AllocError, Global};
+use crate::printing::{is_read_so, is_spelled, refuses};
+use crate::running::{add, bytes_of};
+use std::alloc::Global;
+use std::process::Abort;
 
 /// A limit of the language: a text with so many pieces is within it, and with one more it is refused. Each piece is ended by its
 /// number in a comment or a name.
@@ -14,201 +16,215 @@ struct Limit {
     reason: &'static [u8],
 }
 
-const LIMITS: [Limit; 18] = [
-    Limit {
-        front: b"cise 1 ",
-        piece: b"sort s",
-        after: b" ",
-        behind: b"",
-        most: 8,
-        reason: b"limit sorts 9 word 19",
-    },
-    Limit {
-        front: b"cise 1 sort A ",
-        piece: b"const c",
-        after: b" : A ",
-        behind: b"",
-        most: 4,
-        reason: b"limit constants 5 word 21",
-    },
-    Limit {
-        front: b"cise 1 ",
-        piece: b"relation r",
-        after: b" ",
-        behind: b"",
-        most: 16,
-        reason: b"limit relations 17 word 35",
-    },
-    Limit {
-        front: b"cise 1 ",
-        piece: b"counter c",
-        after: b" ",
-        behind: b"",
-        most: 8,
-        reason: b"limit counters 9 word 19",
-    },
-    Limit {
-        front: b"cise 1 ",
-        piece: b"token t",
-        after: b" ",
-        behind: b"",
-        most: 16,
-        reason: b"limit tokens 17 word 35",
-    },
-    Limit {
-        front: b"cise 1 token t ",
-        piece: b"conflict t t #",
-        after: b"\n",
-        behind: b"",
-        most: 32,
-        reason: b"limit conflicts 33 word 100",
-    },
-    Limit {
-        front: b"cise 1 ",
-        piece: b"invariant i",
-        after: b" true ",
-        behind: b"",
-        most: 16,
-        reason: b"limit invariants 17 word 51",
-    },
-    Limit {
-        front: b"cise 1 ",
-        piece: b"operation o",
-        after: b" end ",
-        behind: b"",
-        most: 24,
-        reason: b"limit operations 25 word 75",
-    },
-    Limit {
-        front: b"cise 1 operation f ( p : int",
-        piece: b", q",
-        after: b" : int",
-        behind: b") end",
-        most: 5,
-        reason: b"limit parameters 7 word 29",
-    },
-    Limit {
-        front: b"cise 1 operation f ",
-        piece: b"requires true #",
-        after: b"\n",
-        behind: b"end",
-        most: 8,
-        reason: b"limit requires 9 word 20",
-    },
-    Limit {
-        front: b"cise 1 relation r operation f ",
-        piece: b"insert r #",
-        after: b"\n",
-        behind: b"end",
-        most: 16,
-        reason: b"limit updates 17 word 38",
-    },
-    Limit {
-        front: b"cise 1 token t operation f ",
-        piece: b"takes t #",
-        after: b"\n",
-        behind: b"end",
-        most: 4,
-        reason: b"limit takes 5 word 14",
-    },
-    Limit {
-        front: b"cise 2 operation f ",
-        piece: b"observes true #",
-        after: b"\n",
-        behind: b"end",
-        most: 8,
-        reason: b"limit observes 9 word 20",
-    },
-    Limit {
-        front: b"cise 1 sort A invariant i forall v : A",
-        piece: b", w",
-        after: b" : A",
-        behind: b" . true",
-        most: 2,
-        reason: b"limit variables 4 word 19",
-    },
-    Limit {
-        front: b"cise 1 sort A relation r ( A",
-        piece: b", A #",
-        after: b"\n",
-        behind: b")",
-        most: 2,
-        reason: b"limit places 4 word 13",
-    },
-    Limit {
-        front: b"cise 1 sort A counter c ( A",
-        piece: b", A #",
-        after: b"\n",
-        behind: b")",
-        most: 1,
-        reason: b"limit places 3 word 11",
-    },
-    Limit {
-        front: b"cise 1 counter c invariant i ( c",
-        piece: b"+ c #",
-        after: b"\n",
-        behind: b"<= 1 )",
-        most: 15,
-        reason: b"limit summands 17 word 38",
-    },
-    Limit {
-        front: b"cise 1 sort A token t ( A",
-        piece: b", A #",
-        after: b"\n",
-        behind: b")",
-        most: 2,
-        reason: b"limit places 4 word 13",
-    },
-];
+/// The items of a specification.
+fn of_items() -> &'static [Limit] {
+    &[
+        Limit {
+            front: b"cise 1 ",
+            piece: b"sort s",
+            after: b" ",
+            behind: b"",
+            most: 8,
+            reason: b"limit sorts 9 word 19",
+        },
+        Limit {
+            front: b"cise 1 sort A ",
+            piece: b"const c",
+            after: b" : A ",
+            behind: b"",
+            most: 4,
+            reason: b"limit constants 5 word 21",
+        },
+        Limit {
+            front: b"cise 1 ",
+            piece: b"relation r",
+            after: b" ",
+            behind: b"",
+            most: 16,
+            reason: b"limit relations 17 word 35",
+        },
+        Limit {
+            front: b"cise 1 ",
+            piece: b"counter c",
+            after: b" ",
+            behind: b"",
+            most: 8,
+            reason: b"limit counters 9 word 19",
+        },
+    ]
+}
+
+/// Its other items.
+fn of_more_items() -> &'static [Limit] {
+    &[
+        Limit {
+            front: b"cise 1 ",
+            piece: b"token t",
+            after: b" ",
+            behind: b"",
+            most: 16,
+            reason: b"limit tokens 17 word 35",
+        },
+        Limit {
+            front: b"cise 1 token t ",
+            piece: b"conflict t t #",
+            after: b"\n",
+            behind: b"",
+            most: 32,
+            reason: b"limit conflicts 33 word 100",
+        },
+        Limit {
+            front: b"cise 1 ",
+            piece: b"invariant i",
+            after: b" true ",
+            behind: b"",
+            most: 16,
+            reason: b"limit invariants 17 word 51",
+        },
+        Limit {
+            front: b"cise 1 ",
+            piece: b"operation o",
+            after: b" end ",
+            behind: b"",
+            most: 24,
+            reason: b"limit operations 25 word 75",
+        },
+    ]
+}
+
+/// The lines of an operation.
+fn of_lines() -> &'static [Limit] {
+    &[
+        Limit {
+            front: b"cise 1 operation f ( p : int",
+            piece: b", q",
+            after: b" : int",
+            behind: b") end",
+            most: 5,
+            reason: b"limit parameters 7 word 29",
+        },
+        Limit {
+            front: b"cise 1 operation f ",
+            piece: b"requires true #",
+            after: b"\n",
+            behind: b"end",
+            most: 8,
+            reason: b"limit requires 9 word 20",
+        },
+        Limit {
+            front: b"cise 1 relation r operation f ",
+            piece: b"insert r #",
+            after: b"\n",
+            behind: b"end",
+            most: 16,
+            reason: b"limit updates 17 word 38",
+        },
+        Limit {
+            front: b"cise 1 token t operation f ",
+            piece: b"takes t #",
+            after: b"\n",
+            behind: b"end",
+            most: 4,
+            reason: b"limit takes 5 word 14",
+        },
+        Limit {
+            front: b"cise 2 operation f ",
+            piece: b"observes true #",
+            after: b"\n",
+            behind: b"end",
+            most: 8,
+            reason: b"limit observes 9 word 20",
+        },
+    ]
+}
+
+/// What stands in brackets, in formulas and in terms.
+fn of_parts() -> &'static [Limit] {
+    &[
+        Limit {
+            front: b"cise 1 sort A invariant i forall v : A",
+            piece: b", w",
+            after: b" : A",
+            behind: b" . true",
+            most: 2,
+            reason: b"limit variables 4 word 19",
+        },
+        Limit {
+            front: b"cise 1 sort A relation r ( A",
+            piece: b", A #",
+            after: b"\n",
+            behind: b")",
+            most: 2,
+            reason: b"limit places 4 word 13",
+        },
+        Limit {
+            front: b"cise 1 sort A counter c ( A",
+            piece: b", A #",
+            after: b"\n",
+            behind: b")",
+            most: 1,
+            reason: b"limit places 3 word 11",
+        },
+        Limit {
+            front: b"cise 1 counter c invariant i ( c",
+            piece: b"+ c #",
+            after: b"\n",
+            behind: b"<= 1 )",
+            most: 15,
+            reason: b"limit summands 17 word 38",
+        },
+        Limit {
+            front: b"cise 1 sort A token t ( A",
+            piece: b", A #",
+            after: b"\n",
+            behind: b")",
+            most: 2,
+            reason: b"limit places 4 word 13",
+        },
+    ]
+}
 
 /// The text of a limit with so many pieces.
-fn repeated(alloc: Global, limit: &Limit, count: u32) -> Result<Vec<u8>, AllocError> {
-    let mut text = Vec::from_slice(alloc, limit.front)?;
+fn repeated(rt: &impl Abort, alloc: Global, limit: &Limit, count: u32) -> Vec<u8> {
+    let mut text = bytes_of(rt, alloc, limit.front);
     for number in 0..count {
-        push_piece(alloc, &mut text, limit, number)?;
+        add_piece(rt, alloc, &mut text, limit, number);
     }
-    text.extend_from_slice(limit.behind)?;
-    Ok(text)
+    add(rt, &mut text, limit.behind);
+    text
 }
 
 /// Adds one piece.
-fn push_piece(
-    alloc: Global,
-    text: &mut Vec<u8>,
-    limit: &Limit,
-    number: u32,
-) -> Result<(), AllocError> {
-    text.extend_from_slice(limit.piece)?;
-    let digits = number.to_string(alloc)?;
-    let added = text.extend_from_slice(digits.as_bytes());
+fn add_piece(rt: &impl Abort, alloc: Global, text: &mut Vec<u8>, limit: &Limit, number: u32) {
+    add(rt, text, limit.piece);
+    let digits = number.to_string(alloc).expect(rt, "memory");
+    add(rt, text, digits.as_bytes());
     drop(digits);
-    added?;
-    text.extend_from_slice(limit.after)
+    add(rt, text, limit.after);
 }
 
 /// Whether the text with the most pieces is a specification.
-fn keeps(alloc: Global, limit: &Limit) -> Result<bool, AllocError> {
-    let most = repeated(alloc, limit, limit.most)?;
-    let within = is_spelled(alloc, most.as_slice());
+fn keeps(rt: &impl Abort, alloc: Global, limit: &Limit) -> bool {
+    let most = repeated(rt, alloc, limit, limit.most);
+    let within = is_spelled(rt, alloc, most.as_slice());
     drop(most);
     within
 }
 
 /// Whether the text with one piece more is refused for that reason.
-fn ends(alloc: Global, limit: &Limit) -> Result<bool, AllocError> {
-    let more = repeated(alloc, limit, limit.most.wrapping_add(1))?;
-    let beyond = refuses(alloc, more.as_slice(), limit.reason);
+fn ends(rt: &impl Abort, alloc: Global, limit: &Limit) -> bool {
+    let more = repeated(rt, alloc, limit, limit.most.wrapping_add(1));
+    let beyond = refuses(rt, alloc, more.as_slice(), limit.reason);
     drop(more);
     beyond
 }
 
 #[test]
 fn keeps_the_limits(rt: HostRuntime) {
-    for limit in &LIMITS {
-        let kept = keeps(rt.alloc(), limit).expect(&rt, "memory");
-        assert!(rt; kept);
-        let ended = ends(rt.alloc(), limit).expect(&rt, "memory");
-        assert!(rt; ended);
+    for limits in [of_items(), of_more_items(), of_lines(), of_parts()] {
+        for limit in limits {
+            assert!(rt; keeps(&rt, rt.alloc(), limit) && ends(&rt, rt.alloc(), limit));
+        }
     }
 }
 
@@ -250,25 +266,22 @@ const NESTED: [Nested; 4] = [
 ];
 
 /// The invariant with that formula.
-fn text_of(alloc: Global, form: &Nested) -> Result<Vec<u8>, AllocError> {
-    let mut text = Vec::from_slice(alloc, b"cise 1 invariant i ")?;
+fn text_of(rt: &impl Abort, alloc: Global, form: &Nested) -> Vec<u8> {
+    let mut text = bytes_of(rt, alloc, b"cise 1 invariant i ");
     for _ in 0..form.count {
-        text.extend_from_slice(form.before)?;
+        add(rt, &mut text, form.before);
     }
-    text.extend_from_slice(b"true")?;
+    add(rt, &mut text, b"true");
     for _ in 0..form.count {
-        text.extend_from_slice(form.after)?;
+        add(rt, &mut text, form.after);
     }
-    Ok(text)
+    text
 }
 
 /// Whether the formula is read or refused as it is to be.
-fn is_kept(alloc: Global, form: &Nested) -> Result<bool, AllocError> {
-    let text = text_of(alloc, form)?;
-    let kept = match form.refused {
-        Some(reason) => refuses(alloc, text.as_slice(), reason),
-        None => is_spelled(alloc, text.as_slice()),
-    };
+fn is_kept(rt: &impl Abort, alloc: Global, form: &Nested) -> bool {
+    let text = text_of(rt, alloc, form);
+    let kept = is_read_so(rt, alloc, text.as_slice(), form.refused);
     drop(text);
     kept
 }
@@ -276,8 +289,7 @@ fn is_kept(alloc: Global, form: &Nested) -> Result<bool, AllocError> {
 #[test]
 fn keeps_formulas_small(rt: HostRuntime) {
     for form in &NESTED {
-        let kept = is_kept(rt.alloc(), form).expect(&rt, "memory");
-        assert!(rt; kept);
+        assert!(rt; is_kept(&rt, rt.alloc(), form));
     }
 }
 
@@ -291,7 +303,7 @@ const LARGEST: [&[u8]; 3] = [
 #[test]
 fn takes_the_largest(rt: HostRuntime) {
     for bytes in &LARGEST {
-        assert!(rt; is_spelled(rt.alloc(), bytes).expect(&rt, "memory"));
+        assert!(rt; is_spelled(&rt, rt.alloc(), bytes));
     }
 }
 
@@ -328,21 +340,18 @@ const SPACED: [Spaced; 4] = [
 ];
 
 /// The front and the spaces behind it.
-fn with_spaces(alloc: Global, form: &Spaced) -> Result<Vec<u8>, AllocError> {
-    let mut text = Vec::from_slice(alloc, form.front)?;
+fn with_spaces(rt: &impl Abort, alloc: Global, form: &Spaced) -> Vec<u8> {
+    let mut text = bytes_of(rt, alloc, form.front);
     for _ in form.front.len()..form.bytes {
-        text.push(b' ')?;
+        text.push(b' ').expect(rt, "memory");
     }
-    Ok(text)
+    text
 }
 
 /// Whether the text is read or refused as it is to be.
-fn is_kept_so(alloc: Global, form: &Spaced) -> Result<bool, AllocError> {
-    let text = with_spaces(alloc, form)?;
-    let kept = match form.refused {
-        Some(reason) => refuses(alloc, text.as_slice(), reason),
-        None => is_spelled(alloc, text.as_slice()),
-    };
+fn is_kept_so(rt: &impl Abort, alloc: Global, form: &Spaced) -> bool {
+    let text = with_spaces(rt, alloc, form);
+    let kept = is_read_so(rt, alloc, text.as_slice(), form.refused);
     drop(text);
     kept
 }
@@ -350,7 +359,6 @@ fn is_kept_so(alloc: Global, form: &Spaced) -> Result<bool, AllocError> {
 #[test]
 fn keeps_texts_short(rt: HostRuntime) {
     for form in &SPACED {
-        let kept = is_kept_so(rt.alloc(), form).expect(&rt, "memory");
-        assert!(rt; kept);
+        assert!(rt; is_kept_so(&rt, rt.alloc(), form));
     }
 }

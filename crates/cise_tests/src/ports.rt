@@ -1,63 +1,79 @@
 // Sources and sinks of each kind: what is read and written, and that memory which is there is used.
-use byte_ports::{
-    EndlessSource, MemSink, MemSource, ReadRefused, WriteRefused, read_up_to, write_all,
-};
+use crate::running::{sink, source};
+use byte_ports::{EndlessSource, ReadRefused, read_up_to, write_all};
 use std::alloc::Global;
-use std::test::Fail;
+use std::process::Abort;
 
-/// What reading ten digits in pieces of this size, with one call that fails, answers.
-fn read_digits(
-    alloc: Global,
-    piece: usize,
-    fail_at: &[u32],
-    limit: usize,
-) -> Result<Result<Vec<u8>, ReadRefused>, Fail> {
-    let bytes = Vec::from_slice(alloc, b"0123456789")?;
-    let mut source = MemSource::new(bytes, piece.max(1), Vec::from_slice(alloc, fail_at)?);
-    Ok(read_up_to(alloc, &mut source, limit))
-}
+const DIGITS: &[u8] = b"0123456789";
 
-/// What a sink holds after a text was written to it, and whether all of it was.
-fn written(
-    alloc: Global,
-    room: usize,
-    fail_at: &[u32],
-) -> Result<(Vec<u8>, Result<(), WriteRefused>), Fail> {
-    let mut sink = MemSink::new(alloc, room, 8, Vec::from_slice(alloc, fail_at)?)?;
-    let answer = write_all(&mut sink, b"cise report 1");
-    Ok((Vec::from_slice(alloc, sink.held())?, answer))
-}
-
-#[test]
-fn reads_to_the_end_or_names_the_cause(rt: HostRuntime) -> Result<(), Fail> {
-    let alloc = rt.alloc();
-    let whole = read_digits(alloc, 3, &[], 10)?.ok().ok_or("refused")?;
-    assert_eq!(rt; whole.as_slice(), b"0123456789".as_slice());
-    let cases: [(usize, &[u32], usize, ReadRefused); 3] = [
-        (100, &[], 9, ReadRefused::TooLong),
-        (4, &[0], 10, ReadRefused::Fault),
-        (4, &[3], 10, ReadRefused::Fault),
-    ];
-    for (piece, fail_at, limit, refused) in cases {
-        let answer = read_digits(alloc, piece, fail_at, limit)?;
-        assert!(rt; matches!(answer, Err(cause) if cause == refused));
+/// Whether the ten digits were read, or nothing for this cause.
+fn is_answer(answer: &Result<Vec<u8>, ReadRefused>, refused: Option<ReadRefused>) -> bool {
+    match answer {
+        Ok(bytes) => refused.is_none() && bytes.as_slice() == DIGITS,
+        Err(cause) => refused == Some(*cause),
     }
-    let endless = read_up_to(alloc, &mut EndlessSource::new(), 65_536);
-    assert!(rt; matches!(endless, Err(ReadRefused::TooLong)));
-    Ok(())
+}
+
+/// The most bytes that a source gives at a call, the calls that fail, how many bytes are read at most, and why none is.
+type Read = (usize, &'static [u32], usize, Option<ReadRefused>);
+
+static READS: &[Read] = &[
+    (3, &[], 10, None),
+    (100, &[], 9, Some(ReadRefused::TooLong)),
+    (4, &[0], 10, Some(ReadRefused::Fault)),
+    (4, &[3], 10, Some(ReadRefused::Fault)),
+];
+
+/// Whether reading ten digits is answered so.
+fn reads_so(rt: &impl Abort, alloc: Global, it: &Read) -> bool {
+    let (piece, fail_at, limit, refused) = it;
+    let fail_at = Vec::from_slice(alloc, fail_at).expect(rt, "memory");
+    let mut digits = source(rt, alloc, DIGITS, *piece, fail_at);
+    let answer = read_up_to(alloc, &mut digits, *limit);
+    drop(digits);
+    let same = is_answer(&answer, *refused);
+    drop(answer);
+    same
 }
 
 #[test]
-fn writes_all_or_a_front(rt: HostRuntime) -> Result<(), Fail> {
-    let alloc = rt.alloc();
-    let (held, answer) = written(alloc, 20, &[])?;
-    assert!(rt; answer.is_ok());
-    assert_eq!(rt; held.as_slice(), b"cise report 1".as_slice());
-    let (held, answer) = written(alloc, 20, &[1])?;
-    assert!(rt; answer.is_err());
-    assert_eq!(rt; held.as_slice(), b"cise rep".as_slice());
-    let (held, answer) = written(alloc, 5, &[])?;
-    assert!(rt; answer.is_err());
-    assert_eq!(rt; held.as_slice(), b"cise ".as_slice());
-    Ok(())
+fn reads_to_the_end_or_names_the_cause(rt: HostRuntime) {
+    for it in READS {
+        assert!(rt; reads_so(&rt, rt.alloc(), it));
+    }
+}
+
+#[test]
+fn reads_no_source_without_end(rt: HostRuntime) {
+    let answer = read_up_to(rt.alloc(), &mut EndlessSource::new(), 65_536);
+    let refused = is_answer(&answer, Some(ReadRefused::TooLong));
+    drop(answer);
+    assert!(rt; refused);
+}
+
+/// The room of a sink, the calls that fail, what is written of a text, and whether that is all of it.
+type Write = (usize, &'static [u32], &'static [u8], bool);
+
+static WRITES: &[Write] = &[
+    (20, &[], b"cise report 1", true),
+    (20, &[1], b"cise rep", false),
+    (5, &[], b"cise ", false),
+];
+
+/// Whether a sink that takes eight bytes at a call holds that of the text.
+fn writes_so(rt: &impl Abort, alloc: Global, it: &Write) -> bool {
+    let (room, fail_at, held, whole) = it;
+    let fail_at = Vec::from_slice(alloc, fail_at).expect(rt, "memory");
+    let mut out = sink(rt, alloc, *room, 8, fail_at);
+    let answer = write_all(&mut out, b"cise report 1");
+    let same = out.held() == *held && answer.is_ok() == *whole;
+    drop(out);
+    same
+}
+
+#[test]
+fn writes_all_or_a_front(rt: HostRuntime) {
+    for it in WRITES {
+        assert!(rt; writes_so(&rt, rt.alloc(), it));
+    }
 }

@@ -1,7 +1,8 @@
 // Replays of recorded schedules: what they print, and what is no schedule.
-use crate::running::ends_with;
+use crate::running::{add, bytes_of, ends_with};
 use example_specs::{DEPOSITS, FLAG, NO_FLAG, PURSES, ROOMS, SHOP, TOURNAMENTS, WITHDRAWALS};
-use std::alloc::{AllocError, Global};
+use std::alloc::Global;
+use std::process::Abort;
 
 /// A schedule of a specification, with the status and the text that its replay comes to.
 #[derive(Clone, Copy)]
@@ -223,213 +224,232 @@ pub const REPLAY: &[&str] = &["replay", "s.cise", "s.json"];
 fn prints_what_the_schedule_comes_to(rt: HostRuntime) {
     for row in &ROWS {
         let (spec, schedule) = (row.spec, row.schedule);
-        let same = ends_with(rt.alloc(), REPLAY, spec, schedule, row.status, row.text);
-        assert!(rt; same.expect(&rt, "memory"));
+        let same = ends_with(
+            &rt,
+            rt.alloc(),
+            REPLAY,
+            spec,
+            schedule,
+            row.status,
+            row.text,
+        );
+        assert!(rt; same);
     }
 }
 
-/// What is refused of a schedule, and the path.
-#[derive(Clone, Copy)]
-struct Refused {
-    schedule: &'static [u8],
-    line: &'static [u8],
-}
+/// A schedule that is refused, and what is said of it.
+type Refused = (&'static [u8], &'static [u8]);
 
 /// A specification of one sort with a constant.
 const HOME: &[u8] = b"cise 1 sort Room const home : Room";
 
-const REFUSALS: [Refused; 34] = [
-    Refused {
-        schedule: b"",
-        line: b"json",
-    },
-    Refused {
-        schedule: b"{",
-        line: b"json",
-    },
-    Refused {
-        schedule: b"\xff",
-        line: b"json",
-    },
-    Refused {
-        schedule: b"[]",
-        line: b"shape top",
-    },
-    Refused {
-        schedule: b"{\"sizes\":{},\"constants\":{},\"replicas\":1}",
-        line: b"shape top",
-    },
-    Refused {
-        schedule: b"{\"sizes\":{},\"constants\":{},\"replicas\":1,\"step\":[]}",
-        line: b"shape top",
-    },
-    Refused {
-        schedule: b"{\"sizes\":{},\"constants\":{},\"replicas\":1,\"steps\":[],\"more\":0}",
-        line: b"shape top",
-    },
-    Refused {
-        schedule: b"{\"sizes\":[],\"constants\":{},\"replicas\":0,\"steps\":[]}",
-        line: b"shape sizes",
-    },
-    Refused {
-        schedule: b"{\"sizes\":{},\"constants\":{},\"replicas\":0,\"steps\":[]}",
-        line: b"shape sizes",
-    },
-    Refused {
-        schedule: b"{\"sizes\":{\"room\":1},\"constants\":{},\"replicas\":0,\"steps\":[]}",
-        line: b"shape sizes",
-    },
-    Refused {
-        schedule: b"{\"sizes\":{\"Room\":-1},\"constants\":{},\"replicas\":0,\"steps\":[]}",
-        line: b"shape sizes Room",
-    },
-    Refused {
-        schedule: b"{\"sizes\":{\"Room\":1.0},\"constants\":{},\"replicas\":0,\"steps\":[]}",
-        line: b"shape sizes Room",
-    },
-    Refused {
-        schedule: b"{\"sizes\":{\"Room\":1e0},\"constants\":{},\"replicas\":0,\"steps\":[]}",
-        line: b"shape sizes Room",
-    },
-    Refused {
-        schedule: b"{\"sizes\":{\"Room\":-0},\"constants\":{},\"replicas\":0,\"steps\":[]}",
-        line: b"shape sizes Room",
-    },
-    Refused {
-        schedule: b"{\"sizes\":{\"Room\":9223372036854775808},\"constants\":{},\"replicas\":0,\"steps\":[]}",
-        line: b"shape sizes Room",
-    },
-    Refused {
-        schedule: b"{\"sizes\":{\"Room\":9223372036854775807},\"constants\":{},\"replicas\":0,\"steps\":[]}",
-        line: b"size sizes Room",
-    },
-    Refused {
-        schedule: b"{\"sizes\":{\"Room\":65},\"constants\":{},\"replicas\":0,\"steps\":[]}",
-        line: b"size sizes Room",
-    },
-    Refused {
-        schedule: b"{\"sizes\":{\"Room\":64},\"constants\":{},\"replicas\":0,\"steps\":[]}",
-        line: b"shape constants",
-    },
-    Refused {
-        schedule: b"{\"sizes\":{\"Room\":65,\"Room\":2},\"constants\":{\"home\":2},\"replicas\":0,\"steps\":[]}",
-        line: b"size constants home",
-    },
-    Refused {
-        schedule: b"{\"sizes\":{\"Room\":2},\"constants\":{\"home\":\"\"},\"replicas\":0,\"steps\":[]}",
-        line: b"shape constants home",
-    },
-    Refused {
-        schedule: b"{\"sizes\":{\"Room\":2},\"constants\":{\"home\":1},\"replicas\":\"\",\"steps\":{}}",
-        line: b"shape replicas",
-    },
-    Refused {
-        schedule: b"{\"sizes\":{\"Room\":2},\"constants\":{\"home\":1},\"replicas\":0,\"steps\":{}}",
-        line: b"size replicas",
-    },
-    Refused {
-        schedule: b"{\"sizes\":{\"Room\":2},\"constants\":{\"home\":1},\"replicas\":-1,\"steps\":{}}",
-        line: b"size replicas",
-    },
-    Refused {
-        schedule: b"{\"sizes\":{\"Room\":2},\"constants\":{\"home\":1},\"replicas\":17,\"steps\":{}}",
-        line: b"size replicas",
-    },
-    Refused {
-        schedule: b"{\"sizes\":{\"Room\":2},\"constants\":{\"home\":1},\"replicas\":16,\"steps\":{}}",
-        line: b"shape steps",
-    },
-    Refused {
-        schedule: b"{\"sizes\":{\"Room\":2},\"constants\":{\"home\":1},\"replicas\":1,\"steps\":[{}]}",
-        line: b"shape step 0",
-    },
-    Refused {
-        schedule: b"{\"sizes\":{\"Room\":2},\"constants\":{\"home\":1},\"replicas\":1,\"steps\":[{\"replica\":0,\"take\":-1}]}",
-        line: b"shape step 0",
-    },
-    Refused {
-        schedule: b"{\"sizes\":{\"Room\":2},\"constants\":{\"home\":1},\"replicas\":1,\"steps\":[{\"replica\":0,\"take\":4294967296}]}",
-        line: b"shape step 0",
-    },
-    Refused {
-        schedule: b"{\"sizes\":{\"Room\":2},\"constants\":{\"home\":1},\"replicas\":1,\"steps\":[{\"replica\":0,\"take\":0,\"args\":[]}]}",
-        line: b"shape step 0",
-    },
-    Refused {
-        schedule: b"{\"sizes\":{\"Room\":2},\"constants\":{\"home\":1},\"replicas\":1,\"steps\":[{\"replica\":0,\"take\":0},{\"replica\":0,\"call\":\"\",\"args\":[]}]}",
-        line: b"shape step 1",
-    },
-    Refused {
-        schedule: b"{\"sizes\":{\"Room\":2},\"constants\":{\"home\":1},\"replicas\":1,\"steps\":[{\"replica\":0,\"call\":\"123456789012345678901234567890123\",\"args\":[]}]}",
-        line: b"shape step 0",
-    },
-    Refused {
-        schedule: b"{\"sizes\":{\"Room\":2},\"constants\":{\"home\":1},\"replicas\":1,\"steps\":[{\"replica\":0,\"call\":\"f\",\"args\":[1.5]}]}",
-        line: b"shape step 0",
-    },
-    Refused {
-        schedule: b"{\"sizes\":{\"Room\":2},\"constants\":{\"home\":1},\"replicas\":1,\"steps\":[{\"replica\":0,\"call\":\"f\",\"args\":{}}]}",
-        line: b"shape step 0",
-    },
-    Refused {
-        schedule: b"{\"sizes\":{\"Room\":2},\"constants\":{\"home\":1},\"replicas\":1,\"steps\":[7]}",
-        line: b"shape step 0",
-    },
-];
+/// No JSON, or another top.
+fn of_tops() -> &'static [Refused] {
+    &[
+        (b"", b"json"),
+        (b"{", b"json"),
+        (b"\xff", b"json"),
+        (b"[]", b"shape top"),
+        (
+            b"{\"sizes\":{},\"constants\":{},\"replicas\":1}",
+            b"shape top",
+        ),
+        (
+            b"{\"sizes\":{},\"constants\":{},\"replicas\":1,\"step\":[]}",
+            b"shape top",
+        ),
+        (
+            b"{\"sizes\":{},\"constants\":{},\"replicas\":1,\"steps\":[],\"more\":0}",
+            b"shape top",
+        ),
+    ]
+}
+
+/// Sizes.
+fn of_sizes() -> &'static [Refused] {
+    &[
+        (
+            b"{\"sizes\":[],\"constants\":{},\"replicas\":0,\"steps\":[]}",
+            b"shape sizes",
+        ),
+        (
+            b"{\"sizes\":{},\"constants\":{},\"replicas\":0,\"steps\":[]}",
+            b"shape sizes",
+        ),
+        (
+            b"{\"sizes\":{\"room\":1},\"constants\":{},\"replicas\":0,\"steps\":[]}",
+            b"shape sizes",
+        ),
+        (
+            b"{\"sizes\":{\"Room\":-1},\"constants\":{},\"replicas\":0,\"steps\":[]}",
+            b"shape sizes Room",
+        ),
+        (
+            b"{\"sizes\":{\"Room\":1.0},\"constants\":{},\"replicas\":0,\"steps\":[]}",
+            b"shape sizes Room",
+        ),
+        (
+            b"{\"sizes\":{\"Room\":1e0},\"constants\":{},\"replicas\":0,\"steps\":[]}",
+            b"shape sizes Room",
+        ),
+        (
+            b"{\"sizes\":{\"Room\":-0},\"constants\":{},\"replicas\":0,\"steps\":[]}",
+            b"shape sizes Room",
+        ),
+        (
+            b"{\"sizes\":{\"Room\":9223372036854775808},\"constants\":{},\"replicas\":0,\"steps\":[]}",
+            b"shape sizes Room",
+        ),
+        (
+            b"{\"sizes\":{\"Room\":9223372036854775807},\"constants\":{},\"replicas\":0,\"steps\":[]}",
+            b"size sizes Room",
+        ),
+        (
+            b"{\"sizes\":{\"Room\":65},\"constants\":{},\"replicas\":0,\"steps\":[]}",
+            b"size sizes Room",
+        ),
+    ]
+}
+
+/// Constants, and how many replicas there are.
+fn of_constants() -> &'static [Refused] {
+    &[
+        (
+            b"{\"sizes\":{\"Room\":64},\"constants\":{},\"replicas\":0,\"steps\":[]}",
+            b"shape constants",
+        ),
+        (
+            b"{\"sizes\":{\"Room\":65,\"Room\":2},\"constants\":{\"home\":2},\"replicas\":0,\"steps\":[]}",
+            b"size constants home",
+        ),
+        (
+            b"{\"sizes\":{\"Room\":2},\"constants\":{\"home\":\"\"},\"replicas\":0,\"steps\":[]}",
+            b"shape constants home",
+        ),
+        (
+            b"{\"sizes\":{\"Room\":2},\"constants\":{\"home\":1},\"replicas\":\"\",\"steps\":{}}",
+            b"shape replicas",
+        ),
+        (
+            b"{\"sizes\":{\"Room\":2},\"constants\":{\"home\":1},\"replicas\":0,\"steps\":{}}",
+            b"size replicas",
+        ),
+        (
+            b"{\"sizes\":{\"Room\":2},\"constants\":{\"home\":1},\"replicas\":-1,\"steps\":{}}",
+            b"size replicas",
+        ),
+        (
+            b"{\"sizes\":{\"Room\":2},\"constants\":{\"home\":1},\"replicas\":17,\"steps\":{}}",
+            b"size replicas",
+        ),
+    ]
+}
+
+/// Steps.
+fn of_steps() -> &'static [Refused] {
+    &[
+        (
+            b"{\"sizes\":{\"Room\":2},\"constants\":{\"home\":1},\"replicas\":16,\"steps\":{}}",
+            b"shape steps",
+        ),
+        (
+            b"{\"sizes\":{\"Room\":2},\"constants\":{\"home\":1},\"replicas\":1,\"steps\":[{}]}",
+            b"shape step 0",
+        ),
+        (
+            b"{\"sizes\":{\"Room\":2},\"constants\":{\"home\":1},\"replicas\":1,\"steps\":[{\"replica\":0,\"take\":-1}]}",
+            b"shape step 0",
+        ),
+        (
+            b"{\"sizes\":{\"Room\":2},\"constants\":{\"home\":1},\"replicas\":1,\"steps\":[{\"replica\":0,\"take\":4294967296}]}",
+            b"shape step 0",
+        ),
+        (
+            b"{\"sizes\":{\"Room\":2},\"constants\":{\"home\":1},\"replicas\":1,\"steps\":[{\"replica\":0,\"take\":0,\"args\":[]}]}",
+            b"shape step 0",
+        ),
+        (
+            b"{\"sizes\":{\"Room\":2},\"constants\":{\"home\":1},\"replicas\":1,\"steps\":[{\"replica\":0,\"take\":0},{\"replica\":0,\"call\":\"\",\"args\":[]}]}",
+            b"shape step 1",
+        ),
+        (
+            b"{\"sizes\":{\"Room\":2},\"constants\":{\"home\":1},\"replicas\":1,\"steps\":[{\"replica\":0,\"call\":\"123456789012345678901234567890123\",\"args\":[]}]}",
+            b"shape step 0",
+        ),
+        (
+            b"{\"sizes\":{\"Room\":2},\"constants\":{\"home\":1},\"replicas\":1,\"steps\":[{\"replica\":0,\"call\":\"f\",\"args\":[1.5]}]}",
+            b"shape step 0",
+        ),
+        (
+            b"{\"sizes\":{\"Room\":2},\"constants\":{\"home\":1},\"replicas\":1,\"steps\":[{\"replica\":0,\"call\":\"f\",\"args\":{}}]}",
+            b"shape step 0",
+        ),
+        (
+            b"{\"sizes\":{\"Room\":2},\"constants\":{\"home\":1},\"replicas\":1,\"steps\":[7]}",
+            b"shape step 0",
+        ),
+    ]
+}
 
 /// Whether some bytes are refused so, as a schedule of a specification of one sort with a constant.
-fn bytes_refused(alloc: Global, bytes: &[u8], line: &[u8]) -> Result<bool, AllocError> {
-    let mut text = Vec::from_slice(alloc, b"refused schedule ")?;
-    text.extend_from_slice(line)?;
-    text.push(b'\n')?;
-    let refused = ends_with(alloc, REPLAY, HOME, bytes, 4, &text);
+fn bytes_refused(rt: &impl Abort, alloc: Global, bytes: &[u8], line: &[u8]) -> bool {
+    let mut text = bytes_of(rt, alloc, b"refused schedule ");
+    add(rt, &mut text, line);
+    add(rt, &mut text, b"\n");
+    let refused = ends_with(rt, alloc, REPLAY, HOME, bytes, 4, &text);
     drop(text);
     refused
 }
 
 #[test]
 fn refuses_what_is_no_schedule(rt: HostRuntime) {
-    for it in &REFUSALS {
-        let refused = bytes_refused(rt.alloc(), it.schedule, it.line).expect(&rt, "memory");
-        assert!(rt; refused);
+    for rows in [of_tops(), of_sizes(), of_constants(), of_steps()] {
+        for (schedule, line) in rows {
+            assert!(rt; bytes_refused(&rt, rt.alloc(), schedule, line));
+        }
     }
 }
 
-/// A schedule with so many takings of the first event.
-fn takings(alloc: Global, count: usize) -> Result<Vec<u8>, AllocError> {
-    let mut text = Vec::from_slice(
-        alloc,
-        b"{\"sizes\":{\"Room\":2},\"constants\":{\"home\":1},\"replicas\":1,\"steps\":[7",
-    )?;
-    for _ in 1..count {
-        text.extend_from_slice(b",7")?;
+/// A text that repeats parts so often.
+fn repeated(
+    rt: &impl Abort,
+    alloc: Global,
+    front: &[u8],
+    part: &[u8],
+    behind: &[u8],
+    count: usize,
+) -> Vec<u8> {
+    let mut text = bytes_of(rt, alloc, front);
+    for _ in 0..count {
+        add(rt, &mut text, part);
     }
-    text.extend_from_slice(b"]}")?;
-    Ok(text)
+    for _ in 0..count {
+        add(rt, &mut text, behind);
+    }
+    text
 }
 
-/// Brackets that open and close so often.
-fn brackets(alloc: Global, depth: usize) -> Result<Vec<u8>, AllocError> {
-    let mut text = Vec::new(alloc);
-    for _ in 0..depth {
-        text.push(b'[')?;
-    }
-    for _ in 0..depth {
-        text.push(b']')?;
-    }
-    Ok(text)
+/// Whether a schedule with so many takings of the first event is refused so.
+fn takings_refused(rt: &impl Abort, alloc: Global, count: usize, line: &[u8]) -> bool {
+    let front = b"{\"sizes\":{\"Room\":2},\"constants\":{\"home\":1},\"replicas\":1,\"steps\":[7";
+    let mut text = repeated(rt, alloc, front, b",7", b"", count.saturating_sub(1));
+    add(rt, &mut text, b"]}");
+    let refused = bytes_refused(rt, alloc, &text, line);
+    drop(text);
+    refused
+}
+
+/// Whether brackets that open and close so often are refused so.
+fn brackets_refused(rt: &impl Abort, alloc: Global, depth: usize, line: &[u8]) -> bool {
+    let text = repeated(rt, alloc, b"", b"[", b"]", depth);
+    let refused = bytes_refused(rt, alloc, &text, line);
+    drop(text);
+    refused
 }
 
 #[test]
 fn refuses_what_is_too_much(rt: HostRuntime) {
-    let alloc = rt.alloc();
-    let most = takings(alloc, 10_000).expect(&rt, "memory");
-    assert!(rt; bytes_refused(alloc, &most, b"shape step 0").expect(&rt, "memory"));
-    drop(most);
-    let many = takings(alloc, 10_001).expect(&rt, "memory");
-    assert!(rt; bytes_refused(alloc, &many, b"size steps").expect(&rt, "memory"));
-    drop(many);
-    let deep = brackets(alloc, 200).expect(&rt, "memory");
-    assert!(rt; bytes_refused(alloc, &deep, b"json").expect(&rt, "memory"));
-    drop(deep);
+    assert!(rt; takings_refused(&rt, rt.alloc(), 10_000, b"shape step 0"));
+    assert!(rt; takings_refused(&rt, rt.alloc(), 10_001, b"size steps"));
+    assert!(rt; brackets_refused(&rt, rt.alloc(), 200, b"json"));
 }

@@ -46,7 +46,7 @@ const ROWS: [Row; 6] = [
 fn counts_the_verdicts(rt: HostRuntime) {
     for it in &ROWS {
         let words = &["sample", it.number];
-        let same = ends_with(rt.alloc(), words, b"", b"", it.status, it.text);
-        assert!(rt; same.expect(&rt, "memory"));
+        let same = ends_with(&rt, rt.alloc(), words, b"", b"", it.status, it.text);
+        assert!(rt; same);
     }
 }

@@ -93,7 +93,15 @@ pub const SIMULATE: &[&str] = &["simulate", "s.cise", "s.json"];
 fn prints_what_replicas_do_by_the_protocol(rt: HostRuntime) {
     for row in &ROWS {
         let (spec, schedule) = (row.spec, row.schedule);
-        let same = ends_with(rt.alloc(), SIMULATE, spec, schedule, row.status, row.text);
-        assert!(rt; same.expect(&rt, "memory"));
+        let same = ends_with(
+            &rt,
+            rt.alloc(),
+            SIMULATE,
+            spec,
+            schedule,
+            row.status,
+            row.text,
+        );
+        assert!(rt; same);
     }
 }

@@ -1,6 +1,6 @@
 // The layout that `spell` writes.
 use crate::examples::ODD;
-use crate::printing::{Case, is_printed, prints};
+use crate::printing::prints;
 use example_specs::{DEPOSITS, FLAG, PURSES, ROOMS, SETS, SHOP, TOURNAMENTS, WITHDRAWALS};
 
 /// Texts that are in the layout already.
@@ -19,21 +19,16 @@ const LAID_OUT: [&[u8]; 9] = [
 #[test]
 fn spells_what_is_laid_out_as_it_is(rt: HostRuntime) {
     for bytes in &LAID_OUT {
-        let same = prints(rt.alloc(), "spell", bytes, 0, bytes).expect(&rt, "memory");
+        let same = prints(&rt, rt.alloc(), "spell", bytes, 0, bytes);
         assert!(rt; same);
     }
 }
 
-/// A text that isn't.
-const FLAT: Case = Case {
-    command: "spell",
-    bytes: b"cise 1 relation up initially up true # flag",
-    status: 0,
-    text: b"cise 1\nrelation up\ninitially up true\n",
-};
-
+// A text that isn't.
 #[test]
 fn spells_in_the_layout(rt: HostRuntime) {
-    let same = is_printed(rt.alloc(), &FLAT).expect(&rt, "memory");
+    let flat = b"cise 1 relation up initially up true # flag";
+    let text = b"cise 1\nrelation up\ninitially up true\n";
+    let same = prints(&rt, rt.alloc(), "spell", flat, 0, text);
     assert!(rt; same);
 }

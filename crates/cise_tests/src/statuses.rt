@@ -54,6 +54,7 @@ const RUNS: [Run; 5] = [
 fn names_what_stopped_it(rt: HostRuntime) {
     for it in &RUNS {
         let same = prints_despite(
+            &rt,
             rt.alloc(),
             it.command,
             FLAG,
@@ -61,8 +62,7 @@ fn names_what_stopped_it(rt: HostRuntime) {
             it.write_fails,
             it.status,
             it.text,
-        )
-        .expect(&rt, "memory");
+        );
         assert!(rt; same);
     }
 }

@@ -71,8 +71,16 @@ pub const SUGGEST: &[&str] = &["suggest", "s.cise"];
 #[test]
 fn suggests_which_pairs_must_conflict(rt: HostRuntime) {
     for row in &ROWS {
-        let same = ends_with(rt.alloc(), SUGGEST, row.spec, b"", row.status, row.text);
-        assert!(rt; same.expect(&rt, "memory"));
+        let same = ends_with(
+            &rt,
+            rt.alloc(),
+            SUGGEST,
+            row.spec,
+            b"",
+            row.status,
+            row.text,
+        );
+        assert!(rt; same);
     }
 }
 
@@ -93,7 +101,7 @@ end
 
 #[test]
 fn leaves_a_pair_unknown(rt: HostRuntime) {
-    let ended = run_on(rt.alloc(), SUGGEST, FAR, b"").expect(&rt, "memory");
+    let ended = run_on(&rt, rt.alloc(), SUGGEST, FAR, b"");
     let last = b"\nsummary needed 0 free 2 unknown 1\nundecided\n";
     let same = ended.status == 5 && ended.text.as_slice().ends_with(last);
     drop(ended);

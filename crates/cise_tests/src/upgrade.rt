@@ -1,8 +1,10 @@
 // Reports that are upgraded, and what their verification comes to.
+use crate::check::free_tournaments;
 use crate::examples::RAISED_REPORT;
 use crate::running::{ends_with, replaced, run_on};
-use example_specs::{MANY, PURSES, RAISED, SETS, TOURNAMENTS, VAST, WITHDRAWALS};
-use std::alloc::{AllocError, Global};
+use example_specs::{MANY, PURSES, RAISED, SETS, VAST, WITHDRAWALS};
+use std::alloc::Global;
+use std::process::Abort;
 
 const CHECK: &[&str] = &["check", "s.cise"];
 
@@ -52,17 +54,19 @@ const ROWS: [Row; 3] = [
 
 #[test]
 fn drops_what_is_named_last(rt: HostRuntime) {
-    let alloc = rt.alloc();
     for (words, report, status, text) in &ROWS {
-        let same = ends_with(alloc, words, RAISED, report, *status, text);
-        assert!(rt; same.expect(&rt, "memory"));
+        let same = ends_with(&rt, rt.alloc(), words, RAISED, report, *status, text);
+        assert!(rt; same);
     }
-    let changed = replaced(alloc, RAISED_UPGRADED, b"r 6 4 1", b"r 7 4 1");
-    let changed = changed.expect(&rt, "memory");
+}
+
+#[test]
+fn upgrades_no_line_that_names_what_is_dropped(rt: HostRuntime) {
+    let changed = replaced(&rt, rt.alloc(), RAISED_UPGRADED, b"r 6 4 1", b"r 7 4 1");
     let refused = b"refused report line 14 dropped\n";
-    let same = ends_with(alloc, UPGRADE, RAISED, &changed, 4, refused);
+    let same = ends_with(&rt, rt.alloc(), UPGRADE, RAISED, &changed, 4, refused);
     drop(changed);
-    assert!(rt; same.expect(&rt, "memory"));
+    assert!(rt; same);
 }
 
 /// The words of a check, a specification, and the status that its report is upgraded and verified with.
@@ -77,40 +81,54 @@ const CASES: [Case; 6] = [
     (CHECK, MANY, 5),
 ];
 
-/// Whether the report of a check is upgraded with its status, the upgraded one is upgraded already, and both are verified alike.
-fn is_upgraded(alloc: Global, words: &[&str], spec: &[u8], status: u8) -> Result<bool, AllocError> {
-    let first = run_on(alloc, words, spec, b"")?;
-    let second = run_on(alloc, UPGRADE, spec, &first.text)?;
-    let verified = run_on(alloc, VERIFY, spec, &first.text)?;
-    let ended = first.status == status
-        && second.status == status
+/// Whether a report is upgraded already, and verified with this status and text.
+fn is_upgraded_already(
+    rt: &impl Abort,
+    alloc: Global,
+    spec: &[u8],
+    report: &[u8],
+    status: u8,
+    verified: &[u8],
+) -> bool {
+    report.starts_with(b"cise report 2\n")
+        && ends_with(rt, alloc, UPGRADE, spec, report, status, report)
+        && ends_with(rt, alloc, VERIFY, spec, report, status, verified)
+}
+
+/// Whether a report is upgraded with this status, the upgraded one is upgraded already, and both are verified alike.
+fn is_upgraded(rt: &impl Abort, alloc: Global, spec: &[u8], report: &[u8], status: u8) -> bool {
+    let upgraded = run_on(rt, alloc, UPGRADE, spec, report);
+    let verified = run_on(rt, alloc, VERIFY, spec, report);
+    let (text, counts) = (&upgraded.text, &verified.text);
+    let same = upgraded.status == status
         && verified.status == status
-        && second.text.starts_with(b"cise report 2\n");
-    let again = ends_with(alloc, UPGRADE, spec, &second.text, status, &second.text);
-    let alike = ends_with(alloc, VERIFY, spec, &second.text, status, &verified.text);
-    drop(first);
-    drop(second);
+        && is_upgraded_already(rt, alloc, spec, text, status, counts);
+    drop(upgraded);
     drop(verified);
-    Ok(ended && again? && alike?)
+    same
+}
+
+/// Whether the report of a check is upgraded with the check's status.
+fn keeps(rt: &impl Abort, alloc: Global, words: &[&str], spec: &[u8], status: u8) -> bool {
+    let checked = run_on(rt, alloc, words, spec, b"");
+    let same = checked.status == status && is_upgraded(rt, alloc, spec, &checked.text, status);
+    drop(checked);
+    same
 }
 
 #[test]
 fn keeps_the_status(rt: HostRuntime) {
-    let alloc = rt.alloc();
     for (words, spec, status) in &CASES {
-        let upgraded = is_upgraded(alloc, words, spec, *status);
-        assert!(rt; upgraded.expect(&rt, "memory"));
+        assert!(rt; keeps(&rt, rt.alloc(), words, spec, *status));
     }
-    let free = replaced(
-        alloc,
-        TOURNAMENTS,
-        b"conflict entry ( p , t ) event ( t )\n",
-        b"",
-    );
-    let free = free.expect(&rt, "memory");
-    let upgraded = is_upgraded(alloc, CHECK_LONG, &free, 1);
+}
+
+#[test]
+fn keeps_the_status_of_tournaments(rt: HostRuntime) {
+    let free = free_tournaments(&rt, rt.alloc());
+    let kept = keeps(&rt, rt.alloc(), CHECK_LONG, &free, 1);
     drop(free);
-    assert!(rt; upgraded.expect(&rt, "memory"));
+    assert!(rt; kept);
 }
 
 /// A report that doesn't stand, and what is said of it.
@@ -126,7 +144,7 @@ const REFUSED: [(&[u8], &[u8]); 3] = [
 #[test]
 fn writes_nothing_of_another(rt: HostRuntime) {
     for (report, text) in &REFUSED {
-        let same = ends_with(rt.alloc(), UPGRADE, RAISED, report, 4, text);
-        assert!(rt; same.expect(&rt, "memory"));
+        let same = ends_with(&rt, rt.alloc(), UPGRADE, RAISED, report, 4, text);
+        assert!(rt; same);
     }
 }

@@ -2,7 +2,8 @@
 use crate::examples::RAISED_REPORT;
 use crate::running::{ends_with, replaced, run_on};
 use example_specs::{FLAG, NO_FLAG, PURSES, RAISED};
-use std::alloc::{AllocError, Global};
+use std::alloc::Global;
+use std::process::Abort;
 
 const VERIFY: &[&str] = &["verify", "s.cise", "s.report"];
 
@@ -65,8 +66,16 @@ const ROWS: [Row; 6] = [
 #[test]
 fn verifies_reports(rt: HostRuntime) {
     for it in &ROWS {
-        let same = ends_with(rt.alloc(), VERIFY, it.spec, it.report, it.status, it.text);
-        assert!(rt; same.expect(&rt, "memory"));
+        let same = ends_with(
+            &rt,
+            rt.alloc(),
+            VERIFY,
+            it.spec,
+            it.report,
+            it.status,
+            it.text,
+        );
+        assert!(rt; same);
     }
 }
 
@@ -126,56 +135,49 @@ const CHANGES: [Change; 9] = [
     },
 ];
 
-/// Whether a change of the report is refused so.
-fn is_refused(alloc: Global, change: &Change) -> Result<bool, AllocError> {
-    let report = replaced(alloc, RAISED_REPORT, change.old, change.new)?;
-    let same = ends_with(alloc, VERIFY, RAISED, &report, 4, change.said);
-    drop(report);
+/// Whether a report of such a specification is refused so where it is changed.
+fn is_refused(rt: &impl Abort, alloc: Global, spec: &[u8], report: &[u8], change: &Change) -> bool {
+    let changed = replaced(rt, alloc, report, change.old, change.new);
+    let same = ends_with(rt, alloc, VERIFY, spec, &changed, 4, change.said);
+    drop(changed);
     same
 }
 
 #[test]
 fn names_the_line_and_the_rule(rt: HostRuntime) {
     for change in &CHANGES {
-        let refused = is_refused(rt.alloc(), change).expect(&rt, "memory");
-        assert!(rt; refused);
+        assert!(rt; is_refused(&rt, rt.alloc(), RAISED, RAISED_REPORT, change));
     }
 }
 
-/// What is said of the report that `check` writes for the bank with tokens, where the first multiplier of its first log line is -1 in
-/// place of 1. The heading has three lines and the first block two; the second block has its own two, and then its log.
-const OF_MINUS_ONE: &[u8] = b"refused report line 8 multiplier\n";
-
-/// Whether the report that `check` writes for the bank is refused with that multiplier. Its first log line draws from four literals, in
-/// three steps, of which the first one takes row 2 once.
-fn refuses_a_negative_one(alloc: Global) -> Result<bool, AllocError> {
-    let checked = run_on(alloc, &["check", "s.cise"], PURSES, b"")?;
-    let changed = replaced(
-        alloc,
-        &checked.text,
-        b"\nf 4 -3 +2 +1 +6 3 2 1 ",
-        b"\nf 4 -3 +2 +1 +6 3 2 -1 ",
-    );
-    drop(checked);
-    let changed = changed?;
-    let same = ends_with(alloc, VERIFY, PURSES, &changed, 4, OF_MINUS_ONE);
-    drop(changed);
-    same
-}
+/// A change of the report that `check` writes for the bank with tokens: the first multiplier of its first log line is -1 in place of 1.
+/// That line draws from four literals, in three steps, of which the first one takes row 2 once. The heading has three lines and the first
+/// block two; the second block has its own two, and then its log.
+const MINUS_ONE: Change = Change {
+    old: b"\nf 4 -3 +2 +1 +6 3 2 1 ",
+    new: b"\nf 4 -3 +2 +1 +6 3 2 -1 ",
+    said: b"refused report line 8 multiplier\n",
+};
 
 #[test]
 fn refuses_a_negative_multiplier(rt: HostRuntime) {
-    let refused = refuses_a_negative_one(rt.alloc()).expect(&rt, "memory");
+    let checked = run_on(&rt, rt.alloc(), &["check", "s.cise"], PURSES, b"");
+    let refused = is_refused(&rt, rt.alloc(), PURSES, &checked.text, &MINUS_ONE);
+    drop(checked);
     assert!(rt; refused);
+}
+
+/// Whether a report is refused.
+fn is_no_report(rt: &impl Abort, alloc: Global, report: &[u8]) -> bool {
+    let ended = run_on(rt, alloc, VERIFY, FLAG, report);
+    let refused = ended.status == 4 && ended.text.starts_with(b"refused report line ");
+    drop(ended);
+    refused
 }
 
 #[test]
 fn refuses_a_report_that_is_cut(rt: HostRuntime) {
-    let alloc = rt.alloc();
     for count in 0..FLAG_REPORT.len() {
-        let ended = run_on(alloc, VERIFY, FLAG, &FLAG_REPORT[..count]).expect(&rt, "memory");
-        let refused = ended.status == 4 && ended.text.starts_with(b"refused report line ");
-        drop(ended);
-        assert!(rt; refused);
+        assert!(rt; is_no_report(&rt, rt.alloc(), &FLAG_REPORT[..count]));
     }
 }
