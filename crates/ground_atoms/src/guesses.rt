@@ -1,7 +1,7 @@
 // Guesses of the numbers of atoms. Nothing is promised of them: who takes one tests it.
 //
 // A guess stands in a slot, which atoms share: it is the number of the atom that was looked up last for that slot. An obligation names
-// few hundred atoms, and asks for most of them many times, so that nearly all guesses are right.
+// a few hundred atoms, and asks for most of them many times, so that nearly all guesses are right.
 
 use crate::atom::Atom;
 use std::alloc::Global;
