@@ -5,12 +5,20 @@ Run at the top of the repository, once `./cise` has built the program, with `z3`
 
     checks/z3.py examples/bank/refuted.cise examples/bank/accepted.cise 12
 
+    checks/z3.py --table [FILE..]
+
+The second prints a table of processor seconds, of one run for a whole specification, where Z3 is the fastest in comparison first: of all
+specifications of examples/ and cases/ and of the one that `sample 12` checks, or of those that are given. The checker and Z3 take turns, and
+of some runs the least counts. Where Z3 takes more than 20 seconds, the specification is left out and named.
+
 A word that is a number N stands for the specification that `sample N` checks. Each obligation becomes one SMT-LIB problem,
 which can be satisfied where something breaks the obligation as docs/RULE.md says: sorts are uninterpreted sorts, relations predicates,
 counters functions to the integers, quantifiers stand as they are, and what is read after a call is a defined function of what was read
 before it. z3 gets all problems of a specification in one run, and then each in a run of its own. This isn't part of any proof. A sort of
 z3 is never empty, so what breaks only with an empty sort isn't found.
 """
+import glob
+import math
 import os
 import re
 import resource
@@ -189,10 +197,10 @@ class Problems:
             yield name, "\n".join(["(push)", *self.lines, "(check-sat)", "(pop)", ""])
 
 
-def run(words, text=None):
-    """What a program writes, and the processor time that it takes."""
+def run(words, text=None, seconds=None):
+    """What a program writes, and the processor time that it takes. It is stopped after some seconds, where they are given."""
     before = resource.getrusage(resource.RUSAGE_CHILDREN)
-    done = subprocess.run(words, input=text, capture_output=True, text=True)
+    done = subprocess.run(words, input=text, capture_output=True, text=True, timeout=seconds)
     after = resource.getrusage(resource.RUSAGE_CHILDREN)
     return done.stdout, after.ru_utime - before.ru_utime + after.ru_stime - before.ru_stime
 
@@ -226,6 +234,58 @@ def compare(title, text):
     return alike and not any({mine, other} == {"proved", "refuted"} for _, mine, other in pairs)
 
 
+def least(text, runs):
+    """The least processor seconds of the checker and of Z3 for a specification, and how many obligations it has; no seconds of Z3 where
+    they are too many."""
+    problems = list(Problems(Spec(text)).all())
+    theirs = "".join(problem for _, problem in problems)
+    mine, others = [], []
+    with tempfile.NamedTemporaryFile("w", suffix=".cise") as spec:
+        spec.write(text)
+        spec.flush()
+        try:
+            for _ in range(runs):
+                mine.append(run([program.path, "check", spec.name])[1])
+                others.append(run(["z3", "-in"], theirs, MOST_SECONDS)[1])
+        except subprocess.TimeoutExpired:
+            return len(problems), min(mine), None
+    return len(problems), min(mine), min(others)
+
+
+def mean(ratios):
+    return math.exp(sum(map(math.log, ratios)) / len(ratios))
+
+
+def table(words):
+    """Prints the table of these specifications, or of all."""
+    words = words or sorted([*glob.glob("examples/**/*.cise", recursive=True), *glob.glob("cases/**/*.cise", recursive=True)]) + ["12"]
+    rows, slow = [], []
+    for word in words:
+        count, mine, other = least(sample(int(word)) if word.isdigit() else text_of(word), RUNS)
+        name = f"sample {word}" if word.isdigit() else word
+        if other is None:
+            slow.append(f"`{name}` ({mine:.3f})")
+        else:
+            rows.append((other / mine, name, count, mine, other))
+    start = min(run(["z3", "-in"], "")[1] for _ in range(RUNS))
+    own_start = min(run([program.path])[1] for _ in range(RUNS))
+    print("| File | Obligations | Checker, seconds | Z3, seconds | Ratio |\n|---|---|---|---|---|")
+    for ratio, name, count, mine, other in sorted(rows):
+        print(f"| `{name}` | {count:,} | {mine:.3f} | {other:.3f} | {ratio:.1f} |")
+    net = [max(other - start, 0.001) / max(mine - own_start, 0.001) for _, _, _, mine, other in rows]
+    print(f"\nZ3 is faster on {sum(ratio < 1 for ratio, *_ in rows)} of {len(rows)}. Geometric mean {mean([row[0] for row in rows]):.1f}, and {mean(net):.1f} without")
+    print(f"the starts of both, {own_start:.4f} and {start:.4f} seconds (what is left of a run counts as a thousandth at least).")
+    print("Left out, with the seconds of the checker:", ", ".join(slow) or "none")
+
+
+# How often the checker and Z3 run for a table, and after how many seconds Z3 is stopped.
+RUNS = 5
+MOST_SECONDS = 20
+
+
 if __name__ == "__main__":
+    if sys.argv[1:2] == ["--table"]:
+        table(sys.argv[2:])
+        sys.exit(0)
     GIVEN = [(word, sample(int(word)) if word.isdigit() else text_of(word)) for word in sys.argv[1:]]
     sys.exit(0 if all([compare(*given) for given in GIVEN]) else 1)
