@@ -8,6 +8,7 @@ use crate::{Failed, Source};
 pub struct EndlessSource;
 
 impl EndlessSource {
+    /// A source without end.
     pub fn new() -> EndlessSource {
         EndlessSource
     }

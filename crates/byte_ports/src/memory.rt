@@ -37,7 +37,13 @@ impl MemSource {
     /// `fail_at` fail.
     pub fn new(bytes: Vec<u8>, piece: usize, fail_at: Vec<u32>) -> MemSource
         requires { 0 < piece }
-        ensures { result ≡ record { left = bytes.items; piece = piece; fail_at = fail_at.items; calls = 0; faults = 0 } }
+        ensures { result ≡ record {
+          left = bytes.items;
+          piece = piece;
+          fail_at = fail_at.items;
+          calls = 0;
+          faults = 0;
+        } }
     {
         MemSource {
             bytes,
@@ -66,7 +72,8 @@ impl Source for MemSource {
         ensures failed { OnErr result (IsFault self.old.faults self.new.faults) }
         ensures never_falls { self.old.faults ≤ self.new.faults }
         ensures counted { self.new.calls ≤ self.old.calls + 1 }
-        ensures answer { result ≡ (if read_fails self.old then Err failure else Ok (read_count self.old (length buf.old))) }
+        ensures answer { result ≡ (if read_fails self.old then Err failure
+            else Ok (read_count self.old (length buf.old))) }
         ensures after { self.new ≡ after_read self.old (length buf.old) }
     {
         let fails = stands_in(self.calls, self.fail_at.as_slice());
@@ -152,7 +159,8 @@ impl Sink for MemSink {
         ensures failed { OnErr result (IsFault self.old.faults self.new.faults) }
         ensures never_falls { self.old.faults ≤ self.new.faults }
         ensures counted { self.new.calls ≤ self.old.calls + 1 }
-        ensures answer { result ≡ (if write_fails self.old then Err failure else Ok (write_count self.old (length piece.now))) }
+        ensures answer { result ≡ (if write_fails self.old then Err failure
+            else Ok (write_count self.old (length piece.now))) }
         ensures after { self.new ≡ after_write self.old piece.now }
     {
         let fails = stands_in(self.calls, self.fail_at.as_slice()) || self.room <= self.bytes.len();

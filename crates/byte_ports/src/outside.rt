@@ -100,6 +100,7 @@ impl<W: Write> Model for StdSink<W> {
 }
 
 impl<W: Write> StdSink<W> {
+    /// A sink over a writer, none of whose writes has failed yet.
     pub fn new(writer: W) -> StdSink<W>
         ensures { result ≡ 0 }
     {

@@ -56,8 +56,10 @@ pub fn read_up_to<S: Source>(
     ensures ok { IfOk result (λ v. IfSome (S.left src.old) (λ bytes. v.items ≡ bytes)) }
     ensures end { OnOk result (IsAtEnd (S.left src.new)) }
     ensures within { IfOk result (λ v. vec_len v ≤ limit) }
-    ensures too_long { IsErrOf result ReadRefused.TooLong → IfSome (S.left src.old) (λ bytes. limit < length bytes) }
-    ensures fault { IsErrOf result ReadRefused.Fault → IsFault (S.faults src.old) (S.faults src.new) }
+    ensures too_long { IsErrOf result ReadRefused.TooLong
+        → IfSome (S.left src.old) (λ bytes. limit < length bytes) }
+    ensures fault { IsErrOf result ReadRefused.Fault
+        → IsFault (S.faults src.old) (S.faults src.new) }
     ensures given_up { (given : List ℕ) × Consumes (S.left src.old) (S.left src.new) given }
     ensures never_falls { S.faults src.old ≤ S.faults src.new }
     ensures reads { S.reads src.new ≤ S.reads src.old + limit + 1 }

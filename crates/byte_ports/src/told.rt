@@ -46,7 +46,8 @@ pub fn answer_source<S: Source, F: Fn(&[u8]) -> Result<Answer, AllocError>>(
     ensures ok { IfOk result
         (λ answer. IsAnswerFrom (S.left source.old) most long.now (FnReturnsAt F.Fn job)
         answer.status answer.text.items) }
-    ensures fault { IsErrOf result Stopped.Fault → IsFault (S.faults source.old) (S.faults source.new) }
+    ensures fault { IsErrOf result Stopped.Fault
+        → IsFault (S.faults source.old) (S.faults source.new) }
     ensures end { OnOk result (IsReadWithin most (S.left source.old) (S.left source.new)) }
 {
     match read_up_to(alloc, source, most) {

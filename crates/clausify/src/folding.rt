@@ -52,8 +52,10 @@ fn fold_any(alloc: Global, left: Folded, right: Folded) -> Result<Folded, AllocE
 fn fold(alloc: Global, all: bool, left: Folded, right: Folded) -> Result<Folded, AllocError>
     requires left { is_bare_if_unsettled left ≡ true }
     requires right { is_bare_if_unsettled right ≡ true }
-    ensures all { all ≡ true → IfOk result (λ f. folded_of f ≡ fold_all (folded_of left) (folded_of right)) }
-    ensures any { all ≡ false → IfOk result (λ f. folded_of f ≡ fold_any (folded_of left) (folded_of right)) }
+    ensures all { all ≡ true → IfOk result (λ f. folded_of f
+        ≡ fold_all (folded_of left) (folded_of right)) }
+    ensures any { all ≡ false → IfOk result (λ f. folded_of f
+        ≡ fold_any (folded_of left) (folded_of right)) }
     ensures bare { IfOk result (λ f. is_bare_if_unsettled f ≡ true) }
 {
     if all {

@@ -68,7 +68,8 @@ fn write_formula(
     form: &GroundFormula,
     out: &mut Items<Clause>,
 ) -> Result<u32, AllocError>
-    ensures made { OnOk result (out.new ≡ out.old ++ clauses_of next (folded true (form_of form.now))) }
+    ensures made { OnOk result (out.new ≡ out.old
+        ++ clauses_of next (folded true (form_of form.now))) }
     ensures next { IfOk result (λ n. n ≡ next + names_of (folded true (form_of form.now))) }
 {
     if is_bare(form) {

@@ -65,8 +65,10 @@ pub fn problem_of(
     atoms: &Atoms,
     formulas: &[GroundFormula],
 ) -> Result<Problem, AllocError>
-    requires named { list_all (is_below (length atoms.now.table.atoms)) (map form_of formulas.now) ≡ true }
-    requires placed { list_all (names_below (length atoms.now.table.ints)) (map kind_of atoms.now.table.atoms) ≡ true }
+    requires named { list_all (is_below (length atoms.now.table.atoms)) (map form_of formulas.now)
+        ≡ true }
+    requires placed { list_all (names_below (length atoms.now.table.ints))
+        (map kind_of atoms.now.table.atoms) ≡ true }
     ensures { IfOk result (λ p. p ≡ problem atoms.now.table (map form_of formulas.now)) }
 {
     let kinds = kinds_of(alloc, atoms)?;

@@ -32,7 +32,8 @@ fn add_literals(
     clause: &mut Clause,
 ) -> Result<u32, AllocError>
     requires { is_bare (form_of form.now) ≡ true }
-    ensures made { OnOk result (clause.new ≡ join clause.old (literals name (normal sign (form_of form.now)))) }
+    ensures made { OnOk result (clause.new ≡ join clause.old
+        (literals name (normal sign (form_of form.now)))) }
     ensures next { IfOk result (λ n. n ≡ name + names (normal sign (form_of form.now))) }
 {
     match form {
@@ -97,7 +98,8 @@ fn write_clause(
     out: &mut Items<Clause>,
 ) -> Result<u32, AllocError>
     requires { is_bare (form_of form.now) ≡ true }
-    ensures made { OnOk result (out.new ≡ out.old ++ clause_of front name (normal sign (form_of form.now)) ∷ []) }
+    ensures made { OnOk result (out.new ≡ out.old
+        ++ clause_of front name (normal sign (form_of form.now)) ∷ []) }
     ensures next { IfOk result (λ n. n ≡ name + names (normal sign (form_of form.now))) }
 {
     let mut clause = clause_after(alloc, front)?;
@@ -141,7 +143,8 @@ pub fn write_whole(
     out: &mut Items<Clause>,
 ) -> Result<u32, AllocError>
     requires { is_bare (form_of form.now) ≡ true }
-    ensures made { OnOk result (out.new ≡ out.old ++ written (whole front) next (normal sign (form_of form.now))) }
+    ensures made { OnOk result (out.new ≡ out.old
+        ++ written (whole front) next (normal sign (form_of form.now))) }
     ensures next { IfOk result (λ n. n ≡ next + new_names (normal sign (form_of form.now))) }
 {
     match form {
@@ -196,9 +199,11 @@ fn write_parts(
     out: &mut Items<Clause>,
 ) -> Result<Naming, AllocError>
     requires { is_bare (form_of form.now) ≡ true }
-    ensures made { OnOk result (out.new ≡ out.old ++ written (parts at.name) at.next (normal sign (form_of form.now))) }
+    ensures made { OnOk result (out.new ≡ out.old
+        ++ written (parts at.name) at.next (normal sign (form_of form.now))) }
     ensures name { IfOk result (λ r. r.name ≡ at.name + names (normal sign (form_of form.now))) }
-    ensures next { IfOk result (λ r. r.next ≡ at.next + inner_names (normal sign (form_of form.now))) }
+    ensures next { IfOk result (λ r. r.next ≡ at.next
+        + inner_names (normal sign (form_of form.now))) }
 {
     match form {
         GroundFormula::Truth(_) => unreachable!(),

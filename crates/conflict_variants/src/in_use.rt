@@ -69,7 +69,8 @@ fn names_a_param(params: &[Param], name: &[u8]) -> bool
 }
 
 fn names_any_param(spec: &Spec, name: &[u8]) -> bool
-    ensures { result ≡ list_any (λ o. list_any (λ p. bytes_eq name.now p.name) o.params) spec.now.operations }
+    ensures { result ≡ list_any (λ o. list_any
+        (λ p. bytes_eq name.now p.name) o.params) spec.now.operations }
 {
     spec.operations.as_slice().iter().any(|operation| names_a_param(
         operation.params.as_slice(),

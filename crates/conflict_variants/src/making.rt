@@ -88,7 +88,8 @@ fn two_tokens(
     second: &Name,
     sort: u8,
 ) -> Result<Items<Token>, AllocError>
-    ensures { IfOk result (λ tokens. tokens ≡ token_of first.now sort ∷ token_of second.now sort ∷ []) }
+    ensures { IfOk result (λ tokens. tokens ≡ token_of first.now sort ∷ token_of second.now sort
+        ∷ []) }
 {
     let mut tokens = Items::new(alloc);
     tokens.push(keyed_token(alloc, first, sort)?)?;
@@ -109,7 +110,8 @@ fn first_tokens(alloc: Global, names: &[Name], sort: u8) -> Result<Items<Token>,
 }
 
 fn keyed_tokens(alloc: Global, spec: &Spec, sort: u8) -> Result<Items<Token>, AllocError>
-    ensures { IfOk result (λ tokens. tokens ≡ token_of (first_name spec.now) sort ∷ token_of (second_name spec.now) sort ∷ []) }
+    ensures { IfOk result (λ tokens. tokens ≡ token_of (first_name spec.now) sort
+        ∷ token_of (second_name spec.now) sort ∷ []) }
 {
     let names = unused_names(alloc, spec)?;
     let tokens = or_drop!(first_tokens(alloc, names.as_slice(), sort); names);
@@ -173,14 +175,16 @@ fn keyed_operation(
     key: Key,
     number: usize,
 ) -> Result<Operation, AllocError>
-    ensures { IfOk result (λ copy. copy ≡ with_takes operation.now (takes_of key.first key.p key.second key.q number)) }
+    ensures { IfOk result (λ copy. copy ≡ with_takes operation.now
+        (takes_of key.first key.p key.second key.q number)) }
 {
     let takes = keyed_takes(alloc, key, number)?;
     copy_with_takes(alloc, operation, takes)
 }
 
 fn keyed_operations(alloc: Global, spec: &Spec, key: Key) -> Result<Items<Operation>, AllocError>
-    ensures { IfOk result (λ copies. copies ≡ keyed_from key.first key.p key.second key.q 0 spec.now.operations) }
+    ensures { IfOk result
+        (λ copies. copies ≡ keyed_from key.first key.p key.second key.q 0 spec.now.operations) }
 {
     let mut copies = Items::new(alloc);
     for (number, operation) in spec.operations.as_slice().iter().enumerate() {

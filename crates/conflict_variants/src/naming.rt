@@ -22,7 +22,8 @@ fn token_name(alloc: Global, number: u8) -> Result<Name, AllocError>
 
 // Adds a name at the end, where it isn't in use.
 fn add_unused(spec: &Spec, names: &mut Items<Name>, name: Name) -> Result<(), AllocError>
-    ensures { OnOk result (names.new ≡ names.old ++ filter (λ n. not (is_in n (names_in_use spec.now))) (name ∷ [])) }
+    ensures { OnOk result (names.new ≡ names.old
+        ++ filter (λ n. not (is_in n (names_in_use spec.now))) (name ∷ [])) }
 {
     if is_in_use(spec, name.bytes()) {
         return Ok(());

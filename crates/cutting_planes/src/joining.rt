@@ -12,7 +12,7 @@ const MOST_AT_ONCE: u32 = 10;
 /// How far names may go.
 const FARTHEST: i128 = 1_000_000_000_000_000;
 
-// The sum of a row's terms.
+/// The sum of a row's terms.
 pub fn sum_at(row: &Row, values: &[i128]) -> Option<i128> {
     let mut sum = 0i128;
     for term in row.terms() {
@@ -98,7 +98,7 @@ fn worst(list: &[Broken]) -> Option<usize> {
     found
 }
 
-// A row of the derivation joins the tableau.
+/// A row of the derivation joins the tableau.
 pub fn join(
     tableau: &mut Tableau,
     alloc: Global,

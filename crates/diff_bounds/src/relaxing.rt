@@ -78,7 +78,8 @@ fn relax(walks: &mut Walks, edges: &[Edge], number: u32) -> Result<bool, AllocEr
     requires near { AreNear walks.old.ints edges.now }
     requires short { AreShortNow walks.old }
     requires number { number < length edges.now }
-    ensures { IfOk result (λ long. AreRelaxed edges.now number (number + 1) walks.old walks.new long) }
+    ensures { IfOk result (λ long. AreRelaxed edges.now number
+        (number + 1) walks.old walks.new long) }
 {
     let Some(visit) = next_visit(walks, edges, number) else {
         return Ok(false);

@@ -26,6 +26,7 @@ const ROW_LIMIT: usize = 2147483648;
 pub struct DiffBounds;
 
 impl DiffBounds {
+    /// The solver. It keeps nothing between questions.
     pub fn new() -> DiffBounds {
         DiffBounds
     }

@@ -22,7 +22,8 @@ fn difference(a: &i128, b: &i128) -> i128
 /// The values of the integer names.
 pub fn values_of(alloc: Global, walks: &Walks, edges: &[Edge]) -> Result<Items<i128>, AllocError>
     requires { AreKept edges.now walks.now }
-    ensures { IfOk result (λ values. AreValues walks.now.ints walks.now.visits.items walks.now.latest.items values) }
+    ensures { IfOk result
+        (λ values. AreValues walks.now.ints walks.now.visits.items walks.now.latest.items values) }
 {
     let zero = walks.now_at(walks.ints as usize);
     let mut values = Items::new(alloc);

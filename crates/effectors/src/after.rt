@@ -50,7 +50,8 @@ pub fn post_has(
     requires world { world_fits spec.now world.now ≡ true }
     requires state { is_state spec.now world.now state.now ≡ true }
     requires call { call_fits spec.now world.now call.now ≡ true }
-    ensures { result ≡ (after spec.now world.now call.now (reads state.now)).has relation tuple.now }
+    ensures { result ≡ (after spec.now world.now call.now
+        (reads state.now)).has relation tuple.now }
 {
     has_after_call(spec, world, state, call, relation, tuple)
 }
@@ -86,7 +87,8 @@ pub fn post2_has(
     requires state { is_state spec.now world.now state.now ≡ true }
     requires first { call_fits spec.now world.now first.now ≡ true }
     requires second { call_fits spec.now world.now second.now ≡ true }
-    ensures { result ≡ (after spec.now world.now second.now (after spec.now world.now first.now (reads state.now))).has relation tuple.now }
+    ensures { result ≡ (after spec.now world.now second.now
+        (after spec.now world.now first.now (reads state.now))).has relation tuple.now }
 {
     let between = After {
         spec,
@@ -111,7 +113,8 @@ pub fn post2_count(
     requires state { is_state spec.now world.now state.now ≡ true }
     requires first { call_fits spec.now world.now first.now ≡ true }
     requires second { call_fits spec.now world.now second.now ≡ true }
-    ensures { result ≡ (after spec.now world.now second.now (after spec.now world.now first.now (reads state.now))).count counter key.now }
+    ensures { result ≡ (after spec.now world.now second.now
+        (after spec.now world.now first.now (reads state.now))).count counter key.now }
 {
     let between = After {
         spec,

@@ -58,7 +58,14 @@ fn first_outside_in(
 ) -> Result<Option<Outside>, AllocError>
     requires world { world_fits spec.now world.now ≡ true }
     requires call { call_fits spec.now world.now call.now ≡ true }
-    ensures { IfOk result (λ o. (rest : List (List (List ℕ × ℤ))) → first_beyond counter (map (λ t. (t, count_after world.now (reads state.now) call.now.args counter t (op_of spec.now call.now.op).updates ((reads state.now).count counter t))) keys.now ∷ rest) ≡ outside_or counter o (first_beyond (suc counter) rest)) }
+    ensures { IfOk result (λ o. (rest : List (List (List ℕ × ℤ)))
+        → first_beyond counter (map (λ t. (
+          t,
+          count_after world.now
+              (reads state.now) call.now.args counter t (op_of spec.now call.now.op).updates
+              ((reads state.now).count counter t),
+        )) keys.now ∷ rest)
+        ≡ outside_or counter o (first_beyond (suc counter) rest)) }
 {
     for key in keys {
         let value = count_updated(spec, world, state, call, counter, key.as_slice());
@@ -83,7 +90,13 @@ fn first_outside(
     requires world { world_fits spec.now world.now ≡ true }
     requires call { call_fits spec.now world.now call.now ≡ true }
     requires few { counter + length counters.now ≤ 8 }
-    ensures { IfOk result (λ o. refused_by o (first_beyond counter (numbered (λ k it. map (λ t. (t, count_after world.now (reads state.now) call.now.args k t (op_of spec.now call.now.op).updates ((reads state.now).count k t))) (tuples world.now it.keys)) counter counters.now))) }
+    ensures { IfOk result (λ o. refused_by o (first_beyond counter
+        (numbered (λ k it. map (λ t. (
+          t,
+          count_after world.now (reads state.now) call.now.args k t
+              (op_of spec.now call.now.op).updates ((reads state.now).count k t),
+        ))
+        (tuples world.now it.keys)) counter counters.now))) }
 {
     match counters {
         [] => Ok(None),
@@ -101,7 +114,7 @@ fn first_outside(
     }
 }
 
-// Why no state comes after a call that leaves a value out of range.
+/// Why no state comes after a call that leaves a value out of range.
 pub fn why_refused(
     alloc: Global,
     spec: &Spec,
@@ -111,8 +124,10 @@ pub fn why_refused(
 ) -> ApplyRefused
     requires world { world_fits spec.now world.now ≡ true }
     requires call { call_fits spec.now world.now call.now ≡ true }
-    requires outside { first_beyond 0 (after_call spec.now world.now call.now (reads state.now)).counters ≢ None }
-    ensures { (b : Beyond) → result ≡ ApplyRefused.Range b.counter b.key b.value → IsFirstBeyond (after_call spec.now world.now call.now (reads state.now)) b }
+    requires outside { first_beyond 0 (after_call spec.now world.now call.now
+        (reads state.now)).counters ≢ None }
+    ensures { (b : Beyond) → result ≡ ApplyRefused.Range b.counter b.key b.value
+        → IsFirstBeyond (after_call spec.now world.now call.now (reads state.now)) b }
 {
     spec.well_formed();
     match first_outside(alloc, spec, world, state, call, 0, spec.counters.as_slice()) {
@@ -134,10 +149,13 @@ pub fn apply(
     requires world { world_fits spec.now world.now ≡ true }
     requires state { is_state spec.now world.now state.now ≡ true }
     requires call { call_fits spec.now world.now call.now ≡ true }
-    ensures reads { IfOk result (λ s. reads s ≡ after spec.now world.now call.now (reads state.now)) }
+    ensures reads { IfOk result (λ s. reads s
+        ≡ after spec.now world.now call.now (reads state.now)) }
     ensures fits { IfOk result (λ s. is_state spec.now world.now s ≡ true) }
-    ensures in_range { OnOk result (AllInRange (after_call spec.now world.now call.now (reads state.now))) }
-    ensures range { (b : Beyond) → result ≡ Err (ApplyRefused.Range b.counter b.key b.value) → IsFirstBeyond (after_call spec.now world.now call.now (reads state.now)) b }
+    ensures in_range { OnOk result (AllInRange
+        (after_call spec.now world.now call.now (reads state.now))) }
+    ensures range { (b : Beyond) → result ≡ Err (ApplyRefused.Range b.counter b.key b.value)
+        → IsFirstBeyond (after_call spec.now world.now call.now (reads state.now)) b }
 {
     apply_over(alloc, spec, world, state, None, call)
 }

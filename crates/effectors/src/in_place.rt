@@ -47,10 +47,13 @@ pub fn apply_over(
     requires state { is_state spec.now world.now state.now ≡ true }
     requires call { call_fits spec.now world.now call.now ≡ true }
     requires spare { IsSpare spec.now world.now state.now spare }
-    ensures reads { IfOk result (λ s. reads s ≡ after spec.now world.now call.now (reads state.now)) }
+    ensures reads { IfOk result (λ s. reads s
+        ≡ after spec.now world.now call.now (reads state.now)) }
     ensures fits { IfOk result (λ s. is_state spec.now world.now s ≡ true) }
-    ensures in_range { OnOk result (AllInRange (after_call spec.now world.now call.now (reads state.now))) }
-    ensures range { (b : Beyond) → result ≡ Err (ApplyRefused.Range b.counter b.key b.value) → IsFirstBeyond (after_call spec.now world.now call.now (reads state.now)) b }
+    ensures in_range { OnOk result (AllInRange
+        (after_call spec.now world.now call.now (reads state.now))) }
+    ensures range { (b : Beyond) → result ≡ Err (ApplyRefused.Range b.counter b.key b.value)
+        → IsFirstBeyond (after_call spec.now world.now call.now (reads state.now)) b }
 {
     spec.well_formed();
     state.stays_in_range();

@@ -12,11 +12,14 @@ ghost use Rattle.effectors.specs.Beyond.{Beyond, AllInRange, IsFirstBeyond, firs
 
 /// The state after a call depends on the readings at fitting tuples and keys alone.
 pub fn law_effects_that_agree()
-    ensures { (d : Specification) (w : World) (c : Call) (r s : Reads) → is_specification d ≡ true → is_world d w ≡ true → is_call d w c ≡ true → AgreeOn d w r s → after d w c r ≡ after d w c s }
+    ensures { (d : Specification) (w : World) (c : Call) (r s : Reads) → is_specification d ≡ true
+        → is_world d w ≡ true → is_call d w c ≡ true → AgreeOn d w r s
+        → after d w c r ≡ after d w c s }
 {}
 
 /// The search for the first value beyond the range of a state finds it, and finds none exactly where all values are in range.
 pub fn law_first_beyond()
-    ensures found { (s : Listing) (b : Beyond) → (first_beyond 0 s.counters ≡ Some b) ↔ IsFirstBeyond s b }
+    ensures found { (s : Listing) (b : Beyond)
+        → (first_beyond 0 s.counters ≡ Some b) ↔ IsFirstBeyond s b }
     ensures none { (s : Listing) → (first_beyond 0 s.counters ≡ None) ↔ AllInRange s }
 {}

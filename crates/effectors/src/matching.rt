@@ -38,7 +38,7 @@ fn add_before(
     Ok(())
 }
 
-// Each element below a size before each tuple.
+/// Each element below a size before each tuple.
 pub fn all_before(
     alloc: Global,
     size: u32,
@@ -111,8 +111,10 @@ pub fn reached(
 ) -> Result<Items<Items<u32>>, AllocError>
     requires world { world_fits spec.now world.now ≡ true }
     requires update { update_fits spec.now world.now call.now.args update.now ≡ true }
-    ensures reached { IfOk result (λ list. list ≡ reached spec.now world.now call.now.args update.now) }
-    ensures fits { IfOk result (λ list. list_all (fits_places world.now (places_of spec.now update.now.thing)) list ≡ true) }
+    ensures reached { IfOk result (λ list. list
+        ≡ reached spec.now world.now call.now.args update.now) }
+    ensures fits { IfOk result (λ list. list_all
+        (fits_places world.now (places_of spec.now update.now.thing)) list ≡ true) }
 {
     let places = spec.places_of(update.thing);
     let list = matching(

@@ -2,6 +2,7 @@
 
 use items::Items;
 
+/// A key of a counter whose value would leave the range of a state, and that value.
 #[derive(Drop)]
 pub struct Outside {
     pub key: Items<u32>,

@@ -29,7 +29,7 @@ pub fn fits_counter(spec: &Spec, world: &World, counter: u8, key: &[u32]) -> boo
     }
 }
 
-// What a tuple reads after the updates of a call.
+/// What a tuple reads after the updates of a call.
 pub fn has_updated<R: Readings>(
     spec: &Spec,
     world: &World,
@@ -40,7 +40,8 @@ pub fn has_updated<R: Readings>(
 ) -> bool
     requires world { world_fits spec.now world.now ≡ true }
     requires call { call_fits spec.now world.now call.now ≡ true }
-    ensures { result ≡ has_after world.now (R.reads at.now) call.now.args relation tuple.now (op_of spec.now call.now.op).updates ((R.reads at.now).has relation tuple.now) }
+    ensures { result ≡ has_after world.now (R.reads at.now) call.now.args relation tuple.now
+        (op_of spec.now call.now.op).updates ((R.reads at.now).has relation tuple.now) }
 {
     spec.well_formed();
     has_after(
@@ -54,7 +55,7 @@ pub fn has_updated<R: Readings>(
     )
 }
 
-// What a key reads after the updates of a call.
+/// What a key reads after the updates of a call.
 pub fn count_updated<R: Readings>(
     spec: &Spec,
     world: &World,
@@ -65,7 +66,8 @@ pub fn count_updated<R: Readings>(
 ) -> i128
     requires world { world_fits spec.now world.now ≡ true }
     requires call { call_fits spec.now world.now call.now ≡ true }
-    ensures { result ≡ count_after world.now (R.reads at.now) call.now.args counter key.now (op_of spec.now call.now.op).updates ((R.reads at.now).count counter key.now) }
+    ensures { result ≡ count_after world.now (R.reads at.now) call.now.args counter key.now
+        (op_of spec.now call.now.op).updates ((R.reads at.now).count counter key.now) }
 {
     spec.well_formed();
     count_after(

@@ -112,7 +112,8 @@ fn has_step<R: Readings>(
     requires world { world_fits spec.now world.now ≡ true }
     requires args { list_all in_state_range args.now ≡ true }
     requires fits { update_fits spec.now world.now args.now update.now ≡ true }
-    ensures { result ≡ cond (acts world.now (R.reads at.now) args.now (Thing.Relation relation) tuple.now update.now) (has_changed update.now.change old) old }
+    ensures { result ≡ cond (acts world.now (R.reads at.now) args.now
+        (Thing.Relation relation) tuple.now update.now) (has_changed update.now.change old) old }
 {
     if acts(
         spec,
@@ -144,7 +145,9 @@ fn count_step<R: Readings>(
     requires args { list_all in_state_range args.now ≡ true }
     requires fits { update_fits spec.now world.now args.now update.now ≡ true }
     requires room { unsigned_abs old ≤ 10 ^ 38 }
-    ensures value { result ≡ cond (acts world.now (R.reads at.now) args.now (Thing.Counter counter) key.now update.now) (count_changed world.now (R.reads at.now) args.now update.now.change old) old }
+    ensures value { result ≡ cond (acts world.now (R.reads at.now) args.now
+        (Thing.Counter counter) key.now update.now)
+        (count_changed world.now (R.reads at.now) args.now update.now.change old) old }
     ensures small { unsigned_abs result ≤ unsigned_abs old + 16 * (3 * 10 ^ 35) }
 {
     if acts(spec, world, at, args, Thing::Counter(counter), key, update) {
@@ -167,7 +170,8 @@ pub fn has_after<R: Readings>(
     requires world { world_fits spec.now world.now ≡ true }
     requires args { list_all in_state_range args.now ≡ true }
     requires fits { list_all (update_fits spec.now world.now args.now) updates.now ≡ true }
-    ensures { result ≡ has_after world.now (R.reads at.now) args.now relation tuple.now updates.now ((R.reads at.now).has relation tuple.now) }
+    ensures { result ≡ has_after world.now (R.reads at.now) args.now relation tuple.now updates.now
+        ((R.reads at.now).has relation tuple.now) }
 {
     let mut reading = at.has(relation, tuple);
     for update in updates {
@@ -190,7 +194,8 @@ pub fn count_after<R: Readings>(
     requires args { list_all in_state_range args.now ≡ true }
     requires few { length updates.now ≤ most_updates }
     requires fits { list_all (update_fits spec.now world.now args.now) updates.now ≡ true }
-    ensures { result ≡ count_after world.now (R.reads at.now) args.now counter key.now updates.now ((R.reads at.now).count counter key.now) }
+    ensures { result ≡ count_after world.now (R.reads at.now) args.now counter key.now updates.now
+        ((R.reads at.now).count counter key.now) }
 {
     let mut value = at.count(counter, key);
     for update in updates {

@@ -16,7 +16,7 @@ use spec_core::limits::GREATEST_VALUE;
 use spec_core::{Call, Readings, Spec, State, Thing, Update, World};
 use std::alloc::{AllocError, Global};
 
-// Whether a value is in the range of a state.
+/// Whether a value is in the range of a state.
 pub fn in_range(value: i128) -> bool
     ensures { result ≡ in_state_range value }
 {
@@ -34,7 +34,8 @@ fn write_tuple<R: Readings>(
     requires new { is_state spec.now world.now new.old ≡ true }
     requires relation { relation < length spec.now.relations }
     requires tuple { fits_places world.now (relation_places spec.now relation) tuple.now ≡ true }
-    ensures reads { OnOk result (reads new.new ≡ with_has (reads new.old) relation tuple.now ((R.reads from.now).has relation tuple.now)) }
+    ensures reads { OnOk result (reads new.new
+        ≡ with_has (reads new.old) relation tuple.now ((R.reads from.now).has relation tuple.now)) }
     ensures fits { OnOk result (is_state spec.now world.now new.new ≡ true) }
 {
     let value = from.has(relation, tuple);
@@ -53,8 +54,11 @@ fn write_key<R: Readings>(
     requires new { is_state spec.now world.now new.old ≡ true }
     requires counter { counter < length spec.now.counters }
     requires key { fits_places world.now (counter_keys spec.now counter) key.now ≡ true }
-    ensures range { IfOk result (λ b. b ≡ in_state_range ((R.reads from.now).count counter key.now)) }
-    ensures reads { IfOk result (λ b. b ≡ true → reads new.new ≡ with_count (reads new.old) counter key.now ((R.reads from.now).count counter key.now)) }
+    ensures range { IfOk result (λ b. b ≡ in_state_range
+        ((R.reads from.now).count counter key.now)) }
+    ensures reads { IfOk result (λ b. b ≡ true
+        → reads new.new ≡ with_count (reads new.old) counter key.now
+        ((R.reads from.now).count counter key.now)) }
     ensures fits { IfOk result (λ b. b ≡ true → is_state spec.now world.now new.new ≡ true) }
 {
     let value = from.count(counter, key);
@@ -75,8 +79,10 @@ fn write_tuples<R: Readings>(
 ) -> Result<(), AllocError>
     requires new { is_state spec.now world.now new.old ≡ true }
     requires relation { relation < length spec.now.relations }
-    requires tuples { list_all (fits_places world.now (relation_places spec.now relation)) tuples.now ≡ true }
-    ensures reads { OnOk result (reads new.new ≡ with_tuples relation tuples.now (R.reads from.now) (reads new.old)) }
+    requires tuples { list_all (fits_places world.now
+        (relation_places spec.now relation)) tuples.now ≡ true }
+    ensures reads { OnOk result (reads new.new
+        ≡ with_tuples relation tuples.now (R.reads from.now) (reads new.old)) }
     ensures fits { OnOk result (is_state spec.now world.now new.new ≡ true) }
 {
     for tuple in tuples {
@@ -96,9 +102,12 @@ fn write_keys<R: Readings>(
 ) -> Result<bool, AllocError>
     requires new { is_state spec.now world.now new.old ≡ true }
     requires counter { counter < length spec.now.counters }
-    requires keys { list_all (fits_places world.now (counter_keys spec.now counter)) keys.now ≡ true }
-    ensures range { IfOk result (λ b. b ≡ list_all (λ t. in_state_range ((R.reads from.now).count counter t)) keys.now) }
-    ensures reads { IfOk result (λ b. b ≡ true → reads new.new ≡ with_keys counter keys.now (R.reads from.now) (reads new.old)) }
+    requires keys { list_all (fits_places world.now (counter_keys spec.now counter)) keys.now
+        ≡ true }
+    ensures range { IfOk result (λ b. b ≡ list_all
+        (λ t. in_state_range ((R.reads from.now).count counter t)) keys.now) }
+    ensures reads { IfOk result (λ b. b ≡ true
+        → reads new.new ≡ with_keys counter keys.now (R.reads from.now) (reads new.old)) }
     ensures fits { IfOk result (λ b. b ≡ true → is_state spec.now world.now new.new ≡ true) }
 {
     for key in keys {
@@ -122,8 +131,11 @@ fn write_update<R: Readings>(
     requires world { world_fits spec.now world.now ≡ true }
     requires new { is_state spec.now world.now new.old ≡ true }
     requires update { update_fits spec.now world.now call.now.args update.now ≡ true }
-    ensures range { IfOk result (λ b. b ≡ thing_in_range update.now.thing (reached spec.now world.now call.now.args update.now) (R.reads from.now)) }
-    ensures reads { IfOk result (λ b. b ≡ true → reads new.new ≡ with_thing update.now.thing (reached spec.now world.now call.now.args update.now) (R.reads from.now) (reads new.old)) }
+    ensures range { IfOk result (λ b. b ≡ thing_in_range update.now.thing
+        (reached spec.now world.now call.now.args update.now) (R.reads from.now)) }
+    ensures reads { IfOk result (λ b. b ≡ true
+        → reads new.new ≡ with_thing update.now.thing
+        (reached spec.now world.now call.now.args update.now) (R.reads from.now) (reads new.old)) }
     ensures fits { IfOk result (λ b. b ≡ true → is_state spec.now world.now new.new ≡ true) }
 {
     let reached = reached(alloc, spec, world, call, update)?;
@@ -136,7 +148,7 @@ fn write_update<R: Readings>(
     }
 }
 
-// Whether all new values that the updates reach are in range; the readings that they reach are written if so.
+/// Whether all new values that the updates reach are in range; the readings that they reach are written if so.
 pub fn write_updates<R: Readings>(
     alloc: Global,
     spec: &Spec,
@@ -149,8 +161,12 @@ pub fn write_updates<R: Readings>(
     requires world { world_fits spec.now world.now ≡ true }
     requires new { is_state spec.now world.now new.old ≡ true }
     requires updates { list_all (update_fits spec.now world.now call.now.args) updates.now ≡ true }
-    ensures range { IfOk result (λ b. b ≡ updates_in_range spec.now world.now call.now.args updates.now (R.reads from.now)) }
-    ensures reads { IfOk result (λ b. b ≡ true → reads new.new ≡ with_updates spec.now world.now call.now.args updates.now (R.reads from.now) (reads new.old)) }
+    ensures range { IfOk result
+        (λ b. b ≡ updates_in_range spec.now world.now call.now.args updates.now
+        (R.reads from.now)) }
+    ensures reads { IfOk result (λ b. b ≡ true
+        → reads new.new ≡ with_updates spec.now world.now call.now.args updates.now
+        (R.reads from.now) (reads new.old)) }
     ensures fits { IfOk result (λ b. b ≡ true → is_state spec.now world.now new.new ≡ true) }
 {
     for update in updates {

@@ -102,7 +102,8 @@ fn summand_of(
     minus: bool,
     product: &Product,
 ) -> Result<Summand, AllocError>
-    ensures { IfOk result (λ summand. summand ≡ summand_of_product (scope_of scope.now) minus product.now) }
+    ensures { IfOk result (λ summand. summand
+        ≡ summand_of_product (scope_of scope.now) minus product.now) }
 {
     let body = body_of(alloc, scope, product)?;
     Ok(Summand {
@@ -127,7 +128,8 @@ fn add_signeds(
     more: &[Signed],
     summands: &mut Items<Summand>,
 ) -> Result<(), AllocError>
-    ensures { OnOk result (summands.new ≡ summands.old ++ map (signed_of_tree (scope_of scope.now)) more.now) }
+    ensures { OnOk result (summands.new ≡ summands.old
+        ++ map (signed_of_tree (scope_of scope.now)) more.now) }
 {
     for signed in more {
         let minus = is_minus(signed.sign);
@@ -231,7 +233,8 @@ fn atom_of(
     scope: &Scope<'_, '_>,
     reading: &Reading,
 ) -> Result<spec_core::Formula, AllocError>
-    ensures { IfOk result (λ made. core_form_of made ≡ atom_of_reading (scope_of scope.now) reading.now) }
+    ensures { IfOk result (λ made. core_form_of made
+        ≡ atom_of_reading (scope_of scope.now) reading.now) }
 {
     let elems = elems_of(alloc, scope, reading.args.as_slice())?;
     let relation = scope.names.relation(reading.name.text.bytes());
@@ -244,7 +247,8 @@ fn connected(
     connective: Connective,
     right: spec_core::Formula,
 ) -> Result<spec_core::Formula, AllocError>
-    ensures { IfOk result (λ made. core_form_of made ≡ connected_of connective (core_form_of left) (core_form_of right)) }
+    ensures { IfOk result (λ made. core_form_of made
+        ≡ connected_of connective (core_form_of left) (core_form_of right)) }
 {
     let left = Box::new(alloc, left)?;
     let right = Box::new(alloc, right)?;
@@ -261,7 +265,8 @@ pub fn formula_of(
     scope: &Scope<'_, '_>,
     formula: &tree::Formula,
 ) -> Result<spec_core::Formula, AllocError>
-    ensures { IfOk result (λ made. core_form_of made ≡ formula_of_form (scope_of scope.now) (form_of formula.now)) }
+    ensures { IfOk result (λ made. core_form_of made
+        ≡ formula_of_form (scope_of scope.now) (form_of formula.now)) }
 {
     match formula {
         tree::Formula::True(_) => Ok(spec_core::Formula::True),
@@ -318,7 +323,8 @@ pub fn sentence_of(
     scope: &Scope<'_, '_>,
     sentence: &tree::Prefixed,
 ) -> Result<Prefixed, AllocError>
-    ensures { IfOk result (λ line. line ≡ line_of_sentence (scope_of scope.now) (sentence_of sentence.now)) }
+    ensures { IfOk result (λ line. line ≡ line_of_sentence (scope_of scope.now)
+        (sentence_of sentence.now)) }
 {
     let bound = vars_of(&sentence.prefix);
     let vars = var_sorts(alloc, scope.names, bound)?;
@@ -336,7 +342,8 @@ pub fn guard_of(
     scope: &Scope<'_, '_>,
     guard: &Option<tree::Formula>,
 ) -> Result<spec_core::Formula, AllocError>
-    ensures { IfOk result (λ made. core_form_of made ≡ guard_formula (scope_of scope.now) (guard_of guard.now)) }
+    ensures { IfOk result (λ made. core_form_of made
+        ≡ guard_formula (scope_of scope.now) (guard_of guard.now)) }
 {
     match guard {
         Some(formula) => formula_of(alloc, scope, formula),

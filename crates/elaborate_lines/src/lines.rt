@@ -58,7 +58,8 @@ fn update_of(
     change: Change,
     guard: &Option<Formula>,
 ) -> Result<Update, AllocError>
-    ensures { IfOk result (λ update. update ≡ update_of_tree (scope_of scope.now) thing spots.now change (guard_form guard.now)) }
+    ensures { IfOk result (λ update. update ≡ update_of_tree
+        (scope_of scope.now) thing spots.now change (guard_form guard.now)) }
 {
     let at = or_drop!(spots_of(alloc, scope, spots); change);
     let guard = or_drop!(guard_of(alloc, scope, guard); change, at);
@@ -138,7 +139,8 @@ fn add_take(
     reading: &Reading,
     mode: Mode,
 ) -> Result<(), AllocError>
-    ensures { OnOk result (operation.new ≡ with_line (scope_of scope.now) operation.old (takes_form 0 reading.now mode)) }
+    ensures { OnOk result (operation.new ≡ with_line (scope_of scope.now) operation.old
+        (takes_form 0 reading.now mode)) }
 {
     let made = take_of(alloc, scope, reading, mode)?;
     operation.takes.push(made)
@@ -166,7 +168,8 @@ pub fn add_line(
     operation: &mut Operation,
     line: &Line,
 ) -> Result<(), AllocError>
-    ensures { OnOk result (operation.new ≡ with_line (scope_of scope.now) operation.old (line_of line.now)) }
+    ensures { OnOk result (operation.new ≡ with_line (scope_of scope.now) operation.old
+        (line_of line.now)) }
 {
     match line {
         Line::Requires(_, sentence) => add_requirement(alloc, scope, operation, sentence),

@@ -22,7 +22,8 @@ pub fn law_converges(spec: &Spec)
 /// The members of a delivery order are a causally closed set, and in an execution each causally closed set of events has a
 /// delivery order.
 pub fn law_closed_sets()
-    ensures closed { (events : List (Event Call)) (order : List ℕ) → IsOrder events order → IsClosed events order }
+    ensures closed { (events : List (Event Call)) (order : List ℕ) → IsOrder events order
+        → IsClosed events order }
     ensures has_order { (d : Specification) (w : World) (events : List (Event Call))
         → IsExecution (system_of d w) events → (set : List ℕ) → IsClosed events set
         → (order : List ℕ) × IsOrderOf events set order }

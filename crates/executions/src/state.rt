@@ -28,9 +28,11 @@ pub fn state_after(
     requires world { world_fits spec.now world.now ≡ true }
     requires calls { list_all (λ event. call_fits spec.now world.now event.call) events.now ≡ true }
     requires events { All (λ event. event < length events.now) order.now }
-    ensures state { IfOk result (λ state. reads state ≡ state_after_of (system_of spec.now world.now) events.now order.now) }
+    ensures state { IfOk result (λ state. reads state
+        ≡ state_after_of (system_of spec.now world.now) events.now order.now) }
     ensures fits { IfOk result (λ state. is_state spec.now world.now state ≡ true) }
-    ensures in_range { OnOk result (StayInRange spec.now world.now events.now order.now (length order.now)) }
+    ensures in_range { OnOk result (StayInRange spec.now world.now events.now order.now
+        (length order.now)) }
     ensures range { (b : Beyond) → result ≡ Err (ApplyRefused.Range b.counter b.key b.value)
         → IsFirstBeyondIn spec.now world.now events.now order.now b }
 {

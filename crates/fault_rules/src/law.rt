@@ -13,7 +13,8 @@ ghost use Rattle.fault_rules.specs.Faults.{IsWritten, IsTypingOf};
 /// Of a tree that stands in a text, `typing` answers what the tree declares, where it has no fault, and else the least of its faults;
 /// and there is one such answer.
 pub fn law_least_fault()
-    ensures { (t : TreeForm) (r : Result Specification Fault) → IsWritten t → IsTypingOf t r ↔ (typing t ≡ r) }
+    ensures { (t : TreeForm) (r : Result Specification Fault) → IsWritten t
+        → IsTypingOf t r ↔ (typing t ≡ r) }
 {}
 
 /// A tree that is read stands in a text.

@@ -104,6 +104,7 @@ pub fn elem_of(scope: &Scope<'_, '_>, mark: &Mark) -> Elem
     elem_named(scope, mark.text.bytes()).unwrap_or(Elem::Const(0))
 }
 
+/// Whether the sort that was found is this one; false where none was found.
 pub fn is_of_sort(found: Option<u8>, sort: u8) -> bool
     ensures { result ≡ is_sort found sort }
 {

@@ -162,7 +162,8 @@ fn amount_fault<'t>(
 }
 
 fn update_limit<'t>(operation: &Operation, word: u32) -> Option<Fault<'t>>
-    ensures { faulted result ≡ limit_at_of Updates most_updates (length operation.now.updates) word }
+    ensures { faulted result ≡ limit_at_of Updates most_updates
+        (length operation.now.updates) word }
 {
     limit_at(Which::Updates, MOST_UPDATES, operation.updates.len(), word)
 }

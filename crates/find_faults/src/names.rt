@@ -45,7 +45,8 @@ impl Names {
 
     /// Adds a name with what it means.
     pub fn add(&mut self, name: &[u8], meaning: Meaning) -> Result<(), AllocError>
-        ensures { OnOk result (meaning_in self.new ≡ with_name (meaning_in self.old) name.now meaning) }
+        ensures { OnOk result (meaning_in self.new
+            ≡ with_name (meaning_in self.old) name.now meaning) }
     {
         let own = Vec::from_slice(self.alloc, name)?;
         self.entries.insert(own, meaning)?;

@@ -35,7 +35,8 @@ fn is_whole(kind: &ParamKind) -> bool
 }
 
 fn number_place(name: &[u8], params: &[Param]) -> Option<usize>
-    ensures { result ≡ position (λ p. bytes_eq p.name.text name.now && is_whole_of p.kind) params.now }
+    ensures { result ≡ position (λ p. bytes_eq p.name.text name.now
+        && is_whole_of p.kind) params.now }
 {
     params.iter().position(|param| param.name.text.bytes() == name && is_whole(&param.kind))
 }

@@ -54,7 +54,8 @@ impl Atoms {
     // The number that is guessed for an atom, where an equal one has it.
     fn guessed(&self, slot: usize, atom: &Atom) -> Option<u32>
         ensures known { IfSome result (λ n. self.now ≡ know_atom self.now (atom_of atom.now)) }
-        ensures number { IfSome result (λ n. n ≡ numbers.number_of self.now.table (atom_of atom.now)) }
+        ensures number { IfSome result (λ n. n
+            ≡ numbers.number_of self.now.table (atom_of atom.now)) }
     {
         let number = self.guesses.at(slot);
         if number as usize >= self.atoms.len() {
@@ -100,7 +101,8 @@ impl Atoms {
     /// The number of an integer name: the place of an equal one, else the next number. After a refusal others keep their numbers.
     pub fn int_of(&mut self, name: IntName) -> Result<u32, AllocError>
         ensures known { OnOk result (self.new ≡ know_integer self.old (integer_of name)) }
-        ensures number { IfOk result (λ n. n ≡ numbers.integer_of self.old.table (integer_of name)) }
+        ensures number { IfOk result (λ n. n ≡ numbers.integer_of self.old.table
+            (integer_of name)) }
     {
         if let Some(index) = self.ints.get_index_of(&name) {
             return as_number(index);

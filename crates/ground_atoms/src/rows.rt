@@ -39,7 +39,10 @@ pub fn at_most(
 
 // A row as a literal, or as a truth value where it has no terms.
 fn row_formula(atoms: &mut Atoms, row: Row) -> Result<GroundFormula, AllocError>
-    ensures { IfOk result (λ f. make_row atoms.old row.terms row ≡ record { known = atoms.new; form = form_of f }) }
+    ensures { IfOk result (λ f. make_row atoms.old row.terms row ≡ record {
+      known = atoms.new;
+      form = form_of f;
+    }) }
 {
     if row.terms().is_empty() {
         let holds = row.bound() >= 0;
@@ -60,7 +63,8 @@ fn add_terms(
     ensures made { OnOk result
         (make_terms positive atoms.old terms.old.items (parts_of parts.now)
         ≡ record { known = atoms.new; terms = terms.new.items }) }
-    ensures range { OnOk result (all_in_range terms.old.items ≡ true → all_in_range terms.new.items ≡ true) }
+    ensures range { OnOk result (all_in_range terms.old.items ≡ true
+        → all_in_range terms.new.items ≡ true) }
 {
     for part in parts {
         if let SumPart::Multiple(coef, name) = part {

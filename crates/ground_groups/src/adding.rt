@@ -9,7 +9,7 @@ use items::Items;
 /// The greatest number of formulas of an obligation.
 pub const MOST_FORMULAS: usize = 20_000;
 
-// Whether there is room for one more formula.
+/// Whether there is room for one more formula.
 pub fn has_room(out: &Items<GroundFormula>) -> Result<(), GroundRefused>
     ensures { HasRoom result (length out.now) }
 {
@@ -20,7 +20,7 @@ pub fn has_room(out: &Items<GroundFormula>) -> Result<(), GroundRefused>
     }
 }
 
-// Whether the formulas so far are within the limit.
+/// Whether the formulas so far are within the limit.
 pub fn within_limit(out: &Items<GroundFormula>) -> Result<(), GroundRefused>
     ensures { IsWithin result (length out.now) }
 {

@@ -36,7 +36,8 @@ fn tuples_same(
     left: &[u32],
     right: &[u32],
 ) -> Result<GroundFormula, AllocError>
-    ensures { IfOk result (λ f. IsMade atoms.old (symbols.all_parts (equality.tuples_same left.now right.now)) atoms.new f) }
+    ensures { IfOk result (λ f. IsMade atoms.old
+        (symbols.all_parts (equality.tuples_same left.now right.now)) atoms.new f) }
 {
     let mut done = None;
     let count = left.len().min(right.len());
@@ -56,7 +57,8 @@ fn number_at(
     tuple: &[u32],
 ) -> Result<u32, AllocError>
     ensures known { OnOk result (atoms.new ≡ know_atom atoms.old (has_atom [] relation tuple.now)) }
-    ensures number { IfOk result (λ n. n ≡ number_of atoms.old.table (has_atom [] relation tuple.now)) }
+    ensures number { IfOk result (λ n. n ≡ number_of atoms.old.table
+        (has_atom [] relation tuple.now)) }
 {
     let tuple = Tuple::of(alloc, tuple)?;
     atoms.number_of(Atom::Has {
@@ -120,7 +122,8 @@ fn readings_same(
     left: &[u32],
     right: &[u32],
 ) -> Result<GroundFormula, AllocError>
-    ensures { IfOk result (λ f. IsMade atoms.old (equality.readings_same thing left.now right.now) atoms.new f) }
+    ensures { IfOk result (λ f. IsMade atoms.old
+        (equality.readings_same thing left.now right.now) atoms.new f) }
 {
     match thing {
         Thing::Relation(relation) => relation_same(atoms, alloc, relation, left, right),
@@ -137,7 +140,8 @@ fn congruent(
     left: &[u32],
     right: &[u32],
 ) -> Result<GroundFormula, AllocError>
-    ensures { IfOk result (λ f. IsMade atoms.old (equality.congruent thing left.now right.now) atoms.new f) }
+    ensures { IfOk result (λ f. IsMade atoms.old
+        (equality.congruent thing left.now right.now) atoms.new f) }
 {
     let equal = tuples_same(atoms, alloc, left, right)?;
     let premise = negated(alloc, equal)?;
@@ -155,7 +159,8 @@ fn add_with_each(
     later: &[Items<u32>],
     out: &mut Items<GroundFormula>,
 ) -> Result<(), GroundRefused>
-    ensures { Appends result out.old atoms.old (map (equality.congruent thing tuple.now) later.now) out.new atoms.new }
+    ensures { Appends result out.old atoms.old
+        (map (equality.congruent thing tuple.now) later.now) out.new atoms.new }
 {
     for other in later {
         has_room(out)?;
@@ -200,7 +205,8 @@ fn add_pairs(
     tuples: &[Items<u32>],
     out: &mut Items<GroundFormula>,
 ) -> Result<(), GroundRefused>
-    ensures { Appends result out.old atoms.old (equality.congruent_pairs thing tuples.now) out.new atoms.new }
+    ensures { Appends result out.old atoms.old
+        (equality.congruent_pairs thing tuples.now) out.new atoms.new }
 {
     for place in 0..tuples.len() {
         match add_from(
@@ -231,7 +237,8 @@ fn is_before(at: &[u32], there: &[u32]) -> bool
 // The place of the first tuple that this one is before.
 fn place_of(tuple: &[u32], tuples: &[Items<u32>]) -> usize
     ensures few { result ≤ length tuples.now }
-    ensures place { equality.insert_rising tuple.now tuples.now ≡ take result tuples.now ++ tuple.now ∷ drop result tuples.now }
+    ensures place { equality.insert_rising tuple.now tuples.now
+        ≡ take result tuples.now ++ tuple.now ∷ drop result tuples.now }
 {
     let mut place = 0;
     while place < tuples.len() {
@@ -330,7 +337,8 @@ fn add_pairs_within(
     tuples: &[Items<u32>],
     out: &mut Items<GroundFormula>,
 ) -> Result<(), GroundRefused>
-    ensures { Appends result out.old atoms.old (equality.congruent_pairs thing tuples.now) out.new atoms.new }
+    ensures { Appends result out.old atoms.old
+        (equality.congruent_pairs thing tuples.now) out.new atoms.new }
 {
     if let Err(refused) = has_room_for_pairs(tuples, out) {
         return Err(refused);
@@ -365,7 +373,8 @@ pub fn add_congruence(
     things: &[Thing],
     out: &mut Items<GroundFormula>,
 ) -> Result<(), GroundRefused>
-    ensures { Appends result out.old atoms.old (equality.congruence (map reading_of readings.now) things.now) out.new atoms.new }
+    ensures { Appends result out.old atoms.old
+        (equality.congruence (map reading_of readings.now) things.now) out.new atoms.new }
 {
     for thing in things {
         match add_thing(atoms, alloc, spec, readings, thing, out) {

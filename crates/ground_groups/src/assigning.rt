@@ -19,7 +19,7 @@ pub fn of_sort(alloc: Global, sorts: &[u8], sort: u8) -> Result<Items<u32>, Allo
     Ok(constants)
 }
 
-// A place as a number.
+/// A place as a number.
 pub fn as_number(place: usize) -> Result<u32, AllocError>
     ensures { IfOk result (λ n. n ≡ place) }
 {

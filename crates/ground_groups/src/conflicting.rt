@@ -345,7 +345,8 @@ pub fn add_free(
     ops: &[u8],
     out: &mut Items<GroundFormula>,
 ) -> Result<(), GroundRefused>
-    ensures { Appends result out.old atoms.old (entry.calls_free spec.now (constants_in named.now) ops.now) out.new atoms.new }
+    ensures { Appends result out.old atoms.old
+        (entry.calls_free spec.now (constants_in named.now) ops.now) out.new atoms.new }
 {
     match ops {
         [first, second, ..] => {

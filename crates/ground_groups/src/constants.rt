@@ -25,7 +25,7 @@ pub struct Named {
     pub elements: Items<u32>,
 }
 
-// The operations whose calls an obligation speaks of.
+/// The operations whose calls an obligation speaks of.
 pub fn operations_of(alloc: Global, ob: &Obligation) -> Result<Items<u8>, AllocError>
     ensures { IfOk result (λ ops. ops ≡ breaking.operations_of ob.now) }
 {
@@ -111,8 +111,10 @@ fn add_chosen(
     lines: &[Prefixed],
     sorts: &mut Items<u8>,
 ) -> Result<Items<Items<u32>>, AllocError>
-    ensures numbers { IfOk result (λ lists. lists ≡ chosen_from (length sorts.old) (map chosen_vars lines.now)) }
-    ensures sorts { OnOk result (sorts.new ≡ sorts.old ++ concatenated (map chosen_vars lines.now)) }
+    ensures numbers { IfOk result (λ lists. lists
+        ≡ chosen_from (length sorts.old) (map chosen_vars lines.now)) }
+    ensures sorts { OnOk result (sorts.new ≡ sorts.old
+        ++ concatenated (map chosen_vars lines.now)) }
 {
     let mut lists = Items::new(alloc);
     for line in lines {
@@ -138,7 +140,8 @@ fn add_calls(
     ops: &[u8],
     sorts: &mut Items<u8>,
 ) -> Result<Items<GroundCall>, AllocError>
-    ensures calls { IfOk result (λ calls. calls ≡ calls_from spec.now (length sorts.old) 0 ops.now) }
+    ensures calls { IfOk result (λ calls. calls
+        ≡ calls_from spec.now (length sorts.old) 0 ops.now) }
     ensures sorts { OnOk result
         (sorts.new
         ≡ sorts.old ++ flat_map sorts_of_params (map (λ o. (op_of spec.now o).params) ops.now)) }

@@ -38,7 +38,8 @@ pub fn readings_after(
     atoms: &Atoms,
     count: usize,
 ) -> Result<Items<NamedReading>, AllocError>
-    ensures { IfOk result (λ qs. map reading_of qs ≡ filter (λ q. length q.stage == count) atoms.now.named) }
+    ensures { IfOk result (λ qs. map reading_of qs
+        ≡ filter (λ q. length q.stage == count) atoms.now.named) }
 {
     let mut readings = Items::new(alloc);
     for reading in atoms.named() {
@@ -60,7 +61,8 @@ fn add_relation(
     tuple: &[u32],
     out: &mut Items<GroundFormula>,
 ) -> Result<(), GroundRefused>
-    ensures { Appends result out.old atoms.old (has_definition spec.now call.now stage relation tuple.now) out.new atoms.new }
+    ensures { Appends result out.old atoms.old
+        (has_definition spec.now call.now stage relation tuple.now) out.new atoms.new }
 {
     add_has(spec, atoms, alloc, call, stage, relation, tuple, out)?;
     within_limit(out)
@@ -77,7 +79,8 @@ fn add_counter(
     key: &[u32],
     out: &mut Items<GroundFormula>,
 ) -> Result<(), GroundRefused>
-    ensures { Appends result out.old atoms.old (count_definition spec.now call.now stage counter key.now) out.new atoms.new }
+    ensures { Appends result out.old atoms.old
+        (count_definition spec.now call.now stage counter key.now) out.new atoms.new }
 {
     add_count(spec, atoms, alloc, call, stage, counter, key, out)?;
     within_limit(out)
@@ -94,7 +97,8 @@ fn add_defined(
     tuple: &[u32],
     out: &mut Items<GroundFormula>,
 ) -> Result<(), GroundRefused>
-    ensures { Appends result out.old atoms.old (defined_at spec.now call.now stage thing tuple.now) out.new atoms.new }
+    ensures { Appends result out.old atoms.old
+        (defined_at spec.now call.now stage thing tuple.now) out.new atoms.new }
 {
     match thing {
         Thing::Relation(relation) => {

@@ -16,7 +16,7 @@ use spec_core::{Spec, Thing};
 use stage_defs::{Setting, Stage, both, either, has, negated, reading_part, unequal};
 use std::alloc::{AllocError, Global};
 
-// The reading of a relation at a numbered stage.
+/// The reading of a relation at a numbered stage.
 pub fn reading(
     atoms: &mut Atoms,
     alloc: Global,
@@ -25,7 +25,8 @@ pub fn reading(
     relation: u8,
     tuple: &[u32],
 ) -> Result<GroundFormula, AllocError>
-    ensures { IfOk result (λ f. IsMade atoms.old (symbols.has (stage_of stage) relation tuple.now) atoms.new f) }
+    ensures { IfOk result (λ f. IsMade atoms.old
+        (symbols.has (stage_of stage) relation tuple.now) atoms.new f) }
 {
     let setting = Setting {
         spec,
@@ -36,7 +37,7 @@ pub fn reading(
     has(atoms, &setting, relation, Tuple::of(alloc, tuple)?)
 }
 
-// The sum of a counter's reading at a numbered stage.
+/// The sum of a counter's reading at a numbered stage.
 pub fn sum(
     alloc: Global,
     spec: &Spec,
@@ -44,7 +45,8 @@ pub fn sum(
     counter: u8,
     key: &[u32],
 ) -> Result<Items<SumPart>, AllocError>
-    ensures { IfOk result (λ ps. parts_of ps ≡ symbols.multiple (pos 1) (symbols.reading (stage_of stage) counter key.now) ∷ []) }
+    ensures { IfOk result (λ ps. parts_of ps ≡ symbols.multiple (pos 1)
+        (symbols.reading (stage_of stage) counter key.now) ∷ []) }
 {
     let setting = Setting {
         spec,

@@ -28,7 +28,8 @@ pub fn add_invariants(
     named: &Named,
     out: &mut Items<GroundFormula>,
 ) -> Result<(), GroundRefused>
-    ensures { Appends result out.old atoms.old (entry.invariants_hold spec.now (constants_in named.now)) out.new atoms.new }
+    ensures { Appends result out.old atoms.old
+        (entry.invariants_hold spec.now (constants_in named.now)) out.new atoms.new }
 {
     let setting = Setting {
         spec,

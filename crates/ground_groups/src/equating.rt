@@ -120,7 +120,8 @@ fn add_triples(
     later: &[u32],
     out: &mut Items<GroundFormula>,
 ) -> Result<(), GroundRefused>
-    ensures { Appends result out.old atoms.old (flat_map (equality.three_agree a b) later.now) out.new atoms.new }
+    ensures { Appends result out.old atoms.old
+        (flat_map (equality.three_agree a b) later.now) out.new atoms.new }
 {
     for place in 0..later.len() {
         match add_three(atoms, alloc, a, b, later[place], out) {
@@ -158,7 +159,8 @@ fn add_pairs(
     later: &[u32],
     out: &mut Items<GroundFormula>,
 ) -> Result<(), GroundRefused>
-    ensures { Appends result out.old atoms.old (equality.agree_with_pairs a later.now) out.new atoms.new }
+    ensures { Appends result out.old atoms.old
+        (equality.agree_with_pairs a later.now) out.new atoms.new }
 {
     for place in 0..later.len() {
         match add_from(atoms, alloc, a, later, place, out) {

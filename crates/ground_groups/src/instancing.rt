@@ -18,14 +18,15 @@ use spec_core::Formula;
 use stage_defs::{Setting, formula};
 use std::alloc::Global;
 
-// Whether there is room for a formula once for each assignment. No assignment is made for this.
+/// Whether there is room for a formula once for each assignment. No assignment is made for this.
 pub fn has_room_for(
     alloc: Global,
     sorts: &[u8],
     vars: &[u8],
     out: &Items<GroundFormula>,
 ) -> Result<(), GroundRefused>
-    ensures { HasRoomFor result (most_formulas - length out.now) (length (choices (map (of_sort 0 sorts.now) vars.now))) }
+    ensures { HasRoomFor result (most_formulas - length out.now)
+        (length (choices (map (of_sort 0 sorts.now) vars.now))) }
 {
     let count = count_choices(alloc, sorts, vars)?;
     if count > MOST_FORMULAS.saturating_sub(out.len()) {

@@ -11,7 +11,7 @@ use ground_atoms::{Atoms, IntName};
 use spec_core::{Kind, Param, Spec};
 use std::alloc::AllocError;
 
-// A place as a small number.
+/// A place as a small number.
 pub fn as_small(place: usize) -> Result<u8, AllocError>
     ensures { IfOk result (λ n. n ≡ place) }
 {
@@ -23,7 +23,8 @@ pub fn as_small(place: usize) -> Result<u8, AllocError>
 
 // Numbers the parameters of a call that are whole numbers.
 fn number_params(atoms: &mut Atoms, call: u8, params: &[Param]) -> Result<(), AllocError>
-    ensures { OnOk result (atoms.new ≡ fold know_integer atoms.old (map (argument call) (numbers_from 0 params.now))) }
+    ensures { OnOk result (atoms.new ≡ fold know_integer atoms.old
+        (map (argument call) (numbers_from 0 params.now))) }
 {
     for place in 0..params.len() {
         if let Kind::Int = params[place].kind {

@@ -74,7 +74,8 @@ pub fn law_steps_are_numbers()
 /// The numbers of stages are one to one, and a stage after the entry is the one before it with its latest call.
 pub fn law_stage_numbers()
     ensures same { (m n : ℕ) → bytes_eq (stage_of m) (stage_of n) ≡ (m == n) }
-    ensures made { (n : ℕ) → stage_of (suc n) ≡ latest_call (suc n) ∷ stage_of (stage_before (suc n)) }
+    ensures made { (n : ℕ) → stage_of (suc n)
+        ≡ latest_call (suc n) ∷ stage_of (stage_before (suc n)) }
 {}
 
 /// A row of terms holds the terms added up. It is never out of range where the sizes of their coefficients are together in the range
@@ -114,5 +115,6 @@ pub fn law_obligation_fits()
     ensures formulas { (d : Specification) (ob : Obligation)
         → list_all (is_below (length (table_of d ob).atoms)) (numbered_of d ob) ≡ true }
     ensures problem { (d : Specification) (ob : Obligation) → fits (problem_of d ob) ≡ true }
-    ensures numbers { (d : Specification) (ob : Obligation) → is_specification d ≡ true → rows_small (table_of d ob) ≡ true }
+    ensures numbers { (d : Specification) (ob : Obligation) → is_specification d ≡ true
+        → rows_small (table_of d ob) ≡ true }
 {}

@@ -21,6 +21,7 @@ pub struct CuttingPlanes {
 }
 
 impl CuttingPlanes {
+    /// The solver. It keeps nothing between questions.
     pub fn new() -> CuttingPlanes {
         CuttingPlanes {
             eliminator: Eliminator::new(),

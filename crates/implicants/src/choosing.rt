@@ -59,7 +59,8 @@ fn is_sign(sign: Option<bool>, positive: bool) -> bool
 
 // Makes room for the sign of an atom.
 fn widen(signs: &mut Vec<Option<bool>>, atom: u32) -> Result<(), AllocError>
-    ensures kept { (a : ℕ) → slice_index_or signs.new.items a None ≡ slice_index_or signs.old.items a None }
+    ensures kept { (a : ℕ) → slice_index_or signs.new.items a None
+        ≡ slice_index_or signs.old.items a None }
     ensures wide { OnOk result (atom < length signs.new.items) }
 {
     while signs.len() <= atom as usize {
@@ -257,7 +258,8 @@ impl Chosen {
         lits: &[Lit],
     ) -> Result<bool, AllocError>
         requires { AreChosen trail.now self.old }
-        ensures { IfOk result (λ b. IsCovered b atoms.now values.now trail.now lits.now self.old self.new) }
+        ensures { IfOk result
+            (λ b. IsCovered b atoms.now values.now trail.now lits.now self.old self.new) }
     {
         if self.meets(atoms, values, lits) {
             return Ok(true);
@@ -280,7 +282,8 @@ impl Chosen {
         ranks: &[usize],
     ) -> Result<bool, AllocError>
         requires { AreChosen trail.now self.old }
-        ensures { IfOk result (λ b. AreCovered b problem.now.atoms problem.now.clauses values.now trail.now self.new) }
+        ensures { IfOk result
+            (λ b. AreCovered b problem.now.atoms problem.now.clauses values.now trail.now self.new) }
     {
         let atoms = atoms_of(problem);
         for i in 0..clause_count(problem) {
@@ -303,7 +306,8 @@ pub fn choose(
     order: &[Lit],
     values: &[bool],
 ) -> Result<Option<Items<Lit>>, AllocError>
-    ensures on_the_trail { IfOk result (λ found. IfSome found (λ lits. list_all (in_trail trail.now) lits ≡ true)) }
+    ensures on_the_trail { IfOk result (λ found. IfSome found
+        (λ lits. list_all (in_trail trail.now) lits ≡ true)) }
     ensures implicant { IfOk result
         (λ found. MatchOption found
         (IsUnmet problem.now.atoms problem.now.clauses values.now trail.now)

@@ -3,6 +3,7 @@
 use lin_rows::{Row, RowTerm};
 use std::alloc::{AllocError, Global};
 
+/// For each place how many rows bound it from above, and how many from below.
 #[derive(Drop)]
 pub struct Counts {
     uppers: Vec<u32>,
@@ -46,6 +47,7 @@ fn make_rooms(counts: &mut Counts, terms: &[RowTerm]) -> Result<(), AllocError> 
 }
 
 impl Counts {
+    /// No counts: no row has any place.
     pub fn new(alloc: Global) -> Counts {
         Counts {
             uppers: Vec::new(alloc),

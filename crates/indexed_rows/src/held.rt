@@ -93,7 +93,8 @@ impl Held {
 
     /// Numbers of rows, among them that of each row that names a place.
     pub fn naming(&self, place: u32) -> &[u32]
-        ensures { (i : ℕ) → i < length self.now → names place (row_at self.now i) ≡ true → stands_in result.now i ≡ true }
+        ensures { (i : ℕ) → i < length self.now → names place (row_at self.now i) ≡ true
+            → stands_in result.now i ≡ true }
     {
         numbers_at(self.by_place.as_slice(), place)
     }
@@ -145,7 +146,8 @@ fn find(numbers: &HashMap<u64, u32>, key: u64) -> Option<u32>
 }
 
 fn note(numbers: &mut HashMap<u64, u32>, key: u64, number: u32) -> Result<(), AllocError>
-    ensures noted { OnOk result ((q : ℕ) → found numbers.new q ≡ cond (key == q) (Some number) (found numbers.old q)) }
+    ensures noted { OnOk result ((q : ℕ) → found numbers.new q
+        ≡ cond (key == q) (Some number) (found numbers.old q)) }
     ensures kept { OnErr result ((q : ℕ) → found numbers.new q ≡ found numbers.old q) }
 {
     numbers.insert(key, number)?;
@@ -161,10 +163,12 @@ fn enter(
     number: u32,
     row: &Row,
 ) -> Result<(), AllocError>
-    ensures numbers_kept { (q : ℕ) → is_some (found numbers.old q) ≡ true → is_some (found numbers.new q) ≡ true }
+    ensures numbers_kept { (q : ℕ) → is_some (found numbers.old q) ≡ true
+        → is_some (found numbers.new q) ≡ true }
     ensures lists_kept { KeepsLists by_place.old.items by_place.new.items }
     ensures numbered { OnOk result (is_some (found numbers.new (fingerprint row.now)) ≡ true) }
-    ensures listed { OnOk result ((q : ℕ) → names q row.now ≡ true → lists by_place.new.items q number ≡ true) }
+    ensures listed { OnOk result ((q : ℕ) → names q row.now ≡ true
+        → lists by_place.new.items q number ≡ true) }
 {
     note(numbers, fingerprint(row), number)?;
     list_all(alloc, by_place, row.terms(), number)?;

@@ -22,7 +22,8 @@ pub fn numbers_at(by_place: &[Items<u32>], place: u32) -> &[u32]
 
 // Lists up to a place, the new ones empty.
 fn make_room(alloc: Global, by_place: &mut Vec<Items<u32>>, place: usize) -> Result<(), AllocError>
-    ensures same { (q : ℕ) → slice_index_or by_place.new.items q [] ≡ slice_index_or by_place.old.items q [] }
+    ensures same { (q : ℕ) → slice_index_or by_place.new.items q []
+        ≡ slice_index_or by_place.old.items q [] }
     ensures room { OnOk result (place < length by_place.new.items) }
 {
     while by_place.len() <= place {

@@ -77,7 +77,8 @@ impl Order {
 
 // Flags up to a place, the new ones false.
 fn make_room(flags: &mut Vec<bool>, place: usize) -> Result<(), AllocError>
-    ensures same { (q : ℕ) → slice_index_or flags.new.items q false ≡ slice_index_or flags.old.items q false }
+    ensures same { (q : ℕ) → slice_index_or flags.new.items q false
+        ≡ slice_index_or flags.old.items q false }
     ensures room { OnOk result (place < length flags.new.items) }
 {
     while flags.len() <= place {

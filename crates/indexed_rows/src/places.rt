@@ -11,7 +11,8 @@ use std::alloc::{AllocError, Global};
 
 // Adds a place, unless it is there.
 fn name(named: &mut Order, place: u32) -> Result<(), AllocError>
-    ensures { OnOk result ((q : ℕ) → stands_in named.new q ≡ (stands_in named.old q || (place == q))) }
+    ensures { OnOk result ((q : ℕ) → stands_in named.new q
+        ≡ (stands_in named.old q || (place == q))) }
 {
     if named.holds(place) {
         return Ok(());
@@ -21,7 +22,8 @@ fn name(named: &mut Order, place: u32) -> Result<(), AllocError>
 
 // Adds the places of terms.
 fn name_all(named: &mut Order, terms: &[RowTerm]) -> Result<(), AllocError>
-    ensures { OnOk result ((q : ℕ) → stands_in named.new q ≡ (stands_in named.old q || list_any (λ t. t.place == q) terms.now)) }
+    ensures { OnOk result ((q : ℕ) → stands_in named.new q
+        ≡ (stands_in named.old q || list_any (λ t. t.place == q) terms.now)) }
 {
     for term in terms {
         name(named, term.place)?;

@@ -87,7 +87,8 @@ fn add_all(
     requires constants { constants_in named.now ≡ constants_of spec.now ob.now }
     requires out { out.now ≡ [] }
     requires atoms { atoms.now ≡ numbered_arguments spec.now ob.now }
-    ensures { Appends result [] (numbered_arguments spec.now ob.now) (formulas_of spec.now ob.now) out.new atoms.new }
+    ensures { Appends result [] (numbered_arguments spec.now ob.now)
+        (formulas_of spec.now ob.now) out.new atoms.new }
 {
     match add_all_defined(atoms, alloc, spec, ob, ops, named, out) {
         Ok(()) => {}

@@ -32,7 +32,8 @@ fn add_entry(
     named: &Named,
     out: &mut Items<GroundFormula>,
 ) -> Result<(), GroundRefused>
-    ensures { Appends result out.old atoms.old (entry.entry spec.now ob.now (constants_in named.now)) out.new atoms.new }
+    ensures { Appends result out.old atoms.old
+        (entry.entry spec.now ob.now (constants_in named.now)) out.new atoms.new }
 {
     match ob {
         Obligation::Init { .. } => Ok(()),
@@ -97,7 +98,8 @@ fn add_stated(
 ) -> Result<(), GroundRefused>
     requires member { IsObligation spec.now ob.now }
     requires ops { ops.now ≡ breaking.operations_of ob.now }
-    ensures { Appends result out.old atoms.old (stated spec.now ob.now (constants_in named.now)) out.new atoms.new }
+    ensures { Appends result out.old atoms.old
+        (stated spec.now ob.now (constants_in named.now)) out.new atoms.new }
 {
     match add_before(atoms, alloc, spec, ob, ops, named, out) {
         Ok(()) => {}
@@ -134,7 +136,7 @@ fn add_second(
     add_definitions(spec, atoms, alloc, named.calls.as_slice(), 2, out)
 }
 
-// These with the definitions of all later readings.
+/// These with the definitions of all later readings.
 pub fn add_all_defined(
     atoms: &mut Atoms,
     alloc: Global,

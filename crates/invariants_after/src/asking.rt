@@ -17,7 +17,9 @@ pub fn invariant_broken_after<R: Readings>(
     call: &Call,
 ) -> Option<usize>
     requires { world_fits spec.now world.now ≡ true }
-    ensures { (before : Reads) → R.reads at.now ≡ after spec.now world.now call.now before → broken_at spec.now world.now before ≡ None → result ≡ broken_at spec.now world.now (R.reads at.now) }
+    ensures { (before : Reads) → R.reads at.now ≡ after spec.now world.now call.now before
+        → broken_at spec.now world.now before ≡ None
+        → result ≡ broken_at spec.now world.now (R.reads at.now) }
 {
     for (i, invariant) in spec.invariants.as_slice().iter().enumerate() {
         if !line_holds_after(spec, world, at, call, &invariant.line) {

@@ -31,7 +31,8 @@ fn plus_row(alloc: Global, left: &Row, right: &Row) -> Result<Row, RowRefused>
 
 // The left row plus a multiple of the right one, which isn't copied where it counts once.
 fn plus_multiple(alloc: Global, left: &Row, right: &Row, second: &i128) -> Result<Row, RowRefused>
-    ensures sum { Gives result (option_and_then (λ q. plus_row left.now q) (times_row second.now right.now)) }
+    ensures sum { Gives result (option_and_then (λ q. plus_row left.now q)
+        (times_row second.now right.now)) }
     ensures left { is_row left.now ≡ true }
     ensures right { is_row right.now ≡ true }
 {
@@ -52,7 +53,9 @@ fn multiples(
     right: &Row,
     second: &i128,
 ) -> Result<Row, RowRefused>
-    ensures sum { Gives result (option_and_then (λ p. option_and_then (λ q. plus_row p q) (times_row second.now right.now)) (times_row first.now left.now)) }
+    ensures sum { Gives result (option_and_then
+        (λ p. option_and_then (λ q. plus_row p q) (times_row second.now right.now))
+        (times_row first.now left.now)) }
     ensures left { is_row left.now ≡ true }
     ensures right { is_row right.now ≡ true }
 {
@@ -77,7 +80,8 @@ pub fn sum(
     requires first { pos 0 ≤ℤ first }
     requires second { pos 0 ≤ℤ second }
     ensures sum { Gives result (row_sum left.now first right.now second) }
-    ensures points { IfOk result (λ out. (x : ℕ → ℤ) → Satisfies x left.now → Satisfies x right.now → Satisfies x out) }
+    ensures points { IfOk result (λ out. (x : ℕ → ℤ) → Satisfies x left.now → Satisfies x right.now
+        → Satisfies x out) }
 {
     let sum = multiples(alloc, left, &first, right, &second)?;
     Ok(tighten_own(alloc, sum)?)

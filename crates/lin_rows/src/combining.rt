@@ -55,7 +55,8 @@ pub fn combine(alloc: Global, left: &Row, right: &Row, place: u32) -> Result<Com
     requires right { coefficient_at right.now.terms place <ℤ pos 0 }
     ensures combined { Gives result (combined left.now right.now place) }
     ensures cancels { IfOk result (λ out. coefficient_at out.row.terms place ≡ pos 0) }
-    ensures points { IfOk result (λ out. (x : ℕ → ℤ) → Satisfies x left.now → Satisfies x right.now → Satisfies x out.row) }
+    ensures points { IfOk result (λ out. (x : ℕ → ℤ) → Satisfies x left.now → Satisfies x right.now
+        → Satisfies x out.row) }
 {
     let (first, second) = least_factors(left, right, place);
     let row = sum(alloc, left, first, right, second)?;

@@ -32,7 +32,8 @@ pub fn plus(a: &i128, b: &i128) -> Option<i128>
 
 /// A sum so far and one more product, where the product and the sum are in range.
 pub fn add_product(so_far: &i128, a: &i128, b: &i128) -> Option<i128>
-    ensures { result ≡ option_and_then (λ product. fit (so_far.now +ℤ product)) (fit (a.now *ℤ b.now)) }
+    ensures { result ≡ option_and_then (λ product. fit (so_far.now +ℤ product))
+        (fit (a.now *ℤ b.now)) }
 {
     plus(so_far, &times(a, b)?)
 }

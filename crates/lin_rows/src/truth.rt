@@ -24,7 +24,8 @@ fn sum_at(terms: &[RowTerm], values: &[i128]) -> Option<i128>
 pub fn truth_at(row: &Row, values: &[i128]) -> Option<bool>
     requires { places_below (length values.now) row.now ≡ true }
     ensures truth { result ≡ truth_at (point_of values.now) row.now }
-    ensures meaning { IfSome result (λ truth. IsTrue truth ↔ Satisfies (point_of values.now) row.now) }
+    ensures meaning { IfSome result (λ truth. IsTrue truth ↔ Satisfies
+        (point_of values.now) row.now) }
 {
     let value = sum_at(row.terms(), values)?;
     Some(is_at_most(&value, &row.bound()))

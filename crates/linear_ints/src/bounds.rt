@@ -82,7 +82,8 @@ fn bound_with(row: &Row, place: u32, rest: &i128) -> Option<i128>
 // The bound that a row gives for a place that it names.
 fn bound_of(row: &Row, place: u32, values: &[i128]) -> Result<i128, Fault>
     requires { is_zero (coefficient_at row.now.terms place) ≡ false }
-    ensures { MatchResult result (λ b. IsBoundAt values.now place row.now b) (λ fault. IsFault values.now place row.now fault) }
+    ensures { MatchResult result (λ b. IsBoundAt values.now place row.now b)
+        (λ fault. IsFault values.now place row.now fault) }
 {
     match rest_of(row, values) {
         None => Err(Fault::Sum),

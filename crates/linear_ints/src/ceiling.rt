@@ -34,7 +34,8 @@ fn taken(whole: u128) -> i128
 /// The least number from -10^15 to 10^15 that is at least the fraction (more - less) / by; nothing where the fraction is above.
 pub fn bound(more: &i128, less: &i128, by: u128) -> Option<i128>
     requires { 0 < by }
-    ensures { MatchOption result (is_beyond (more.now -ℤ less.now) by ≡ true) (λ v. IsBound v (more.now -ℤ less.now) by) }
+    ensures { MatchOption result (is_beyond (more.now -ℤ less.now) by ≡ true)
+        (λ v. IsBound v (more.now -ℤ less.now) by) }
 {
     if is_beyond(more, less, by) {
         return None;

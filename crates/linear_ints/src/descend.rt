@@ -43,7 +43,8 @@ fn values_of_one(
     values: &[i128],
 ) -> Result<Items<i128>, AllocError>
     requires { row < length tableau.now.held }
-    ensures { IfOk result (λ list. list ≡ map (point_of values.now) (other_names place (row_at tableau.now.held row ∷ []))) }
+    ensures { IfOk result (λ list. list ≡ map (point_of values.now)
+        (other_names place (row_at tableau.now.held row ∷ []))) }
 {
     let held = tableau.held.as_slice();
     let names = names_of_one(alloc, place, &held[row as usize])?;
@@ -129,7 +130,8 @@ fn fault_stop(
     requires left { tableau.now.left ≡ [] }
     requires stage { stage < length tableau.now.order }
     requires descent { IsDescent tableau.now (stage + 1) values.now }
-    requires fault { IsFaultAt (take stage tableau.now.order) (place_at tableau.now.order stage) tableau.now.held values.now at }
+    requires fault { IsFaultAt (take stage tableau.now.order)
+        (place_at tableau.now.order stage) tableau.now.held values.now at }
     ensures { IsStop tableau.now.ints rows.now tableau.now result }
 {
     let place = place_of(tableau, stage);
@@ -157,7 +159,8 @@ fn gap_stop(
     requires left { tableau.now.left ≡ [] }
     requires stage { stage < length tableau.now.order }
     requires descent { IsDescent tableau.now (stage + 1) values.now }
-    requires bounds { AreBounds tableau.now stage values.now low.now.row low.now.value high.now.row (pos 0 -ℤ high.now.value) }
+    requires bounds { AreBounds tableau.now stage values.now low.now.row low.now.value high.now.row
+        (pos 0 -ℤ high.now.value) }
     requires gap { (pos 0 -ℤ high.now.value) <ℤ low.now.value }
     requires in_range { in_range high.now.value ≡ true }
     requires low_row { low.now.row < length tableau.now.held }

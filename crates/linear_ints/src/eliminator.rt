@@ -25,6 +25,7 @@ use theory_api::{Theory, TheoryAnswer, law_rows};
 pub struct Eliminator;
 
 impl Eliminator {
+    /// The solver. It keeps nothing between questions.
     pub fn new() -> Eliminator {
         Eliminator
     }
@@ -53,7 +54,8 @@ fn solve(tableau: &mut Tableau, alloc: Global, rows: &[Row], ints: u32) -> Resul
     requires taking { IsTaking rows.now 0 tableau.old }
     requires ints { tableau.old.ints ≡ ints }
     requires rows { list_all is_row rows.now ≡ true }
-    ensures { MatchResult result (λ values. IsModel ints rows.now values) (λ stop. IsStop ints rows.now tableau.new stop) }
+    ensures { MatchResult result (λ values. IsModel ints rows.now values)
+        (λ stop. IsStop ints rows.now tableau.new stop) }
 {
     match take_all(tableau, alloc, rows) {
         Ok(()) => (),

@@ -63,7 +63,8 @@ pub fn of_side(
     held: &[Row],
     named: &[u32],
 ) -> Result<Items<u32>, AllocError>
-    ensures { IfOk result (λ numbers. numbers ≡ filter (is_on_at upper before.now place held.now) named.now) }
+    ensures { IfOk result (λ numbers. numbers
+        ≡ filter (is_on_at upper before.now place held.now) named.now) }
 {
     let numbers = named
         .iter()
@@ -80,7 +81,8 @@ pub fn side_of(
     upper: bool,
     place: u32,
 ) -> Result<Items<u32>, AllocError>
-    ensures { IfOk result (λ numbers. IsSide upper tableau.now.order place tableau.now.held (length tableau.now.held) numbers) }
+    ensures { IfOk result (λ numbers. IsSide upper tableau.now.order place tableau.now.held
+        (length tableau.now.held) numbers) }
 {
     let held = tableau.held.as_slice();
     let named = tableau.held.naming(place);

@@ -23,7 +23,12 @@ pub fn is_needed(held: &Held, row: &Row) -> bool
 
 /// The step that gives a combination.
 pub fn step_of(left: u32, right: u32, sum: &Combined) -> RowStep
-    ensures { result ≡ record { left = left; first = sum.now.first; right = right; second = sum.now.second } }
+    ensures { result ≡ record {
+      left = left;
+      first = sum.now.first;
+      right = right;
+      second = sum.now.second;
+    } }
 {
     RowStep {
         left,
@@ -45,7 +50,8 @@ fn hold_sum(
 ) -> Result<(), Stop>
     requires tableau { IsTableau rows.now tableau.old }
     requires meet { CanMeet tableau.old place upper lower }
-    requires sum { combined (row_at tableau.old.held upper) (row_at tableau.old.held lower) place ≡ Some sum }
+    requires sum { combined (row_at tableau.old.held upper) (row_at tableau.old.held lower) place
+        ≡ Some sum }
     ensures { MatchResult result
         (λ _. IsGrown rows.now tableau.old tableau.new
         × IsCombinedAt place tableau.new.held (row_at tableau.new.held upper)

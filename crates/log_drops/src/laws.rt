@@ -12,12 +12,14 @@ ghost use Rattle.log_drops.specs.Agreement.{IsAccepted, StandsUpgraded, Accepts}
 
 /// Where a log breaks no rule, the upgraded one breaks none, and what stands after both agrees but for dropped clauses.
 pub fn law_upgraded_log_stands()
-    ensures { (p : PlainProblem) (log : List Line) → StandsUpgraded (run p log) (run p (upgraded log)) }
+    ensures { (p : PlainProblem) (log : List Line)
+        → StandsUpgraded (run p log) (run p (upgraded log)) }
 {}
 
 /// Where a log shows that a problem has no interpretation, the upgraded one does.
 pub fn law_upgraded_log_is_accepted()
-    ensures { (p : PlainProblem) (log : List Line) → IsAccepted (run p log) → IsAccepted (run p (upgraded log)) }
+    ensures { (p : PlainProblem) (log : List Line) → IsAccepted (run p log)
+        → IsAccepted (run p (upgraded log)) }
 {}
 
 /// Where `check_log` accepts a log for a problem, it accepts the upgraded one, unless memory is wanting: its answers to the two

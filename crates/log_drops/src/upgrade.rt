@@ -12,8 +12,10 @@ use std::collections::HashSet;
 
 /// Adds a number to a list, where it wasn't seen yet.
 fn note(seen: &mut HashSet<u32>, number: u32, list: &mut Items<u32>) -> Result<(), AllocError>
-    ensures list { OnOk result (list.new ≡ list.old ++ (if contains nat_eq seen.old number then [] else number ∷ [])) }
-    ensures seen { OnOk result ((n : ℕ) → contains nat_eq seen.new n ≡ ((number == n) || contains nat_eq seen.old n)) }
+    ensures list { OnOk result (list.new ≡ list.old
+        ++ (if contains nat_eq seen.old number then [] else number ∷ [])) }
+    ensures seen { OnOk result ((n : ℕ) → contains nat_eq seen.new n
+        ≡ ((number == n) || contains nat_eq seen.old n)) }
 {
     match seen.insert(number) {
         Ok(true) => list.push(number),

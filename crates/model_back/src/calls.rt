@@ -13,7 +13,8 @@ use std::alloc::{AllocError, Global};
 // An argument: the element of a constant, or the value of a name.
 fn argument_at(elements: &[u32], values: &[i128], arg: &GroundArg) -> i64
     requires { list_all in_state_range values.now ≡ true }
-    ensures value { result ≡ argument_by (slice_index elements.now) (λ n. slice_index_or values.now n (pos 0)) arg.now }
+    ensures value { result ≡ argument_by (slice_index elements.now)
+        (λ n. slice_index_or values.now n (pos 0)) arg.now }
     ensures range { in_state_range result ≡ true }
 {
     match arg {

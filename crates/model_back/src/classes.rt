@@ -24,7 +24,8 @@ fn list_class(
     constant: u32,
     firsts: &mut Items<u32>,
 ) -> Result<(), AllocError>
-    ensures { OnOk result (firsts.new ≡ with_class (alike_by equals.now) is_own constant firsts.old) }
+    ensures { OnOk result (firsts.new ≡ with_class
+        (alike_by equals.now) is_own constant firsts.old) }
 {
     if !is_own || any_alike(equals, constant, firsts.as_slice()) {
         return Ok(());

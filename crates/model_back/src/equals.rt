@@ -14,7 +14,7 @@ pub struct Equal {
     pub greater: u32,
 }
 
-// The truth value of a number; false where it has none.
+/// The truth value of a number; false where it has none.
 pub fn truth_of(truths: &[bool], number: u32) -> bool
     ensures { result ≡ slice_index_or truths.now number false }
 {
@@ -23,7 +23,8 @@ pub fn truth_of(truths: &[bool], number: u32) -> bool
 
 // Lists the two constants of an atom, where it is true.
 fn list_equal(is_true: bool, atom: &Atom, equals: &mut Vec<Equal>) -> Result<(), AllocError>
-    ensures { OnOk result (equals.new.items ≡ equals.old.items ++ equal_of is_true (atom_of atom.now)) }
+    ensures { OnOk result (equals.new.items ≡ equals.old.items
+        ++ equal_of is_true (atom_of atom.now)) }
 {
     match atom {
         Atom::Same(lesser, greater) if is_true => {
@@ -39,7 +40,8 @@ fn list_equal(is_true: bool, atom: &Atom, equals: &mut Vec<Equal>) -> Result<(),
 
 /// The constants that an interpretation says are equal.
 pub fn equals_of(alloc: Global, atoms: &Atoms, truths: &[bool]) -> Result<Vec<Equal>, AllocError>
-    ensures { IfOk result (λ es. es.items ≡ equals_from (λ n. slice_index_or truths.now n false) 0 atoms.now.table.atoms) }
+    ensures { IfOk result (λ es. es.items ≡ equals_from
+        (λ n. slice_index_or truths.now n false) 0 atoms.now.table.atoms) }
 {
     let mut equals = Vec::new(alloc);
     for n in 0..u32::MAX {

@@ -15,7 +15,8 @@ pub fn all_classes(
     sorts: &[u8],
     count: u8,
 ) -> Result<Vec<Items<u32>>, AllocError>
-    ensures { IfOk result (λ all. all.items ≡ map (classes_by (alike_by equals.now) sorts.now) (range_with_len 0 count)) }
+    ensures { IfOk result (λ all. all.items ≡ map (classes_by (alike_by equals.now) sorts.now)
+        (range_with_len 0 count)) }
 {
     let mut all = Vec::new(alloc);
     for sort in 0..count {
@@ -32,7 +33,8 @@ pub fn all_elements(
     classes: &[Items<u32>],
 ) -> Result<Vec<u32>, AllocError>
     requires exist { list_all (λ s. nat_lt s (length classes.now)) sorts.now ≡ true }
-    requires classes { classes.now ≡ map (classes_by (alike_by equals.now) sorts.now) (range_with_len 0 (length classes.now)) }
+    requires classes { classes.now ≡ map (classes_by (alike_by equals.now) sorts.now)
+        (range_with_len 0 (length classes.now)) }
     ensures { IfOk result
         (λ es. es.items
         ≡ map (element_by (alike_by equals.now) sorts.now) (range_with_len 0 (length sorts.now))) }

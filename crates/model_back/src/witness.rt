@@ -129,7 +129,8 @@ pub fn witness_of(
         (numbered_of spec.now ob.now)
         ≡ true }
     requires in_range { list_all in_state found.now.ints ≡ true }
-    ensures breaks { IfOk result (λ w. IsRefutation spec.now ob.now w.world w.state w.calls w.elements) }
+    ensures breaks { IfOk result
+        (λ w. IsRefutation spec.now ob.now w.world w.state w.calls w.elements) }
     ensures given { IfOk result
         (λ w. IsGivenBy spec.now ob.now
         (interpretation_of (table_of spec.now ob.now) (meaning_of found.now)) w.world w.state

@@ -21,7 +21,8 @@ fn sizes_of(alloc: Global, classes: &[Items<u32>]) -> Result<Items<u32>, AllocEr
 }
 
 fn consts_of(alloc: Global, elements: &[u32], count: u32) -> Result<Items<u32>, AllocError>
-    ensures { IfOk result (λ consts. consts ≡ map (slice_index elements.now) (range_with_len 0 count)) }
+    ensures { IfOk result (λ consts. consts ≡ map (slice_index elements.now)
+        (range_with_len 0 count)) }
 {
     let mut consts = Items::new(alloc);
     for c in 0..count {

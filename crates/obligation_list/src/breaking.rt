@@ -73,8 +73,10 @@ fn invariants_hold(spec: &Spec, world: &World, state: &State) -> bool
 fn init_concluded(spec: &Spec, world: &World, state: &State, inv: u8, elements: &[u32]) -> bool
     requires world { world_fits spec.now world.now ≡ true }
     requires inv { inv < length spec.now.invariants }
-    requires elements { fits_places world.now (failing_vars (invariant_line spec.now inv)) elements.now ≡ true }
-    ensures { result ≡ line_at world.now (reads state.now) [] (invariant_line spec.now inv) elements.now }
+    requires elements { fits_places world.now
+        (failing_vars (invariant_line spec.now inv)) elements.now ≡ true }
+    ensures { result ≡ line_at world.now (reads state.now) []
+        (invariant_line spec.now inv) elements.now }
 {
     spec.well_formed();
     line_at(spec, world, state, &[], invariant_line(spec, inv), elements)
@@ -93,8 +95,10 @@ fn safety_concluded(
     requires state { is_state spec.now world.now state.now ≡ true }
     requires call { call_fits spec.now world.now call.now ≡ true }
     requires inv { inv < length spec.now.invariants }
-    requires elements { fits_places world.now (failing_vars (invariant_line spec.now inv)) elements.now ≡ true }
-    ensures { result ≡ line_at world.now (after spec.now world.now call.now (reads state.now)) [] (invariant_line spec.now inv) elements.now }
+    requires elements { fits_places world.now
+        (failing_vars (invariant_line spec.now inv)) elements.now ≡ true }
+    ensures { result ≡ line_at world.now (after spec.now world.now call.now (reads state.now)) []
+        (invariant_line spec.now inv) elements.now }
 {
     spec.well_formed();
     let after = After {
@@ -127,7 +131,9 @@ fn commute_concluded(
     requires state { is_state spec.now world.now state.now ≡ true }
     requires a { call_fits spec.now world.now a.now ≡ true }
     requires b { call_fits spec.now world.now b.now ≡ true }
-    ensures { result ≡ reads_same thing elements.now (after spec.now world.now b.now (after spec.now world.now a.now (reads state.now))) (after spec.now world.now a.now (after spec.now world.now b.now (reads state.now))) }
+    ensures { result ≡ reads_same thing elements.now
+        (after spec.now world.now b.now (after spec.now world.now a.now (reads state.now)))
+        (after spec.now world.now a.now (after spec.now world.now b.now (reads state.now))) }
 {
     match thing {
         Thing::Relation(k) => {
@@ -158,8 +164,10 @@ fn stable_concluded(
     requires b { call_fits spec.now world.now b.now ≡ true }
     requires op { a.now.op ≡ op }
     requires line { line < length (op_of spec.now op).requires_ }
-    requires elements { fits_places world.now (failing_vars (requires_line spec.now op line)) elements.now ≡ true }
-    ensures { result ≡ line_at world.now (after spec.now world.now b.now (reads state.now)) a.now.args (requires_line spec.now op line) elements.now }
+    requires elements { fits_places world.now
+        (failing_vars (requires_line spec.now op line)) elements.now ≡ true }
+    ensures { result ≡ line_at world.now (after spec.now world.now b.now
+        (reads state.now)) a.now.args (requires_line spec.now op line) elements.now }
 {
     spec.well_formed();
     let after = After {
@@ -181,7 +189,8 @@ fn stable_concluded(
 fn refutes_init(spec: &Spec, world: &World, state: &State, inv: u8, elements: &[u32]) -> bool
     requires world { world_fits spec.now world.now ≡ true }
     requires inv { inv < length spec.now.invariants }
-    requires elements { fits_places world.now (failing_vars (invariant_line spec.now inv)) elements.now ≡ true }
+    requires elements { fits_places world.now
+        (failing_vars (invariant_line spec.now inv)) elements.now ≡ true }
     ensures { result ≡ refutes_init spec.now inv world.now (reads state.now) elements.now }
 {
     is_initial(spec, world, state) && !init_concluded(spec, world, state, inv, elements)
@@ -199,8 +208,10 @@ fn refutes_safety(
     requires world { world_fits spec.now world.now ≡ true }
     requires state { is_state spec.now world.now state.now ≡ true }
     requires inv { inv < length spec.now.invariants }
-    requires elements { fits_places world.now (failing_vars (invariant_line spec.now inv)) elements.now ≡ true }
-    ensures { result ≡ refutes_safety spec.now op inv world.now (reads state.now) call.now elements.now }
+    requires elements { fits_places world.now
+        (failing_vars (invariant_line spec.now inv)) elements.now ≡ true }
+    ensures { result ≡ refutes_safety spec.now op inv world.now
+        (reads state.now) call.now elements.now }
 {
     call.op == op
         && call.fits(spec, world)
@@ -255,7 +266,8 @@ fn refutes_commute(
 ) -> bool
     requires world { world_fits spec.now world.now ≡ true }
     requires state { is_state spec.now world.now state.now ≡ true }
-    ensures { result ≡ refutes_commute spec.now first second thing world.now (reads state.now) a.now b.now elements.now }
+    ensures { result ≡ refutes_commute spec.now first second thing world.now
+        (reads state.now) a.now b.now elements.now }
 {
     are_together(spec, world, state, first, second, a, b)
         && !commute_concluded(spec, world, state, a, b, thing, elements)
@@ -275,8 +287,10 @@ fn refutes_stable(
     requires world { world_fits spec.now world.now ≡ true }
     requires state { is_state spec.now world.now state.now ≡ true }
     requires line { line < length (op_of spec.now first).requires_ }
-    requires elements { fits_places world.now (failing_vars (requires_line spec.now first line)) elements.now ≡ true }
-    ensures { result ≡ refutes_stable spec.now first line second world.now (reads state.now) a.now b.now elements.now }
+    requires elements { fits_places world.now
+        (failing_vars (requires_line spec.now first line)) elements.now ≡ true }
+    ensures { result ≡ refutes_stable spec.now first line second world.now
+        (reads state.now) a.now b.now elements.now }
 {
     are_together(spec, world, state, first, second, a, b)
         && !stable_concluded(spec, world, state, a, b, first, line, elements)
@@ -295,7 +309,8 @@ fn refutes_in(
     requires world { world_fits spec.now world.now ≡ true }
     requires state { is_state spec.now world.now state.now ≡ true }
     requires elements { fits_places world.now (elements_of spec.now ob.now) elements.now ≡ true }
-    ensures { result ≡ refutes_in spec.now ob.now world.now (reads state.now) calls.now elements.now }
+    ensures { result ≡ refutes_in spec.now ob.now world.now
+        (reads state.now) calls.now elements.now }
 {
     match ob {
         Obligation::Init { inv } => match calls {

@@ -37,7 +37,8 @@ fn starts_behind(
     sorts: &[u8],
 ) -> bool
     requires { count + length sorts.now ≤ 3 }
-    ensures { result ≡ all_choices world.now (take count chosen) sorts.now (λ t. starts_at spec.now thing t (reads state.now)) }
+    ensures { result ≡ all_choices world.now (take count chosen) sorts.now
+        (λ t. starts_at spec.now thing t (reads state.now)) }
 {
     match sorts {
         [] => starts_at(spec, state, thing, &chosen[..count]),
@@ -56,7 +57,9 @@ fn starts_behind(
 
 // The relations have their stated values at all tuples.
 fn relations_start(spec: &Spec, world: &World, state: &State) -> bool
-    ensures { result ≡ all_below (length spec.now.relations) (λ k. starts_everywhere spec.now world.now (Thing.Relation k) (relation_places spec.now k) (reads state.now)) }
+    ensures { result ≡ all_below (length spec.now.relations)
+        (λ k. starts_everywhere spec.now world.now (Thing.Relation k) (relation_places spec.now k)
+        (reads state.now)) }
 {
     spec.well_formed();
     for k in 0..sizes_of(spec).relations {
@@ -70,7 +73,9 @@ fn relations_start(spec: &Spec, world: &World, state: &State) -> bool
 
 // The counters have their stated values at all keys.
 fn counters_start(spec: &Spec, world: &World, state: &State) -> bool
-    ensures { result ≡ all_below (length spec.now.counters) (λ k. starts_everywhere spec.now world.now (Thing.Counter k) (counter_keys spec.now k) (reads state.now)) }
+    ensures { result ≡ all_below (length spec.now.counters)
+        (λ k. starts_everywhere spec.now world.now (Thing.Counter k) (counter_keys spec.now k)
+        (reads state.now)) }
 {
     spec.well_formed();
     for k in 0..sizes_of(spec).counters {

@@ -14,7 +14,7 @@ use items::Items;
 use spec_core::{Spec, Thing, Update};
 use std::alloc::{AllocError, Global};
 
-// How many members the lists of a specification have.
+/// How many members the lists of a specification have.
 #[derive(Clone, Copy)]
 pub struct Sizes {
     pub relations: u8,
@@ -23,6 +23,7 @@ pub struct Sizes {
     pub operations: u8,
 }
 
+/// How many relations, counters, invariants and operations a specification has.
 pub fn sizes_of(spec: &Spec) -> Sizes
     ensures relations { result.relations ≡ length spec.now.relations }
     ensures counters { result.counters ≡ length spec.now.counters }
@@ -60,7 +61,8 @@ fn add_init(list: &mut Items<Obligation>, invariants: u8) -> Result<(), AllocErr
 }
 
 fn add_safety(list: &mut Items<Obligation>, op: u8, invariants: u8) -> Result<(), AllocError>
-    ensures { OnOk result (list.new ≡ list.old ++ map (λ i. Obligation.Safety op i) (below invariants)) }
+    ensures { OnOk result (list.new ≡ list.old
+        ++ map (λ i. Obligation.Safety op i) (below invariants)) }
 {
     for inv in 0..invariants {
         list.push(Obligation::Safety { op, inv })?;
@@ -74,7 +76,8 @@ fn add_stable(
     line: u8,
     operations: u8,
 ) -> Result<(), AllocError>
-    ensures { OnOk result (list.new ≡ list.old ++ map (λ p. Obligation.Stable op line p) (below operations)) }
+    ensures { OnOk result (list.new ≡ list.old
+        ++ map (λ p. Obligation.Stable op line p) (below operations)) }
 {
     for other in 0..operations {
         list.push(Obligation::Stable { op, line, other })?;
@@ -90,7 +93,9 @@ fn add_if_written(
     second: u8,
     thing: Thing,
 ) -> Result<(), AllocError>
-    ensures { OnOk result (list.new ≡ list.old ++ cond (either_writes spec.now first second thing) (Obligation.Commute first second thing ∷ []) []) }
+    ensures { OnOk result (list.new ≡ list.old
+        ++ cond (either_writes spec.now first second thing)
+        (Obligation.Commute first second thing ∷ []) []) }
 {
     if either_writes(spec, first, second, thing) {
         list.push(Obligation::Commute {
@@ -109,7 +114,10 @@ fn add_on_relations(
     second: u8,
     relations: u8,
 ) -> Result<(), AllocError>
-    ensures { OnOk result (list.new ≡ list.old ++ map (λ x. Obligation.Commute first second x) (filter (either_writes spec.now first second) (map (λ k. Thing.Relation k) (below relations)))) }
+    ensures { OnOk result (list.new ≡ list.old
+        ++ map (λ x. Obligation.Commute first second x)
+        (filter (either_writes spec.now first second)
+        (map (λ k. Thing.Relation k) (below relations)))) }
 {
     for k in 0..relations {
         add_if_written(list, spec, first, second, Thing::Relation(k))?;
@@ -124,7 +132,10 @@ fn add_on_counters(
     second: u8,
     counters: u8,
 ) -> Result<(), AllocError>
-    ensures { OnOk result (list.new ≡ list.old ++ map (λ x. Obligation.Commute first second x) (filter (either_writes spec.now first second) (map (λ k. Thing.Counter k) (below counters)))) }
+    ensures { OnOk result (list.new ≡ list.old
+        ++ map (λ x. Obligation.Commute first second x)
+        (filter (either_writes spec.now first second)
+        (map (λ k. Thing.Counter k) (below counters)))) }
 {
     for k in 0..counters {
         add_if_written(list, spec, first, second, Thing::Counter(k))?;
@@ -175,7 +186,8 @@ fn add_stable_from(list: &mut Items<Obligation>, spec: &Spec, op: u8) -> Result<
 }
 
 fn add_all_safety(list: &mut Items<Obligation>, spec: &Spec) -> Result<(), AllocError>
-    ensures { OnOk result (list.new ≡ list.old ++ flat_map (safety_of spec.now) (below (length spec.now.operations))) }
+    ensures { OnOk result (list.new ≡ list.old
+        ++ flat_map (safety_of spec.now) (below (length spec.now.operations))) }
 {
     let sizes = sizes_of(spec);
     for op in 0..sizes.operations {
@@ -185,7 +197,8 @@ fn add_all_safety(list: &mut Items<Obligation>, spec: &Spec) -> Result<(), Alloc
 }
 
 fn add_all_commute(list: &mut Items<Obligation>, spec: &Spec) -> Result<(), AllocError>
-    ensures { OnOk result (list.new ≡ list.old ++ flat_map (commute_from spec.now) (below (length spec.now.operations))) }
+    ensures { OnOk result (list.new ≡ list.old
+        ++ flat_map (commute_from spec.now) (below (length spec.now.operations))) }
 {
     for first in 0..sizes_of(spec).operations {
         add_commute_from(list, spec, first)?;
@@ -194,7 +207,8 @@ fn add_all_commute(list: &mut Items<Obligation>, spec: &Spec) -> Result<(), Allo
 }
 
 fn add_all_stable(list: &mut Items<Obligation>, spec: &Spec) -> Result<(), AllocError>
-    ensures { OnOk result (list.new ≡ list.old ++ flat_map (stable_from spec.now) (below (length spec.now.operations))) }
+    ensures { OnOk result (list.new ≡ list.old
+        ++ flat_map (stable_from spec.now) (below (length spec.now.operations))) }
 {
     for op in 0..sizes_of(spec).operations {
         add_stable_from(list, spec, op)?;
@@ -220,7 +234,8 @@ fn all_obligations(alloc: Global, spec: &Spec) -> Result<Items<Obligation>, Allo
 pub fn list(alloc: Global, spec: &Spec) -> Result<Items<Obligation>, AllocError>
     ensures list { IfOk result (λ list. list ≡ obligations_of spec.now) }
     ensures few { IfOk result (λ list. length list ≤ 12208) }
-    ensures obligations { IfOk result (λ list. (ob : Obligation) → Contains list ob → IsObligation spec.now ob) }
+    ensures obligations { IfOk result (λ list. (ob : Obligation) → Contains list ob
+        → IsObligation spec.now ob) }
 {
     spec.well_formed();
     let list = all_obligations(alloc, spec)?;
@@ -229,7 +244,10 @@ pub fn list(alloc: Global, spec: &Spec) -> Result<Items<Obligation>, AllocError>
 
 /// The members of the list are the obligations by their parts, so a specification is safe where each member of the list holds.
 pub fn law_obligations()
-    ensures listed { (d : Specification) (ob : Obligation) → Contains (obligations_of d) ob → IsObligation d ob }
-    ensures all { (d : Specification) (ob : Obligation) → IsObligation d ob → Contains (obligations_of d) ob }
-    ensures safe { (d : Specification) → ((ob : Obligation) → Contains (obligations_of d) ob → Holds d ob) → Safe d }
+    ensures listed { (d : Specification) (ob : Obligation) → Contains (obligations_of d) ob
+        → IsObligation d ob }
+    ensures all { (d : Specification) (ob : Obligation) → IsObligation d ob
+        → Contains (obligations_of d) ob }
+    ensures safe { (d : Specification) → ((ob : Obligation) → Contains (obligations_of d) ob
+        → Holds d ob) → Safe d }
 {}

@@ -29,8 +29,10 @@ fn agrees_with<R: Readings>(
     requires world { world_fits spec.now world.now ≡ true }
     requires args { list_all in_state_range args.now ≡ true }
     requires few { length chosen.now ≤ 2 }
-    requires fits { form_fits spec.now world.now args.now (chosen.now ++ e ∷ []) (form_of body.now) ≡ true }
-    ensures { result ≡ agrees wanted (truth world.now (R.reads at.now) args.now (chosen.now ++ e ∷ []) (form_of body.now)) }
+    requires fits { form_fits spec.now world.now args.now (chosen.now ++ e ∷ []) (form_of body.now)
+        ≡ true }
+    ensures { result ≡ agrees wanted (truth world.now (R.reads at.now) args.now
+        (chosen.now ++ e ∷ []) (form_of body.now)) }
 {
     match chosen {
         [] => agrees(spec, world, at, args, &[e], body, wanted),
@@ -53,8 +55,12 @@ fn chosen_force<R: Readings>(
 ) -> bool
     requires world { world_fits spec.now world.now ≡ true }
     requires args { list_all in_state_range args.now ≡ true }
-    requires fits { form_fits spec.now world.now args.now (chosen.now ++ rest.now) (form_of body.now) ≡ true }
-    ensures { result ≡ true → (sorts : List ℕ) → all_choices world.now chosen.now sorts (λ vars. agrees wanted (truth world.now (R.reads at.now) args.now vars (form_of body.now))) ≡ true }
+    requires fits { form_fits spec.now world.now args.now (chosen.now ++ rest.now)
+        (form_of body.now) ≡ true }
+    ensures { result ≡ true → (sorts : List ℕ)
+        → all_choices world.now chosen.now sorts
+        (λ vars. agrees wanted (truth world.now (R.reads at.now) args.now vars (form_of body.now)))
+        ≡ true }
 {
     match chosen {
         [a] => match rest {
@@ -83,8 +89,11 @@ fn force_last<R: Readings>(
 ) -> bool
     requires world { world_fits spec.now world.now ≡ true }
     requires args { list_all in_state_range args.now ≡ true }
-    requires fits { all_choices world.now chosen.now (sort ∷ []) (λ vars. form_fits spec.now world.now args.now vars (form_of body.now)) ≡ true }
-    ensures { result ≡ true → all_choices world.now chosen.now (sort ∷ []) (λ vars. agrees wanted (truth world.now (R.reads at.now) args.now vars (form_of body.now))) ≡ true }
+    requires fits { all_choices world.now chosen.now (sort ∷ [])
+        (λ vars. form_fits spec.now world.now args.now vars (form_of body.now)) ≡ true }
+    ensures { result ≡ true → all_choices world.now chosen.now (sort ∷ [])
+        (λ vars. agrees wanted (truth world.now (R.reads at.now) args.now vars (form_of body.now)))
+        ≡ true }
 {
     if world.size(sort) == 0 {
         return false;
@@ -106,8 +115,11 @@ fn force_last_two<R: Readings>(
 ) -> bool
     requires world { world_fits spec.now world.now ≡ true }
     requires args { list_all in_state_range args.now ≡ true }
-    requires fits { all_choices world.now chosen.now (sort ∷ last ∷ []) (λ vars. form_fits spec.now world.now args.now vars (form_of body.now)) ≡ true }
-    ensures { result ≡ true → all_choices world.now chosen.now (sort ∷ last ∷ []) (λ vars. agrees wanted (truth world.now (R.reads at.now) args.now vars (form_of body.now))) ≡ true }
+    requires fits { all_choices world.now chosen.now (sort ∷ last ∷ [])
+        (λ vars. form_fits spec.now world.now args.now vars (form_of body.now)) ≡ true }
+    ensures { result ≡ true → all_choices world.now chosen.now (sort ∷ last ∷ [])
+        (λ vars. agrees wanted (truth world.now (R.reads at.now) args.now vars (form_of body.now)))
+        ≡ true }
 {
     if world.size(sort) == 0 || world.size(last) == 0 {
         return false;
@@ -129,8 +141,11 @@ fn all_last<R: Readings>(
     requires world { world_fits spec.now world.now ≡ true }
     requires args { list_all in_state_range args.now ≡ true }
     requires few { length chosen.now ≤ 2 }
-    requires fits { all_choices world.now chosen.now (sort ∷ []) (λ vars. form_fits spec.now world.now args.now vars (form_of body.now)) ≡ true }
-    ensures { result ≡ all_choices world.now chosen.now (sort ∷ []) (λ vars. agrees wanted (truth world.now (R.reads at.now) args.now vars (form_of body.now))) }
+    requires fits { all_choices world.now chosen.now (sort ∷ [])
+        (λ vars. form_fits spec.now world.now args.now vars (form_of body.now)) ≡ true }
+    ensures { result ≡ all_choices world.now chosen.now (sort ∷ [])
+        (λ vars. agrees wanted (truth world.now (R.reads at.now) args.now vars
+        (form_of body.now))) }
 {
     if force_last(spec, world, at, args, chosen, sort, body, wanted) {
         return true;
@@ -158,8 +173,11 @@ fn all_last_with<R: Readings>(
     requires world { world_fits spec.now world.now ≡ true }
     requires args { list_all in_state_range args.now ≡ true }
     requires few { length chosen.now ≤ 1 }
-    requires fits { all_choices world.now (chosen.now ++ e ∷ []) (sort ∷ []) (λ vars. form_fits spec.now world.now args.now vars (form_of body.now)) ≡ true }
-    ensures { result ≡ all_choices world.now (chosen.now ++ e ∷ []) (sort ∷ []) (λ vars. agrees wanted (truth world.now (R.reads at.now) args.now vars (form_of body.now))) }
+    requires fits { all_choices world.now (chosen.now ++ e ∷ []) (sort ∷ [])
+        (λ vars. form_fits spec.now world.now args.now vars (form_of body.now)) ≡ true }
+    ensures { result ≡ all_choices world.now (chosen.now ++ e ∷ []) (sort ∷ [])
+        (λ vars. agrees wanted (truth world.now (R.reads at.now) args.now vars
+        (form_of body.now))) }
 {
     match chosen {
         [] => all_last(spec, world, at, args, &[e], sort, body, wanted),
@@ -183,8 +201,11 @@ fn all_last_two<R: Readings>(
     requires world { world_fits spec.now world.now ≡ true }
     requires args { list_all in_state_range args.now ≡ true }
     requires few { length chosen.now ≤ 1 }
-    requires fits { all_choices world.now chosen.now (sort ∷ last ∷ []) (λ vars. form_fits spec.now world.now args.now vars (form_of body.now)) ≡ true }
-    ensures { result ≡ all_choices world.now chosen.now (sort ∷ last ∷ []) (λ vars. agrees wanted (truth world.now (R.reads at.now) args.now vars (form_of body.now))) }
+    requires fits { all_choices world.now chosen.now (sort ∷ last ∷ [])
+        (λ vars. form_fits spec.now world.now args.now vars (form_of body.now)) ≡ true }
+    ensures { result ≡ all_choices world.now chosen.now (sort ∷ last ∷ [])
+        (λ vars. agrees wanted (truth world.now (R.reads at.now) args.now vars
+        (form_of body.now))) }
 {
     if force_last_two(spec, world, at, args, chosen, sort, last, body, wanted) {
         return true;
@@ -211,8 +232,11 @@ fn all_three<R: Readings>(
 ) -> bool
     requires world { world_fits spec.now world.now ≡ true }
     requires args { list_all in_state_range args.now ≡ true }
-    requires fits { all_choices world.now [] (first ∷ second ∷ third ∷ []) (λ vars. form_fits spec.now world.now args.now vars (form_of body.now)) ≡ true }
-    ensures { result ≡ all_choices world.now [] (first ∷ second ∷ third ∷ []) (λ vars. agrees wanted (truth world.now (R.reads at.now) args.now vars (form_of body.now))) }
+    requires fits { all_choices world.now [] (first ∷ second ∷ third ∷ [])
+        (λ vars. form_fits spec.now world.now args.now vars (form_of body.now)) ≡ true }
+    ensures { result ≡ all_choices world.now [] (first ∷ second ∷ third ∷ [])
+        (λ vars. agrees wanted (truth world.now (R.reads at.now) args.now vars
+        (form_of body.now))) }
 {
     for e in 0..world.size(first) {
         if !all_last_two(spec, world, at, args, &[e], second, third, body, wanted) {
@@ -235,8 +259,11 @@ pub fn all_agree<R: Readings>(
     requires world { world_fits spec.now world.now ≡ true }
     requires args { list_all in_state_range args.now ≡ true }
     requires few { length sorts.now ≤ most_variables }
-    requires fits { list_all (λ vars. form_fits spec.now world.now args.now vars (form_of body.now)) (tuples world.now sorts.now) ≡ true }
-    ensures { result ≡ list_all (λ vars. agrees wanted (truth world.now (R.reads at.now) args.now vars (form_of body.now))) (tuples world.now sorts.now) }
+    requires fits { list_all (λ vars. form_fits spec.now world.now args.now vars (form_of body.now))
+        (tuples world.now sorts.now) ≡ true }
+    ensures { result ≡ list_all (λ vars. agrees wanted
+        (truth world.now (R.reads at.now) args.now vars (form_of body.now)))
+        (tuples world.now sorts.now) }
 {
     match sorts {
         [] => agrees(spec, world, at, args, &[], body, wanted),

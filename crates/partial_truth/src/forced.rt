@@ -82,7 +82,8 @@ pub fn agrees<R: Readings>(
     requires world { world_fits spec.now world.now ≡ true }
     requires args { list_all in_state_range args.now ≡ true }
     requires fits { form_fits spec.now world.now args.now vars.now (form_of formula.now) ≡ true }
-    ensures { result ≡ agrees wanted (truth world.now (R.reads at.now) args.now vars.now (form_of formula.now)) }
+    ensures { result ≡ agrees wanted (truth world.now (R.reads at.now) args.now vars.now
+        (form_of formula.now)) }
 {
     let truth = holds(spec, world, at, args, vars, formula);
     if wanted { truth } else { !truth }
@@ -101,7 +102,8 @@ fn atom_forced<R: Readings>(
     requires world { world_fits spec.now world.now ≡ true }
     requires args { list_all in_state_range args.now ≡ true }
     requires fits { form_fits spec.now world.now args.now vars.now (form_of formula.now) ≡ true }
-    ensures { result ≡ atom_forced world.now (R.reads at.now) args.now vars.now count (form_of formula.now) wanted }
+    ensures { result ≡ atom_forced world.now (R.reads at.now) args.now vars.now count
+        (form_of formula.now) wanted }
 {
     atom_bound(formula, count) && agrees(spec, world, at, args, vars, formula, wanted)
 }
@@ -120,7 +122,8 @@ pub fn is_forced<R: Readings>(
     requires world { world_fits spec.now world.now ≡ true }
     requires args { list_all in_state_range args.now ≡ true }
     requires fits { form_fits spec.now world.now args.now vars.now (form_of formula.now) ≡ true }
-    ensures { result ≡ is_forced world.now (R.reads at.now) args.now vars.now count (form_of formula.now) wanted }
+    ensures { result ≡ is_forced world.now (R.reads at.now) args.now vars.now count
+        (form_of formula.now) wanted }
 {
     match formula {
         Formula::True => wanted,

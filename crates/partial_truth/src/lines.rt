@@ -72,7 +72,8 @@ pub fn requires_broken_at<R: Readings>(
 ) -> Option<usize>
     requires world { world_fits spec.now world.now ≡ true }
     requires call { call_fits spec.now world.now call.now ≡ true }
-    ensures place { result ≡ first_false world.now (R.reads at.now) call.now.args (op_of spec.now call.now.op).requires_ }
+    ensures place { result ≡ first_false world.now (R.reads at.now) call.now.args
+        (op_of spec.now call.now.op).requires_ }
     ensures none { is_none result ≡ pre spec.now world.now call.now (R.reads at.now) }
 {
     spec.well_formed();
@@ -89,7 +90,8 @@ pub fn observes_broken_at<R: Readings>(
 ) -> Option<usize>
     requires world { world_fits spec.now world.now ≡ true }
     requires call { call_fits spec.now world.now call.now ≡ true }
-    ensures place { result ≡ first_false world.now (R.reads at.now) call.now.args (op_of spec.now call.now.op).observes }
+    ensures place { result ≡ first_false world.now (R.reads at.now) call.now.args
+        (op_of spec.now call.now.op).observes }
     ensures none { is_none result ≡ observed spec.now world.now call.now (R.reads at.now) }
 {
     spec.well_formed();

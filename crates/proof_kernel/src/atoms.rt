@@ -35,6 +35,7 @@ impl Model for Atoms {
 }
 
 impl Atoms {
+    /// Atoms with an index of the rows that bound one place from above.
     pub fn of(alloc: Global, list: Items<AtomKind>) -> Result<Atoms, AllocError>
         ensures { IfOk result (λ atoms. atoms ≡ list) }
     {
@@ -42,18 +43,21 @@ impl Atoms {
         Ok(Atoms { list, pairs })
     }
 
+    /// All atoms, in the order of their numbers.
     pub fn as_slice(&self) -> &[AtomKind]
         ensures { result.now ≡ self.now }
     {
         self.list.as_slice()
     }
 
+    /// How many atoms there are.
     pub fn len(&self) -> usize
         ensures { result ≡ length self.now }
     {
         self.list.len()
     }
 
+    /// The atom of a number, counted from 0; none where there is no such number.
     pub fn get(&self, number: usize) -> Option<&AtomKind>
         ensures { option_copied result ≡ slice_get self.now number }
     {
@@ -110,7 +114,8 @@ fn make_room(pairs: &mut HashSet<(u32, i128)>) -> Result<(), AllocError>
 
 fn note(pairs: &mut HashSet<(u32, i128)>, pair: Option<(u32, i128)>)
     requires { 0 < room pairs.old }
-    ensures { (p : ℕ) (k : ℤ) → has_pair pairs.new p k ≡ (has_pair pairs.old p k || is_pair pair p k) }
+    ensures { (p : ℕ) (k : ℤ) → has_pair pairs.new p k
+        ≡ (has_pair pairs.old p k || is_pair pair p k) }
 {
     if let Some(pair) = pair {
         let _ = pairs.insert(pair);
@@ -118,7 +123,8 @@ fn note(pairs: &mut HashSet<(u32, i128)>, pair: Option<(u32, i128)>)
 }
 
 fn pairs_of(alloc: Global, atoms: &[AtomKind]) -> Result<HashSet<(u32, i128)>, AllocError>
-    ensures { IfOk result (λ pairs. (p : ℕ) (k : ℤ) → has_pair pairs p k ≡ list_any (is_at_most p k) atoms.now) }
+    ensures { IfOk result (λ pairs. (p : ℕ) (k : ℤ)
+        → has_pair pairs p k ≡ list_any (is_at_most p k) atoms.now) }
 {
     let mut pairs = HashSet::new(alloc);
     for atom in atoms {

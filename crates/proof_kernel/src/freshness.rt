@@ -61,7 +61,7 @@ fn sign_number(positive: bool) -> usize
     if positive { 2 } else { 1 }
 }
 
-// The spot of a literal, of so many spots.
+/// The spot of a literal, of so many spots.
 pub fn spot(count: usize, lit: Lit) -> usize
     requires { 0 < count }
     ensures is { result ≡ spot count lit }
@@ -75,6 +75,7 @@ pub fn spot(count: usize, lit: Lit) -> usize
     }
 }
 
+/// Whether a spot is marked. The first one counts as marked always.
 pub fn is_marked(marks: &[bool], at: usize) -> bool
     ensures { result ≡ marked marks.now at }
 {
@@ -147,7 +148,7 @@ fn marked_both_ways(count: usize, marks: &[bool], lits: &[Lit]) -> bool
     any_opposite_marked(count, marks, lits) && holds_both_ways(lits)
 }
 
-// Whether the clause of a number has marked spots alone and lies within another.
+/// Whether the clause of a number has marked spots alone and lies within another.
 pub fn marked_slot_within(
     count: usize,
     marks: &[bool],
@@ -157,7 +158,8 @@ pub fn marked_slot_within(
     hint: &mut usize,
 ) -> bool
     requires { 0 < count }
-    ensures { result ≡ marked_slot_within count marks.now lits.now (slice_index_or slots.now number None) }
+    ensures { result ≡ marked_slot_within count marks.now lits.now
+        (slice_index_or slots.now number None) }
 {
     match slots.get(number) {
         Some(Some(clause)) => {
@@ -251,7 +253,8 @@ fn finds_at_literals(
     hints: &mut Hints,
 ) -> bool
     requires { 0 < count }
-    ensures { result ≡ list_any (λ k. list_any (marked_within count marks.now slots.now lits.now) (slice_index_or lists.now k [])) (map (spot count) lits.now) }
+    ensures { result ≡ list_any (λ k. list_any (marked_within count marks.now slots.now lits.now)
+        (slice_index_or lists.now k [])) (map (spot count) lits.now) }
 {
     for lit in lits {
         if any_within(
@@ -281,7 +284,8 @@ fn finds_either(
     requires some { 0 < count }
     requires marks { MarksAre count marks.now lits.now }
     requires fits { BlocksFit count slots.now blocks.now }
-    ensures { result ≡ (finds count slots.now lists.now lits.now || finds_in_blocks slots.now blocks.now lits.now) }
+    ensures { result ≡ (finds count slots.now lists.now lits.now
+        || finds_in_blocks slots.now blocks.now lits.now) }
 {
     let listed = finds_marked(count, marks, slots, lists, lits, hints);
     if listed {
@@ -312,7 +316,8 @@ fn finds(
     requires sized { length marks.old.items ≡ count }
     requires clear { HasNoMark marks.old.items }
     requires fits { BlocksFit count slots.now blocks.now }
-    ensures is { result ≡ (finds count slots.now lists.now lits.now || finds_in_blocks slots.now blocks.now lits.now) }
+    ensures is { result ≡ (finds count slots.now lists.now lits.now
+        || finds_in_blocks slots.now blocks.now lits.now) }
     ensures sized { length marks.new.items ≡ count }
     ensures clear { HasNoMark marks.new.items }
 {
@@ -390,7 +395,8 @@ fn rarest(
 
 fn put_at(lists: &mut Vec<Items<Entry>>, at: usize, entry: Entry) -> Result<(), AllocError>
     requires { at < length lists.old.items }
-    ensures { OnOk result (lists.new.items ≡ slice_set lists.old.items at (slice_index_or lists.old.items at [] ++ entry ∷ [])) }
+    ensures { OnOk result (lists.new.items ≡ slice_set lists.old.items at
+        (slice_index_or lists.old.items at [] ++ entry ∷ [])) }
 {
     lists[at].push(entry)?;
     Ok(())
@@ -438,7 +444,8 @@ fn put_clause(
     requires room { length blocks.old.last.numbers < 128 }
     requires sized { length blocks.old.last.masks.items ≡ count }
     ensures listed { OnOk result (length lists.new.items ≡ count) }
-    ensures puts { OnOk result (PutsEither count lits.now number lists.old.items lists.new.items blocks.old blocks.new) }
+    ensures puts { OnOk result
+        (PutsEither count lits.now number lists.old.items lists.new.items blocks.old blocks.new) }
 {
     if is_for_blocks(count, lits, crowded) {
         return put_in_blocks(alloc, count, blocks, number, lits);
@@ -463,7 +470,9 @@ fn put_slot(
     requires there { number < length slots.now }
     ensures listed { OnOk result (length lists.new.items ≡ count) }
     ensures fits { OnOk result (BlocksFit count slots.now blocks.new) }
-    ensures next { OnOk result (IsIndex count slots.now lists.old.items blocks.old (live_of (take number slots.now)) → IsIndex count slots.now lists.new.items blocks.new (live_of (take (number + 1) slots.now))) }
+    ensures next { OnOk result (IsIndex count slots.now lists.old.items blocks.old
+        (live_of (take number slots.now)) → IsIndex count slots.now lists.new.items blocks.new
+        (live_of (take (number + 1) slots.now))) }
 {
     match &slots[number] {
         Some(clause) => put_clause(
@@ -508,7 +517,8 @@ fn put_before(
     requires none { IsIndex count slots.now lists.old.items blocks.old [] }
     ensures listed { OnOk result (length lists.new.items ≡ count) }
     ensures fits { OnOk result (BlocksFit count slots.now blocks.new) }
-    ensures is { OnOk result (IsIndex count slots.now lists.new.items blocks.new (live_of (take number slots.now))) }
+    ensures is { OnOk result (IsIndex count slots.now lists.new.items blocks.new
+        (live_of (take number slots.now))) }
 {
     for i in 0..number {
         put_slot(alloc, count, slots, seen, lists, blocks, i, false)?;
@@ -531,8 +541,10 @@ fn is_slot_new(
     requires clear { HasNoMark marks.old.items }
     requires there { number < length slots.now }
     requires fits { BlocksFit count slots.now blocks.now }
-    requires before { IsIndex count slots.now lists.now blocks.now (live_of (take number slots.now)) }
-    ensures is { result ≡ slot_new (live_of (take number slots.now)) (slice_index_or slots.now number None) }
+    requires before { IsIndex count slots.now lists.now blocks.now
+        (live_of (take number slots.now)) }
+    ensures is { result ≡ slot_new (live_of (take number slots.now))
+        (slice_index_or slots.now number None) }
     ensures sized { length marks.new.items ≡ count }
     ensures clear { HasNoMark marks.new.items }
 {
@@ -560,8 +572,10 @@ fn each_new_after(
     requires there { given ≤ length slots.now }
     requires listed { length lists.old.items ≡ count }
     requires fits { BlocksFit count slots.now blocks.old }
-    requires before { IsIndex count slots.now lists.old.items blocks.old (live_of (take given slots.now)) }
-    ensures { IfOk result (λ b. b ≡ each_new (live_of (take given slots.now)) (live_of (drop given slots.now))) }
+    requires before { IsIndex count slots.now lists.old.items blocks.old
+        (live_of (take given slots.now)) }
+    ensures { IfOk result (λ b. b ≡ each_new (live_of (take given slots.now))
+        (live_of (drop given slots.now))) }
 {
     let mut marks = vec![in alloc; false; count]?;
     let mut hints = Hints {
@@ -595,7 +609,8 @@ fn each_new_by_index(
 ) -> Result<bool, AllocError>
     requires some { 0 < count }
     requires there { given ≤ length slots.now }
-    ensures { IfOk result (λ b. b ≡ each_new (live_of (take given slots.now)) (live_of (drop given slots.now))) }
+    ensures { IfOk result (λ b. b ≡ each_new (live_of (take given slots.now))
+        (live_of (drop given slots.now))) }
 {
     let mut seen = vec![in alloc; 0; count]?;
     let mut lists = empty_lists(alloc, count)?;

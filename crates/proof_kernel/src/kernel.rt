@@ -50,7 +50,8 @@ impl Kernel {
     /// The kernel before the first line of a log. More than 2^32 - 1 clauses or atoms are answered as want of memory.
     pub fn new(alloc: Global, problem: Problem) -> Result<Kernel, AllocError>
         ensures exact { IfOk result (λ kernel. kernel ≡ start problem) }
-        ensures sound { IfOk result (λ kernel. (m : Meaning) → makes_true m problem ≡ true → holds m kernel ≡ true) }
+        ensures sound { IfOk result (λ kernel. (m : Meaning) → makes_true m problem ≡ true
+            → holds m kernel ≡ true) }
     {
         Kernel::begin(alloc, problem)
     }
@@ -85,7 +86,8 @@ impl Kernel {
     pub fn restart(&mut self, problem: Problem) -> Result<(), AllocError>
         ensures exact { OnOk result (self.new ≡ start problem) }
         ensures kept { OnErr result (self.new ≡ self.old) }
-        ensures sound { OnOk result ((m : Meaning) → makes_true m problem ≡ true → holds m self.new ≡ true) }
+        ensures sound { OnOk result ((m : Meaning) → makes_true m problem ≡ true
+            → holds m self.new ≡ true) }
     {
         let next = Kernel::new(self.alloc, problem)?;
         *self = next;
@@ -95,16 +97,19 @@ impl Kernel {
     /// Takes the next line of the log. A refusal changes nothing. With 2^32 - 1 clauses or atoms a further one is answered as
     /// want of memory.
     pub fn add(&mut self, line: &Line) -> Result<(), LineRefused>
-        ensures exact { MatchResult result (λ _. next self.old line.now ≡ Ok self.new) (λ e. IsTold e (next self.old line.now)) }
+        ensures exact { MatchResult result (λ _. next self.old line.now ≡ Ok self.new)
+            (λ e. IsTold e (next self.old line.now)) }
         ensures kept { OnErr result (self.new ≡ self.old) }
-        ensures sound { OnOk result ((m : Meaning) → holds m self.old ≡ true → holds m self.new ≡ true) }
+        ensures sound { OnOk result ((m : Meaning) → holds m self.old ≡ true
+            → holds m self.new ≡ true) }
     {
         self.law_fits();
         self.take(line)
     }
 
     fn take(&mut self, line: &Line) -> Result<(), LineRefused>
-        ensures exact { MatchResult result (λ _. next self.old line.now ≡ Ok self.new) (λ e. IsTold e (next self.old line.now)) }
+        ensures exact { MatchResult result (λ _. next self.old line.now ≡ Ok self.new)
+            (λ e. IsTold e (next self.old line.now)) }
         ensures kept { OnErr result (self.new ≡ self.old) }
     {
         match line {
@@ -262,7 +267,8 @@ impl Kernel {
     }
 
     fn resolve(&mut self, left: u32, right: u32, pivot: u32) -> Result<(), LineRefused>
-        ensures exact { MatchResult result (λ _. resolved self.old left right pivot ≡ Ok self.new) (λ e. IsTold e (resolved self.old left right pivot)) }
+        ensures exact { MatchResult result (λ _. resolved self.old left right pivot ≡ Ok self.new)
+            (λ e. IsTold e (resolved self.old left right pivot)) }
         ensures kept { OnErr result (self.new ≡ self.old) }
     {
         let count = self.clause_count();
@@ -289,7 +295,8 @@ impl Kernel {
     }
 
     fn farkas(&mut self, used: &[Lit], steps: &[RowStep]) -> Result<(), LineRefused>
-        ensures exact { MatchResult result (λ _. combined self.old used.now steps.now ≡ Ok self.new) (λ e. IsTold e (combined self.old used.now steps.now)) }
+        ensures exact { MatchResult result (λ _. combined self.old used.now steps.now ≡ Ok self.new)
+            (λ e. IsTold e (combined self.old used.now steps.now)) }
         ensures kept { OnErr result (self.new ≡ self.old) }
     {
         match refutes_used(self.alloc, self.atoms.as_slice(), used, steps) {
@@ -316,7 +323,9 @@ impl Kernel {
         high: u32,
         values: &[i128],
     ) -> Result<(), LineRefused>
-        ensures exact { MatchResult result (λ _. split self.old place at.now used.now steps.now low high values.now ≡ Ok self.new) (λ e. IsTold e (split self.old place at.now used.now steps.now low high values.now)) }
+        ensures exact { MatchResult result
+            (λ _. split self.old place at.now used.now steps.now low high values.now ≡ Ok self.new)
+            (λ e. IsTold e (split self.old place at.now used.now steps.now low high values.now)) }
         ensures kept { OnErr result (self.new ≡ self.old) }
     {
         if place >= self.ints {
@@ -346,7 +355,10 @@ impl Kernel {
         values: &[i128],
     ) -> Result<(), LineRefused>
         requires { place < self.old.ints }
-        ensures exact { MatchResult result (λ _. split_after self.old place at.now (low.now ∷ high.now ∷ []) 0 1 values.now ≡ Ok self.new) (λ e. IsTold e (split_after self.old place at.now (low.now ∷ high.now ∷ []) 0 1 values.now)) }
+        ensures exact { MatchResult result (λ _. split_after self.old place at.now
+            (low.now ∷ high.now ∷ []) 0 1 values.now ≡ Ok self.new)
+            (λ e. IsTold e (split_after self.old place at.now
+            (low.now ∷ high.now ∷ []) 0 1 values.now)) }
         ensures kept { OnErr result (self.new ≡ self.old) }
     {
         let Ok(names) = names_of_two(self.alloc, place, low, high) else {
@@ -385,7 +397,8 @@ impl Kernel {
     }
 
     fn drop_clauses(&mut self, numbers: &[u32]) -> Result<(), LineRefused>
-        ensures exact { MatchResult result (λ _. dropped self.old numbers.now ≡ Ok self.new) (λ e. IsTold e (dropped self.old numbers.now)) }
+        ensures exact { MatchResult result (λ _. dropped self.old numbers.now ≡ Ok self.new)
+            (λ e. IsTold e (dropped self.old numbers.now)) }
         ensures kept { OnErr result (self.new ≡ self.old) }
     {
         if numbers.is_empty() || !all_below(numbers, self.clause_count()) {

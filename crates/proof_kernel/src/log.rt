@@ -13,8 +13,10 @@ use std::alloc::Global;
 // Takes the lines one by one.
 fn take_all(kernel: &mut Kernel, lines: &[Line]) -> Result<(), KernelRefused>
     requires { length lines.now < 2 ^ 32 }
-    ensures exact { MatchResult result (λ _. run_from 0 kernel.old lines.now ≡ Ok kernel.new) (λ e. IsRunTold e (run_from 0 kernel.old lines.now)) }
-    ensures sound { OnOk result ((m : Meaning) → holds m kernel.old ≡ true → holds m kernel.new ≡ true) }
+    ensures exact { MatchResult result (λ _. run_from 0 kernel.old lines.now ≡ Ok kernel.new)
+        (λ e. IsRunTold e (run_from 0 kernel.old lines.now)) }
+    ensures sound { OnOk result ((m : Meaning) → holds m kernel.old ≡ true
+        → holds m kernel.new ≡ true) }
 {
     for (i, line) in lines.iter().enumerate() {
         match kernel.add(line) {
@@ -33,8 +35,10 @@ fn take_all(kernel: &mut Kernel, lines: &[Line]) -> Result<(), KernelRefused>
 
 // The kernel after all lines of a log. A log of 2^32 lines or more is answered as want of memory.
 fn after(alloc: Global, problem: &Problem, lines: &[Line]) -> Result<Kernel, KernelRefused>
-    ensures exact { MatchResult result (λ kernel. run problem.now lines.now ≡ Ok kernel) (λ e. IsRunTold e (run problem.now lines.now)) }
-    ensures sound { IfOk result (λ kernel. (m : Meaning) → makes_true m problem.now ≡ true → holds m kernel ≡ true) }
+    ensures exact { MatchResult result (λ kernel. run problem.now lines.now ≡ Ok kernel)
+        (λ e. IsRunTold e (run problem.now lines.now)) }
+    ensures sound { IfOk result (λ kernel. (m : Meaning) → makes_true m problem.now ≡ true
+        → holds m kernel ≡ true) }
     ensures few { IsOk result → length lines.now < 2 ^ 32 }
 {
     if lines.len() > u32::MAX as usize {

@@ -138,12 +138,14 @@ impl Clause {
         self.lits.as_slice()
     }
 
+    /// Whether a literal is one of the clause.
     pub fn holds(&self, lit: Lit) -> bool
         ensures { result ≡ has self.now lit }
     {
         holds(self.lits.as_slice(), lit)
     }
 
+    /// Whether it is the empty clause, which no interpretation makes true.
     pub fn is_empty(&self) -> bool
         ensures { result ≡ is_empty self.now }
     {
@@ -263,7 +265,8 @@ fn put_right(
     requires marks { HasMarks marks.now left.now }
     requires left { out.old.items ≡ without up left.now }
     requires right { distinct right.now ≡ true }
-    ensures { OnOk result (out.new.items ≡ join (without up left.now) (without (flip up) right.now)) }
+    ensures { OnOk result (out.new.items ≡ join (without up left.now)
+        (without (flip up) right.now)) }
 {
     for lit in right {
         if !lit.same(up.opposite()) {

@@ -166,7 +166,8 @@ fn product_leaves(alloc: Global, left: &Row, right: &Row, place: u32) -> Result<
 
 // Whether a step cancels a place of the two rows that are kept for it.
 fn cancels_kept(rows: &[Option<Row>], step: &RowStep) -> bool
-    ensures { result ≡ step_cancels (kept_at rows.now step.now.left) (kept_at rows.now step.now.right) step.now }
+    ensures { result ≡ step_cancels (kept_at rows.now step.now.left)
+        (kept_at rows.now step.now.right) step.now }
 {
     let (Some(left), Some(right)) = (
         kept_at(rows, step.left as usize),
@@ -265,7 +266,8 @@ fn is_beyond(
     second: usize,
     what: &RangeWhat,
 ) -> Result<bool, AllocError>
-    ensures { IfOk result (λ b. b ≡ beyond_in (kept_at rows.now first) (kept_at rows.now second) what.now) }
+    ensures { IfOk result (λ b. b ≡ beyond_in (kept_at rows.now first)
+        (kept_at rows.now second) what.now) }
 {
     let Some(row) = kept_at(rows, first) else {
         return Ok(false);
@@ -293,7 +295,8 @@ pub fn shows_range(
     steps: &[RowStep],
     what: &RangeWhat,
 ) -> Result<bool, AllocError>
-    ensures { IfOk result (λ b. b ≡ range_shown steps.now what.now (line_rows atoms.now used.now steps.now)) }
+    ensures { IfOk result (λ b. b ≡ range_shown steps.now what.now
+        (line_rows atoms.now used.now steps.now)) }
 {
     let (first, second) = (first_named(what), second_named(what));
     match cancelling_rows(alloc, atoms, used, steps, &[first, second]) {

@@ -66,7 +66,8 @@ fn raise_steps(ends: &mut [usize], steps: &[RowStep])
 
 fn raise_named(ends: &mut [usize], named: &[usize], end: usize)
     ensures later { (t i : ℕ) → is_done ends.old t i ≡ false → is_done ends.new t i ≡ false }
-    ensures named { (t j : ℕ) → t < end → j < length named.now → is_done ends.new t (slice_index_or named.now j 0) ≡ false }
+    ensures named { (t j : ℕ) → t < end → j < length named.now
+        → is_done ends.new t (slice_index_or named.now j 0) ≡ false }
 {
     for number in named {
         raise(ends, *number, end);
@@ -115,7 +116,8 @@ fn push_row(
 
 // Lets a row go that nothing names after so many steps.
 fn let_go(rows: &mut Vec<Option<Row>>, ends: &[usize], taken: usize, number: usize)
-    ensures { rows.new.items ≡ cond (is_done ends.now taken number) (slice_set rows.old.items number None) rows.old.items }
+    ensures { rows.new.items ≡ cond (is_done ends.now taken number)
+        (slice_set rows.old.items number None) rows.old.items }
 {
     if number < rows.len() && is_done(ends, taken, number) {
         rows[number] = None;

@@ -80,8 +80,16 @@ pub fn law_rows(atoms: &[AtomKind])
 impl Problem {
     /// The problem of these parts; nothing where a literal names no atom or a place of a row isn't below `ints`.
     pub fn new(atoms: Items<AtomKind>, ints: u32, clauses: Items<Clause>) -> Option<Problem>
-        ensures made { IfSome result (λ p. p ≡ record { atoms = atoms; ints = ints; clauses = clauses }) }
-        ensures fits { IsSome result ↔ (fits (record { atoms = atoms; ints = ints; clauses = clauses }) ≡ true) }
+        ensures made { IfSome result (λ p. p ≡ record {
+          atoms = atoms;
+          ints = ints;
+          clauses = clauses;
+        }) }
+        ensures fits { IsSome result ↔ (fits (record {
+          atoms = atoms;
+          ints = ints;
+          clauses = clauses;
+        }) ≡ true) }
     {
         if all_placed(atoms.as_slice(), ints) && all_named(clauses.as_slice(), atoms.len()) {
             Some(Problem {

@@ -30,7 +30,7 @@ fn has_row(atoms: &[AtomKind], lit: Lit) -> bool
     atom_row(atoms, lit.atom).is_some()
 }
 
-// The row of a literal, tightened. Range comes exactly where a negation leaves the range of a row.
+/// The row of a literal, tightened. Range comes exactly where a negation leaves the range of a row.
 pub fn lit_row(alloc: Global, atoms: &[AtomKind], lit: Lit) -> Result<Row, LineRefused>
     requires { has_row atoms.now lit ≡ true }
     ensures { MatchResult result
@@ -85,6 +85,7 @@ fn used_rows(alloc: Global, atoms: &[AtomKind], used: &[Lit]) -> Result<Vec<Row>
     all_rows(alloc, atoms, used)
 }
 
+/// Whether the atom of each of these literals stands for a row.
 pub fn all_have_rows(atoms: &[AtomKind], used: &[Lit]) -> bool
     ensures { result ≡ list_all (has_row atoms.now) used.now }
 {
@@ -112,7 +113,8 @@ pub fn sum_of_step(
 
 // The row of a step over earlier rows.
 fn step_row(alloc: Global, rows: &[Row], step: &RowStep) -> Result<Row, LineRefused>
-    ensures { MatchResult result (λ row. step_row rows.now step.now ≡ Ok row) (λ e. IsTold e (step_row rows.now step.now)) }
+    ensures { MatchResult result (λ row. step_row rows.now step.now ≡ Ok row)
+        (λ e. IsTold e (step_row rows.now step.now)) }
 {
     let left = step.left as usize;
     let right = step.right as usize;

@@ -133,7 +133,8 @@ fn write_shown_state(
     out: &mut Vec<u8>,
 ) -> Result<(), AllocError>
     requires { is_state spec.now witness.now.world witness.now.state ≡ true }
-    ensures { OnOk result (out.new.items ≡ out.old.items ++ state_text spec.now witness.now.world (reads witness.now.state)) }
+    ensures { OnOk result (out.new.items ≡ out.old.items
+        ++ state_text spec.now witness.now.world (reads witness.now.state)) }
 {
     write_state(alloc, spec, &witness.state, out)
 }
@@ -228,7 +229,8 @@ pub fn write_verdict(
 ) -> Result<(), AllocError>
     requires obligation { IsObligation spec.now obligation }
     requires verdict { CanStand spec.now verdict.now }
-    ensures { OnOk result (out.new.items ≡ out.old.items ++ block_text spec.now obligation verdict.now) }
+    ensures { OnOk result (out.new.items ≡ out.old.items
+        ++ block_text spec.now obligation verdict.now) }
 {
     write_obligation(out, spec, obligation)?;
     write_all(alloc, spec, verdict, out)?;

@@ -32,7 +32,8 @@ pub trait Steps {
         ensures reads { reads result.now
             ≡ state_of (replayed self.now).spec (replayed self.now).world (replayed self.now).held
             (get_or (replayed self.now).held.taken replica []) }
-        ensures fits { is_state (replayed self.now).spec (replayed self.now).world result.now ≡ true };
+        ensures fits { is_state (replayed self.now).spec (replayed self.now).world result.now
+            ≡ true };
 
     /// The events that a replica has taken, in that order.
     fn seen_by(&self, replica: u32) -> &[u32]

@@ -41,7 +41,9 @@ pub fn read_rows(alloc: Global, words: Words<'_>) -> Result<(RowsLine, Words<'_>
 }
 
 fn place(words: Words<'_>) -> Result<(RangeWhat, Words<'_>), ReadError>
-    ensures { Gives (λ x. (x.0, left x.1)) result (mapped (λ x. Product x.0 x.1.0 x.1.1) ((both count_format (both count_format count_format)).get (left words.entry))) }
+    ensures { Gives (λ x. (x.0, left x.1)) result
+        (mapped (λ x. Product x.0 x.1.0 x.1.1)
+        ((both count_format (both count_format count_format)).get (left words.entry))) }
 {
     let (left, rest) = count(words)?;
     let (right, rest) = count(rest)?;
@@ -50,7 +52,8 @@ fn place(words: Words<'_>) -> Result<(RangeWhat, Words<'_>), ReadError>
 }
 
 fn product(alloc: Global, words: Words<'_>) -> Result<(RangeLine, Words<'_>), ReadError>
-    ensures { Gives (λ x. (x.0, left x.1)) result (mapped (λ x. to_range (inl x)) (product_words.get (left words.entry))) }
+    ensures { Gives (λ x. (x.0, left x.1)) result
+        (mapped (λ x. to_range (inl x)) (product_words.get (left words.entry))) }
 {
     let (rows, rest) = used(alloc, words)?;
     let (what, rest) = or_drop!(place(rest); rows);
@@ -65,7 +68,8 @@ fn product(alloc: Global, words: Words<'_>) -> Result<(RangeLine, Words<'_>), Re
 }
 
 fn value(alloc: Global, words: Words<'_>) -> Result<(RangeLine, Words<'_>), ReadError>
-    ensures { Gives (λ x. (x.0, left x.1)) result (mapped (λ x. to_range (inr (inl x))) (values_words.get (left words.entry))) }
+    ensures { Gives (λ x. (x.0, left x.1)) result
+        (mapped (λ x. to_range (inr (inl x))) (values_words.get (left words.entry))) }
 {
     let (rows, rest) = used(alloc, words)?;
     let (decision, rest) = or_drop!(decided(alloc, rest); rows);
@@ -84,7 +88,8 @@ fn value(alloc: Global, words: Words<'_>) -> Result<(RangeLine, Words<'_>), Read
 }
 
 fn sum(alloc: Global, words: Words<'_>) -> Result<(RangeLine, Words<'_>), ReadError>
-    ensures { Gives (λ x. (x.0, left x.1)) result (mapped (λ x. to_range (inr (inr x))) (values_words.get (left words.entry))) }
+    ensures { Gives (λ x. (x.0, left x.1)) result
+        (mapped (λ x. to_range (inr (inr x))) (values_words.get (left words.entry))) }
 {
     let (rows, rest) = used(alloc, words)?;
     let (decision, rest) = or_drop!(decided(alloc, rest); rows);
@@ -121,7 +126,8 @@ pub fn read_range(alloc: Global, words: Words<'_>) -> Result<(RangeLine, Words<'
 
 /// Appends the line of evidence of too many rows.
 pub fn write_rows(out: &mut Vec<u8>, used: &[Lit], steps: &[RowStep]) -> Result<(), AllocError>
-    ensures { OnOk result (out.new.items ≡ out.old.items ++ line_text (rows_format.put (record { used = used.now; steps = steps.now }))) }
+    ensures { OnOk result (out.new.items ≡ out.old.items
+        ++ line_text (rows_format.put (record { used = used.now; steps = steps.now }))) }
 {
     out.extend_from_slice(b"rows")?;
     put_used(out, used, steps)?;
@@ -130,7 +136,8 @@ pub fn write_rows(out: &mut Vec<u8>, used: &[Lit], steps: &[RowStep]) -> Result<
 }
 
 fn put_product(out: &mut Vec<u8>, left: u32, right: u32, place: u32) -> Result<(), AllocError>
-    ensures { OnOk result (out.new.items ≡ out.old.items ++ spaced (decimal left ∷ decimal right ∷ decimal place ∷ [])) }
+    ensures { OnOk result (out.new.items ≡ out.old.items
+        ++ spaced (decimal left ∷ decimal right ∷ decimal place ∷ [])) }
 {
     put_number(out, left as u64)?;
     put_number(out, right as u64)?;
@@ -146,7 +153,12 @@ fn write_product(
     right: u32,
     place: u32,
 ) -> Result<(), AllocError>
-    ensures { OnOk result (out.new.items ≡ out.old.items ++ line_text (range_format.put (record { used = used.now; steps = steps.now; what = Product left right place }))) }
+    ensures { OnOk result (out.new.items ≡ out.old.items
+        ++ line_text (range_format.put (record {
+          used = used.now;
+          steps = steps.now;
+          what = Product left right place;
+        }))) }
 {
     out.extend_from_slice(b"product")?;
     put_used(out, used, steps)?;
@@ -164,7 +176,9 @@ fn write_values(
     place: u32,
     values: &[i128],
 ) -> Result<(), AllocError>
-    ensures { OnOk result (out.new.items ≡ out.old.items ++ line_text (word.now ∷ values_words.put ((used.now, steps.now), (row, (place, values.now))))) }
+    ensures { OnOk result (out.new.items ≡ out.old.items
+        ++ line_text (word.now ∷ values_words.put
+        ((used.now, steps.now), (row, (place, values.now))))) }
 {
     out.extend_from_slice(word)?;
     put_used(out, used, steps)?;
@@ -180,7 +194,12 @@ pub fn write_range(
     steps: &[RowStep],
     what: &RangeWhat,
 ) -> Result<(), AllocError>
-    ensures { OnOk result (out.new.items ≡ out.old.items ++ line_text (range_format.put (record { used = used.now; steps = steps.now; what = what.now }))) }
+    ensures { OnOk result (out.new.items ≡ out.old.items
+        ++ line_text (range_format.put (record {
+          used = used.now;
+          steps = steps.now;
+          what = what.now;
+        }))) }
 {
     match what {
         RangeWhat::Product { left, right, place } => {

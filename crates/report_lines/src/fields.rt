@@ -74,7 +74,8 @@ pub fn element(words: Words<'_>, size: u32) -> Result<(u32, Words<'_>), ReadErro
 
 /// A count behind a word that must be next.
 pub fn behind<'a>(words: Words<'a>, key: &[u8]) -> Result<(u32, Words<'a>), ReadError>
-    ensures { Gives (λ x. (x.0, left x.1)) result ((behind key.now count_format).get (left words.entry)) }
+    ensures { Gives (λ x. (x.0, left x.1)) result
+        ((behind key.now count_format).get (left words.entry)) }
 {
     let rest = keyword(words, key)?;
     count(rest)
@@ -82,7 +83,8 @@ pub fn behind<'a>(words: Words<'a>, key: &[u8]) -> Result<(u32, Words<'a>), Read
 
 /// A count, and a whole number in the range of a row.
 pub fn pair(words: Words<'_>) -> Result<((u32, i128), Words<'_>), ReadError>
-    ensures { Gives (λ x. (x.0, left x.1)) result ((both count_format integer_format).get (left words.entry)) }
+    ensures { Gives (λ x. (x.0, left x.1)) result
+        ((both count_format integer_format).get (left words.entry)) }
 {
     let (number, rest) = count(words)?;
     let (integer, rest) = integer(rest)?;

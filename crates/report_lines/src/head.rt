@@ -112,7 +112,8 @@ pub fn write_budget(out: &mut Vec<u8>, budget: u32) -> Result<(), AllocError>
 
 /// Appends the line of the number of obligations.
 pub fn write_obligations(out: &mut Vec<u8>, count: u32) -> Result<(), AllocError>
-    ensures { OnOk result (out.new.items ≡ out.old.items ++ line_text (obligations_format.put count)) }
+    ensures { OnOk result (out.new.items ≡ out.old.items
+        ++ line_text (obligations_format.put count)) }
 {
     let mut buffer = Buffer::new();
     let count = buffer.format(count).as_bytes();
@@ -125,7 +126,9 @@ fn write_counts(
     refuted: &[u8],
     undecided: &[u8],
 ) -> Result<(), AllocError>
-    ensures { OnOk result (out.new.items ≡ out.old.items ++ line_text (codes "summary" ∷ codes "proved" ∷ proved.now ∷ codes "refuted" ∷ refuted.now ∷ codes "undecided" ∷ undecided.now ∷ [])) }
+    ensures { OnOk result (out.new.items ≡ out.old.items
+        ++ line_text (codes "summary" ∷ codes "proved" ∷ proved.now ∷ codes "refuted" ∷ refuted.now
+        ∷ codes "undecided" ∷ undecided.now ∷ [])) }
 {
     write_words(
         out,
@@ -156,7 +159,8 @@ pub fn write_summary(out: &mut Vec<u8>, tally: Tally) -> Result<(), AllocError>
 
 /// Appends the line of the last word.
 pub fn write_outcome(out: &mut Vec<u8>, outcome: Outcome) -> Result<(), AllocError>
-    ensures { OnOk result (out.new.items ≡ out.old.items ++ line_text (outcome_format.put outcome)) }
+    ensures { OnOk result (out.new.items ≡ out.old.items
+        ++ line_text (outcome_format.put outcome)) }
 {
     match outcome {
         Outcome::Accepted => write_words(out, b"accepted", &[]),

@@ -28,7 +28,8 @@ pub fn law_heads()
 
 /// The first two lines of a block.
 pub fn law_blocks()
-    ensures obligation { (d : Specification) (ob : Obligation) → is_specification d ≡ true → IsObligation d ob → IsLine (obligation_format d ob) }
+    ensures obligation { (d : Specification) (ob : Obligation) → is_specification d ≡ true
+        → IsObligation d ob → IsLine (obligation_format d ob) }
     ensures verdict { IsLine verdict_format }
 {}
 
@@ -42,14 +43,18 @@ pub fn law_logs()
 /// The lines of a witness.
 pub fn law_witnesses()
     ensures size { (sort : List ℕ) → is_part sort ≡ true → IsLine (size_format sort) }
-    ensures constant { (name : List ℕ) (size : ℕ) → is_part name ≡ true → IsLine (const_format name size) }
-    ensures shown { (d : Specification) (w : World) (due : Due) → is_specification d ≡ true → IsLine (shown_format d w due) }
+    ensures constant { (name : List ℕ) (size : ℕ) → is_part name ≡ true
+        → IsLine (const_format name size) }
+    ensures shown { (d : Specification) (w : World) (due : Due) → is_specification d ≡ true
+        → IsLine (shown_format d w due) }
 {}
 
 /// The lines by which a state is shown are those of the tuples that hold and of the values that aren't 0.
 pub fn law_states()
-    ensures fact { (d : Specification) (w : World) (from k : ℕ) (t : List ℕ) → fits_places w (relation_places d k) t ≡ true
+    ensures fact { (d : Specification) (w : World) (from k : ℕ) (t : List ℕ)
+        → fits_places w (relation_places d k) t ≡ true
         → true_line (get_or (relation_names d) k []) t ≡ line_text (codes "true" ∷ (fact_format d w from).put (record { relation = k; tuple = t })) }
-    ensures reading { (d : Specification) (w : World) (from k : ℕ) (t : List ℕ) (v : ℤ) → fits_places w (counter_keys d k) t ≡ true → is_other v ≡ true
+    ensures reading { (d : Specification) (w : World) (from k : ℕ) (t : List ℕ) (v : ℤ)
+        → fits_places w (counter_keys d k) t ≡ true → is_other v ≡ true
         → count_line (get_or (counter_names d) k []) (t, v) ≡ line_text (codes "count" ∷ (reading_format d w from).put (record { counter = k; key = t; value = v })) }
 {}

@@ -58,7 +58,8 @@ pub fn list<'a, T: Entry>(
     alloc: Global,
     words: Words<'a>,
 ) -> Result<(Items<T>, Words<'a>), ReadError>
-    ensures { Gives (λ x. (x.0, left x.1)) result ((counted most_count T.format).get (left words.entry)) }
+    ensures { Gives (λ x. (x.0, left x.1)) result
+        ((counted most_count T.format).get (left words.entry)) }
 {
     let (count, rest) = fields::count(words)?;
     times(alloc, count, rest)

@@ -114,7 +114,8 @@ impl Entry for u32 {
 
 /// The used literals and the steps, each list behind its number.
 pub fn used(alloc: Global, words: Words<'_>) -> Result<(RowsLine, Words<'_>), ReadError>
-    ensures { Gives (λ x. ((x.0.used, x.0.steps), left x.1)) result (used_words.get (left words.entry)) }
+    ensures { Gives (λ x. ((x.0.used, x.0.steps), left x.1)) result
+        (used_words.get (left words.entry)) }
 {
     let (used, rest) = list(alloc, words)?;
     let (steps, rest) = or_drop!(list(alloc, rest); used);
@@ -122,7 +123,8 @@ pub fn used(alloc: Global, words: Words<'_>) -> Result<(RowsLine, Words<'_>), Re
 }
 
 fn resolve(words: Words<'_>) -> Result<(Line, Words<'_>), ReadError>
-    ensures { Gives (λ x. (x.0, left x.1)) result (mapped (λ x. to_line (inl x)) (resolve_words.get (left words.entry))) }
+    ensures { Gives (λ x. (x.0, left x.1)) result
+        (mapped (λ x. to_line (inl x)) (resolve_words.get (left words.entry))) }
 {
     let (left, rest) = count(words)?;
     let (right, rest) = count(rest)?;
@@ -131,7 +133,8 @@ fn resolve(words: Words<'_>) -> Result<(Line, Words<'_>), ReadError>
 }
 
 fn farkas(alloc: Global, words: Words<'_>) -> Result<(Line, Words<'_>), ReadError>
-    ensures { Gives (λ x. (x.0, left x.1)) result (mapped (λ x. to_line (inr (inl x))) (used_words.get (left words.entry))) }
+    ensures { Gives (λ x. (x.0, left x.1)) result
+        (mapped (λ x. to_line (inr (inl x))) (used_words.get (left words.entry))) }
 {
     let (rows, rest) = used(alloc, words)?;
     Ok((
@@ -153,7 +156,8 @@ pub struct Decision {
 
 /// What decides.
 pub fn decided(alloc: Global, words: Words<'_>) -> Result<(Decision, Words<'_>), ReadError>
-    ensures { Gives (λ x. ((x.0.first, (x.0.second, x.0.values)), left x.1)) result (decision_words.get (left words.entry)) }
+    ensures { Gives (λ x. ((x.0.first, (x.0.second, x.0.values)), left x.1)) result
+        (decision_words.get (left words.entry)) }
 {
     let (first, rest) = count(words)?;
     let (second, rest) = count(rest)?;
@@ -169,7 +173,8 @@ pub fn decided(alloc: Global, words: Words<'_>) -> Result<(Decision, Words<'_>),
 }
 
 fn split(alloc: Global, words: Words<'_>) -> Result<(Line, Words<'_>), ReadError>
-    ensures { Gives (λ x. (x.0, left x.1)) result (mapped (λ x. to_line (inr (inr (inl x)))) (split_words.get (left words.entry))) }
+    ensures { Gives (λ x. (x.0, left x.1)) result
+        (mapped (λ x. to_line (inr (inr (inl x)))) (split_words.get (left words.entry))) }
 {
     let ((place, at), rest) = pair(words)?;
     let (rows, rest) = used(alloc, rest)?;
@@ -189,7 +194,8 @@ fn split(alloc: Global, words: Words<'_>) -> Result<(Line, Words<'_>), ReadError
 }
 
 fn dropped(alloc: Global, words: Words<'_>) -> Result<(Line, Words<'_>), ReadError>
-    ensures { Gives (λ x. (x.0, left x.1)) result (mapped (λ x. to_line (inr (inr (inr x)))) (drop_words.get (left words.entry))) }
+    ensures { Gives (λ x. (x.0, left x.1)) result
+        (mapped (λ x. to_line (inr (inr (inr x)))) (drop_words.get (left words.entry))) }
 {
     let (clauses, rest) = list(alloc, words)?;
     Ok((Line::Drop { clauses }, rest))
@@ -240,7 +246,8 @@ pub fn read_log_line(
 
 /// Appends the used literals and the steps, each list behind its number.
 pub fn put_used(out: &mut Vec<u8>, used: &[Lit], steps: &[RowStep]) -> Result<(), AllocError>
-    ensures { OnOk result (out.new.items ≡ out.old.items ++ spaced (used_words.put (used.now, steps.now))) }
+    ensures { OnOk result (out.new.items ≡ out.old.items
+        ++ spaced (used_words.put (used.now, steps.now))) }
 {
     put_list(out, used)?;
     put_list(out, steps)?;
@@ -248,7 +255,8 @@ pub fn put_used(out: &mut Vec<u8>, used: &[Lit], steps: &[RowStep]) -> Result<()
 }
 
 fn put_numbers(out: &mut Vec<u8>, first: u32, second: u32) -> Result<(), AllocError>
-    ensures { OnOk result (out.new.items ≡ out.old.items ++ spaced (decimal first ∷ decimal second ∷ [])) }
+    ensures { OnOk result (out.new.items ≡ out.old.items
+        ++ spaced (decimal first ∷ decimal second ∷ [])) }
 {
     put_number(out, first as u64)?;
     put_number(out, second as u64)?;
@@ -262,7 +270,8 @@ pub fn put_values(
     second: u32,
     values: &[i128],
 ) -> Result<(), AllocError>
-    ensures { OnOk result (out.new.items ≡ out.old.items ++ spaced (decision_words.put (first, (second, values.now)))) }
+    ensures { OnOk result (out.new.items ≡ out.old.items
+        ++ spaced (decision_words.put (first, (second, values.now)))) }
 {
     put_numbers(out, first, second)?;
     put_list(out, values)?;
@@ -270,7 +279,8 @@ pub fn put_values(
 }
 
 fn write_resolve(out: &mut Vec<u8>, left: u32, right: u32, pivot: u32) -> Result<(), AllocError>
-    ensures { OnOk result (out.new.items ≡ out.old.items ++ line_text (line_format.put (Resolve left right pivot))) }
+    ensures { OnOk result (out.new.items ≡ out.old.items
+        ++ line_text (line_format.put (Resolve left right pivot))) }
 {
     out.push(b'r')?;
     put_numbers(out, left, right)?;
@@ -280,7 +290,8 @@ fn write_resolve(out: &mut Vec<u8>, left: u32, right: u32, pivot: u32) -> Result
 }
 
 fn write_farkas(out: &mut Vec<u8>, used: &[Lit], steps: &[RowStep]) -> Result<(), AllocError>
-    ensures { OnOk result (out.new.items ≡ out.old.items ++ line_text (line_format.put (Farkas used.now steps.now))) }
+    ensures { OnOk result (out.new.items ≡ out.old.items
+        ++ line_text (line_format.put (Farkas used.now steps.now))) }
 {
     out.push(b'f')?;
     put_used(out, used, steps)?;
@@ -289,7 +300,8 @@ fn write_farkas(out: &mut Vec<u8>, used: &[Lit], steps: &[RowStep]) -> Result<()
 }
 
 fn put_place(out: &mut Vec<u8>, place: u32, at: &i128) -> Result<(), AllocError>
-    ensures { OnOk result (out.new.items ≡ out.old.items ++ spaced (decimal place ∷ signed_decimal at.now ∷ [])) }
+    ensures { OnOk result (out.new.items ≡ out.old.items
+        ++ spaced (decimal place ∷ signed_decimal at.now ∷ [])) }
 {
     put_number(out, place as u64)?;
     put_integer(out, *at)?;
@@ -297,7 +309,8 @@ fn put_place(out: &mut Vec<u8>, place: u32, at: &i128) -> Result<(), AllocError>
 }
 
 fn write_dropped(out: &mut Vec<u8>, clauses: &[u32]) -> Result<(), AllocError>
-    ensures { OnOk result (out.new.items ≡ out.old.items ++ line_text (line_format.put (Drop clauses.now))) }
+    ensures { OnOk result (out.new.items ≡ out.old.items
+        ++ line_text (line_format.put (Drop clauses.now))) }
 {
     out.push(b'd')?;
     put_list(out, clauses)?;

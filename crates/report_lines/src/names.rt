@@ -58,7 +58,8 @@ pub fn name_among<'a, T: Named>(
     from: u8,
 ) -> Result<(u8, Words<'a>), ReadError>
     requires few { length things.now ≤ 255 }
-    ensures { Gives (λ x. (x.0, left x.1)) result ((among from (map T.named things.now)).get (left words.entry)) }
+    ensures { Gives (λ x. (x.0, left x.1)) result
+        ((among from (map T.named things.now)).get (left words.entry)) }
 {
     let (word, rest) = next(words)?;
     match find(things, from as usize, word) {

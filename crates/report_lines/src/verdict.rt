@@ -41,14 +41,16 @@ pub fn read_verdict(words: Words<'_>) -> Result<(VerdictWord, Words<'_>), ReadEr
 }
 
 fn undecided(words: Words<'_>) -> Result<(VerdictWord, Words<'_>), ReadError>
-    ensures { Gives (λ x. (x.0, left x.1)) result (mapped to_cause (undecided_words.get (left words.entry))) }
+    ensures { Gives (λ x. (x.0, left x.1)) result
+        (mapped to_cause (undecided_words.get (left words.entry))) }
 {
     let rest = keyword(words, b"undecided")?;
     cause(rest)
 }
 
 fn cause(words: Words<'_>) -> Result<(VerdictWord, Words<'_>), ReadError>
-    ensures { Gives (λ x. (x.0, left x.1)) result (mapped to_cause (cause_words.get (left words.entry))) }
+    ensures { Gives (λ x. (x.0, left x.1)) result
+        (mapped to_cause (cause_words.get (left words.entry))) }
 {
     let (word, rest) = next(words)?;
     if word == b"instances".as_slice() {
@@ -107,14 +109,16 @@ pub fn read_obligation<'a>(
     obligation: Obligation,
     words: Words<'a>,
 ) -> Result<((), Words<'a>), ReadError>
-    ensures { Gives (λ x. (tt, left x.1)) result ((obligation_format spec.now obligation).get (left words.entry)) }
+    ensures { Gives (λ x. (tt, left x.1)) result
+        ((obligation_format spec.now obligation).get (left words.entry)) }
 {
     let rest = due(spec, obligation, words)?;
     Ok(((), rest))
 }
 
 fn due<'a>(spec: &Spec, obligation: Obligation, words: Words<'a>) -> Result<Words<'a>, ReadError>
-    ensures { Gives (λ x. (tt, left x)) result ((obligation_format spec.now obligation).get (left words.entry)) }
+    ensures { Gives (λ x. (tt, left x)) result
+        ((obligation_format spec.now obligation).get (left words.entry)) }
 {
     match obligation {
         Obligation::Init { inv } => these(words, &[b"init", invariant_name(spec, inv)]),
@@ -149,7 +153,8 @@ pub fn write_obligation(
     spec: &Spec,
     obligation: Obligation,
 ) -> Result<(), AllocError>
-    ensures { OnOk result (out.new.items ≡ out.old.items ++ line_text ((obligation_format spec.now obligation).put tt)) }
+    ensures { OnOk result (out.new.items ≡ out.old.items
+        ++ line_text ((obligation_format spec.now obligation).put tt)) }
 {
     match obligation {
         Obligation::Init { inv } => write_words(out, b"init", &[invariant_name(spec, inv)]),
@@ -180,7 +185,8 @@ pub fn write_obligation(
 }
 
 fn write_undecided(out: &mut Vec<u8>, cause: &[u8], lines: u32) -> Result<(), AllocError>
-    ensures { OnOk result (out.new.items ≡ out.old.items ++ line_text (codes "undecided" ∷ cause.now ∷ decimal lines ∷ [])) }
+    ensures { OnOk result (out.new.items ≡ out.old.items
+        ++ line_text (codes "undecided" ∷ cause.now ∷ decimal lines ∷ [])) }
 {
     let mut buffer = Buffer::new();
     let lines = buffer.format(lines).as_bytes();
@@ -189,7 +195,8 @@ fn write_undecided(out: &mut Vec<u8>, cause: &[u8], lines: u32) -> Result<(), Al
 
 /// Appends the line of a verdict's word.
 pub fn write_verdict_word(out: &mut Vec<u8>, verdict: VerdictWord) -> Result<(), AllocError>
-    ensures { OnOk result (out.new.items ≡ out.old.items ++ line_text (verdict_format.put verdict)) }
+    ensures { OnOk result (out.new.items ≡ out.old.items
+        ++ line_text (verdict_format.put verdict)) }
 {
     match verdict {
         VerdictWord::Proved(lines) => {

@@ -69,7 +69,8 @@ pub fn read_const<'a>(
     name: &[u8],
     size: u32,
 ) -> Result<(u32, Words<'a>), ReadError>
-    ensures { Gives (λ x. (x.0, left x.1)) result ((const_format name.now size).get (left words.entry)) }
+    ensures { Gives (λ x. (x.0, left x.1)) result
+        ((const_format name.now size).get (left words.entry)) }
 {
     let rest = these(words, &[b"const", name])?;
     element(rest, size)
@@ -82,7 +83,8 @@ fn tuple<'a>(
     sorts: &[u8],
     words: Words<'a>,
 ) -> Result<(Items<u32>, Words<'a>), ReadError>
-    ensures { Gives (λ x. (x.0, left x.1)) result ((tuple_words world.now sorts.now).get (left words.entry)) }
+    ensures { Gives (λ x. (x.0, left x.1)) result
+        ((tuple_words world.now sorts.now).get (left words.entry)) }
 {
     let mut tuple = Items::new(alloc);
     let mut rest = words;
@@ -102,7 +104,9 @@ fn read_fact<'a>(
     from: u8,
     words: Words<'a>,
 ) -> Result<(Shown, Words<'a>), ReadError>
-    ensures { Gives (λ x. (x.0, left x.1)) result (mapped (λ x. to_shown (inl x)) ((fact_format spec.now world.now from).get (left words.entry))) }
+    ensures { Gives (λ x. (x.0, left x.1)) result
+        (mapped (λ x. to_shown (inl x)) ((fact_format spec.now world.now from).get
+        (left words.entry))) }
 {
     spec.well_formed();
     let (relation, rest) = name_among(words, spec.relations.as_slice(), from)?;
@@ -112,7 +116,8 @@ fn read_fact<'a>(
 
 // A value that isn't 0.
 fn other(words: Words<'_>) -> Result<(i64, Words<'_>), ReadError>
-    ensures { Gives (λ x. (x.0, left x.1)) result ((only is_other value_format).get (left words.entry)) }
+    ensures { Gives (λ x. (x.0, left x.1)) result
+        ((only is_other value_format).get (left words.entry)) }
 {
     let (value, rest) = value(words)?;
     if value == 0 {
@@ -129,7 +134,9 @@ fn read_reading<'a>(
     from: u8,
     words: Words<'a>,
 ) -> Result<(Shown, Words<'a>), ReadError>
-    ensures { Gives (λ x. (x.0, left x.1)) result (mapped (λ x. to_shown (inr (inl x))) ((reading_format spec.now world.now from).get (left words.entry))) }
+    ensures { Gives (λ x. (x.0, left x.1)) result
+        (mapped (λ x. to_shown (inr (inl x)))
+        ((reading_format spec.now world.now from).get (left words.entry))) }
 {
     spec.well_formed();
     let (counter, rest) = name_among(words, spec.counters.as_slice(), from)?;
@@ -161,7 +168,8 @@ fn arguments<'a>(
     params: &[Param],
     words: Words<'a>,
 ) -> Result<(Items<i64>, Words<'a>), ReadError>
-    ensures { Gives (λ x. (x.0, left x.1)) result ((arguments_words params.now).get (left words.entry)) }
+    ensures { Gives (λ x. (x.0, left x.1)) result
+        ((arguments_words params.now).get (left words.entry)) }
 {
     let mut args = Items::new(alloc);
     let mut rest = words;
@@ -188,7 +196,9 @@ fn read_call<'a>(
     spec: &Spec,
     words: Words<'a>,
 ) -> Result<(Shown, Words<'a>), ReadError>
-    ensures { Gives (λ x. (x.0, left x.1)) result (mapped (λ x. to_shown (inr (inr (inl x)))) ((call_format spec.now).get (left words.entry))) }
+    ensures { Gives (λ x. (x.0, left x.1)) result
+        (mapped (λ x. to_shown (inr (inr (inl x))))
+        ((call_format spec.now).get (left words.entry))) }
 {
     spec.well_formed();
     let (op, rest) = name_among(words, spec.operations.as_slice(), 0)?;
@@ -198,7 +208,8 @@ fn read_call<'a>(
 
 // Behind `at`: so many elements.
 fn read_at<'a>(alloc: Global, count: u32, words: Words<'a>) -> Result<(Shown, Words<'a>), ReadError>
-    ensures { Gives (λ x. (x.0, left x.1)) result (mapped (λ x. to_shown (inr (inr (inr x)))) ((at_format count).get (left words.entry))) }
+    ensures { Gives (λ x. (x.0, left x.1)) result
+        (mapped (λ x. to_shown (inr (inr (inr x)))) ((at_format count).get (left words.entry))) }
 {
     let (elements, rest) = times(alloc, count, words)?;
     Ok((Shown::At(elements), rest))
@@ -212,7 +223,8 @@ pub fn read_shown<'a>(
     due: Due,
     words: Words<'a>,
 ) -> Result<(Shown, Words<'a>), ReadError>
-    ensures { Gives (λ x. (x.0, left x.1)) result ((shown_format spec.now world.now due).get (left words.entry)) }
+    ensures { Gives (λ x. (x.0, left x.1)) result
+        ((shown_format spec.now world.now due).get (left words.entry)) }
 {
     let (word, rest) = next(words)?;
     if word == b"true".as_slice() {
@@ -232,7 +244,8 @@ pub fn read_shown<'a>(
 
 /// Appends the line of a sort's size.
 pub fn write_size(out: &mut Vec<u8>, sort: &[u8], size: u32) -> Result<(), AllocError>
-    ensures { OnOk result (out.new.items ≡ out.old.items ++ line_text ((size_format sort.now).put size)) }
+    ensures { OnOk result (out.new.items ≡ out.old.items
+        ++ line_text ((size_format sort.now).put size)) }
 {
     let mut buffer = Buffer::new();
     let size = buffer.format(size).as_bytes();
@@ -241,7 +254,8 @@ pub fn write_size(out: &mut Vec<u8>, sort: &[u8], size: u32) -> Result<(), Alloc
 
 /// Appends the line of a constant's element.
 pub fn write_const(out: &mut Vec<u8>, name: &[u8], element: u32) -> Result<(), AllocError>
-    ensures { OnOk result (out.new.items ≡ out.old.items ++ line_text (codes "const" ∷ name.now ∷ decimal element ∷ [])) }
+    ensures { OnOk result (out.new.items ≡ out.old.items
+        ++ line_text (codes "const" ∷ name.now ∷ decimal element ∷ [])) }
 {
     let mut buffer = Buffer::new();
     let element = buffer.format(element).as_bytes();
@@ -249,14 +263,16 @@ pub fn write_const(out: &mut Vec<u8>, name: &[u8], element: u32) -> Result<(), A
 }
 
 fn put_elements(out: &mut Vec<u8>, elements: &[u32]) -> Result<(), AllocError>
-    ensures { OnOk result (out.new.items ≡ out.old.items ++ spaced (flat_map count_format.put elements.now)) }
+    ensures { OnOk result (out.new.items ≡ out.old.items
+        ++ spaced (flat_map count_format.put elements.now)) }
 {
     put_entries(out, elements)
 }
 
 /// Appends the line of the elements.
 pub fn write_at(out: &mut Vec<u8>, elements: &[u32]) -> Result<(), AllocError>
-    ensures { OnOk result (out.new.items ≡ out.old.items ++ line_text (codes "at" ∷ (at_format (length elements.now)).put elements.now)) }
+    ensures { OnOk result (out.new.items ≡ out.old.items
+        ++ line_text (codes "at" ∷ (at_format (length elements.now)).put elements.now)) }
 {
     out.extend_from_slice(b"at")?;
     put_elements(out, elements)?;
@@ -265,7 +281,8 @@ pub fn write_at(out: &mut Vec<u8>, elements: &[u32]) -> Result<(), AllocError>
 }
 
 fn put_argument(out: &mut Vec<u8>, kind: Kind, argument: i64) -> Result<(), AllocError>
-    ensures { OnOk result (out.new.items ≡ out.old.items ++ spaced ((argument_format kind).put argument)) }
+    ensures { OnOk result (out.new.items ≡ out.old.items
+        ++ spaced ((argument_format kind).put argument)) }
 {
     match kind {
         Kind::Sort(_) => {
@@ -279,7 +296,8 @@ fn put_argument(out: &mut Vec<u8>, kind: Kind, argument: i64) -> Result<(), Allo
 }
 
 fn put_arguments(out: &mut Vec<u8>, params: &[Param], args: &[i64]) -> Result<(), AllocError>
-    ensures { OnOk result (out.new.items ≡ out.old.items ++ spaced ((arguments_words params.now).put args.now)) }
+    ensures { OnOk result (out.new.items ≡ out.old.items
+        ++ spaced ((arguments_words params.now).put args.now)) }
 {
     match params {
         [] => Ok(()),
@@ -294,7 +312,8 @@ fn put_arguments(out: &mut Vec<u8>, params: &[Param], args: &[i64]) -> Result<()
 }
 
 fn put_call(out: &mut Vec<u8>, spec: &Spec, call: &Call) -> Result<(), AllocError>
-    ensures { OnOk result (out.new.items ≡ out.old.items ++ spaced ((call_format spec.now).put call.now)) }
+    ensures { OnOk result (out.new.items ≡ out.old.items
+        ++ spaced ((call_format spec.now).put call.now)) }
 {
     put_word(out, operation_name(spec, call.op))?;
     put_arguments(out, params_of(spec, call.op), call.args.as_slice())?;
@@ -303,7 +322,8 @@ fn put_call(out: &mut Vec<u8>, spec: &Spec, call: &Call) -> Result<(), AllocErro
 
 /// Appends the line of a call. An argument that is no element is left out, and so is one too many.
 pub fn write_call(out: &mut Vec<u8>, spec: &Spec, call: &Call) -> Result<(), AllocError>
-    ensures { OnOk result (out.new.items ≡ out.old.items ++ line_text (codes "call" ∷ (call_format spec.now).put call.now)) }
+    ensures { OnOk result (out.new.items ≡ out.old.items
+        ++ line_text (codes "call" ∷ (call_format spec.now).put call.now)) }
 {
     out.extend_from_slice(b"call")?;
     put_call(out, spec, call)?;

@@ -104,7 +104,8 @@ pub fn next(words: Words<'_>) -> Result<(&[u8], Words<'_>), ReadError>
 
 /// The number that the next word spells, where it is a short one, and the words behind it. None says nothing.
 pub(crate) fn next_number(words: Words<'_>) -> Option<(u64, Words<'_>)>
-    ensures { IfSome result (λ x. (w : List ℕ) × (next_of (left words.entry) ≡ Some (w, left x.1)) × (size_read w ≡ Some x.0)) }
+    ensures { IfSome result (λ x. (w : List ℕ) × (next_of (left words.entry) ≡ Some (w, left x.1))
+        × (size_read w ≡ Some x.0)) }
 {
     if words.over {
         return None;
@@ -126,7 +127,8 @@ pub fn keyword<'a>(words: Words<'a>, key: &[u8]) -> Result<Words<'a>, ReadError>
 
 /// The words behind some words that must be next.
 pub fn these<'a>(words: Words<'a>, keys: &[&[u8]]) -> Result<Words<'a>, ReadError>
-    ensures { Gives (λ x. (tt, left x)) result (these_at (map (λ w. w.now) keys.now) (left words.entry)) }
+    ensures { Gives (λ x. (tt, left x)) result
+        (these_at (map (λ w. w.now) keys.now) (left words.entry)) }
 {
     match keys {
         [] => Ok(words),

@@ -37,7 +37,8 @@ pub fn put_integer(out: &mut Vec<u8>, number: i128) -> Result<(), AllocError>
 
 /// Appends the words of some values, each behind a space.
 pub fn put_entries<T: Entry>(out: &mut Vec<u8>, entries: &[T]) -> Result<(), AllocError>
-    ensures { OnOk result (out.new.items ≡ out.old.items ++ spaced (flat_map T.format.put entries.now)) }
+    ensures { OnOk result (out.new.items ≡ out.old.items
+        ++ spaced (flat_map T.format.put entries.now)) }
 {
     'entries: for entry in entries {
         entry.write(out)?;
@@ -47,7 +48,8 @@ pub fn put_entries<T: Entry>(out: &mut Vec<u8>, entries: &[T]) -> Result<(), All
 
 /// Appends a list behind its number.
 pub fn put_list<T: Entry>(out: &mut Vec<u8>, entries: &[T]) -> Result<(), AllocError>
-    ensures { OnOk result (out.new.items ≡ out.old.items ++ spaced ((counted most_count T.format).put entries.now)) }
+    ensures { OnOk result (out.new.items ≡ out.old.items
+        ++ spaced ((counted most_count T.format).put entries.now)) }
 {
     put_number(out, entries.len() as u64)?;
     put_entries(out, entries)
@@ -67,7 +69,8 @@ fn put_words(out: &mut Vec<u8>, words: &[&[u8]]) -> Result<(), AllocError>
 
 /// Appends the line of these words.
 pub fn write_words(out: &mut Vec<u8>, first: &[u8], words: &[&[u8]]) -> Result<(), AllocError>
-    ensures { OnOk result (out.new.items ≡ out.old.items ++ line_text (first.now ∷ map (λ w. w.now) words.now)) }
+    ensures { OnOk result (out.new.items ≡ out.old.items
+        ++ line_text (first.now ∷ map (λ w. w.now) words.now)) }
 {
     out.extend_from_slice(first)?;
     put_words(out, words)?;

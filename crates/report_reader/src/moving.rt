@@ -222,7 +222,8 @@ fn end_of_witness(
     requires kept { IsKept spec.now state.old.tally state.old.place }
     ensures ok { OnOk result (state.new ≡ showed (At elements) state.old) }
     ensures err { OnErr result (state.new ≡ state.old) }
-    ensures ended { IfOk result (λ e. IsEnd spec.now (Some (end_refuted (shown_at state.old.place) elements)) (Some e)) }
+    ensures ended { IfOk result (λ e. IsEnd spec.now
+        (Some (end_refuted (shown_at state.old.place) elements)) (Some e)) }
 {
     let shown = match &state.place {
         Place::Showing(_, shown) => shown,

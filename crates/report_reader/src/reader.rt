@@ -144,7 +144,8 @@ impl<'a> ReportReader<'a> {
     /// Takes the next line where it resolves two clauses and isn't the last one of its log. What it says is told without all that
     /// other lines may tell, so each such line costs little. None says nothing of the line, which isn't taken then.
     pub fn feed_resolve(&mut self, text: &[u8]) -> Option<ResolveLine>
-        ensures some { IfSome result (λ line. IsAnswered self.old text.now self.new (Ok (resolve_told line))) }
+        ensures some { IfSome result (λ line. IsAnswered self.old text.now self.new
+            (Ok (resolve_told line))) }
         ensures none { IfNone result (self.new ≡ self.old) }
     {
         if let Some(_) = self.fault {

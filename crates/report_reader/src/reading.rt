@@ -96,7 +96,8 @@ fn opened<'a>(
     words: Words<'a>,
 ) -> Result<(Event, Words<'a>), ReadError>
     requires { obligation ≡ obligation_at spec.now number }
-    ensures { Gives (λ x. (x.0, left x.1)) result ((opened_line spec.now number).get (left words.entry)) }
+    ensures { Gives (λ x. (x.0, left x.1)) result
+        ((opened_line spec.now number).get (left words.entry)) }
 {
     let (_, rest) = read_obligation(spec, obligation, words)?;
     Ok((Event::Opened(number), rest))
@@ -109,7 +110,9 @@ fn due<'a>(
     words: Words<'a>,
 ) -> Result<(Event, Words<'a>), ReadError>
     requires { obligations.now ≡ obligations_of spec.now }
-    ensures { Gives (λ x. (x.0, left x.1)) result ((due_line spec.now (told_of tally.now == obligation_count spec.now) (told_of tally.now)).get (left words.entry)) }
+    ensures { Gives (λ x. (x.0, left x.1)) result
+        ((due_line spec.now (told_of tally.now == obligation_count spec.now)
+        (told_of tally.now)).get (left words.entry)) }
 {
     if all_told(spec, obligations, tally) {
         return summary(words);
@@ -119,7 +122,8 @@ fn due<'a>(
 }
 
 fn size<'a>(spec: &Spec, world: &World, words: Words<'a>) -> Result<(Event, Words<'a>), ReadError>
-    ensures { Gives (λ x. (x.0, left x.1)) result ((size_line spec.now (length world.now.sizes)).get (left words.entry)) }
+    ensures { Gives (λ x. (x.0, left x.1)) result
+        ((size_line spec.now (length world.now.sizes)).get (left words.entry)) }
 {
     let place = world.sizes.len();
     let (size, rest) = read_size(words, sort_name(spec, place))?;
@@ -140,7 +144,8 @@ fn constant<'a>(
     world: &World,
     words: Words<'a>,
 ) -> Result<(Event, Words<'a>), ReadError>
-    ensures { Gives (λ x. (x.0, left x.1)) result ((const_line spec.now world.now (length world.now.consts)).get (left words.entry)) }
+    ensures { Gives (λ x. (x.0, left x.1)) result
+        ((const_line spec.now world.now (length world.now.consts)).get (left words.entry)) }
 {
     let place = world.consts.len();
     let size = world.size(const_sort(spec, place));
@@ -155,7 +160,8 @@ fn shown<'a>(
     due: Due,
     words: Words<'a>,
 ) -> Result<(Event, Words<'a>), ReadError>
-    ensures { Gives (λ x. (x.0, left x.1)) result ((shown_line spec.now world.now due).get (left words.entry)) }
+    ensures { Gives (λ x. (x.0, left x.1)) result
+        ((shown_line spec.now world.now due).get (left words.entry)) }
 {
     let (shown, rest) = read_shown(alloc, spec, world, due, words)?;
     Ok((Event::Shown(shown), rest))
@@ -234,7 +240,8 @@ fn front<'a>(
     words: Words<'a>,
 ) -> Result<(Event, Words<'a>), ReadError>
     requires { obligations.now ≡ obligations_of spec.now }
-    ensures { Gives (λ x. (x.0, left x.1)) result ((line_at spec.now state.now).get (left words.entry)) }
+    ensures { Gives (λ x. (x.0, left x.1)) result
+        ((line_at spec.now state.now).get (left words.entry)) }
 {
     match &state.place {
         Place::Title => title(words),

@@ -23,7 +23,8 @@ pub struct ResolveLine {
 /// The line that a text is, if it resolves two clauses. It may stand in each log.
 #[tactic(auto, using(crate::proofs::ResolveLines::resolve_read))]
 pub fn resolve_line(text: &[u8]) -> Result<ResolveLine, ReadError>
-    ensures { IfOk result (λ x. (drops : Bool) → read_as (log_line drops) (parts text.now) ≡ Some (Log (Resolve x.left x.right x.pivot))) }
+    ensures { IfOk result (λ x. (drops : Bool)
+        → read_as (log_line drops) (parts text.now) ≡ Some (Log (Resolve x.left x.right x.pivot))) }
 {
     let rest = keyword(Words::of(text), b"r")?;
     let (left, rest) = count(rest)?;

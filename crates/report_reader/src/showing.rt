@@ -17,7 +17,8 @@ use std::alloc::{AllocError, Global};
 fn add_fact(spec: &Spec, world: &World, state: &mut State, fact: &Fact) -> Result<(), AllocError>
     requires fits { is_state spec.now world.now state.old ≡ true }
     requires fact { fact_fits spec.now world.now fact.now ≡ true }
-    ensures ok { OnOk result (reads state.new ≡ with_has (reads state.old) fact.now.relation fact.now.tuple true) }
+    ensures ok { OnOk result (reads state.new
+        ≡ with_has (reads state.old) fact.now.relation fact.now.tuple true) }
     ensures fits { is_state spec.now world.now state.new ≡ true }
 {
     state.set_has(fact.relation, fact.tuple.as_slice(), true)
@@ -32,7 +33,8 @@ fn add_reading(
 ) -> Result<(), AllocError>
     requires fits { is_state spec.now world.now state.old ≡ true }
     requires reading { reading_fits spec.now world.now reading.now ≡ true }
-    ensures ok { OnOk result (reads state.new ≡ with_count (reads state.old) reading.now.counter reading.now.key reading.now.value) }
+    ensures ok { OnOk result (reads state.new
+        ≡ with_count (reads state.old) reading.now.counter reading.now.key reading.now.value) }
     ensures fits { is_state spec.now world.now state.new ≡ true }
 {
     state.set_count(reading.counter, reading.key.as_slice(), reading.value)

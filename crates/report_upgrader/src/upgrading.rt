@@ -49,7 +49,8 @@ fn upgrade_held<K: Sink>(
     ensures upgraded { IsUpgraded spec.now bytes.now (K.held out.old) (K.held out.new) result }
     ensures unwritten { IsUnwritten result → out.new ≡ out.old }
     ensures no_read { IsErrOf result UpgradeRefused.Fault → ⊥ }
-    ensures write_fault { IsErrOf result UpgradeRefused.WriteFault → IsFault (K.faults out.old) (K.faults out.new) }
+    ensures write_fault { IsErrOf result UpgradeRefused.WriteFault
+        → IsFault (K.faults out.old) (K.faults out.new) }
     ensures never_falls { K.faults out.old ≤ K.faults out.new }
 {
     let tally = match verify_held(alloc, spec, bytes) {
@@ -72,10 +73,13 @@ pub fn upgrade_all<E: Source, K: Sink>(
     report: &mut E,
     out: &mut K,
 ) -> Result<Tally, UpgradeRefused>
-    ensures upgraded { IsUpgradedFrom spec.now (E.left report.old) (K.held out.old) (K.held out.new) result }
+    ensures upgraded { IsUpgradedFrom spec.now (E.left report.old) (K.held out.old)
+        (K.held out.new) result }
     ensures unwritten { IsUnwritten result → out.new ≡ out.old }
-    ensures fault { IsErrOf result UpgradeRefused.Fault → IsFault (E.faults report.old) (E.faults report.new) }
-    ensures write_fault { IsErrOf result UpgradeRefused.WriteFault → IsFault (K.faults out.old) (K.faults out.new) }
+    ensures fault { IsErrOf result UpgradeRefused.Fault
+        → IsFault (E.faults report.old) (E.faults report.new) }
+    ensures write_fault { IsErrOf result UpgradeRefused.WriteFault
+        → IsFault (K.faults out.old) (K.faults out.new) }
     ensures end { IsOnAll result → IsAtEnd (E.left report.new) }
     ensures given_up { (given : List ℕ) × Consumes (E.left report.old) (E.left report.new) given }
     ensures reads { E.reads report.new ≤ E.reads report.old + most_report_bytes + 1 }

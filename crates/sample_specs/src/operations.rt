@@ -156,7 +156,8 @@ fn deleting(alloc: Global, n: u8, i: u8) -> Result<Operation, AllocError>
 /// `add0`, `del0`, `add1`, `del1` and so on.
 pub fn operations(alloc: Global, n: u8) -> Result<Items<Operation>, AllocError>
     requires few { n ≤ 12 }
-    ensures { IfOk result (λ operations. operations ≡ flat_map (λ i. adding_of i ∷ deleting_of n i ∷ []) (below n)) }
+    ensures { IfOk result (λ operations. operations
+        ≡ flat_map (λ i. adding_of i ∷ deleting_of n i ∷ []) (below n)) }
 {
     let mut list = Items::new(alloc);
     for i in 0..n {

@@ -64,7 +64,8 @@ fn resolvent_on(
 ) -> Result<Clause, AllocError>
     requires reason { reason < length problem.now.clauses }
     requires reached { reached < length problem.now.clauses }
-    ensures { IfOk result (λ c. c ≡ resolved_on lit (slice_index_or problem.now.clauses reason []) (slice_index_or problem.now.clauses reached [])) }
+    ensures { IfOk result (λ c. c ≡ resolved_on lit (slice_index_or problem.now.clauses reason [])
+        (slice_index_or problem.now.clauses reached [])) }
 {
     let reason = clause_at(problem, reason);
     let reached = clause_at(problem, reached);
@@ -86,7 +87,12 @@ fn resolve_on(
 ) -> Result<u32, AllocError>
     requires reason { reason < length problem.old.clauses }
     requires reached { reached < length problem.old.clauses }
-    ensures { IfOk result (λ n. (n ≡ length problem.old.clauses) × (problem.new ≡ with_clause problem.old (resolved_on lit (slice_index_or problem.old.clauses reason []) (slice_index_or problem.old.clauses reached []))) × (log.new ≡ log.old ++ resolve_line lit reason reached ∷ []) × (length problem.new.clauses < 2 ^ 32)) }
+    ensures { IfOk result (λ n. (n ≡ length problem.old.clauses)
+        × (problem.new ≡ with_clause problem.old
+        (resolved_on lit (slice_index_or problem.old.clauses reason [])
+        (slice_index_or problem.old.clauses reached [])))
+        × (log.new ≡ log.old ++ resolve_line lit reason reached ∷ [])
+        × (length problem.new.clauses < 2 ^ 32)) }
 {
     problem.law_fits();
     let clause = resolvent_on(alloc, problem, lit, reason, reached)?;
@@ -107,7 +113,9 @@ fn step_back(
     requires chain { IsChain budget problem.old trail.old log.old reached }
     requires undone { is_done trail.old (slice_index_or problem.old.clauses reached []) ≡ false }
     requires room { length log.old < budget }
-    ensures { IfOk result (λ j. GoesOn budget problem.old trail.old log.old reached problem.new trail.new log.new j × (length trail.new < length trail.old)) }
+    ensures { IfOk result
+        (λ j. GoesOn budget problem.old trail.old log.old reached problem.new trail.new log.new j
+        × (length trail.new < length trail.old)) }
 {
     let Some(entry) = trail.pop() else {
         unreachable!();
@@ -205,7 +213,10 @@ pub fn learn(
     steps: Items<RowStep>,
 ) -> Result<u32, AllocError>
     requires { atoms_below (length problem.old.atoms) (negations used) ≡ true }
-    ensures { IfOk result (λ n. (n ≡ length problem.old.clauses) × (problem.new ≡ with_clause problem.old (negations used)) × (log.new ≡ log.old ++ Farkas used steps ∷ []) × (length problem.new.clauses < 2 ^ 32) × IsLevel trail.old trail.new (negations used)) }
+    ensures { IfOk result (λ n. (n ≡ length problem.old.clauses)
+        × (problem.new ≡ with_clause problem.old (negations used))
+        × (log.new ≡ log.old ++ Farkas used steps ∷ []) × (length problem.new.clauses < 2 ^ 32)
+        × IsLevel trail.old trail.new (negations used)) }
 {
     let clause = or_drop!(Clause::of_opposites(alloc, used.as_slice()); used, steps);
     cut_levels(trail, clause.lits());

@@ -106,7 +106,10 @@ fn add_split(
 ) -> Result<(), AllocError>
     requires place { place < grown.old.ints }
     requires fits { in_range at.now ≡ true }
-    ensures { OnOk result ((grown.new ≡ with_row grown.old (at_most place at.now)) × (log.new ≡ log.old ++ Split place at.now cause.used cause.steps cause.low cause.high cause.values ∷ []) × (length grown.new.atoms < 2 ^ 32)) }
+    ensures { OnOk result ((grown.new ≡ with_row grown.old (at_most place at.now))
+        × (log.new
+        ≡ log.old ++ Split place at.now cause.used cause.steps cause.low cause.high cause.values
+        ∷ []) × (length grown.new.atoms < 2 ^ 32)) }
 {
     let row = at_most(alloc, place, at)?;
     let Cause {
@@ -155,7 +158,8 @@ fn cause_of(
 ) -> Result<Cause, AllocError>
     requires { list_all (λ u. nat_lt u (length assignment.lits)) used ≡ true }
     ensures used { IfOk result (λ c. c.used ≡ map (lit_at assignment.lits) used) }
-    ensures rest { IfOk result (λ c. (c.steps ≡ steps) × (c.low ≡ low) × (c.high ≡ high) × (c.values ≡ values)) }
+    ensures rest { IfOk result (λ c. (c.steps ≡ steps) × (c.low ≡ low) × (c.high ≡ high)
+        × (c.values ≡ values)) }
 {
     let used = or_drop!(picked(alloc, assignment, used); steps, values);
     Ok(Cause {
@@ -179,7 +183,8 @@ fn split(
 ) -> Result<Outcome, AllocError>
     requires place { place < grown.old.ints }
     requires fits { in_range at.now ≡ true }
-    ensures { IfOk result (λ o. IsSplitOff o budget grown.old log.old (at_most place at.now) (Split place at.now cause.used cause.steps cause.low cause.high cause.values) grown.new log.new) }
+    ensures { IfOk result (λ o. IsSplitOff o budget grown.old log.old (at_most place at.now)
+        (Split place at.now cause.used cause.steps cause.low cause.high cause.values) grown.new log.new) }
 {
     if log.len() >= budget as usize {
         drop(cause);
@@ -199,7 +204,8 @@ fn interpretation(
     requires { length problem.now.atoms < 2 ^ 32 }
     ensures ints { IfOk result (λ i. i.ints ≡ ints) }
     ensures many { IfOk result (λ i. length i.truths ≡ length problem.now.atoms) }
-    ensures each { IfOk result (λ i. (a : ℕ) → a < length problem.now.atoms → slice_index_or i.truths a false ≡ in_trail trail.now (lit_of a true)) }
+    ensures each { IfOk result (λ i. (a : ℕ) → a < length problem.now.atoms
+        → slice_index_or i.truths a false ≡ in_trail trail.now (lit_of a true)) }
 {
     let truths = or_drop!(truths(alloc, trail, problem.atoms.len()); ints);
     Ok(Interpretation { truths, ints })
@@ -216,13 +222,19 @@ fn follow<T: Theory>(
     answer: TheoryAnswer,
     budget: u32,
 ) -> Result<Outcome, AllocError>
-    requires search { InSearch (record { problem = problem.now; split = T.MAY_SPLIT }) budget grown.old trail.old log.old }
+    requires search { InSearch (record {
+      problem = problem.now;
+      split = T.MAY_SPLIT;
+    }) budget grown.old trail.old log.old }
     requires settled { Settled trail.old grown.old.clauses }
     requires assigned { (a : ℕ) → a < length grown.old.atoms → is_assigned trail.old a ≡ true }
-    requires rows { IsRowAssignment grown.old.atoms trail.old (length grown.old.atoms) assignment.lits assignment.rows }
+    requires rows { IsRowAssignment grown.old.atoms trail.old
+        (length grown.old.atoms) assignment.lits assignment.rows }
     requires answered { IsTheoryAnswer T.MAY_SPLIT T.MAY_STOP grown.old.ints assignment.rows answer }
-    ensures outcome { IfOk result (λ o. IsOutcome o T.MAY_SPLIT T.MAY_STOP problem.now budget grown.old trail.old log.old grown.new trail.new log.new) }
-    ensures stays { IfOk result (λ o. IfContinue o (IsStay grown.old.clauses trail.old grown.new.clauses trail.new)) }
+    ensures outcome { IfOk result
+        (λ o. IsOutcome o T.MAY_SPLIT T.MAY_STOP problem.now budget grown.old trail.old log.old grown.new trail.new log.new) }
+    ensures stays { IfOk result (λ o. IfContinue o
+        (IsStay grown.old.clauses trail.old grown.new.clauses trail.new)) }
 {
     match answer {
         TheoryAnswer::Model(ints) => {
@@ -273,12 +285,18 @@ pub fn final_check<T: Theory>(
     log: &mut Items<Line>,
     budget: u32,
 ) -> Result<Outcome, AllocError>
-    requires search { InSearch (record { problem = problem.now; split = T.MAY_SPLIT }) budget grown.old trail.old log.old }
+    requires search { InSearch (record {
+      problem = problem.now;
+      split = T.MAY_SPLIT;
+    }) budget grown.old trail.old log.old }
     requires settled { Settled trail.old grown.old.clauses }
     requires assigned { (a : ℕ) → a < length grown.old.atoms → is_assigned trail.old a ≡ true }
-    requires taken { T.MAY_SPLIT ≡ false → (lits : List PlainLit) (rows : List PlainRow) → AreRowsOf problem.now.atoms lits rows → T.takes rows problem.now.ints }
-    ensures outcome { IfOk result (λ o. IsOutcome o T.MAY_SPLIT T.MAY_STOP problem.now budget grown.old trail.old log.old grown.new trail.new log.new) }
-    ensures stays { IfOk result (λ o. IfContinue o (IsStay grown.old.clauses trail.old grown.new.clauses trail.new)) }
+    requires taken { T.MAY_SPLIT ≡ false → (lits : List PlainLit) (rows : List PlainRow)
+        → AreRowsOf problem.now.atoms lits rows → T.takes rows problem.now.ints }
+    ensures outcome { IfOk result
+        (λ o. IsOutcome o T.MAY_SPLIT T.MAY_STOP problem.now budget grown.old trail.old log.old grown.new trail.new log.new) }
+    ensures stays { IfOk result (λ o. IfContinue o
+        (IsStay grown.old.clauses trail.old grown.new.clauses trail.new)) }
 {
     grown.law_fits();
     let assignment = row_assignment(alloc, grown, trail)?;

@@ -21,7 +21,8 @@ pub enum Found {
 
 // The literal that makes a clause unit, if it is. Only the first one that isn't negated may do so.
 fn unit_literal(trail: &Trail, lits: &[Lit]) -> Option<Lit>
-    ensures { MatchOption result (list_any (is_unit trail.now lits.now) lits.now ≡ false) (λ l. is_unit trail.now lits.now l ≡ true) }
+    ensures { MatchOption result (list_any (is_unit trail.now lits.now) lits.now ≡ false)
+        (λ l. is_unit trail.now lits.now l ≡ true) }
 {
     for lit in lits {
         if !trail.negates(*lit) {
@@ -55,7 +56,8 @@ pub fn find(problem: &Problem, trail: &Trail) -> Found
 
 /// An atom below a number that the trail doesn't assign.
 pub fn unassigned(trail: &Trail, atoms: u32) -> Option<u32>
-    ensures { MatchOption result ((a : ℕ) → a < atoms → is_assigned trail.now a ≡ true) (λ a. (a < atoms) × (is_assigned trail.now a ≡ false)) }
+    ensures { MatchOption result ((a : ℕ) → a < atoms → is_assigned trail.now a ≡ true)
+        (λ a. (a < atoms) × (is_assigned trail.now a ≡ false)) }
 {
     for atom in 0..atoms {
         if !trail.is_assigned(atom) {

@@ -68,7 +68,8 @@ pub fn sign_of(problem: &Problem, atom: u32) -> bool
 /// Adds a clause, and answers its number. With 2^32 - 1 clauses a further one is answered as want of memory.
 pub fn add_clause(problem: &mut Problem, clause: Clause) -> Result<u32, AllocError>
     requires { atoms_below (length problem.old.atoms) clause ≡ true }
-    ensures { IfOk result (λ n. (n ≡ length problem.old.clauses) × (problem.new ≡ with_clause problem.old clause) × (length problem.new.clauses < 2 ^ 32)) }
+    ensures { IfOk result (λ n. (n ≡ length problem.old.clauses)
+        × (problem.new ≡ with_clause problem.old clause) × (length problem.new.clauses < 2 ^ 32)) }
 {
     let number = problem.clauses.len();
     if number >= u32::MAX as usize {
@@ -81,7 +82,8 @@ pub fn add_clause(problem: &mut Problem, clause: Clause) -> Result<u32, AllocErr
 /// Adds an atom for a row. With 2^32 - 1 atoms a further one is answered as want of memory.
 pub fn add_row(problem: &mut Problem, row: Row) -> Result<(), AllocError>
     requires { places_below problem.old.ints row ≡ true }
-    ensures { OnOk result ((problem.new ≡ with_row problem.old row) × (length problem.new.atoms < 2 ^ 32)) }
+    ensures { OnOk result ((problem.new ≡ with_row problem.old row)
+        × (length problem.new.atoms < 2 ^ 32)) }
 {
     if problem.atoms.len() >= u32::MAX as usize {
         return Err(AllocError);

@@ -40,8 +40,12 @@ fn advance<T: Theory>(
     log: &mut Items<Line>,
     budget: u32,
 ) -> Outcome
-    requires search { InSearch (record { problem = problem.now; split = T.MAY_SPLIT }) budget grown.old trail.old log.old }
-    requires taken { T.MAY_SPLIT ≡ false → (lits : List PlainLit) (rows : List PlainRow) → AreRowsOf problem.now.atoms lits rows → T.takes rows problem.now.ints }
+    requires search { InSearch (record {
+      problem = problem.now;
+      split = T.MAY_SPLIT;
+    }) budget grown.old trail.old log.old }
+    requires taken { T.MAY_SPLIT ≡ false → (lits : List PlainLit) (rows : List PlainRow)
+        → AreRowsOf problem.now.atoms lits rows → T.takes rows problem.now.ints }
     ensures { IsOutcome result T.MAY_SPLIT T.MAY_STOP problem.now budget grown.old trail.old log.old grown.new trail.new log.new }
 {
     match find(grown, trail) {
@@ -80,8 +84,12 @@ fn search_on<T: Theory>(
     log: Items<Line>,
     budget: u32,
 ) -> Answer
-    requires search { InSearch (record { problem = problem.now; split = T.MAY_SPLIT }) budget grown.old trail.old log }
-    requires taken { T.MAY_SPLIT ≡ false → (lits : List PlainLit) (rows : List PlainRow) → AreRowsOf problem.now.atoms lits rows → T.takes rows problem.now.ints }
+    requires search { InSearch (record {
+      problem = problem.now;
+      split = T.MAY_SPLIT;
+    }) budget grown.old trail.old log }
+    requires taken { T.MAY_SPLIT ≡ false → (lits : List PlainLit) (rows : List PlainRow)
+        → AreRowsOf problem.now.atoms lits rows → T.takes rows problem.now.ints }
     ensures { IsAnswer T.MAY_SPLIT T.MAY_STOP problem.now budget result }
 {
     let mut log = log;
@@ -109,7 +117,8 @@ fn search_on<T: Theory>(
 
 // The search, without the fact that its Unsat means that there is no interpretation.
 fn search<T: Theory>(alloc: Global, problem: &Problem, theory: &mut T, budget: u32) -> Answer
-    requires taken { T.MAY_SPLIT ≡ false → (lits : List PlainLit) (rows : List PlainRow) → AreRowsOf problem.now.atoms lits rows → T.takes rows problem.now.ints }
+    requires taken { T.MAY_SPLIT ≡ false → (lits : List PlainLit) (rows : List PlainRow)
+        → AreRowsOf problem.now.atoms lits rows → T.takes rows problem.now.ints }
     ensures { IsAnswer T.MAY_SPLIT T.MAY_STOP problem.now budget result }
 {
     if holds_empty(problem) {
@@ -134,7 +143,8 @@ pub fn solve_plain<T: Theory>(
     theory: &mut T,
     budget: u32,
 ) -> Answer
-    requires taken { T.MAY_SPLIT ≡ false → (lits : List PlainLit) (rows : List PlainRow) → AreRowsOf problem.now.atoms lits rows → T.takes rows problem.now.ints }
+    requires taken { T.MAY_SPLIT ≡ false → (lits : List PlainLit) (rows : List PlainRow)
+        → AreRowsOf problem.now.atoms lits rows → T.takes rows problem.now.ints }
     ensures promised { IsAnswer T.MAY_SPLIT T.MAY_STOP problem.now budget result }
     ensures none { ShowsNone problem.now result }
 {

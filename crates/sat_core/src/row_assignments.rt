@@ -53,7 +53,8 @@ fn assign_atom(
     requires there { atom < length problem.now.atoms }
     requires assigned { is_assigned trail.now atom ≡ true }
     requires assignment { IsRowAssignment problem.now.atoms trail.now atom assignment.old.lits assignment.old.rows }
-    ensures { OnOk result (IsRowAssignment problem.now.atoms trail.now (atom + 1) assignment.new.lits assignment.new.rows) }
+    ensures { OnOk result (IsRowAssignment problem.now.atoms trail.now
+        (atom + 1) assignment.new.lits assignment.new.rows) }
 {
     match &problem.atoms.as_slice()[atom as usize] {
         AtomKind::Plain => {}
@@ -78,7 +79,8 @@ pub fn row_assignment(
 ) -> Result<RowAssignment, AllocError>
     requires few { length problem.now.atoms < 2 ^ 32 }
     requires assigned { (a : ℕ) → a < length problem.now.atoms → is_assigned trail.now a ≡ true }
-    ensures { IfOk result (λ d. IsRowAssignment problem.now.atoms trail.now (length problem.now.atoms) d.lits d.rows) }
+    ensures { IfOk result (λ d. IsRowAssignment problem.now.atoms trail.now
+        (length problem.now.atoms) d.lits d.rows) }
 {
     let mut assignment = RowAssignment {
         lits: Items::new(alloc),
@@ -106,7 +108,8 @@ pub fn pick(alloc: Global, lits: &[Lit], used: &[u32]) -> Result<Items<Lit>, All
 pub fn truths(alloc: Global, trail: &Trail, atoms: usize) -> Result<Items<bool>, AllocError>
     requires { atoms < 2 ^ 32 }
     ensures many { IfOk result (λ out. length out ≡ atoms) }
-    ensures each { IfOk result (λ out. (a : ℕ) → a < atoms → slice_index_or out a false ≡ in_trail trail.now (lit_of a true)) }
+    ensures each { IfOk result (λ out. (a : ℕ) → a < atoms
+        → slice_index_or out a false ≡ in_trail trail.now (lit_of a true)) }
 {
     let mut out = Items::new(alloc);
     for atom in 0..atoms {

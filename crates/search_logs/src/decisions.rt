@@ -7,7 +7,8 @@ use std::alloc::AllocError;
 
 /// Puts the place of an entry on the stack, where the entry is a decision. A refused one leaves the stack as it was.
 pub(crate) fn note(decisions: &mut Vec<usize>, place: usize, entry: Entry) -> Result<(), AllocError>
-    ensures ok { OnOk result (reverse decisions.new.items ≡ with_decision entry.reason place (reverse decisions.old.items)) }
+    ensures ok { OnOk result (reverse decisions.new.items
+        ≡ with_decision entry.reason place (reverse decisions.old.items)) }
     ensures err { OnErr result (decisions.new.items ≡ decisions.old.items) }
 {
     if entry.reason.is_none() {
@@ -18,7 +19,8 @@ pub(crate) fn note(decisions: &mut Vec<usize>, place: usize, entry: Entry) -> Re
 
 /// Takes the place of an entry that was noted last from the stack.
 pub(crate) fn forget(decisions: &mut Vec<usize>, entry: Entry)
-    ensures { (place : ℕ) (rest : List ℕ) → reverse decisions.old.items ≡ with_decision entry.reason place rest → reverse decisions.new.items ≡ rest }
+    ensures { (place : ℕ) (rest : List ℕ) → reverse decisions.old.items
+        ≡ with_decision entry.reason place rest → reverse decisions.new.items ≡ rest }
 {
     if entry.reason.is_none() {
         decisions.pop();

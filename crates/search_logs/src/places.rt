@@ -37,7 +37,8 @@ fn lies_from(start: usize, place: Option<usize>) -> bool
 
 // Makes room for the place of an atom's literal.
 fn widen(places: &mut Vec<Option<usize>>, atom: u32) -> Result<(), AllocError>
-    ensures kept { (a : ℕ) → slice_index_or places.new.items a None ≡ slice_index_or places.old.items a None }
+    ensures kept { (a : ℕ) → slice_index_or places.new.items a None
+        ≡ slice_index_or places.old.items a None }
     ensures wide { OnOk result (atom < length places.new.items) }
 {
     while places.len() <= atom as usize {
@@ -54,8 +55,10 @@ fn enter_new(
 ) -> Result<(), AllocError>
     requires new { in_trail (reverse entries.old.items) entry.lit ≡ false }
     requires places { ArePlaces places.old.items entry.lit.positive (reverse entries.old.items) }
-    ensures ok { OnOk result ((entries.new.items ≡ entries.old.items ++ entry ∷ []) × ArePlaces places.new.items entry.lit.positive (entry ∷ reverse entries.old.items)) }
-    ensures err { OnErr result ((entries.new.items ≡ entries.old.items) × ArePlaces places.new.items entry.lit.positive (reverse entries.old.items)) }
+    ensures ok { OnOk result ((entries.new.items ≡ entries.old.items ++ entry ∷ [])
+        × ArePlaces places.new.items entry.lit.positive (entry ∷ reverse entries.old.items)) }
+    ensures err { OnErr result ((entries.new.items ≡ entries.old.items)
+        × ArePlaces places.new.items entry.lit.positive (reverse entries.old.items)) }
 {
     widen(places, entry.lit.atom)?;
     let place = entries.len();
@@ -71,8 +74,10 @@ pub(crate) fn enter(
     entry: Entry,
 ) -> Result<(), AllocError>
     requires { ArePlaces places.old.items entry.lit.positive (reverse entries.old.items) }
-    ensures ok { OnOk result ((entries.new.items ≡ entries.old.items ++ entry ∷ []) × ArePlaces places.new.items entry.lit.positive (entry ∷ reverse entries.old.items)) }
-    ensures err { OnErr result ((entries.new.items ≡ entries.old.items) × ArePlaces places.new.items entry.lit.positive (reverse entries.old.items)) }
+    ensures ok { OnOk result ((entries.new.items ≡ entries.old.items ++ entry ∷ [])
+        × ArePlaces places.new.items entry.lit.positive (entry ∷ reverse entries.old.items)) }
+    ensures err { OnErr result ((entries.new.items ≡ entries.old.items)
+        × ArePlaces places.new.items entry.lit.positive (reverse entries.old.items)) }
 {
     if place_at(places.as_slice(), entry.lit.atom).is_some() {
         entries.push(entry)?;

@@ -99,7 +99,8 @@ impl Trail {
 
     /// Takes the newest entry away.
     pub fn pop(&mut self) -> Option<Entry>
-        ensures { MatchOption result ((self.old ≡ []) × (self.new ≡ [])) (λ e. self.old ≡ e ∷ self.new) }
+        ensures { MatchOption result ((self.old ≡ []) × (self.new ≡ []))
+            (λ e. self.old ≡ e ∷ self.new) }
     {
         let entry = self.entries.pop()?;
         forget(&mut self.decisions, entry);

@@ -22,6 +22,7 @@ impl<T: Drop> Model for Block<T> {
 }
 
 impl<T: Drop> Block<T> {
+    /// The elements of the block, in their order.
     pub fn as_slice(&self) -> &[T]
         ensures { result.now ≡ self.now }
     {

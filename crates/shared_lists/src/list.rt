@@ -55,6 +55,7 @@ fn items_of<T: Copy + Drop>(alloc: Global, blocks: &[Block<T>]) -> Result<Items<
 }
 
 impl<T: Drop> SharedList<T> {
+    /// The empty list. It takes no memory.
     pub fn new(alloc: Global) -> SharedList<T>
         ensures { result ≡ [] }
     {

@@ -30,7 +30,8 @@ fn tuples_from(alloc: Global, all: &[Items<u32>]) -> Result<Tuples, AllocError>
 // These keys, each with the value.
 fn counts_from(alloc: Global, all: &[Items<u32>], value: i64) -> Result<Counts, AllocError>
     requires { in_state_range value ≡ true }
-    ensures count { IfOk result (λ es. (q : List ℕ) → count_in es q ≡ cond (is_in q all.now) value (pos 0)) }
+    ensures count { IfOk result (λ es. (q : List ℕ)
+        → count_in es q ≡ cond (is_in q all.now) value (pos 0)) }
     ensures listed { IfOk result (λ es. (q : List ℕ) → is_in q (listed_keys es) ≡ is_in q all.now) }
     ensures counts { IfOk result (λ es. is_counts es ≡ true) }
 {
@@ -65,6 +66,7 @@ fn first_counts(alloc: Global, world: &World, counter: &Counter) -> Result<Count
     }
 }
 
+/// The tuples of each relation in the initial state of a world.
 pub fn first_relations(
     alloc: Global,
     world: &World,
@@ -79,6 +81,7 @@ pub fn first_relations(
     Ok(lists)
 }
 
+/// The values of each counter in the initial state of a world.
 pub fn first_counters(
     alloc: Global,
     world: &World,

@@ -12,13 +12,20 @@ ghost use Rattle.spec_core.specs.Typed.{is_specification};
 
 /// Invariants, preconditions, observations and the text of a state depend on the readings at fitting tuples and keys alone.
 pub fn law_readings_that_agree()
-    ensures inv { (d : Specification) (w : World) (r s : Reads) → is_specification d ≡ true → is_world d w ≡ true → AgreeOn d w r s → inv d w r ≡ inv d w s }
-    ensures pre { (d : Specification) (w : World) (r s : Reads) (c : Call) → is_specification d ≡ true → is_world d w ≡ true → AgreeOn d w r s → is_call d w c ≡ true → pre d w c r ≡ pre d w c s }
-    ensures observed { (d : Specification) (w : World) (r s : Reads) (c : Call) → is_specification d ≡ true → is_world d w ≡ true → AgreeOn d w r s → is_call d w c ≡ true → observed d w c r ≡ observed d w c s }
-    ensures text { (d : Specification) (w : World) (r s : Reads) → AgreeOn d w r s → state_text d w r ≡ state_text d w s }
+    ensures inv { (d : Specification) (w : World) (r s : Reads) → is_specification d ≡ true
+        → is_world d w ≡ true → AgreeOn d w r s → inv d w r ≡ inv d w s }
+    ensures pre { (d : Specification) (w : World) (r s : Reads) (c : Call)
+        → is_specification d ≡ true → is_world d w ≡ true → AgreeOn d w r s → is_call d w c ≡ true
+        → pre d w c r ≡ pre d w c s }
+    ensures observed { (d : Specification) (w : World) (r s : Reads) (c : Call)
+        → is_specification d ≡ true → is_world d w ≡ true → AgreeOn d w r s → is_call d w c ≡ true
+        → observed d w c r ≡ observed d w c s }
+    ensures text { (d : Specification) (w : World) (r s : Reads) → AgreeOn d w r s
+        → state_text d w r ≡ state_text d w s }
 {}
 
 /// All that the operation of a call asks and does fits at the call's arguments.
 pub fn law_operations_fit()
-    ensures { (d : Specification) (w : World) (c : Call) → is_specification d ≡ true → is_world d w ≡ true → is_call d w c ≡ true → OperationFits d w c.args (op_of d c.op) }
+    ensures { (d : Specification) (w : World) (c : Call) → is_specification d ≡ true
+        → is_world d w ≡ true → is_call d w c ≡ true → OperationFits d w c.args (op_of d c.op) }
 {}

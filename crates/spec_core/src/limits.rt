@@ -2,28 +2,34 @@
 //
 // specs/Limits.antt has the same numbers for the definitions.
 
+/// Sorts of a specification.
 pub const MOST_SORTS: usize = 8;
 
 /// Constants of one sort.
 pub const MOST_CONSTANTS: usize = 4;
 
+/// Relations of a specification.
 pub const MOST_RELATIONS: usize = 16;
 
 /// Places of a relation or a token.
 pub const MOST_PLACES: usize = 3;
 
+/// Counters of a specification.
 pub const MOST_COUNTERS: usize = 8;
 
 /// Keys of a counter.
 pub const MOST_KEYS: usize = 2;
 
+/// Tokens of a specification.
 pub const MOST_TOKENS: usize = 16;
 
 /// Conflict rules.
 pub const MOST_RULES: usize = 32;
 
+/// Invariants of a specification.
 pub const MOST_INVARIANTS: usize = 16;
 
+/// Operations of a specification.
 pub const MOST_OPERATIONS: usize = 24;
 
 /// Parameters of an operation.

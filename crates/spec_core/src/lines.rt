@@ -63,7 +63,8 @@ pub fn write_tuples(
     tuples: &BTreeSet<Vec<u32>>,
     out: &mut Vec<u8>,
 ) -> Result<(), AllocError>
-    ensures { OnOk result (out.new.items ≡ out.old.items ++ flat_map (true_line name.now) (map (λ k. k.items) tuples.now.keys)) }
+    ensures { OnOk result (out.new.items ≡ out.old.items
+        ++ flat_map (true_line name.now) (map (λ k. k.items) tuples.now.keys)) }
 {
     for tuple in tuples {
         write_true(alloc, name, tuple.as_slice(), out)?;
@@ -78,7 +79,8 @@ pub fn write_values(
     entries: &BTreeMap<Vec<u32>, i64>,
     out: &mut Vec<u8>,
 ) -> Result<(), AllocError>
-    ensures { OnOk result (out.new.items ≡ out.old.items ++ flat_map (count_line name.now) (map (λ e. (e.0.items, e.1)) entries.now.entries)) }
+    ensures { OnOk result (out.new.items ≡ out.old.items
+        ++ flat_map (count_line name.now) (map (λ e. (e.0.items, e.1)) entries.now.entries)) }
 {
     for (key, value) in entries {
         write_value(alloc, name, key.as_slice(), *value, out)?;

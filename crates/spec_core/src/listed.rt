@@ -83,7 +83,8 @@ impl Tuples {
 
     /// Appends a line for each tuple.
     pub fn write(&self, alloc: Global, name: &[u8], out: &mut Vec<u8>) -> Result<(), AllocError>
-        ensures { OnOk result (out.new.items ≡ out.old.items ++ flat_map (true_line name.now) self.now) }
+        ensures { OnOk result (out.new.items ≡ out.old.items
+            ++ flat_map (true_line name.now) self.now) }
     {
         write_tuples(alloc, name, &self.keys, out)
     }
@@ -91,7 +92,8 @@ impl Tuples {
     /// Lists a tuple, or takes it from the list.
     pub fn set(&mut self, tuple: &[u32], value: bool) -> Result<(), AllocError>
         ensures rising { is_rising self.new ≡ true }
-        ensures ok { OnOk result ((q : List ℕ) → is_in q self.new ≡ cond (bytes_eq q tuple.now) value (is_in q self.old)) }
+        ensures ok { OnOk result ((q : List ℕ)
+            → is_in q self.new ≡ cond (bytes_eq q tuple.now) value (is_in q self.old)) }
         ensures err { OnErr result (self.new ≡ self.old) }
     {
         if value {
@@ -104,7 +106,8 @@ impl Tuples {
 
     fn add(&mut self, tuple: &[u32]) -> Result<(), AllocError>
         ensures rising { is_rising self.new ≡ true }
-        ensures ok { OnOk result ((q : List ℕ) → is_in q self.new ≡ cond (bytes_eq q tuple.now) true (is_in q self.old)) }
+        ensures ok { OnOk result ((q : List ℕ)
+            → is_in q self.new ≡ cond (bytes_eq q tuple.now) true (is_in q self.old)) }
         ensures err { OnErr result (self.new ≡ self.old) }
     {
         let own = Vec::from_slice(self.alloc, tuple)?;
@@ -114,7 +117,8 @@ impl Tuples {
 
     fn take(&mut self, tuple: &[u32])
         ensures rising { is_rising self.new ≡ true }
-        ensures readings { (q : List ℕ) → is_in q self.new ≡ cond (bytes_eq q tuple.now) false (is_in q self.old) }
+        ensures readings { (q : List ℕ) → is_in q self.new
+            ≡ cond (bytes_eq q tuple.now) false (is_in q self.old) }
     {
         let _count = self.keys.len();
         let _was = self.keys.remove(tuple);
@@ -150,7 +154,8 @@ impl Model for Counts {
 }
 
 fn all_keys_fit(entries: &BTreeMap<Vec<u32>, i64>, world: &World, sorts: &[u8]) -> bool
-    ensures { result ≡ list_all (λ k. fits_places world.now sorts.now k.items) (map (λ e. e.0) entries.now.entries) }
+    ensures { result ≡ list_all (λ k. fits_places world.now sorts.now k.items)
+        (map (λ e. e.0) entries.now.entries) }
 {
     entries
         .keys()
@@ -170,7 +175,8 @@ fn have_one_value(one: &Counts, other: &Counts, key: &[u32]) -> bool
 }
 
 fn all_agree(entries: &BTreeMap<Vec<u32>, i64>, one: &Counts, other: &Counts) -> bool
-    ensures { result ≡ list_all (λ k. int_eq (count_in one.now k.items) (count_in other.now k.items)) (map (λ e. e.0) entries.now.entries) }
+    ensures { result ≡ list_all (λ k. int_eq (count_in one.now k.items)
+        (count_in other.now k.items)) (map (λ e. e.0) entries.now.entries) }
 {
     entries
         .keys()
@@ -211,7 +217,8 @@ impl Counts {
 
     /// Appends a line for each key whose value isn't 0.
     pub fn write(&self, alloc: Global, name: &[u8], out: &mut Vec<u8>) -> Result<(), AllocError>
-        ensures { OnOk result (out.new.items ≡ out.old.items ++ flat_map (count_line name.now) self.now) }
+        ensures { OnOk result (out.new.items ≡ out.old.items
+            ++ flat_map (count_line name.now) self.now) }
     {
         write_values(alloc, name, &self.entries, out)
     }
@@ -227,8 +234,11 @@ impl Counts {
     pub fn set(&mut self, key: &[u32], value: i64) -> Result<(), AllocError>
         requires { in_state_range value ≡ true }
         ensures counts { is_counts self.new ≡ true }
-        ensures ok { OnOk result ((q : List ℕ) → count_in self.new q ≡ cond (bytes_eq q key.now) value (count_in self.old q)) }
-        ensures listed { OnOk result ((q : List ℕ) → is_in q (listed_keys self.new) ≡ (bytes_eq q key.now || is_in q (listed_keys self.old))) }
+        ensures ok { OnOk result ((q : List ℕ)
+            → count_in self.new q ≡ cond (bytes_eq q key.now) value (count_in self.old q)) }
+        ensures listed { OnOk result ((q : List ℕ)
+            → is_in q (listed_keys self.new) ≡ (bytes_eq q key.now
+            || is_in q (listed_keys self.old))) }
         ensures err { OnErr result (self.new ≡ self.old) }
     {
         let own = Vec::from_slice(self.alloc, key)?;

@@ -13,6 +13,7 @@ pub enum Kind {
     Int,
 }
 
+/// A parameter of an operation: an element of a sort, or a whole number.
 #[derive(Drop)]
 pub struct Param {
     pub name: Name,

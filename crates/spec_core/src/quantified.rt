@@ -32,7 +32,8 @@ fn body_agrees<R: Readings>(
     requires world { world_fits spec.now world.now ≡ true }
     requires args { list_all in_state_range args.now ≡ true }
     requires fits { form_fits spec.now world.now args.now vars.now (form_of body.now) ≡ true }
-    ensures { result ≡ agrees wanted (truth world.now (R.reads at.now) args.now vars.now (form_of body.now)) }
+    ensures { result ≡ agrees wanted (truth world.now (R.reads at.now) args.now vars.now
+        (form_of body.now)) }
 {
     let truth = holds(spec, world, at, args, vars, body);
     if wanted { truth } else { !truth }
@@ -52,8 +53,10 @@ fn agrees_with<R: Readings>(
     requires world { world_fits spec.now world.now ≡ true }
     requires args { list_all in_state_range args.now ≡ true }
     requires few { length chosen.now ≤ 2 }
-    requires fits { form_fits spec.now world.now args.now (chosen.now ++ e ∷ []) (form_of body.now) ≡ true }
-    ensures { result ≡ agrees wanted (truth world.now (R.reads at.now) args.now (chosen.now ++ e ∷ []) (form_of body.now)) }
+    requires fits { form_fits spec.now world.now args.now (chosen.now ++ e ∷ []) (form_of body.now)
+        ≡ true }
+    ensures { result ≡ agrees wanted (truth world.now (R.reads at.now) args.now
+        (chosen.now ++ e ∷ []) (form_of body.now)) }
 {
     match chosen {
         [] => body_agrees(spec, world, at, args, &[e], body, wanted),
@@ -77,8 +80,11 @@ fn all_last<R: Readings>(
     requires world { world_fits spec.now world.now ≡ true }
     requires args { list_all in_state_range args.now ≡ true }
     requires few { length chosen.now ≤ 2 }
-    requires fits { all_choices world.now chosen.now (sort ∷ []) (λ vars. form_fits spec.now world.now args.now vars (form_of body.now)) ≡ true }
-    ensures { result ≡ all_choices world.now chosen.now (sort ∷ []) (λ vars. agrees wanted (truth world.now (R.reads at.now) args.now vars (form_of body.now))) }
+    requires fits { all_choices world.now chosen.now (sort ∷ [])
+        (λ vars. form_fits spec.now world.now args.now vars (form_of body.now)) ≡ true }
+    ensures { result ≡ all_choices world.now chosen.now (sort ∷ [])
+        (λ vars. agrees wanted (truth world.now (R.reads at.now) args.now vars
+        (form_of body.now))) }
 {
     for e in 0..world.size(sort) {
         if !agrees_with(spec, world, at, args, chosen, e, body, wanted) {
@@ -103,8 +109,11 @@ fn all_last_with<R: Readings>(
     requires world { world_fits spec.now world.now ≡ true }
     requires args { list_all in_state_range args.now ≡ true }
     requires few { length chosen.now ≤ 1 }
-    requires fits { all_choices world.now (chosen.now ++ e ∷ []) (sort ∷ []) (λ vars. form_fits spec.now world.now args.now vars (form_of body.now)) ≡ true }
-    ensures { result ≡ all_choices world.now (chosen.now ++ e ∷ []) (sort ∷ []) (λ vars. agrees wanted (truth world.now (R.reads at.now) args.now vars (form_of body.now))) }
+    requires fits { all_choices world.now (chosen.now ++ e ∷ []) (sort ∷ [])
+        (λ vars. form_fits spec.now world.now args.now vars (form_of body.now)) ≡ true }
+    ensures { result ≡ all_choices world.now (chosen.now ++ e ∷ []) (sort ∷ [])
+        (λ vars. agrees wanted (truth world.now (R.reads at.now) args.now vars
+        (form_of body.now))) }
 {
     match chosen {
         [] => all_last(spec, world, at, args, &[e], sort, body, wanted),
@@ -128,8 +137,11 @@ fn all_last_two<R: Readings>(
     requires world { world_fits spec.now world.now ≡ true }
     requires args { list_all in_state_range args.now ≡ true }
     requires few { length chosen.now ≤ 1 }
-    requires fits { all_choices world.now chosen.now (sort ∷ last ∷ []) (λ vars. form_fits spec.now world.now args.now vars (form_of body.now)) ≡ true }
-    ensures { result ≡ all_choices world.now chosen.now (sort ∷ last ∷ []) (λ vars. agrees wanted (truth world.now (R.reads at.now) args.now vars (form_of body.now))) }
+    requires fits { all_choices world.now chosen.now (sort ∷ last ∷ [])
+        (λ vars. form_fits spec.now world.now args.now vars (form_of body.now)) ≡ true }
+    ensures { result ≡ all_choices world.now chosen.now (sort ∷ last ∷ [])
+        (λ vars. agrees wanted (truth world.now (R.reads at.now) args.now vars
+        (form_of body.now))) }
 {
     for e in 0..world.size(sort) {
         if !all_last_with(spec, world, at, args, chosen, e, last, body, wanted) {
@@ -153,8 +165,11 @@ fn all_three<R: Readings>(
 ) -> bool
     requires world { world_fits spec.now world.now ≡ true }
     requires args { list_all in_state_range args.now ≡ true }
-    requires fits { all_choices world.now [] (first ∷ second ∷ third ∷ []) (λ vars. form_fits spec.now world.now args.now vars (form_of body.now)) ≡ true }
-    ensures { result ≡ all_choices world.now [] (first ∷ second ∷ third ∷ []) (λ vars. agrees wanted (truth world.now (R.reads at.now) args.now vars (form_of body.now))) }
+    requires fits { all_choices world.now [] (first ∷ second ∷ third ∷ [])
+        (λ vars. form_fits spec.now world.now args.now vars (form_of body.now)) ≡ true }
+    ensures { result ≡ all_choices world.now [] (first ∷ second ∷ third ∷ [])
+        (λ vars. agrees wanted (truth world.now (R.reads at.now) args.now vars
+        (form_of body.now))) }
 {
     for e in 0..world.size(first) {
         if !all_last_two(spec, world, at, args, &[e], second, third, body, wanted) {
@@ -177,8 +192,11 @@ fn all_agree<R: Readings>(
     requires world { world_fits spec.now world.now ≡ true }
     requires args { list_all in_state_range args.now ≡ true }
     requires few { length sorts.now ≤ most_variables }
-    requires fits { list_all (λ vars. form_fits spec.now world.now args.now vars (form_of body.now)) (tuples world.now sorts.now) ≡ true }
-    ensures { result ≡ list_all (λ vars. agrees wanted (truth world.now (R.reads at.now) args.now vars (form_of body.now))) (tuples world.now sorts.now) }
+    requires fits { list_all (λ vars. form_fits spec.now world.now args.now vars (form_of body.now))
+        (tuples world.now sorts.now) ≡ true }
+    ensures { result ≡ list_all (λ vars. agrees wanted
+        (truth world.now (R.reads at.now) args.now vars (form_of body.now)))
+        (tuples world.now sorts.now) }
 {
     match sorts {
         [] => body_agrees(spec, world, at, args, &[], body, wanted),

@@ -208,7 +208,8 @@ pub fn write_state(
     state: &State,
     out: &mut Vec<u8>,
 ) -> Result<(), AllocError>
-    ensures text { OnOk result ((w : World) → is_state spec.now w state.now ≡ true → out.new.items ≡ out.old.items ++ state_text spec.now w (reads state.now)) }
+    ensures text { OnOk result ((w : World) → is_state spec.now w state.now ≡ true
+        → out.new.items ≡ out.old.items ++ state_text spec.now w (reads state.now)) }
     ensures listed { OnOk result (out.new.items ≡ out.old.items ++ listed_text spec.now state.now) }
     ensures rising { is_listing state.now ≡ true }
     ensures err { OnErr result (out.new.items ≡ out.old.items) }
@@ -310,7 +311,8 @@ impl State {
 
     /// A fact for proofs: all values are in the range of a state.
     pub fn stays_in_range(&self)
-        ensures { (k : ℕ) (t : List ℕ) → unsigned_abs ((reads self.now).count k t) ≤ greatest_value }
+        ensures { (k : ℕ) (t : List ℕ) → unsigned_abs ((reads self.now).count k t)
+            ≤ greatest_value }
     {
         let _counters = &self.counters;
     }
@@ -318,11 +320,14 @@ impl State {
     /// Puts a tuple into a relation, or takes it out. No other reading changes.
     pub fn set_has(&mut self, relation: u8, tuple: &[u32], value: bool) -> Result<(), AllocError>
         requires { relation < length self.old.relations }
-        ensures ok { OnOk result (reads self.new ≡ with_has (reads self.old) relation tuple.now value) }
+        ensures ok { OnOk result (reads self.new
+            ≡ with_has (reads self.old) relation tuple.now value) }
         ensures err { OnErr result (self.new ≡ self.old) }
         ensures relations { length self.new.relations ≡ length self.old.relations }
         ensures counters { self.new.counters ≡ self.old.counters }
-        ensures fits { (d : Specification) (w : World) → is_state d w self.old ≡ true → fits_places w (relation_places d relation) tuple.now ≡ true → is_state d w self.new ≡ true }
+        ensures fits { (d : Specification) (w : World) → is_state d w self.old ≡ true
+            → fits_places w (relation_places d relation) tuple.now ≡ true
+            → is_state d w self.new ≡ true }
     {
         let tuples = &mut self.relations[relation as usize];
         tuples.set(tuple, value)?;
@@ -333,12 +338,16 @@ impl State {
     pub fn set_count(&mut self, counter: u8, key: &[u32], value: i64) -> Result<(), AllocError>
         requires counter { counter < length self.old.counters }
         requires value { in_state_range value ≡ true }
-        ensures ok { OnOk result (reads self.new ≡ with_count (reads self.old) counter key.now value) }
-        ensures listed { OnOk result ((k : ℕ) (q : List ℕ) → is_listed self.new k q ≡ (((k == counter) && bytes_eq q key.now) || is_listed self.old k q)) }
+        ensures ok { OnOk result (reads self.new
+            ≡ with_count (reads self.old) counter key.now value) }
+        ensures listed { OnOk result ((k : ℕ) (q : List ℕ)
+            → is_listed self.new k q ≡ (((k == counter) && bytes_eq q key.now)
+            || is_listed self.old k q)) }
         ensures err { OnErr result (self.new ≡ self.old) }
         ensures relations { self.new.relations ≡ self.old.relations }
         ensures counters { length self.new.counters ≡ length self.old.counters }
-        ensures fits { (d : Specification) (w : World) → is_state d w self.old ≡ true → fits_places w (counter_keys d counter) key.now ≡ true → is_state d w self.new ≡ true }
+        ensures fits { (d : Specification) (w : World) → is_state d w self.old ≡ true
+            → fits_places w (counter_keys d counter) key.now ≡ true → is_state d w self.new ≡ true }
     {
         let counts = &mut self.counters[counter as usize];
         counts.set(key, value)?;

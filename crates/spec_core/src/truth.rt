@@ -65,7 +65,8 @@ pub fn has_at<R: Readings>(
 ) -> bool
     requires few { length elems.now ≤ most_places }
     requires small { list_all (is_small world.now args.now vars.now) elems.now ≡ true }
-    ensures { result ≡ (R.reads at.now).has relation (elems_of world.now args.now vars.now elems.now) }
+    ensures { result ≡ (R.reads at.now).has relation
+        (elems_of world.now args.now vars.now elems.now) }
 {
     match elems {
         [a] => at.has(relation, &[small_at(world, args, vars, *a)]),
@@ -99,7 +100,8 @@ pub fn count_at<R: Readings>(
 ) -> i128
     requires few { length elems.now ≤ most_keys }
     requires small { list_all (is_small world.now args.now vars.now) elems.now ≡ true }
-    ensures value { result ≡ (R.reads at.now).count counter (elems_of world.now args.now vars.now elems.now) }
+    ensures value { result ≡ (R.reads at.now).count counter
+        (elems_of world.now args.now vars.now elems.now) }
     ensures small { unsigned_abs result ≤ 3 * 10 ^ 26 }
 {
     match elems {
@@ -172,7 +174,8 @@ fn summand_value<R: Readings>(
     requires world { world_fits spec.now world.now ≡ true }
     requires args { list_all in_state_range args.now ≡ true }
     requires fits { summand_fits spec.now world.now args.now vars.now summand.now ≡ true }
-    ensures value { result ≡ summand.now.coef *ℤ body_of world.now (R.reads at.now) args.now vars.now summand.now.body }
+    ensures value { result ≡ summand.now.coef *ℤ body_of world.now
+        (R.reads at.now) args.now vars.now summand.now.body }
     ensures small { unsigned_abs result ≤ 3 * 10 ^ 35 }
 {
     scaled(
@@ -192,7 +195,8 @@ fn sum_value<R: Readings>(
     requires world { world_fits spec.now world.now ≡ true }
     requires args { list_all in_state_range args.now ≡ true }
     requires few { length summands.now ≤ most_summands }
-    requires fits { list_all (summand_fits spec.now world.now args.now vars.now) summands.now ≡ true }
+    requires fits { list_all (summand_fits spec.now world.now args.now vars.now) summands.now
+        ≡ true }
     ensures value { result ≡ sum_of world.now (R.reads at.now) args.now vars.now summands.now }
     ensures small { unsigned_abs result ≤ 16 * (3 * 10 ^ 35) }
 {

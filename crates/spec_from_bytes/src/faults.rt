@@ -53,7 +53,8 @@ pub fn limit_text(
     number: u128,
     word: u32,
 ) -> Result<Vec<u8>, AllocError>
-    ensures { IfOk result (λ text. text.items ≡ refusal_text (faulty (limit_fault which number word))) }
+    ensures { IfOk result (λ text. text.items
+        ≡ refusal_text (faulty (limit_fault which number word))) }
 {
     let digits = number.to_string(alloc)?;
     let mut text = Vec::new(alloc);

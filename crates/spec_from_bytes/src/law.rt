@@ -20,17 +20,20 @@ pub fn law_one_tree()
 
 /// Some bytes are one specification at most.
 pub fn law_one_specification()
-    ensures { (bytes : List ℕ) (d e : Specification) → IsSpecificationOf bytes d → IsSpecificationOf bytes e → d ≡ e }
+    ensures { (bytes : List ℕ) (d e : Specification) → IsSpecificationOf bytes d
+        → IsSpecificationOf bytes e → d ≡ e }
 {}
 
 /// Some bytes are refused for one reason at most.
 pub fn law_one_refusal()
-    ensures { (bytes : List ℕ) (why other : Refusal) → IsRefusal bytes why → IsRefusal bytes other → why ≡ other }
+    ensures { (bytes : List ℕ) (why other : Refusal) → IsRefusal bytes why → IsRefusal bytes other
+        → why ≡ other }
 {}
 
 /// Bytes that are a specification aren't refused.
 pub fn law_refused_or_specified()
-    ensures { (bytes : List ℕ) (d : Specification) (why : Refusal) → IsSpecificationOf bytes d → IsRefusal bytes why → ⊥ }
+    ensures { (bytes : List ℕ) (d : Specification) (why : Refusal) → IsSpecificationOf bytes d
+        → IsRefusal bytes why → ⊥ }
 {}
 
 /// Bytes are refused for a fault exactly where it is the least fault of their tree, and they are read as a specification exactly where

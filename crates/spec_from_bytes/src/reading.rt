@@ -65,7 +65,8 @@ fn placed_text(
 
 /// The text that says what is wrong with a tree.
 fn fault_text(alloc: Global, refused: &TypeRefused) -> Result<Vec<u8>, AllocError>
-    ensures { (t : TreeForm) → IfOk result (λ text. IsTypeRefusal (typing t) refused.now → SaysFault t text.items) }
+    ensures { (t : TreeForm) → IfOk result (λ text. IsTypeRefusal (typing t) refused.now
+        → SaysFault t text.items) }
 {
     match refused {
         TypeRefused::Unknown { name, word } => named_text(alloc, b"unknown", name.bytes(), *word),
@@ -136,7 +137,8 @@ pub const SPECIFICATION_LIMIT: usize = 65_536;
 
 /// The text where there are too many bytes.
 fn too_long(alloc: Global) -> Result<Vec<u8>, AllocError>
-    ensures { (bytes : List ℕ) → 65536 < length bytes → IfOk result (λ text. SaysRefusal bytes text.items) }
+    ensures { (bytes : List ℕ) → 65536 < length bytes
+        → IfOk result (λ text. SaysRefusal bytes text.items) }
 {
     Vec::from_slice(alloc, b"refused specification long\n")
 }

@@ -28,7 +28,8 @@ pub fn push_numbered(
     word: &[u8],
     number: usize,
 ) -> Result<(), AllocError>
-    ensures { OnOk result (text.new.items ≡ text.old.items ++ line (word.now ∷ decimal number ∷ [])) }
+    ensures { OnOk result (text.new.items ≡ text.old.items
+        ++ line (word.now ∷ decimal number ∷ [])) }
 {
     let digits = number.to_string(alloc)?;
     push_pair(text, word, digits.as_bytes())
@@ -42,7 +43,8 @@ pub fn push_placed(
     second: &[u8],
     number: usize,
 ) -> Result<(), AllocError>
-    ensures { OnOk result (text.new.items ≡ text.old.items ++ line (first.now ∷ second.now ∷ decimal number ∷ [])) }
+    ensures { OnOk result (text.new.items ≡ text.old.items
+        ++ line (first.now ∷ second.now ∷ decimal number ∷ [])) }
 {
     push(text, first)?;
     push(text, b" ")?;
@@ -57,7 +59,8 @@ pub fn push_named(
     name: &[u8],
     word: u32,
 ) -> Result<(), AllocError>
-    ensures { OnOk result (text.new.items ≡ text.old.items ++ line (what.now ∷ name.now ∷ codes "word" ∷ decimal word ∷ [])) }
+    ensures { OnOk result (text.new.items ≡ text.old.items
+        ++ line (what.now ∷ name.now ∷ codes "word" ∷ decimal word ∷ [])) }
 {
     push(text, what)?;
     push(text, b" ")?;

@@ -31,13 +31,15 @@ fn add_sort(alloc: Global, known: &mut Known, mark: &Mark) -> Result<(), AllocEr
     Ok(())
 }
 
+/// Adds a sort that is declared at a word, or answers the first fault of its declaration.
 pub fn type_sort<'t>(
     alloc: Global,
     known: &mut Known,
     word: u32,
     mark: &'t Mark,
 ) -> Result<(), Stop<'t>>
-    ensures { Makes (typed_item (known_of known.old) (sort_form word mark.now)) (known_of known.new) result }
+    ensures { Makes (typed_item (known_of known.old) (sort_form word mark.now))
+        (known_of known.new) result }
 {
     let count = known.draft.sorts.len();
     if let Some(fault) = heading_fault(known, Which::Sorts, MOST_SORTS, count, mark) {
@@ -98,6 +100,7 @@ fn add_const(alloc: Global, known: &mut Known, mark: &Mark, sort: &Mark) -> Resu
     Ok(())
 }
 
+/// Adds a constant of a sort, or answers the first fault of its declaration.
 pub fn type_const<'t>(
     alloc: Global,
     known: &mut Known,
@@ -105,7 +108,8 @@ pub fn type_const<'t>(
     mark: &'t Mark,
     sort: &'t Mark,
 ) -> Result<(), Stop<'t>>
-    ensures { Makes (typed_item (known_of known.old) (const_form word mark.now sort.now)) (known_of known.new) result }
+    ensures { Makes (typed_item (known_of known.old) (const_form word mark.now sort.now))
+        (known_of known.new) result }
 {
     if let Some(fault) = const_fault(known, mark, sort) {
         return Err(Stop::Fault(fault));
@@ -123,7 +127,8 @@ fn add_relation(
     marks: &[Mark],
 ) -> Result<(), AllocError>
     requires { length known.old.draft.relations < 256 }
-    ensures { OnOk result (known_of known.new ≡ with_relation (known_of known.old) mark.now marks.now) }
+    ensures { OnOk result (known_of known.new
+        ≡ with_relation (known_of known.old) mark.now marks.now) }
 {
     let place = known.draft.relations.len() as u8;
     let name = Name::new(alloc, mark.text.bytes())?;
@@ -140,6 +145,7 @@ fn add_relation(
     Ok(())
 }
 
+/// Adds a relation with the sorts of its places, or answers the first fault of its declaration.
 pub fn type_relation<'t>(
     alloc: Global,
     known: &mut Known,
@@ -147,7 +153,8 @@ pub fn type_relation<'t>(
     mark: &'t Mark,
     marks: &'t [Mark],
 ) -> Result<(), Stop<'t>>
-    ensures { Makes (typed_item (known_of known.old) (relation_form word mark.now marks.now)) (known_of known.new) result }
+    ensures { Makes (typed_item (known_of known.old) (relation_form word mark.now marks.now))
+        (known_of known.new) result }
 {
     let count = known.draft.relations.len();
     if let Some(fault) = heading_fault(known, Which::Relations, MOST_RELATIONS, count, mark) {
@@ -167,7 +174,8 @@ fn add_counter(
     marks: &[Mark],
 ) -> Result<(), AllocError>
     requires { length known.old.draft.counters < 256 }
-    ensures { OnOk result (known_of known.new ≡ with_counter (known_of known.old) mark.now marks.now) }
+    ensures { OnOk result (known_of known.new
+        ≡ with_counter (known_of known.old) mark.now marks.now) }
 {
     let place = known.draft.counters.len() as u8;
     let name = Name::new(alloc, mark.text.bytes())?;
@@ -182,6 +190,7 @@ fn add_counter(
     Ok(())
 }
 
+/// Adds a counter with the sorts of its keys, or answers the first fault of its declaration.
 pub fn type_counter<'t>(
     alloc: Global,
     known: &mut Known,
@@ -189,7 +198,8 @@ pub fn type_counter<'t>(
     mark: &'t Mark,
     marks: &'t [Mark],
 ) -> Result<(), Stop<'t>>
-    ensures { Makes (typed_item (known_of known.old) (counter_form word mark.now marks.now)) (known_of known.new) result }
+    ensures { Makes (typed_item (known_of known.old) (counter_form word mark.now marks.now))
+        (known_of known.new) result }
 {
     let count = known.draft.counters.len();
     if let Some(fault) = heading_fault(known, Which::Counters, MOST_COUNTERS, count, mark) {
@@ -209,7 +219,8 @@ fn add_token(
     marks: &[Mark],
 ) -> Result<(), AllocError>
     requires { length known.old.draft.tokens < 256 }
-    ensures { OnOk result (known_of known.new ≡ with_token (known_of known.old) mark.now marks.now) }
+    ensures { OnOk result (known_of known.new
+        ≡ with_token (known_of known.old) mark.now marks.now) }
 {
     let place = known.draft.tokens.len() as u8;
     let name = Name::new(alloc, mark.text.bytes())?;
@@ -220,6 +231,7 @@ fn add_token(
     Ok(())
 }
 
+/// Adds a token with the sorts of its places, or answers the first fault of its declaration.
 pub fn type_token<'t>(
     alloc: Global,
     known: &mut Known,
@@ -227,7 +239,8 @@ pub fn type_token<'t>(
     mark: &'t Mark,
     marks: &'t [Mark],
 ) -> Result<(), Stop<'t>>
-    ensures { Makes (typed_item (known_of known.old) (token_form word mark.now marks.now)) (known_of known.new) result }
+    ensures { Makes (typed_item (known_of known.old) (token_form word mark.now marks.now))
+        (known_of known.new) result }
 {
     let count = known.draft.tokens.len();
     if let Some(fault) = heading_fault(known, Which::Tokens, MOST_TOKENS, count, mark) {

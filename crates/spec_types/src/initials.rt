@@ -90,14 +90,16 @@ fn with_number(counters: Items<Counter>, place: u8, value: i64) -> Items<Counter
 }
 
 fn set_truth(alloc: Global, draft: &mut Draft, place: u8, value: bool)
-    ensures { draft.new ≡ record draft.old { relations = initial_truth draft.old.relations place value } }
+    ensures { draft.new
+        ≡ record draft.old { relations = initial_truth draft.old.relations place value } }
 {
     let relations = mem::replace(&mut draft.relations, Items::new(alloc));
     draft.relations = with_truth(relations, place, value);
 }
 
 fn set_number(alloc: Global, draft: &mut Draft, place: u8, value: i64)
-    ensures { draft.new ≡ record draft.old { counters = initial_number draft.old.counters place value } }
+    ensures { draft.new
+        ≡ record draft.old { counters = initial_number draft.old.counters place value } }
 {
     let counters = mem::replace(&mut draft.counters, Items::new(alloc));
     draft.counters = with_number(counters, place, value);
@@ -119,7 +121,8 @@ fn add_initial(
     mark: &Mark,
     value: &Value,
 ) -> Result<(), AllocError>
-    ensures { OnOk result (known_of known.new ≡ with_initial (known_of known.old) mark.now value.now) }
+    ensures { OnOk result (known_of known.new
+        ≡ with_initial (known_of known.old) mark.now value.now) }
 {
     let name = mark.text.bytes();
     let meaning = known.names.get(name);
@@ -128,6 +131,7 @@ fn add_initial(
     Ok(())
 }
 
+/// Sets the initial value of a relation or a counter, or answers the first fault of the line.
 pub fn type_initial<'t>(
     alloc: Global,
     known: &mut Known,
@@ -135,7 +139,8 @@ pub fn type_initial<'t>(
     mark: &'t Mark,
     value: &Value,
 ) -> Result<(), Stop<'t>>
-    ensures { Makes (typed_item (known_of known.old) (initially_form word mark.now value.now)) (known_of known.new) result }
+    ensures { Makes (typed_item (known_of known.old) (initially_form word mark.now value.now))
+        (known_of known.new) result }
 {
     if let Some(fault) = initially_fault(known, mark, value) {
         return Err(Stop::Fault(fault));

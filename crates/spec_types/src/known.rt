@@ -40,7 +40,8 @@ pub fn heading_fault<'t>(
     count: usize,
     mark: &'t Mark,
 ) -> Option<Fault<'t>>
-    ensures gives { faulted result ≡ heading_fault_of (known_of known.now) which most count mark.now }
+    ensures gives { faulted result ≡ heading_fault_of
+        (known_of known.now) which most count mark.now }
     ensures few { IfNone result (count < most) }
 {
     if let Some(fault) = declared_fault(&scope_in(known), mark) {

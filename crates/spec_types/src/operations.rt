@@ -55,7 +55,8 @@ fn add_invariant(
     mark: &Mark,
     sentence: &Prefixed,
 ) -> Result<(), AllocError>
-    ensures { OnOk result (known_of known.new ≡ with_invariant (known_of known.old) mark.now (sentence_of sentence.now)) }
+    ensures { OnOk result (known_of known.new
+        ≡ with_invariant (known_of known.old) mark.now (sentence_of sentence.now)) }
 {
     let name = Name::new(alloc, mark.text.bytes())?;
     let line = or_drop!(sentence_of(alloc, &scope_in(known), sentence); name);
@@ -68,7 +69,8 @@ fn type_claim<'t>(
     mark: &'t Mark,
     sentence: &'t Prefixed,
 ) -> Result<(), Stop<'t>>
-    ensures { Makes (typed_invariant (known_of known.old) mark.now (sentence_of sentence.now)) (known_of known.new) result }
+    ensures { Makes (typed_invariant (known_of known.old) mark.now (sentence_of sentence.now))
+        (known_of known.new) result }
 {
     if let Some(fault) = claim_fault(known, sentence) {
         return Err(Stop::Fault(fault));
@@ -77,6 +79,7 @@ fn type_claim<'t>(
     Ok(())
 }
 
+/// Adds an invariant, or answers the first fault of its line.
 pub fn type_invariant<'t>(
     alloc: Global,
     known: &mut Known,
@@ -184,7 +187,8 @@ fn without_lines(
     mark: &Mark,
     params: &[Param],
 ) -> Result<Operation, AllocError>
-    ensures { IfOk result (λ made. made ≡ without_lines_of (known_of known.now) mark.now params.now) }
+    ensures { IfOk result (λ made. made ≡ without_lines_of
+        (known_of known.now) mark.now params.now) }
 {
     let name = Name::new(alloc, mark.text.bytes())?;
     let params = or_drop!(params_of(alloc, &known.names, params); name);
@@ -204,7 +208,8 @@ fn type_lines<'t>(
     operation: &mut Operation,
     lines: &'t [Line],
 ) -> Result<(), Stop<'t>>
-    ensures { Makes (typed_lines (scope_of scope.now) operation.old (map line_of lines.now)) operation.new result }
+    ensures { Makes (typed_lines (scope_of scope.now) operation.old
+        (map line_of lines.now)) operation.new result }
 {
     for line in lines {
         if let Some(fault) = line_fault(scope, operation, line) {
@@ -252,6 +257,7 @@ fn type_body<'t>(
     Ok(())
 }
 
+/// Adds an operation with its parameters and lines, or answers its first fault.
 pub fn type_operation<'t>(
     alloc: Global,
     known: &mut Known,

@@ -62,7 +62,8 @@ fn rule_variable_fault<'t>(
     sort: u8,
     mark: &'t Mark,
 ) -> Option<Fault<'t>>
-    ensures { faulted result ≡ rule_variable_fault_of (known_of known.now) left.now right.now sort mark.now }
+    ensures { faulted result ≡ rule_variable_fault_of
+        (known_of known.now) left.now right.now sort mark.now }
 {
     let name = mark.text.bytes();
     if known.names.get(name).is_none() && is_of_sort(rule_sort(known, left, right, name), sort) {
@@ -79,7 +80,8 @@ fn rule_variables_fault<'t>(
     sorts: &[u8],
     marks: &'t [Mark],
 ) -> Option<Fault<'t>>
-    ensures { faulted result ≡ rule_variables_fault_of (known_of known.now) left.now right.now sorts.now marks.now }
+    ensures { faulted result ≡ rule_variables_fault_of
+        (known_of known.now) left.now right.now sorts.now marks.now }
 {
     match sorts {
         [] => None,
@@ -102,7 +104,8 @@ fn pattern_fault<'t>(
     right: &Reading,
     pattern: &'t Reading,
 ) -> Option<Fault<'t>>
-    ensures { faulted result ≡ pattern_fault_of (known_of known.now) left.now right.now pattern.now }
+    ensures { faulted result ≡ pattern_fault_of
+        (known_of known.now) left.now right.now pattern.now }
 {
     let Some(token) = known.names.token(pattern.name.text.bytes()) else {
         return stranger_fault(&scope_in(known), &pattern.name);
@@ -178,7 +181,8 @@ fn variable_numbers(
     right: &Reading,
     marks: &[Mark],
 ) -> Result<Items<u8>, AllocError>
-    ensures { IfOk result (λ numbers. numbers ≡ map (variable_number_of left.now right.now) marks.now) }
+    ensures { IfOk result (λ numbers. numbers
+        ≡ map (variable_number_of left.now right.now) marks.now) }
 {
     let mut numbers = Items::new(alloc);
     for mark in marks {
@@ -194,7 +198,8 @@ fn pattern_of(
     right: &Reading,
     pattern: &Reading,
 ) -> Result<Pattern, AllocError>
-    ensures { IfOk result (λ made. made ≡ pattern_of_reading (known_of known.now) left.now right.now pattern.now) }
+    ensures { IfOk result (λ made. made ≡ pattern_of_reading
+        (known_of known.now) left.now right.now pattern.now) }
 {
     let token = known.names.token(pattern.name.text.bytes());
     Ok(Pattern {
@@ -219,6 +224,7 @@ fn add_rule(
     })
 }
 
+/// Adds a conflict rule between two patterns, or answers the first fault of its line.
 pub fn type_conflict<'t>(
     alloc: Global,
     known: &mut Known,
@@ -226,7 +232,8 @@ pub fn type_conflict<'t>(
     left: &'t Reading,
     right: &'t Reading,
 ) -> Result<(), Stop<'t>>
-    ensures { Makes (typed_item (known_of known.old) (conflict_form word left.now right.now)) (known_of known.new) result }
+    ensures { Makes (typed_item (known_of known.old) (conflict_form word left.now right.now))
+        (known_of known.new) result }
 {
     if let Some(fault) = conflict_fault(known, word, left, right) {
         return Err(Stop::Fault(fault));

@@ -22,7 +22,8 @@ use std::alloc::Global;
 use typing_rules::law_typed_is_well_formed;
 
 fn type_item<'t>(alloc: Global, known: &mut Known, item: &'t Item) -> Result<(), Stop<'t>>
-    ensures { Makes (typed_item (known_of known.old) (item_of item.now)) (known_of known.new) result }
+    ensures { Makes (typed_item (known_of known.old) (item_of item.now))
+        (known_of known.new) result }
 {
     match item {
         Item::Sort(word, mark) => type_sort(alloc, known, *word, mark),
@@ -47,7 +48,8 @@ fn type_item<'t>(alloc: Global, known: &mut Known, item: &'t Item) -> Result<(),
 }
 
 fn type_items<'t>(alloc: Global, known: &mut Known, items: &'t [Item]) -> Result<(), Stop<'t>>
-    ensures { Makes (typed_items (known_of known.old) (map item_of items.now)) known.new.draft result }
+    ensures { Makes (typed_items (known_of known.old)
+        (map item_of items.now)) known.new.draft result }
 {
     for item in items {
         type_item(alloc, known, item)?;
@@ -90,8 +92,10 @@ pub fn type_tree(alloc: Global, tree: &Tree) -> Result<Spec, TypeRefused>
     requires { IsTree (tree_of tree.now) }
     ensures ok { IfOk result (λ spec. typing (tree_of tree.now) ≡ Ok spec) }
     ensures err { IfErr result (IsTypeRefusal (typing (tree_of tree.now))) }
-    ensures faultless { IsWritten (tree_of tree.now) → IfOk result (λ spec. IsTypingOf (tree_of tree.now) (Ok spec)) }
-    ensures least { IsWritten (tree_of tree.now) → IfErr result (IsLeastRefusal (tree_of tree.now)) }
+    ensures faultless { IsWritten (tree_of tree.now)
+        → IfOk result (λ spec. IsTypingOf (tree_of tree.now) (Ok spec)) }
+    ensures least { IsWritten (tree_of tree.now)
+        → IfErr result (IsLeastRefusal (tree_of tree.now)) }
 {
     law_least_fault();
     typed(alloc, tree)

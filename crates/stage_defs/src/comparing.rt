@@ -34,7 +34,8 @@ pub fn has(
     relation: u8,
     tuple: Tuple,
 ) -> Result<GroundFormula, AllocError>
-    ensures { IfOk result (λ f. IsMade atoms.old ((readings_in setting.now).has relation tuple) atoms.new f) }
+    ensures { IfOk result (λ f. IsMade atoms.old
+        ((readings_in setting.now).has relation tuple) atoms.new f) }
 {
     match setting.stage {
         Stage::Initial => Ok(GroundFormula::Truth(begins_true(setting.spec, relation))),
@@ -66,7 +67,8 @@ pub fn equal(
     left: &[SumPart],
     right: &[SumPart],
 ) -> Result<GroundFormula, AllocError>
-    ensures { IfOk result (λ f. IsMade atoms.old (symbols.equal (parts_of left.now) (parts_of right.now)) atoms.new f) }
+    ensures { IfOk result (λ f. IsMade atoms.old
+        (symbols.equal (parts_of left.now) (parts_of right.now)) atoms.new f) }
 {
     let up = at_most(atoms, alloc, left, right, 0)?;
     let down = at_most(atoms, alloc, right, left, 0)?;
@@ -80,7 +82,8 @@ pub fn unequal(
     left: &[SumPart],
     right: &[SumPart],
 ) -> Result<GroundFormula, AllocError>
-    ensures { IfOk result (λ f. IsMade atoms.old (symbols.unequal (parts_of left.now) (parts_of right.now)) atoms.new f) }
+    ensures { IfOk result (λ f. IsMade atoms.old
+        (symbols.unequal (parts_of left.now) (parts_of right.now)) atoms.new f) }
 {
     let below = at_most(atoms, alloc, left, right, -1)?;
     let above = at_most(atoms, alloc, right, left, -1)?;
@@ -95,7 +98,8 @@ pub fn comparison(
     order: Cmp,
     right: &[SumPart],
 ) -> Result<GroundFormula, AllocError>
-    ensures { IfOk result (λ f. IsMade atoms.old (comparison order (parts_of left.now) (parts_of right.now)) atoms.new f) }
+    ensures { IfOk result (λ f. IsMade atoms.old
+        (comparison order (parts_of left.now) (parts_of right.now)) atoms.new f) }
 {
     match order {
         Cmp::Less => at_most(atoms, alloc, left, right, -1),

@@ -120,7 +120,8 @@ fn reading(
     relation: u8,
     tuple: &[u32],
 ) -> Result<GroundFormula, AllocError>
-    ensures { IfOk result (λ f. IsMade atoms.old (symbols.has (stage_of stage) relation tuple.now) atoms.new f) }
+    ensures { IfOk result (λ f. IsMade atoms.old
+        (symbols.has (stage_of stage) relation tuple.now) atoms.new f) }
 {
     let after = Setting {
         spec: before.spec,

@@ -84,6 +84,8 @@ pub fn one_assignment(
 
 /// Two lists of elements pass the test exactly where some assignment of elements to variables gives both.
 pub fn law_one_assignment()
-    ensures found { (vs es us fs : List ℕ) → one_assignment vs es us fs ≡ true → (value : ℕ → ℕ) × Assigns vs es us fs value }
-    ensures only { (vs es us fs : List ℕ) (value : ℕ → ℕ) → Assigns vs es us fs value → one_assignment vs es us fs ≡ true }
+    ensures found { (vs es us fs : List ℕ) → one_assignment vs es us fs ≡ true
+        → (value : ℕ → ℕ) × Assigns vs es us fs value }
+    ensures only { (vs es us fs : List ℕ) (value : ℕ → ℕ) → Assigns vs es us fs value
+        → one_assignment vs es us fs ≡ true }
 {}

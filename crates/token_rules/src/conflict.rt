@@ -34,7 +34,8 @@ fn line_matches(
     t: &Take,
     second: &[Take],
 ) -> bool
-    ensures { result ≡ list_any (λ u. lines_match world.now one.now other.now rule.now t.now u) second.now }
+    ensures { result
+        ≡ list_any (λ u. lines_match world.now one.now other.now rule.now t.now u) second.now }
 {
     second
         .iter()
@@ -50,7 +51,8 @@ fn rule_matches(
     first: &[Take],
     second: &[Take],
 ) -> bool
-    ensures { result ≡ list_any (λ t. list_any (λ u. lines_match world.now one.now other.now rule.now t u) second.now) first.now }
+    ensures { result ≡ list_any (λ t. list_any
+        (λ u. lines_match world.now one.now other.now rule.now t u) second.now) first.now }
 {
     first
         .iter()

@@ -36,7 +36,8 @@ fn line_may(rule: &Rule, t: &Take, second: &[Take]) -> bool
 
 // The rule matches the tokens of some takes line of the first list and of some of the second.
 fn rule_may(rule: &Rule, first: &[Take], second: &[Take]) -> bool
-    ensures { result ≡ list_any (λ t. list_any (λ u. tokens_match rule.now t u) second.now) first.now }
+    ensures { result ≡ list_any (λ t. list_any
+        (λ u. tokens_match rule.now t u) second.now) first.now }
 {
     first.iter().any(|t| line_may(rule, t, second))
 }
@@ -97,7 +98,8 @@ fn line_tied(first: u8, second: u8, rule: &Rule, t: &Take, others: &[Take]) -> b
 }
 
 fn rule_tied(first: u8, second: u8, rule: &Rule, lines: &[Take], others: &[Take]) -> bool
-    ensures { result ≡ list_all (λ t. list_all (λ u. tied_by first second rule.now t u) others.now) lines.now }
+    ensures { result ≡ list_all (λ t. list_all
+        (λ u. tied_by first second rule.now t u) others.now) lines.now }
 {
     lines
         .iter()
@@ -164,7 +166,8 @@ fn rivals_among(
     operations: &[Operation],
     takes: &[Take],
 ) -> Result<Vec<Rivalry>, AllocError>
-    ensures { IfOk result (λ rivals. rivals.items ≡ map (λ o. rivalry rules.now o.takes takes.now) operations.now) }
+    ensures { IfOk result (λ rivals. rivals.items
+        ≡ map (λ o. rivalry rules.now o.takes takes.now) operations.now) }
 {
     let mut rivals = Vec::new(alloc);
     for operation in operations {
@@ -196,7 +199,8 @@ fn element_at(args: &[i64], place: u8) -> u64
 
 /// Whether another call can conflict with a call, as far as is known without the rules.
 pub fn may_conflict(rivals: &[Rivalry], other: &Call, call: &Call) -> bool
-    ensures { result ≡ may_conflict_by (get_or rivals.now other.now.op Free) other.now.args call.now.args }
+    ensures { result
+        ≡ may_conflict_by (get_or rivals.now other.now.op Free) other.now.args call.now.args }
 {
     match rivals.get(other.op as usize) {
         None => true,

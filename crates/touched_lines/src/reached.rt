@@ -33,8 +33,10 @@ fn true_in_spans<R: Readings>(
 ) -> bool
     requires world { world_fits spec.now world.now ≡ true }
     requires few { length sorts.now ≤ most_variables }
-    requires fits { all_within (spans_from world.now args.now elems.now spots.now 0 sorts.now) [] (λ vars. form_fits spec.now world.now [] vars (form_of body.now)) ≡ true }
-    ensures { result ≡ all_within (spans_from world.now args.now elems.now spots.now 0 sorts.now) [] (λ vars. truth world.now (R.reads at.now) [] vars (form_of body.now)) }
+    requires fits { all_within (spans_from world.now args.now elems.now spots.now 0 sorts.now) []
+        (λ vars. form_fits spec.now world.now [] vars (form_of body.now)) ≡ true }
+    ensures { result ≡ all_within (spans_from world.now args.now elems.now spots.now 0 sorts.now) []
+        (λ vars. truth world.now (R.reads at.now) [] vars (form_of body.now)) }
 {
     match sorts {
         [] => holds(spec, world, at, &[], &[], body),
@@ -94,7 +96,8 @@ fn true_reached<R: Readings>(
 ) -> bool
     requires world { world_fits spec.now world.now ≡ true }
     requires fits { line_fits spec.now world.now [] line.now ≡ true }
-    ensures { result ≡ true_reached world.now (R.reads at.now) args.now line.now updates.now thing elems.now }
+    ensures { result ≡ true_reached world.now
+        (R.reads at.now) args.now line.now updates.now thing elems.now }
 {
     match updates {
         [] => true,
@@ -152,7 +155,8 @@ fn summands_true<R: Readings>(
 ) -> bool
     requires world { world_fits spec.now world.now ≡ true }
     requires fits { line_fits spec.now world.now [] line.now ≡ true }
-    ensures { result ≡ list_all (λ s. body_true world.now (R.reads at.now) args.now line.now updates.now s.body) summands.now }
+    ensures { result ≡ list_all (λ s. body_true world.now
+        (R.reads at.now) args.now line.now updates.now s.body) summands.now }
 {
     match summands {
         [] => true,
@@ -197,7 +201,8 @@ fn form_true<R: Readings>(
 ) -> bool
     requires world { world_fits spec.now world.now ≡ true }
     requires fits { line_fits spec.now world.now [] line.now ≡ true }
-    ensures { result ≡ form_true world.now (R.reads at.now) args.now line.now updates.now (form_of part.now) }
+    ensures { result ≡ form_true world.now (R.reads at.now) args.now line.now updates.now
+        (form_of part.now) }
 {
     match part {
         Formula::True => true,
@@ -239,7 +244,9 @@ pub fn line_holds_after<R: Readings>(
 ) -> bool
     requires world { world_fits spec.now world.now ≡ true }
     requires fits { line_fits spec.now world.now [] line.now ≡ true }
-    ensures { (before : Reads) → R.reads at.now ≡ after spec.now world.now call.now before → line_true world.now before [] line.now ≡ true → result ≡ line_true world.now (R.reads at.now) [] line.now }
+    ensures { (before : Reads) → R.reads at.now ≡ after spec.now world.now call.now before
+        → line_true world.now before [] line.now ≡ true
+        → result ≡ line_true world.now (R.reads at.now) [] line.now }
 {
     let updates = spec.updates_of(call.op);
     let args = call.args.as_slice();

@@ -72,7 +72,8 @@ pub fn span_of(
     elems: &[Elem],
     spots: &[Spot],
 ) -> Span
-    ensures { result ≡ span_at world.now args.now (size_of world.now sort) number elems.now spots.now }
+    ensures { result ≡ span_at world.now args.now
+        (size_of world.now sort) number elems.now spots.now }
 {
     span_at(world, args, world.size(sort), number, elems, spots)
 }

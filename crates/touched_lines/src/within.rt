@@ -24,8 +24,10 @@ fn holds_with<R: Readings>(
 ) -> bool
     requires world { world_fits spec.now world.now ≡ true }
     requires few { length chosen.now ≤ 2 }
-    requires fits { form_fits spec.now world.now [] (chosen.now ++ e ∷ []) (form_of body.now) ≡ true }
-    ensures { result ≡ truth world.now (R.reads at.now) [] (chosen.now ++ e ∷ []) (form_of body.now) }
+    requires fits { form_fits spec.now world.now [] (chosen.now ++ e ∷ []) (form_of body.now)
+        ≡ true }
+    ensures { result ≡ truth world.now (R.reads at.now) [] (chosen.now ++ e ∷ [])
+        (form_of body.now) }
 {
     match chosen {
         [] => holds(spec, world, at, &[], &[e], body),
@@ -45,8 +47,10 @@ fn chosen_force<R: Readings>(
     body: &Formula,
 ) -> bool
     requires world { world_fits spec.now world.now ≡ true }
-    requires fits { form_fits spec.now world.now [] (chosen.now ++ e ∷ []) (form_of body.now) ≡ true }
-    ensures { result ≡ true → (t : List ℕ) → truth world.now (R.reads at.now) [] (chosen.now ++ t) (form_of body.now) ≡ true }
+    requires fits { form_fits spec.now world.now [] (chosen.now ++ e ∷ []) (form_of body.now)
+        ≡ true }
+    ensures { result ≡ true → (t : List ℕ) → truth world.now (R.reads at.now) [] (chosen.now ++ t)
+        (form_of body.now) ≡ true }
 {
     match chosen {
         [a] => is_forced(spec, world, at, &[], &[*a, e], 1, body, true),
@@ -55,7 +59,7 @@ fn chosen_force<R: Readings>(
     }
 }
 
-// Whether the body is true at each element of the last span.
+/// Whether the body is true at each element of the last span.
 pub fn true_last<R: Readings>(
     spec: &Spec,
     world: &World,
@@ -66,8 +70,10 @@ pub fn true_last<R: Readings>(
 ) -> bool
     requires world { world_fits spec.now world.now ≡ true }
     requires few { length chosen.now ≤ 2 }
-    requires fits { all_within (span ∷ []) chosen.now (λ vars. form_fits spec.now world.now [] vars (form_of body.now)) ≡ true }
-    ensures { result ≡ all_within (span ∷ []) chosen.now (λ vars. truth world.now (R.reads at.now) [] vars (form_of body.now)) }
+    requires fits { all_within (span ∷ []) chosen.now
+        (λ vars. form_fits spec.now world.now [] vars (form_of body.now)) ≡ true }
+    ensures { result ≡ all_within (span ∷ []) chosen.now
+        (λ vars. truth world.now (R.reads at.now) [] vars (form_of body.now)) }
 {
     if span.from < span.to && chosen_force(spec, world, at, chosen, span.from, body) {
         return true;
@@ -92,8 +98,10 @@ fn true_last_with<R: Readings>(
 ) -> bool
     requires world { world_fits spec.now world.now ≡ true }
     requires few { length chosen.now ≤ 1 }
-    requires fits { all_within (span ∷ []) (chosen.now ++ e ∷ []) (λ vars. form_fits spec.now world.now [] vars (form_of body.now)) ≡ true }
-    ensures { result ≡ all_within (span ∷ []) (chosen.now ++ e ∷ []) (λ vars. truth world.now (R.reads at.now) [] vars (form_of body.now)) }
+    requires fits { all_within (span ∷ []) (chosen.now ++ e ∷ [])
+        (λ vars. form_fits spec.now world.now [] vars (form_of body.now)) ≡ true }
+    ensures { result ≡ all_within (span ∷ []) (chosen.now ++ e ∷ [])
+        (λ vars. truth world.now (R.reads at.now) [] vars (form_of body.now)) }
 {
     match chosen {
         [] => true_last(spec, world, at, &[e], span, body),
@@ -102,7 +110,7 @@ fn true_last_with<R: Readings>(
     }
 }
 
-// Whether it is so at all elements of the last two spans.
+/// Whether it is so at all elements of the last two spans.
 pub fn true_last_two<R: Readings>(
     spec: &Spec,
     world: &World,
@@ -114,8 +122,10 @@ pub fn true_last_two<R: Readings>(
 ) -> bool
     requires world { world_fits spec.now world.now ≡ true }
     requires few { length chosen.now ≤ 1 }
-    requires fits { all_within (span ∷ last ∷ []) chosen.now (λ vars. form_fits spec.now world.now [] vars (form_of body.now)) ≡ true }
-    ensures { result ≡ all_within (span ∷ last ∷ []) chosen.now (λ vars. truth world.now (R.reads at.now) [] vars (form_of body.now)) }
+    requires fits { all_within (span ∷ last ∷ []) chosen.now
+        (λ vars. form_fits spec.now world.now [] vars (form_of body.now)) ≡ true }
+    ensures { result ≡ all_within (span ∷ last ∷ []) chosen.now
+        (λ vars. truth world.now (R.reads at.now) [] vars (form_of body.now)) }
 {
     for e in span.from..span.to {
         if !true_last_with(spec, world, at, chosen, e, last, body) {
@@ -125,7 +135,7 @@ pub fn true_last_two<R: Readings>(
     true
 }
 
-// Whether it is so at all elements of three spans.
+/// Whether it is so at all elements of three spans.
 pub fn true_three<R: Readings>(
     spec: &Spec,
     world: &World,
@@ -136,8 +146,10 @@ pub fn true_three<R: Readings>(
     body: &Formula,
 ) -> bool
     requires world { world_fits spec.now world.now ≡ true }
-    requires fits { all_within (first ∷ second ∷ third ∷ []) [] (λ vars. form_fits spec.now world.now [] vars (form_of body.now)) ≡ true }
-    ensures { result ≡ all_within (first ∷ second ∷ third ∷ []) [] (λ vars. truth world.now (R.reads at.now) [] vars (form_of body.now)) }
+    requires fits { all_within (first ∷ second ∷ third ∷ []) []
+        (λ vars. form_fits spec.now world.now [] vars (form_of body.now)) ≡ true }
+    ensures { result ≡ all_within (first ∷ second ∷ third ∷ []) []
+        (λ vars. truth world.now (R.reads at.now) [] vars (form_of body.now)) }
 {
     for e in first.from..first.to {
         if !true_last_two(spec, world, at, &[e], second, third, body) {

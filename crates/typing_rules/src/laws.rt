@@ -9,5 +9,6 @@ ghost use Rattle.typing_rules.specs.Items.{typing};
 
 /// What a tree of the grammar without faults declares is a well-formed specification.
 pub fn law_typed_is_well_formed()
-    ensures { (t : TreeForm) (d : Specification) → IsTree t → typing t ≡ Ok d → is_specification d ≡ true }
+    ensures { (t : TreeForm) (d : Specification) → IsTree t → typing t ≡ Ok d
+        → is_specification d ≡ true }
 {}

@@ -47,7 +47,8 @@ fn assign_lit(
     lit: Lit,
 ) -> Result<(), AllocError>
     requires { AreHeld problem.now.atoms trail.now assignment.old.lits assignment.old.rows }
-    ensures { OnOk result (AreHeld problem.now.atoms trail.now assignment.new.lits assignment.new.rows) }
+    ensures { OnOk result
+        (AreHeld problem.now.atoms trail.now assignment.new.lits assignment.new.rows) }
 {
     if !trail.holds(lit) {
         return Ok(());
@@ -108,7 +109,9 @@ pub(crate) fn ask_rows<T: Theory>(
     lits: &[Lit],
     early: bool,
 ) -> Result<Said, AllocError>
-    requires taken { (lits : List PlainLit) (rows : List PlainRow) → AreRowsOf problem.now.atoms lits rows → all_below problem.now.ints rows ≡ true → T.takes rows problem.now.ints }
+    requires taken { (lits : List PlainLit) (rows : List PlainRow)
+        → AreRowsOf problem.now.atoms lits rows → all_below problem.now.ints rows ≡ true
+        → T.takes rows problem.now.ints }
     ensures { IfOk result (λ said. IsSaid said problem.now trail.now) }
 {
     problem.law_fits();

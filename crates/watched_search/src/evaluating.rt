@@ -118,7 +118,8 @@ fn are_enough(problem: &Problem, truths: &[bool], numbers: &[i128]) -> bool
 
 // Whether truths and numbers are an interpretation that makes all clauses true.
 fn is_model(problem: &Problem, truths: &[bool], numbers: &[i128]) -> bool
-    ensures { IsTrue result → IsModelOf problem.now (record { truths = truths.now; ints = numbers.now }) }
+    ensures { IsTrue result → IsModelOf problem.now
+        (record { truths = truths.now; ints = numbers.now }) }
 {
     if !are_enough(problem, truths, numbers) {
         return false;

@@ -129,7 +129,8 @@ impl Hints {
 
     /// An atom that has no value: a plain one, as long as there is one.
     pub(crate) fn undecided(&mut self, trail: &Trail, atoms: u32) -> Option<u32>
-        ensures { MatchOption result ((a : ℕ) → a < atoms → is_assigned trail.now a ≡ true) (λ a. (a < atoms) × (is_assigned trail.now a ≡ false)) }
+        ensures { MatchOption result ((a : ℕ) → a < atoms → is_assigned trail.now a ≡ true)
+            (λ a. (a < atoms) × (is_assigned trail.now a ≡ false)) }
     {
         match first_unassigned(&mut self.queue, trail, atoms) {
             Some(atom) => Some(atom),

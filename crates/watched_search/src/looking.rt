@@ -47,7 +47,8 @@ pub(crate) fn rests(trail: &Trail, pair: Watched) -> bool
 
 // A literal that isn't false.
 fn open_in(trail: &Trail, lits: &[Lit]) -> Option<Lit>
-    ensures { MatchOption result (is_false trail.now lits.now ≡ true) (λ l. (has lits.now l ≡ true) × (negated trail.now l ≡ false)) }
+    ensures { MatchOption result (is_false trail.now lits.now ≡ true)
+        (λ l. (has lits.now l ≡ true) × (negated trail.now l ≡ false)) }
 {
     for lit in lits {
         if !trail.negates(*lit) {
@@ -59,7 +60,8 @@ fn open_in(trail: &Trail, lits: &[Lit]) -> Option<Lit>
 
 // Another literal that isn't false.
 fn open_beside(trail: &Trail, lits: &[Lit], one: Lit) -> Option<Lit>
-    ensures { MatchOption result (others_false trail.now lits.now one ≡ true) (λ l. (has lits.now l ≡ true) × (negated trail.now l ≡ false) × (same_lit l one ≡ false)) }
+    ensures { MatchOption result (others_false trail.now lits.now one ≡ true)
+        (λ l. (has lits.now l ≡ true) × (negated trail.now l ≡ false) × (same_lit l one ≡ false)) }
 {
     for lit in lits {
         if !lit.same(one) && !trail.negates(*lit) {
@@ -78,7 +80,9 @@ fn is_open_before(trail: &Trail, lit: Lit) -> bool
 
 // Another literal that isn't false before the last decision.
 fn open_before_beside(trail: &Trail, lits: &[Lit], one: Lit) -> Option<Lit>
-    ensures { MatchOption result (others_false (before_last trail.now) lits.now one ≡ true) (λ l. (has lits.now l ≡ true) × (negated (before_last trail.now) l ≡ false) × (same_lit l one ≡ false)) }
+    ensures { MatchOption result (others_false (before_last trail.now) lits.now one ≡ true)
+        (λ l. (has lits.now l ≡ true) × (negated (before_last trail.now) l ≡ false)
+        × (same_lit l one ≡ false)) }
 {
     for lit in lits {
         if !lit.same(one) && is_open_before(trail, *lit) {

@@ -60,7 +60,9 @@ impl Propagation {
 
     // Puts the clauses that are left back into the list of the literal that they watched.
     fn put_back(&mut self, alloc: Global, gone: Lit) -> Result<(), AllocError>
-        ensures kept { OnOk result ((n : ℕ) (cs : List (List PlainLit)) (t : List PlainEntry) → AreKept n cs t (code gone) self.old.left self.old.watches → AreKept n cs t 0 [] self.new.watches) }
+        ensures kept { OnOk result ((n : ℕ) (cs : List (List PlainLit)) (t : List PlainEntry)
+            → AreKept n cs t (code gone) self.old.left self.old.watches
+            → AreKept n cs t 0 [] self.new.watches) }
         ensures conflict { self.new.conflict ≡ self.old.conflict }
     {
         while let Some(clause) = self.left.pop() {
@@ -78,7 +80,8 @@ impl Propagation {
         gone: Lit,
     ) -> Result<(), AllocError>
         requires few { length problem.now.clauses < 2 ^ 32 }
-        requires watched { AreWatched (length problem.now.clauses) problem.now.clauses trail.now (code gone) self.old.left self.old.watches }
+        requires watched { AreWatched (length problem.now.clauses) problem.now.clauses trail.now
+            (code gone) self.old.left self.old.watches }
         ensures { OnOk result (IsReady problem.now.clauses trail.now self.new) }
     {
         self.conflict = None;
@@ -126,7 +129,8 @@ impl Propagation {
         requires trail { IsTrail problem.now.clauses trail.now }
         requires ready { IsReady problem.now.clauses trail.now self.old }
         ensures found { IfOk result (λ found. IsFound found problem.now.clauses trail.now) }
-        ensures watched { IfOk result (λ found. StayWatched found problem.now.clauses trail.now self.new.watches) }
+        ensures watched { IfOk result
+            (λ found. StayWatched found problem.now.clauses trail.now self.new.watches) }
     {
         if let Some(clause) = self.conflict {
             let _ = lits_of(problem, clause);

@@ -72,7 +72,9 @@ fn answered_by(
     problem: &Problem,
     values: &[bool],
 ) -> Result<Option<Answer>, AllocError>
-    ensures { (budget : ℕ) (split stop : Bool) → IfOk result (λ found. IfSome found (λ answer. IsAnswer split stop problem.now budget answer)) }
+    ensures { (budget : ℕ) (split stop : Bool)
+        → IfOk result
+        (λ found. IfSome found (λ answer. IsAnswer split stop problem.now budget answer)) }
 {
     let numbers = zeros(alloc, problem.ints)?;
     match evaluated(alloc, problem, values, numbers)? {
@@ -88,7 +90,8 @@ pub(crate) fn proposed(
     budget: u32,
 ) -> Result<Option<Answer>, AllocError>
     requires uneasy { IsEasy problem.now → ⊥ }
-    ensures { (split stop : Bool) → IfOk result (λ found. IfSome found (λ answer. IsAnswer split stop problem.now budget answer)) }
+    ensures { (split stop : Bool) → IfOk result
+        (λ found. IfSome found (λ answer. IsAnswer split stop problem.now budget answer)) }
 {
     match propose(alloc, problem, budget)? {
         Proposal::Log(lines) => {

@@ -59,7 +59,9 @@ fn ask_about<T: Theory>(
     few: &[Lit],
     lits: &[Lit],
 ) -> Result<Reduced, AllocError>
-    requires taken { (lits : List PlainLit) (rows : List PlainRow) → AreRowsOf grown.now.atoms lits rows → all_below grown.now.ints rows ≡ true → T.takes rows grown.now.ints }
+    requires taken { (lits : List PlainLit) (rows : List PlainRow)
+        → AreRowsOf grown.now.atoms lits rows → all_below grown.now.ints rows ≡ true
+        → T.takes rows grown.now.ints }
     ensures { IfOk result (λ reduced. IsReduced reduced problem.now grown.now trail.now) }
 {
     if few.len() >= lits.len() {
@@ -82,7 +84,9 @@ pub(crate) fn ask_reduced<T: Theory>(
     trail: &Trail,
     lits: &[Lit],
 ) -> Result<Reduced, AllocError>
-    requires taken { (lits : List PlainLit) (rows : List PlainRow) → AreRowsOf grown.now.atoms lits rows → all_below grown.now.ints rows ≡ true → T.takes rows grown.now.ints }
+    requires taken { (lits : List PlainLit) (rows : List PlainRow)
+        → AreRowsOf grown.now.atoms lits rows → all_below grown.now.ints rows ≡ true
+        → T.takes rows grown.now.ints }
     ensures { IfOk result (λ reduced. IsReduced reduced problem.now grown.now trail.now) }
 {
     if lits.is_empty() {

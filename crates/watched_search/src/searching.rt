@@ -59,7 +59,8 @@ fn search_rows(alloc: Global, problem: &Problem, budget: u32) -> Answer
 /// there is none. Where the problem fits the solver of difference rows, the search never splits, and no rows stop it.
 pub fn search(alloc: Global, problem: &Problem, budget: u32) -> Answer
     ensures answer { IsAnswer true true problem.now budget result }
-    ensures fitting { problem_fits problem.now ≡ true → IsAnswer false false problem.now budget result }
+    ensures fitting { problem_fits problem.now ≡ true
+        → IsAnswer false false problem.now budget result }
 {
     if int_count(problem) == 0 && are_plain(problem) {
         return search_plain(alloc, problem, budget);

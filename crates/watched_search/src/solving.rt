@@ -79,7 +79,8 @@ fn resume(
     state: &mut SearchState,
     outcome: Outcome,
 ) -> Outcome
-    requires may_continue { IfContinue outcome (MayContinue problem.now.clauses trail.now state.old.index.watches) }
+    requires may_continue { IfContinue outcome
+        (MayContinue problem.now.clauses trail.now state.old.index.watches) }
     ensures same { (result ≡ outcome) ⊎ (result ≡ Memory) }
     ensures ready { IfContinue result (IsReady problem.now.clauses trail.now state.new.index) }
 {
@@ -109,7 +110,10 @@ fn analyze_conflict(
 ) -> Outcome
     requires chain { IsMet budget grown.old trail.old log.old start }
     requires kept { AllKept grown.old.clauses trail.old state.old.index.watches }
-    ensures outcome { (split stop : Bool) (p : PlainProblem) → InChain (record { problem = p; split = split }) budget (length log.old) grown.old trail.old log.old start → IsOutcome result split stop p budget grown.old trail.old log.old grown.new trail.new log.new }
+    ensures outcome { (split stop : Bool) (p : PlainProblem)
+        → InChain (record { problem = p; split = split }) budget
+        (length log.old) grown.old trail.old log.old start
+        → IsOutcome result split stop p budget grown.old trail.old log.old grown.new trail.new log.new }
     ensures ready { IfContinue result (IsReady grown.new.clauses trail.new state.new.index) }
 {
     let outcome = analyze(alloc, grown, trail, log, start, budget).outcome();
@@ -124,8 +128,11 @@ fn theory_propagate<T: Theory>(
     trail: &Trail,
     hints: &mut RowHints,
 ) -> Result<Option<Clash>, AllocError>
-    requires taken { (lits : List PlainLit) (rows : List PlainRow) → AreRowsOf problem.now.atoms lits rows → all_below problem.now.ints rows ≡ true → T.takes rows problem.now.ints }
-    ensures { IfOk result (λ found. IfSome found (λ clash. IsClash problem.now trail.now clash.used clash.steps)) }
+    requires taken { (lits : List PlainLit) (rows : List PlainRow)
+        → AreRowsOf problem.now.atoms lits rows → all_below problem.now.ints rows ≡ true
+        → T.takes rows problem.now.ints }
+    ensures { IfOk result (λ found. IfSome found
+        (λ clash. IsClash problem.now trail.now clash.used clash.steps)) }
 {
     if !hints.is_due() {
         return Ok(None);
@@ -153,7 +160,9 @@ fn analyze_theory_conflict(
 ) -> Outcome
     requires refutation { IsRefutation budget grown.old trail.old log.old clash.used clash.steps }
     requires kept { AllKept grown.old.clauses trail.old state.old.index.watches }
-    ensures outcome { (split stop : Bool) (p : PlainProblem) → InSearch (record { problem = p; split = split }) budget grown.old trail.old log.old → IsOutcome result split stop p budget grown.old trail.old log.old grown.new trail.new log.new }
+    ensures outcome { (split stop : Bool) (p : PlainProblem)
+        → InSearch (record { problem = p; split = split }) budget grown.old trail.old log.old
+        → IsOutcome result split stop p budget grown.old trail.old log.old grown.new trail.new log.new }
     ensures ready { IfContinue result (IsReady grown.new.clauses trail.new state.new.index) }
 {
     let Clash { used, steps } = clash;
@@ -172,12 +181,16 @@ fn check_trail<T: Theory>(
     state: &mut SearchState,
     budget: u32,
 ) -> Outcome
-    requires search { InSearch (record { problem = problem.now; split = T.MAY_SPLIT }) budget grown.old trail.old log.old }
+    requires search { InSearch (record {
+      problem = problem.now;
+      split = T.MAY_SPLIT;
+    }) budget grown.old trail.old log.old }
     requires settled { Settled trail.old grown.old.clauses }
     requires assigned { (a : ℕ) → a < length grown.old.atoms → is_assigned trail.old a ≡ true }
     requires kept { AllKept grown.old.clauses trail.old state.old.index.watches }
     requires rest { AreAtRest (length grown.old.clauses) trail.old state.old.index.watches }
-    requires taken { T.MAY_SPLIT ≡ false → (lits : List PlainLit) (rows : List PlainRow) → AreRowsOf problem.now.atoms lits rows → T.takes rows problem.now.ints }
+    requires taken { T.MAY_SPLIT ≡ false → (lits : List PlainLit) (rows : List PlainRow)
+        → AreRowsOf problem.now.atoms lits rows → T.takes rows problem.now.ints }
     ensures outcome { IsOutcome result T.MAY_SPLIT T.MAY_STOP problem.now budget grown.old trail.old log.old grown.new trail.new log.new }
     ensures ready { IfContinue result (IsReady grown.new.clauses trail.new state.new.index) }
 {
@@ -198,12 +211,16 @@ fn final_check<T: Theory>(
     state: &mut SearchState,
     budget: u32,
 ) -> Outcome
-    requires search { InSearch (record { problem = problem.now; split = T.MAY_SPLIT }) budget grown.old trail.old log.old }
+    requires search { InSearch (record {
+      problem = problem.now;
+      split = T.MAY_SPLIT;
+    }) budget grown.old trail.old log.old }
     requires settled { Settled trail.old grown.old.clauses }
     requires assigned { (a : ℕ) → a < length grown.old.atoms → is_assigned trail.old a ≡ true }
     requires kept { AllKept grown.old.clauses trail.old state.old.index.watches }
     requires rest { AreAtRest (length grown.old.clauses) trail.old state.old.index.watches }
-    requires taken { T.MAY_SPLIT ≡ false → (lits : List PlainLit) (rows : List PlainRow) → AreRowsOf problem.now.atoms lits rows → T.takes rows problem.now.ints }
+    requires taken { T.MAY_SPLIT ≡ false → (lits : List PlainLit) (rows : List PlainRow)
+        → AreRowsOf problem.now.atoms lits rows → T.takes rows problem.now.ints }
     ensures outcome { IsOutcome result T.MAY_SPLIT T.MAY_STOP problem.now budget grown.old trail.old log.old grown.new trail.new log.new }
     ensures ready { IfContinue result (IsReady grown.new.clauses trail.new state.new.index) }
 {
@@ -233,9 +250,13 @@ fn advance<T: Theory>(
     state: &mut SearchState,
     budget: u32,
 ) -> Outcome
-    requires search { InSearch (record { problem = problem.now; split = T.MAY_SPLIT }) budget grown.old trail.old log.old }
+    requires search { InSearch (record {
+      problem = problem.now;
+      split = T.MAY_SPLIT;
+    }) budget grown.old trail.old log.old }
     requires ready { IsReady grown.old.clauses trail.old state.old.index }
-    requires taken { T.MAY_SPLIT ≡ false → (lits : List PlainLit) (rows : List PlainRow) → AreRowsOf problem.now.atoms lits rows → T.takes rows problem.now.ints }
+    requires taken { T.MAY_SPLIT ≡ false → (lits : List PlainLit) (rows : List PlainRow)
+        → AreRowsOf problem.now.atoms lits rows → T.takes rows problem.now.ints }
     ensures outcome { IsOutcome result T.MAY_SPLIT T.MAY_STOP problem.now budget grown.old trail.old log.old grown.new trail.new log.new }
     ensures ready { IfContinue result (IsReady grown.new.clauses trail.new state.new.index) }
 {
@@ -283,9 +304,13 @@ fn search_on<T: Theory>(
     state: &mut SearchState,
     budget: u32,
 ) -> Answer
-    requires search { InSearch (record { problem = problem.now; split = T.MAY_SPLIT }) budget grown.old trail.old log }
+    requires search { InSearch (record {
+      problem = problem.now;
+      split = T.MAY_SPLIT;
+    }) budget grown.old trail.old log }
     requires ready { IsReady grown.old.clauses trail.old state.old.index }
-    requires taken { T.MAY_SPLIT ≡ false → (lits : List PlainLit) (rows : List PlainRow) → AreRowsOf problem.now.atoms lits rows → T.takes rows problem.now.ints }
+    requires taken { T.MAY_SPLIT ≡ false → (lits : List PlainLit) (rows : List PlainRow)
+        → AreRowsOf problem.now.atoms lits rows → T.takes rows problem.now.ints }
     ensures { IsAnswer T.MAY_SPLIT T.MAY_STOP problem.now budget result }
 {
     let mut log = log;
@@ -322,7 +347,8 @@ fn search_in<T: Theory>(
     budget: u32,
 ) -> Answer
     requires filled { list_any is_empty problem.now.clauses ≡ false }
-    requires taken { T.MAY_SPLIT ≡ false → (lits : List PlainLit) (rows : List PlainRow) → AreRowsOf problem.now.atoms lits rows → T.takes rows problem.now.ints }
+    requires taken { T.MAY_SPLIT ≡ false → (lits : List PlainLit) (rows : List PlainRow)
+        → AreRowsOf problem.now.atoms lits rows → T.takes rows problem.now.ints }
     ensures { IsAnswer T.MAY_SPLIT T.MAY_STOP problem.now budget result }
 {
     let Ok(mut grown) = problem.copy(alloc) else {
@@ -374,7 +400,8 @@ fn search_in_both<T: Theory>(
     budget: u32,
 ) -> Answer
     requires filled { list_any is_empty problem.now.clauses ≡ false }
-    requires taken { T.MAY_SPLIT ≡ false → (lits : List PlainLit) (rows : List PlainRow) → AreRowsOf problem.now.atoms lits rows → T.takes rows problem.now.ints }
+    requires taken { T.MAY_SPLIT ≡ false → (lits : List PlainLit) (rows : List PlainRow)
+        → AreRowsOf problem.now.atoms lits rows → T.takes rows problem.now.ints }
     ensures { IsAnswer T.MAY_SPLIT T.MAY_STOP problem.now budget result }
 {
     let answer = search_in(alloc, problem, theory, Order::Activity, budget);
@@ -388,7 +415,8 @@ fn search_in_both<T: Theory>(
 // The search, without the fact that its Unsat means that there is no interpretation. A few lines are tried by number first, and then what
 // the search proposes that promises nothing.
 fn search<T: Theory>(alloc: Global, problem: &Problem, theory: &mut T, budget: u32) -> Answer
-    requires taken { T.MAY_SPLIT ≡ false → (lits : List PlainLit) (rows : List PlainRow) → AreRowsOf problem.now.atoms lits rows → T.takes rows problem.now.ints }
+    requires taken { T.MAY_SPLIT ≡ false → (lits : List PlainLit) (rows : List PlainRow)
+        → AreRowsOf problem.now.atoms lits rows → T.takes rows problem.now.ints }
     ensures { IsAnswer T.MAY_SPLIT T.MAY_STOP problem.now budget result }
 {
     if holds_empty(problem) {
@@ -413,7 +441,8 @@ fn search<T: Theory>(alloc: Global, problem: &Problem, theory: &mut T, budget: u
 /// that there is none, as `solve_plain` does. A row of the problem with the bound 2^127 - 1 has no negation, and may be answered as
 /// want of memory.
 pub fn solve<T: Theory>(alloc: Global, problem: &Problem, theory: &mut T, budget: u32) -> Answer
-    requires taken { T.MAY_SPLIT ≡ false → (lits : List PlainLit) (rows : List PlainRow) → AreRowsOf problem.now.atoms lits rows → T.takes rows problem.now.ints }
+    requires taken { T.MAY_SPLIT ≡ false → (lits : List PlainLit) (rows : List PlainRow)
+        → AreRowsOf problem.now.atoms lits rows → T.takes rows problem.now.ints }
     ensures promised { IsAnswer T.MAY_SPLIT T.MAY_STOP problem.now budget result }
     ensures none { ShowsNone problem.now result }
 {

@@ -32,8 +32,10 @@ fn list(
     from: usize,
     lit: Lit,
 ) -> Result<(), AllocError>
-    requires first { code watched.first ≢ from → is_among clause (list_at lists.old.items (code watched.first)) ≡ true }
-    requires second { code watched.second ≢ from → is_among clause (list_at lists.old.items (code watched.second)) ≡ true }
+    requires first { code watched.first ≢ from
+        → is_among clause (list_at lists.old.items (code watched.first)) ≡ true }
+    requires second { code watched.second ≢ from
+        → is_among clause (list_at lists.old.items (code watched.second)) ≡ true }
     ensures kept { OnOk result (Keeps lists.old.items lists.new.items) }
     ensures there { OnOk result (is_among clause (list_at lists.new.items (code lit)) ≡ true) }
 {
@@ -51,8 +53,10 @@ fn enter_both(
     clause: u32,
 ) -> Result<(), AllocError>
     ensures kept { OnOk result (Keeps lists.old.items lists.new.items) }
-    ensures first { OnOk result (is_among clause (list_at lists.new.items (code pair.first)) ≡ true) }
-    ensures second { OnOk result (is_among clause (list_at lists.new.items (code pair.second)) ≡ true) }
+    ensures first { OnOk result (is_among clause (list_at lists.new.items (code pair.first))
+        ≡ true) }
+    ensures second { OnOk result (is_among clause (list_at lists.new.items (code pair.second))
+        ≡ true) }
 {
     enter(alloc, lists, pair.first, clause)?;
     if pair.second.same(pair.first) {
@@ -83,12 +87,17 @@ impl Watches {
         pair: Watched,
     ) -> Result<(), AllocError>
         requires there { clause < length self.old.pairs.items }
-        requires first { code watched.first ≢ from → is_among clause (list_at self.old.lists.items (code watched.first)) ≡ true }
-        requires second { code watched.second ≢ from → is_among clause (list_at self.old.lists.items (code watched.second)) ≡ true }
-        ensures pairs { OnOk result (self.new.pairs.items ≡ slice_set self.old.pairs.items clause pair) }
+        requires first { code watched.first ≢ from
+            → is_among clause (list_at self.old.lists.items (code watched.first)) ≡ true }
+        requires second { code watched.second ≢ from
+            → is_among clause (list_at self.old.lists.items (code watched.second)) ≡ true }
+        ensures pairs { OnOk result (self.new.pairs.items
+            ≡ slice_set self.old.pairs.items clause pair) }
         ensures kept { OnOk result (Keeps self.old.lists.items self.new.lists.items) }
-        ensures first { OnOk result (is_among clause (list_at self.new.lists.items (code pair.first)) ≡ true) }
-        ensures second { OnOk result (is_among clause (list_at self.new.lists.items (code pair.second)) ≡ true) }
+        ensures first { OnOk result (is_among clause
+            (list_at self.new.lists.items (code pair.first)) ≡ true) }
+        ensures second { OnOk result (is_among clause
+            (list_at self.new.lists.items (code pair.second)) ≡ true) }
         ensures units { self.new.units ≡ self.old.units }
     {
         list(alloc, &mut self.lists, clause, watched, from, pair.first)?;
@@ -117,11 +126,14 @@ impl Watches {
         watched: Watched,
     ) -> Result<ClauseStatus, AllocError>
         requires there { clause < length self.old.pairs.items }
-        requires kept { IsKept lits.now trail.now from (clause ∷ []) self.old.lists.items clause watched }
+        requires kept { IsKept lits.now trail.now from
+            (clause ∷ []) self.old.lists.items clause watched }
         requires restless { rests trail.now watched ≡ false }
         ensures moved { OnOk result (IsMoved clause self.old self.new) }
-        ensures kept { OnOk result (IsKept lits.now trail.now 0 [] self.new.lists.items clause (pair_at self.new.pairs.items clause)) }
-        ensures look { IfOk result (λ look. IsLook look lits.now trail.now (pair_at self.new.pairs.items clause)) }
+        ensures kept { OnOk result (IsKept lits.now trail.now 0 [] self.new.lists.items clause
+            (pair_at self.new.pairs.items clause)) }
+        ensures look { IfOk result (λ look. IsLook look lits.now trail.now
+            (pair_at self.new.pairs.items clause)) }
         ensures units { OnOk result (self.new.units ≡ self.old.units) }
         ensures many { OnOk result (length self.new.pairs.items ≡ length self.old.pairs.items) }
     {
@@ -140,10 +152,13 @@ impl Watches {
         gone: Lit,
     ) -> Result<bool, AllocError>
         requires there { clause < length self.old.pairs.items }
-        requires kept { IsKept lits.now trail.now (code gone) (clause ∷ []) self.old.lists.items clause (pair_at self.old.pairs.items clause) }
+        requires kept { IsKept lits.now trail.now (code gone)
+            (clause ∷ []) self.old.lists.items clause (pair_at self.old.pairs.items clause) }
         ensures moved { OnOk result (IsMoved clause self.old self.new) }
-        ensures kept { OnOk result (IsKept lits.now trail.now 0 [] self.new.lists.items clause (pair_at self.new.pairs.items clause)) }
-        ensures looked { IfOk result (λ b. IsLooked b lits.now trail.now self.new.units clause (pair_at self.new.pairs.items clause)) }
+        ensures kept { OnOk result (IsKept lits.now trail.now 0 [] self.new.lists.items clause
+            (pair_at self.new.pairs.items clause)) }
+        ensures looked { IfOk result (λ b. IsLooked b lits.now trail.now self.new.units clause
+            (pair_at self.new.pairs.items clause)) }
         ensures many { OnOk result (length self.new.pairs.items ≡ length self.old.pairs.items) }
     {
         let watched = self.pair(clause);
@@ -172,10 +187,13 @@ impl Watches {
         requires new { length self.old.pairs.items ≡ clause }
         requires set { distinct lits.now ≡ true }
         requires not_false { is_false trail.now lits.now ≡ false }
-        requires wide { has_decision trail.now ≡ true → 2 ≤ open_in (before_last trail.now) lits.now }
+        requires wide { has_decision trail.now ≡ true
+            → 2 ≤ open_in (before_last trail.now) lits.now }
         ensures moved { OnOk result (IsMoved clause self.old self.new) }
-        ensures kept { OnOk result (IsKept lits.now trail.now 0 [] self.new.lists.items clause (pair_at self.new.pairs.items clause)) }
-        ensures quiet { OnOk result (is_quiet trail.now [] self.new.units clause (pair_at self.new.pairs.items clause) ≡ true) }
+        ensures kept { OnOk result (IsKept lits.now trail.now 0 [] self.new.lists.items clause
+            (pair_at self.new.pairs.items clause)) }
+        ensures quiet { OnOk result (is_quiet trail.now [] self.new.units clause
+            (pair_at self.new.pairs.items clause) ≡ true) }
         ensures many { OnOk result (length self.new.pairs.items ≡ clause + 1) }
     {
         let pair = pair_of(trail, lits);
@@ -197,10 +215,13 @@ impl Watches {
         clause: u32,
     ) -> Result<ClauseStatus, AllocError>
         requires there { clause < length self.old.pairs.items }
-        requires kept { IsKept lits.now trail.now 0 [] self.old.lists.items clause (pair_at self.old.pairs.items clause) }
+        requires kept { IsKept lits.now trail.now 0 [] self.old.lists.items clause
+            (pair_at self.old.pairs.items clause) }
         ensures moved { OnOk result (IsMoved clause self.old self.new) }
-        ensures kept { OnOk result (IsKept lits.now trail.now 0 [] self.new.lists.items clause (pair_at self.new.pairs.items clause)) }
-        ensures look { IfOk result (λ look. IsLook look lits.now trail.now (pair_at self.new.pairs.items clause)) }
+        ensures kept { OnOk result (IsKept lits.now trail.now 0 [] self.new.lists.items clause
+            (pair_at self.new.pairs.items clause)) }
+        ensures look { IfOk result (λ look. IsLook look lits.now trail.now
+            (pair_at self.new.pairs.items clause)) }
         ensures units { OnOk result (self.new.units ≡ self.old.units) }
         ensures many { OnOk result (length self.new.pairs.items ≡ length self.old.pairs.items) }
     {

@@ -9,7 +9,8 @@ ghost use Rattle.word_cut.specs.Words.{IsCut, IsRefused, Stands};
 
 /// Bytes have one list of words.
 pub fn law_one_cut()
-    ensures { (bytes : List ℕ) (words others : List Word) → IsCut bytes words → IsCut bytes others → words ≡ others }
+    ensures { (bytes : List ℕ) (words others : List Word) → IsCut bytes words → IsCut bytes others
+        → words ≡ others }
 {}
 
 /// Bytes that are refused have no words.
@@ -26,5 +27,6 @@ pub fn law_one_refusal()
 
 /// Each word of the bytes stands in them, is of its kind and is short enough.
 pub fn law_words_stand()
-    ensures { (bytes : List ℕ) (words : List Word) → IsCut bytes words → AllByRecursion (Stands bytes) words }
+    ensures { (bytes : List ℕ) (words : List Word) → IsCut bytes words
+        → AllByRecursion (Stands bytes) words }
 {}

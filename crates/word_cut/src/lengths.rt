@@ -5,18 +5,21 @@ ghost use Rattle.word_cut.specs.Texts.{is_letter as letter_test, is_digit as dig
 ghost use Rattle.word_cut.specs.Words.{line_feeds as feeds_of};
 ghost use Rattle.word_cut.specs.Fronts.{IsGapFront, IsWordFront, IsRun, double_at};
 
+/// Whether a byte is an ASCII letter.
 pub fn is_letter(byte: u8) -> bool
     ensures { result ≡ letter_test byte }
 {
     (byte >= b'a' && byte <= b'z') || (byte >= b'A' && byte <= b'Z')
 }
 
+/// Whether a byte is an ASCII digit.
 pub fn is_digit(byte: u8) -> bool
     ensures { result ≡ digit_test byte }
 {
     byte >= b'0' && byte <= b'9'
 }
 
+/// Whether a byte may stand in a name after its first letter: an ASCII letter, a digit or `_`.
 pub fn is_name_byte(byte: u8) -> bool
     ensures { result ≡ name_byte_test byte }
 {

@@ -94,7 +94,8 @@ fn read(text: &[u8]) -> Option<i128>
 /// isn't 0, with or without a `-` before them. Other texts, and greater numbers, give None.
 pub fn read_whole(text: &[u8]) -> Option<i128>
     ensures value { result ≡ read_of text.now }
-    ensures spelled { (z : ℤ) → unsigned_abs z ≤ greatest → (result ≡ Some z) ↔ (text.now ≡ signed_decimal z) }
+    ensures spelled { (z : ℤ) → unsigned_abs z ≤ greatest
+        → (result ≡ Some z) ↔ (text.now ≡ signed_decimal z) }
 {
     read(text)
 }
