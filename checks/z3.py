@@ -27,6 +27,7 @@ import sys
 import tempfile
 
 sys.path.insert(0, os.path.dirname(os.path.dirname(os.path.realpath(__file__))))
+from launch import allocator  # noqa: E402
 from view import program  # noqa: E402
 from view.tree import UPDATES, Spec  # noqa: E402
 from view.words import text_of  # noqa: E402
@@ -284,6 +285,7 @@ MOST_SECONDS = 20
 
 
 if __name__ == "__main__":
+    allocator.set_for_programs()
     if sys.argv[1:2] == ["--table"]:
         table(sys.argv[2:])
         sys.exit(0)

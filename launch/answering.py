@@ -5,7 +5,7 @@ import sys
 # (the module `signal` is made over this one, and takes longer to import than all else that a call needs)
 import _signal as signal
 
-from launch import seen
+from launch import allocator, seen
 from launch.paths import BAD_WORDS, HOME_PROGRAM, KEPT_PROGRAM, NO_PROGRAM, TOP, at, say
 
 PROGRAMS = {"home": HOME_PROGRAM, "kept": KEPT_PROGRAM}
@@ -42,6 +42,7 @@ def main(words):
 
 def answer(program, words):
     """Answers by a program, and returns the status."""
+    allocator.set_for_programs()
     if words and words[0] in VIEWS and os.path.isfile(VIEW):
         return view().main(program, words)
     status = run(program, words)
