@@ -1,8 +1,6 @@
-pub mod Found
 pub mod Places
 pub mod Causes
 pub mod Noting
-pub mod Granting
 pub mod Inversion
 pub mod Leaving
 pub mod Running

@@ -1,5 +1,4 @@
 pub mod Members
-pub mod Grants
 pub mod Tried
 pub mod Held
 pub mod Ended

@@ -1,10 +1,10 @@
-// The token protocol in code: the manager, which grants calls, nodes, which run them, and a network of both.
+// The token protocol in code: nodes, which run calls that are granted, and a network of them and a manager.
 //
-// It stands on `token_protocol`, whose definitions say what the manager grants, what a node answers to a call and to a message, what a
-// network holds after each step, and why what its nodes run is an execution. A `Runner` is a specification in a world with code for its
-// preconditions and effects; `Plain` evaluates them as they are written. `Net` keeps that its events form an execution, that what each
-// replica has taken is a delivery order of it, and that the state of each replica is the state after that. The manager finds the grants
-// of calls that can conflict by `grant_index`. The lists of grants, messages and events share their elements, by `shared_lists`.
+// It stands on `token_protocol`, whose definitions say what a node answers to a call and to a message, what a network holds after each
+// step, and why what its nodes run is an execution, and on `token_manager`, which grants calls. A `Runner` is a specification in a world
+// with code for its preconditions and effects; `Plain` evaluates them as they are written. `Net` keeps that its events form an execution,
+// that what each replica has taken is a delivery order of it, and that the state of each replica is the state after that. The lists of
+// messages and events share their elements, by `shared_lists`.
 //
 // `specs/Held.antt` and `specs/HeldNet.antt` have a node and a network as a program holds them, `specs/Stepped.antt` what a step of such
 // a network is, `specs/Tried.antt` what trying a call in a state gives; the other files of `specs/` mirror the code.
@@ -16,7 +16,6 @@
 mod ids;
 mod lines;
 mod log;
-mod manager;
 mod net;
 mod node;
 mod replica;
@@ -25,10 +24,10 @@ mod trying;
 
 pub use ids::Ids;
 pub use log::{CallEvent, Happened, number_of};
-pub use manager::Manager;
 pub use net::Net;
 pub use node::Node;
 pub use runner::{Plain, Runner};
+pub use token_manager::Manager;
 pub use token_protocol::{
     Begun, EventId, Granted, Heard, Message, NetDid, NetRefused, NetStep, NodeRefused, Request,
     WhyVoid,

@@ -13,7 +13,6 @@ ghost use Rattle.token_core.specs.Fields.{IsFirst};
 ghost use Rattle.token_core.specs.Stepped.{IsStepped};
 
 use crate::log::{Happened, Log};
-use crate::manager::Manager;
 use crate::node::Node;
 use crate::replica::{Replica, ask_at, begin_at, hear_at};
 use crate::runner::Runner;
@@ -21,6 +20,7 @@ use shared_lists::SharedList;
 use spec_core::{Call, State};
 use std::alloc::{AllocError, Global};
 use std::marker::Model;
+use token_manager::Manager;
 use token_protocol::{Message, NetDid, NetRefused, NetStep};
 
 /// A network carries out no more steps.

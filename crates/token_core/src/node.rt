@@ -19,13 +19,13 @@ ghost use Rattle.token_core.specs.Tried.{IsTried};
 ghost use Rattle.token_core.specs.Ended.{ended_of, begun_of, heard_of, refused_effect};
 
 use crate::ids::Ids;
-use crate::manager::copy_call;
 use crate::runner::Runner;
 use crate::trying::{Tried, try_call};
 use effectors::ApplyRefused;
 use spec_core::{Call, State};
 use std::alloc::{AllocError, Global};
 use std::marker::Model;
+use token_manager::copy_call;
 use token_protocol::{Begun, EventId, Heard, Message, NodeRefused, Request, WhyVoid, same_id};
 
 /// A replica's node: its state, the calls that it has taken, those that it knows as void, and the call that waits for a grant.
@@ -142,7 +142,8 @@ impl Node {
         call: Call,
         tried: Tried,
     ) -> Result<Ended, AllocError>
-        requires state { is_state (R.specification runner.now) (R.setting runner.now) self.old.state ≡ true }
+        requires state { is_state (R.specification runner.now) (R.setting runner.now) self.old.state
+            ≡ true }
         requires tried { IsTried (R.specification runner.now) (R.setting runner.now)
             (reads self.old.state) call tried }
         ensures ended { IfOk result
@@ -173,7 +174,8 @@ impl Node {
 
     // Runs a call.
     fn run<R: Runner>(&mut self, runner: &R, id: EventId, call: Call) -> Result<Ended, AllocError>
-        requires state { is_state (R.specification runner.now) (R.setting runner.now) self.old.state ≡ true }
+        requires state { is_state (R.specification runner.now) (R.setting runner.now) self.old.state
+            ≡ true }
         requires call { call_fits (R.specification runner.now) (R.setting runner.now) call ≡ true }
         ensures ended { IfOk result
             (λ ended. ended
@@ -199,8 +201,10 @@ impl Node {
         call: &Call,
     ) -> Result<Begun, NodeRefused>
         requires turn { self.old.turn < 4000000000 }
-        requires state { is_state (R.specification runner.now) (R.setting runner.now) self.old.state ≡ true }
-        requires call { call_fits (R.specification runner.now) (R.setting runner.now) call.now ≡ true }
+        requires state { is_state (R.specification runner.now) (R.setting runner.now) self.old.state
+            ≡ true }
+        requires call { call_fits (R.specification runner.now) (R.setting runner.now) call.now
+            ≡ true }
         requires free { takes_none (R.specification runner.now) call.now ≡ true }
         ensures answer { (result ≡ Err NodeRefused.Memory)
             ⊎ (result
@@ -245,7 +249,8 @@ impl Node {
     /// any other is run at once. It is refused where it doesn't fit, and then where another call waits; a refusal changes nothing.
     pub fn begin<R: Runner>(&mut self, runner: &R, call: &Call) -> Result<Begun, NodeRefused>
         requires turn { self.old.turn < 4000000000 }
-        requires state { is_state (R.specification runner.now) (R.setting runner.now) self.old.state ≡ true }
+        requires state { is_state (R.specification runner.now) (R.setting runner.now) self.old.state
+            ≡ true }
         ensures answer { (result ≡ Err NodeRefused.Memory)
             ⊎ (result
             ≡ begin_answer
@@ -303,7 +308,8 @@ impl Node {
         id: EventId,
         call: Call,
     ) -> Result<Heard, NodeRefused>
-        requires state { is_state (R.specification runner.now) (R.setting runner.now) self.old.state ≡ true }
+        requires state { is_state (R.specification runner.now) (R.setting runner.now) self.old.state
+            ≡ true }
         requires call { call_fits (R.specification runner.now) (R.setting runner.now) call ≡ true }
         ensures answer { (result ≡ Err NodeRefused.Memory)
             ⊎ (result
@@ -331,7 +337,8 @@ impl Node {
         id: EventId,
         after: &[EventId],
     ) -> Result<Heard, NodeRefused>
-        requires state { is_state (R.specification runner.now) (R.setting runner.now) self.old.state ≡ true }
+        requires state { is_state (R.specification runner.now) (R.setting runner.now) self.old.state
+            ≡ true }
         requires waiting { waiting_fits (R.specification runner.now) (R.setting runner.now)
             self.old.waiting ≡ true }
         ensures answer { (result ≡ Err NodeRefused.Memory)
@@ -369,8 +376,10 @@ impl Node {
         id: EventId,
         call: &Call,
     ) -> Result<Heard, NodeRefused>
-        requires state { is_state (R.specification runner.now) (R.setting runner.now) self.old.state ≡ true }
-        requires call { call_fits (R.specification runner.now) (R.setting runner.now) call.now ≡ true }
+        requires state { is_state (R.specification runner.now) (R.setting runner.now) self.old.state
+            ≡ true }
+        requires call { call_fits (R.specification runner.now) (R.setting runner.now) call.now
+            ≡ true }
         ensures answer { (result ≡ Err NodeRefused.Memory)
             ⊎ (result
             ≡ hear_answer
@@ -408,8 +417,10 @@ impl Node {
         call: &Call,
         seen: &[EventId],
     ) -> Result<Heard, NodeRefused>
-        requires state { is_state (R.specification runner.now) (R.setting runner.now) self.old.state ≡ true }
-        requires call { call_fits (R.specification runner.now) (R.setting runner.now) call.now ≡ true }
+        requires state { is_state (R.specification runner.now) (R.setting runner.now) self.old.state
+            ≡ true }
+        requires call { call_fits (R.specification runner.now) (R.setting runner.now) call.now
+            ≡ true }
         ensures answer { (result ≡ Err NodeRefused.Memory)
             ⊎ (result
             ≡ hear_answer
@@ -454,10 +465,12 @@ impl Node {
     /// as void. A Done is taken once, after all that its event had seen, and refused as `Range` where its effect leads beyond the
     /// range of a state. A Void is noted once. Whatever else it gets is old. A refusal changes nothing.
     pub fn hear<R: Runner>(&mut self, runner: &R, message: &Message) -> Result<Heard, NodeRefused>
-        requires state { is_state (R.specification runner.now) (R.setting runner.now) self.old.state ≡ true }
+        requires state { is_state (R.specification runner.now) (R.setting runner.now) self.old.state
+            ≡ true }
         requires waiting { waiting_fits (R.specification runner.now) (R.setting runner.now)
             self.old.waiting ≡ true }
-        requires message { message_fits (R.specification runner.now) (R.setting runner.now) message.now ≡ true }
+        requires message { message_fits (R.specification runner.now)
+            (R.setting runner.now) message.now ≡ true }
         ensures answer { (result ≡ Err NodeRefused.Memory)
             ⊎ (result
             ≡ hear_answer

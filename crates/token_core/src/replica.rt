@@ -17,15 +17,15 @@ ghost use Rattle.token_core.specs.Log.{lists_of, HasRoom, network_with, id_of, e
 ghost use Rattle.token_core.specs.Log.{after_begun, IsAfterHeard, IsPrepared, Left, after_ran};
 ghost use Rattle.token_core.specs.Log.{after_void};
 ghost use Rattle.token_core.specs.Fields.{held_replica, replica_at};
-ghost use Rattle.token_core.specs.Grants.{AreGrants};
+ghost use Rattle.token_manager.specs.Grants.{AreGrants};
 
 use crate::log::{CallEvent, Happened, Log, make_room, number_of, put};
-use crate::manager::{Manager, copy_call};
 use crate::node::Node;
 use crate::runner::Runner;
 use shared_lists::SharedList;
 use spec_core::Call;
 use std::alloc::{AllocError, Global};
+use token_manager::{Manager, copy_call};
 use token_protocol::{Begun, EventId, Heard, Message, NetDid, NetRefused, NodeRefused, WhyVoid};
 
 /// The turns of a replica are fewer.
@@ -255,7 +255,8 @@ pub fn begin_at<R: Runner>(
     at: &mut Replica,
     call: &Call,
 ) -> Result<NetDid, NetRefused>
-    requires state { is_state (R.specification runner.now) (R.setting runner.now) at.old.node.state ≡ true }
+    requires state { is_state (R.specification runner.now) (R.setting runner.now) at.old.node.state
+        ≡ true }
     ensures answer { (replicas : List ReplicaOf) (granted : List Granted) (r : ℕ)
         → (result ≡ Err NetRefused.Memory)
         ⊎ (result
@@ -270,7 +271,8 @@ pub fn begin_at<R: Runner>(
         (begin_at (network_with replicas granted (lists_of log.old)) r (replica_at at.old)
         (begin (R.specification runner.now) (R.setting runner.now)
         (node_of at.old.node) call.now))) }
-    ensures fits { is_state (R.specification runner.now) (R.setting runner.now) at.new.node.state ≡ true }
+    ensures fits { is_state (R.specification runner.now) (R.setting runner.now) at.new.node.state
+        ≡ true }
     ensures err { OnErr result
         ((held_replica at.new ≡ held_replica at.old) × (lists_of log.new ≡ lists_of log.old)) }
 {
@@ -294,7 +296,8 @@ pub fn hear_at<R: Runner>(
     at: &mut Replica,
     message: u32,
 ) -> Result<NetDid, NetRefused>
-    requires state { is_state (R.specification runner.now) (R.setting runner.now) at.old.node.state ≡ true }
+    requires state { is_state (R.specification runner.now) (R.setting runner.now) at.old.node.state
+        ≡ true }
     requires waiting { waiting_fits (R.specification runner.now) (R.setting runner.now)
         at.old.node.waiting ≡ true }
     requires message { (m : Sent) → slice_get log.old.messages.items message ≡ Some m
@@ -314,7 +317,8 @@ pub fn hear_at<R: Runner>(
         (hears_message (R.specification runner.now) (R.setting runner.now)
         (network_with replicas granted (lists_of log.old)) r (replica_at at.old)
         (slice_get log.old.messages.items message))) }
-    ensures fits { is_state (R.specification runner.now) (R.setting runner.now) at.new.node.state ≡ true }
+    ensures fits { is_state (R.specification runner.now) (R.setting runner.now) at.new.node.state
+        ≡ true }
     ensures err { OnErr result
         ((held_replica at.new ≡ held_replica at.old) × (lists_of log.new ≡ lists_of log.old)) }
 {

@@ -1,6 +1,6 @@
 use Rattle.std.proofs.Common.{◌≡◌, ◌++◌, drop}
 use Rattle.token_protocol.specs.Manager.{conflicting}
-use Rattle.token_core.proofs.manager.add_from.Given as goal
+use Rattle.token_manager.proofs.manager.add_from.Given as goal
 
 -- all that conflict are those added so far, and those from here on
 abbrev pub invariant-loop-number : goal.invariant-loop-number

@@ -1,7 +1,7 @@
 use Rattle.std.proofs.Common.{List, sym, subst}
 use Rattle.token_protocol.specs.declared.granted.Granted.{Granted}
 use Rattle.grant_index.specs.Index.{AreUpTo}
-use Rattle.token_core.proofs.manager.Manager.named.Goals as goal
+use Rattle.token_manager.proofs.manager.Manager.named.Goals as goal
 
 pub catch_up-requires : goal.catch_up-requires
 catch_up-requires c = record { index = subst (λ (l : List Granted). AreUpTo l c.self.inside.index) (sym c.as_slice-granted.ensures) c.self.invariant }

@@ -1,6 +1,6 @@
 use Rattle.std.proofs.Common.{sym, ◌∙◌}
 use Rattle.token_rules.proofs.Tokens.{no_conflict}
-use Rattle.token_core.proofs.manager.do_conflict.Goals as goal
+use Rattle.token_manager.proofs.manager.do_conflict.Goals as goal
 
 pub returns-then-not-may_conflict : goal.returns-then-not-may_conflict
 returns-then-not-may_conflict c =

@@ -3,8 +3,8 @@ use Rattle.token_protocol.specs.declared.message.EventId.{EventId}
 use Rattle.token_protocol.specs.Manager.{conflicting}
 use Rattle.grant_index.specs.Named.{ids_at}
 use Rattle.grant_index.proofs.Listed.{conflicts_listed}
-use Rattle.token_core.proofs.Granting.{next}
-use Rattle.token_core.proofs.manager.conflicting.Goals as goal
+use Rattle.token_manager.proofs.Granting.{next}
+use Rattle.token_manager.proofs.manager.conflicting.Goals as goal
 
 pub loop-number-init : goal.loop-number-init
 loop-number-init c =

@@ -1,8 +1,8 @@
 use Rattle.std.proofs.Common.{sym, ◌∙◌, ap}
 use Rattle.std.proofs.lemmas.Option.{slice_get_within}
 use Rattle.token_protocol.specs.declared.granted.Granted.{Granted}
-use Rattle.token_core.proofs.Granting.{named_by_tokens}
-use Rattle.token_core.proofs.manager.conflicting_behind.Goals as goal
+use Rattle.token_manager.proofs.Granting.{named_by_tokens}
+use Rattle.token_manager.proofs.manager.conflicting_behind.Goals as goal
 
 pub bounds-granted-number : goal.bounds-granted-number
 bounds-granted-number c = slice_get_within c.args.granted.now c.args.number c.requires.alike.0 c.requires.alike.1

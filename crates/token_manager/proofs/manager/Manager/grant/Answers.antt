@@ -2,7 +2,7 @@ use Rattle.std.proofs.Common.{List, sym, subst}
 use Rattle.token_protocol.specs.declared.granted.Granted.{Granted}
 use Rattle.grant_index.specs.Index.{AreUpTo}
 use Rattle.grant_index.proofs.Counted.{index_of_more}
-use Rattle.token_core.proofs.manager.Manager.grant.Goals as goal
+use Rattle.token_manager.proofs.manager.Manager.grant.Goals as goal
 
 pub invariant_of-self : goal.invariant_of-self
 invariant_of-self c = subst (λ (l : List Granted). AreUpTo l c.self.inside.index) (sym c.in_err-push.ensures.err) c.self.invariant

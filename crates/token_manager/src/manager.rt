@@ -14,7 +14,7 @@ ghost use Rattle.token_rules.specs.Conflict.{conflicts};
 ghost use Rattle.token_rules.specs.Rivals.{rivals_of};
 ghost use Rattle.grant_index.specs.Index.{numbers_from};
 ghost use Rattle.grant_index.specs.Named.{id_if, ids_at};
-ghost use Rattle.token_core.specs.Grants.{AreGrants, IsAlikeAt};
+ghost use Rattle.token_manager.specs.Grants.{AreGrants, IsAlikeAt};
 
 use grant_index::{GrantIndex, take_alike, token_sum};
 use items::Items;

@@ -16,8 +16,8 @@ use Rattle.token_protocol.specs.declared.message.Message.{Message}
 use Rattle.grant_index.specs.Alike.{take_alike}
 use Rattle.grant_index.specs.Named.{id_if, ids_at}
 use Rattle.grant_index.proofs.SameTokens.{named_behind}
-use Rattle.token_core.specs.Grants.{AreGrants, IsAlikeAt}
-use Rattle.token_core.proofs.Found.{absent, one_found}
+use Rattle.token_manager.specs.Grants.{AreGrants, IsAlikeAt}
+use Rattle.token_manager.proofs.Found.{absent, one_found}
 
 drop_next : {X : Type 0} (xs : List X) (i : ℕ) (x : X) → i < length xs → x ≡ get_or xs i x → drop i xs ≡ x ∷ drop (suc i) xs
 drop_next [] i x lt h = absurd (omega (arith, lt))

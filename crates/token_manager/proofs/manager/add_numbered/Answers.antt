@@ -1,7 +1,7 @@
 use Rattle.std.proofs.Common.{◌++◌, sym, ◌∙◌, ap}
 use Rattle.std.proofs.lemmas.List.{append-nil}
 use Rattle.grant_index.specs.Named.{id_if}
-use Rattle.token_core.proofs.manager.add_numbered.Goals as goal
+use Rattle.token_manager.proofs.manager.add_numbered.Goals as goal
 
 pub returns-in-None : goal.returns-in-None
 returns-in-None c = sym (append-nil c.args.ids.now) ∙ ap (λ o. c.args.ids.now ++ id_if c.args.spec.now c.args.world.now c.args.call.now o) c.in-None.ensures

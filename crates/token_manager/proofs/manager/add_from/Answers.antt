@@ -1,8 +1,8 @@
 use Rattle.std.proofs.Common.{List, ◌+◌, ◌++◌, drop, sym, ◌∙◌, ap, arith}
 use Rattle.token_protocol.specs.declared.message.EventId.{EventId}
 use Rattle.token_protocol.specs.Manager.{conflicting}
-use Rattle.token_core.proofs.Granting.{next_earlier, all_added}
-use Rattle.token_core.proofs.manager.add_from.Goals as goal
+use Rattle.token_manager.proofs.Granting.{next_earlier, all_added}
+use Rattle.token_manager.proofs.manager.add_from.Goals as goal
 
 pub loop-number-preserved : goal.loop-number-preserved
 loop-number-preserved c =

@@ -1,7 +1,7 @@
 use Rattle.std.proofs.Common.{◌≡◌, drop}
 use Rattle.std.specs.List.{find}
 use Rattle.token_protocol.specs.Ids.{same_id}
-use Rattle.token_core.proofs.manager.grant_of.Given as goal
+use Rattle.token_manager.proofs.manager.grant_of.Given as goal
 
 -- the first grant of the id is the first one from here on
 abbrev pub invariant-loop-found : goal.invariant-loop-found
