@@ -100,21 +100,25 @@ fn is_candidate(atoms: &[AtomKind], trail: &Trail, lit: Lit) -> bool
     has_row(atoms, lit) && trail.holds(lit)
 }
 
+// A literal has no row, and is true.
+fn is_plainly_true(atoms: &[AtomKind], values: &[bool], lit: Lit) -> bool {
+    !has_row(atoms, lit) && plain_value(values, lit.atom) == lit.positive
+}
+
 // The one candidate of a clause that no plain literal makes true, where it has just one.
 fn only_in(atoms: &[AtomKind], values: &[bool], trail: &Trail, lits: &[Lit]) -> Option<Lit>
     ensures { IfSome result (λ l. in_trail trail.now l ≡ true) }
 {
     let mut found = None;
     for lit in lits {
-        if has_row(atoms, *lit) {
-            if trail.holds(*lit) {
-                if found.is_some() {
-                    return None;
-                }
-                found = Some(*lit);
-            }
-        } else if plain_value(values, lit.atom) == lit.positive {
+        if is_plainly_true(atoms, values, *lit) {
             return None;
+        }
+        if is_candidate(atoms, trail, *lit) {
+            if found.is_some() {
+                return None;
+            }
+            found = Some(*lit);
         }
     }
     found
