@@ -10,14 +10,13 @@ ghost use Rattle.ground_groups.specs.Limited.{Appends};
 ghost use Rattle.ground_groups.specs.Calls.{constants_in};
 ghost use Rattle.ground_groups.specs.Lines.{line_at, lines_at};
 
-use crate::adding::has_room;
 use crate::constants::Named;
-use crate::instancing::add_instances;
+use crate::instancing::{add_instances, add_true};
 use crate::refused::GroundRefused;
 use ground_atoms::{Atoms, GroundArg, GroundFormula};
 use items::Items;
 use spec_core::{Invariant, Prefix, Prefixed, Spec};
-use stage_defs::{Setting, Stage, formula};
+use stage_defs::{Setting, Stage};
 use std::alloc::Global;
 
 /// Appends each invariant, once for each assignment.
@@ -112,11 +111,7 @@ pub fn add_requires(
         out.new atoms.new }
 {
     match line.prefix {
-        Prefix::Exists => {
-            has_room(out)?;
-            out.push(formula(atoms, alloc, setting, own.as_slice(), &line.body)?)?;
-            Ok(())
-        }
+        Prefix::Exists => add_true(atoms, alloc, setting, own.as_slice(), &line.body, out),
         _ => add_line(atoms, alloc, setting, named, line, out),
     }
 }

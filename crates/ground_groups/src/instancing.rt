@@ -1,41 +1,133 @@
-// Formulas of a line, once for each assignment of constants to its variables.
-ghost use Rattle.std.specs.Prelude.{◌-◌, map, length};
-ghost use Rattle.spec_core.specs.Form as forms;
-ghost use Rattle.ground_problem.specs.Formulas as formulas;
-ghost use Rattle.stage_defs.specs.Settings.{readings_in, caller_in};
+// Formulas of a line at constants, once for each assignment of constants to its variables.
+//
+// An assignment is chosen variable by variable, the last one fastest, in one list that grows and shrinks. So no list of all
+// assignments is made.
+ghost use Rattle.std.specs.Prelude.{◌≡◌, ◌-◌, ◌++◌, ◌∷◌, [], ℕ, List, map, length, OnOk};
+ghost use Rattle.spec_core.specs.Form.{form_of};
+ghost use Rattle.ground_problem.specs.Symbols.{negated};
+ghost use Rattle.ground_problem.specs.Formulas.{formula, instances};
 ghost use Rattle.ground_problem.specs.Problem.{most_formulas};
+ghost use Rattle.ground_problem.specs.Constants.{choices};
+ghost use Rattle.stage_defs.specs.Settings.{readings_in, caller_in};
 ghost use Rattle.ground_groups.specs.Limited.{Appends, HasRoomFor};
-ghost use Rattle.ground_problem.specs.Constants.{of_sort, choices};
 ghost use Rattle.ground_groups.specs.Calls.{constants_in};
+ghost use Rattle.ground_groups.specs.Lines.{signed};
 
 use crate::adding::{MOST_FORMULAS, has_room};
-use crate::assigning::{choices, count_choices};
+use crate::assigning::{count_choices, options_of};
 use crate::constants::Named;
 use crate::refused::GroundRefused;
 use ground_atoms::{Atoms, GroundFormula};
 use items::Items;
 use spec_core::Formula;
-use stage_defs::{Setting, formula};
+use stage_defs::{Setting, formula, negated};
 use std::alloc::Global;
 
-/// Whether there is room for a formula once for each assignment. No assignment is made for this.
-pub fn has_room_for(
-    alloc: Global,
-    sorts: &[u8],
-    vars: &[u8],
-    out: &Items<GroundFormula>,
-) -> Result<(), GroundRefused>
-    ensures { HasRoomFor result (most_formulas - length out.now)
-        (length (choices (map (of_sort 0 sorts.now) vars.now))) }
+// Whether there is room for a formula once for each choice of these options. No choice is made for this.
+fn has_room_for(options: &[Items<u32>], out: &Items<GroundFormula>) -> Result<(), GroundRefused>
+    ensures { HasRoomFor result (most_formulas - length out.now) (length (choices options.now)) }
 {
-    let count = count_choices(alloc, sorts, vars)?;
+    let count = count_choices(options);
     if count > MOST_FORMULAS.saturating_sub(out.len()) {
         return Err(GroundRefused::TooMany);
     }
     Ok(())
 }
 
-#[tactic(auto, using(crate::proofs::Lists::instances_beyond))]
+// Appends a formula at these constants, or that it is false at them.
+fn add_signed(
+    atoms: &mut Atoms,
+    alloc: Global,
+    setting: &Setting<'_>,
+    sign: bool,
+    form: &Formula,
+    vars: &[u32],
+    out: &mut Items<GroundFormula>,
+) -> Result<(), GroundRefused>
+    ensures { Appends result out.old atoms.old
+        (signed sign
+        (formula (readings_in setting.now) (caller_in setting.now) vars.now (form_of form.now)) ∷
+        [])
+        out.new atoms.new }
+{
+    has_room(out)?;
+    let made = formula(atoms, alloc, setting, vars, form)?;
+    if sign {
+        out.push(made)?;
+    } else {
+        out.push(negated(alloc, made)?)?;
+    }
+    Ok(())
+}
+
+// Takes the last constant out.
+fn remove_last(chosen: &mut Items<u32>)
+    ensures { (before : List ℕ) (last : ℕ) → chosen.old ≡ before ++ last ∷ [] → chosen.new ≡ before }
+{
+    chosen.pop();
+}
+
+// Appends it once for each choice for the variables that are left, after the constants that are chosen.
+fn add_choices(
+    atoms: &mut Atoms,
+    alloc: Global,
+    setting: &Setting<'_>,
+    sign: bool,
+    form: &Formula,
+    options: &[Items<u32>],
+    chosen: &mut Items<u32>,
+    out: &mut Items<GroundFormula>,
+) -> Result<(), GroundRefused>
+    ensures added { Appends result out.old atoms.old
+        (map
+        (λ vs. signed sign
+        (formula (readings_in setting.now) (caller_in setting.now) (chosen.old ++ vs)
+        (form_of form.now)))
+        (choices options.now))
+        out.new atoms.new }
+    ensures chosen { OnOk result (chosen.new ≡ chosen.old) }
+{
+    match options {
+        [] => add_signed(atoms, alloc, setting, sign, form, chosen.as_slice(), out),
+        [first, rest @ ..] => {
+            for constant in first {
+                chosen.push(*constant)?;
+                match add_choices(atoms, alloc, setting, sign, form, rest, chosen, out) {
+                    Ok(()) => {}
+                    Err(refused) => return Err(refused),
+                }
+                remove_last(chosen);
+            }
+            Ok(())
+        }
+    }
+}
+
+#[tactic(auto, using(crate::proofs::Lists::refused_beyond))]
+// Appends it once for each choice of these options, or says that there is no room for so many.
+fn add_each_choice(
+    atoms: &mut Atoms,
+    alloc: Global,
+    setting: &Setting<'_>,
+    sign: bool,
+    form: &Formula,
+    options: &[Items<u32>],
+    out: &mut Items<GroundFormula>,
+) -> Result<(), GroundRefused>
+    ensures { Appends result out.old atoms.old
+        (map
+        (λ vs. signed sign
+        (formula (readings_in setting.now) (caller_in setting.now) vs (form_of form.now)))
+        (choices options.now))
+        out.new atoms.new }
+{
+    if let Err(refused) = has_room_for(options, out) {
+        return Err(refused);
+    }
+    let mut chosen = Items::new(alloc);
+    add_choices(atoms, alloc, setting, sign, form, options, &mut chosen, out)
+}
+
 /// Appends a formula once for each assignment of constants to variables of these sorts.
 pub fn add_instances(
     atoms: &mut Atoms,
@@ -47,36 +139,64 @@ pub fn add_instances(
     out: &mut Items<GroundFormula>,
 ) -> Result<(), GroundRefused>
     ensures { Appends result out.old atoms.old
-        (formulas.instances (constants_in named.now) (readings_in setting.now)
-        (caller_in setting.now) vars.now (forms.form_of form.now))
+        (instances (constants_in named.now) (readings_in setting.now) (caller_in setting.now)
+        vars.now (form_of form.now))
         out.new atoms.new }
 {
-    if let Err(refused) = has_room_for(alloc, named.sorts.as_slice(), vars, out) {
-        return Err(refused);
-    }
-    let assignments = choices(alloc, named.sorts.as_slice(), vars)?;
-    add_at(atoms, alloc, setting, assignments.as_slice(), form, out)
+    let options = options_of(alloc, named.sorts.as_slice(), vars)?;
+    add_each_choice(atoms, alloc, setting, true, form, options.as_slice(), out)
 }
 
-// Appends a formula once for each of these assignments.
-fn add_at(
+/// Appends that a formula is false, once for each assignment of constants to variables of these sorts.
+pub fn add_false_instances(
     atoms: &mut Atoms,
     alloc: Global,
     setting: &Setting<'_>,
-    assignments: &[Items<u32>],
+    named: &Named,
+    vars: &[u8],
     form: &Formula,
     out: &mut Items<GroundFormula>,
 ) -> Result<(), GroundRefused>
     ensures { Appends result out.old atoms.old
-        (map
-        (λ vs. formulas.formula (readings_in setting.now) (caller_in setting.now) vs
-        (forms.form_of form.now))
-        assignments.now)
+        (map negated
+        (instances (constants_in named.now) (readings_in setting.now) (caller_in setting.now)
+        vars.now (form_of form.now)))
         out.new atoms.new }
 {
-    for assignment in assignments {
-        has_room(out)?;
-        out.push(formula(atoms, alloc, setting, assignment.as_slice(), form)?)?;
-    }
-    Ok(())
+    let options = options_of(alloc, named.sorts.as_slice(), vars)?;
+    add_each_choice(atoms, alloc, setting, false, form, options.as_slice(), out)
+}
+
+/// Appends a formula at these constants.
+pub fn add_true(
+    atoms: &mut Atoms,
+    alloc: Global,
+    setting: &Setting<'_>,
+    vars: &[u32],
+    form: &Formula,
+    out: &mut Items<GroundFormula>,
+) -> Result<(), GroundRefused>
+    ensures { Appends result out.old atoms.old
+        (formula (readings_in setting.now) (caller_in setting.now) vars.now (form_of form.now) ∷ [])
+        out.new atoms.new }
+{
+    add_signed(atoms, alloc, setting, true, form, vars, out)
+}
+
+/// Appends that a formula is false at these constants.
+pub fn add_false(
+    atoms: &mut Atoms,
+    alloc: Global,
+    setting: &Setting<'_>,
+    vars: &[u32],
+    form: &Formula,
+    out: &mut Items<GroundFormula>,
+) -> Result<(), GroundRefused>
+    ensures { Appends result out.old atoms.old
+        (negated
+        (formula (readings_in setting.now) (caller_in setting.now) vars.now (form_of form.now)) ∷
+        [])
+        out.new atoms.new }
+{
+    add_signed(atoms, alloc, setting, false, form, vars, out)
 }

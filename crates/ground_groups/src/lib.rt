@@ -29,7 +29,6 @@ pub mod defining;
 pub mod differing;
 pub mod entry;
 pub mod equating;
-pub mod failing;
 pub mod instancing;
 pub mod numbering;
 pub mod parts;

@@ -11,7 +11,7 @@ use ground_groups::GroundRefused;
 use ground_groups::constants::{Named, invariant_line, requires_line};
 use ground_groups::differing::add_differs;
 use ground_groups::entry::args_of;
-use ground_groups::failing::{add_false, add_false_instances};
+use ground_groups::instancing::{add_false, add_false_instances};
 use items::Items;
 use obligation_list::Obligation;
 use spec_core::{Prefix, Prefixed, Spec};
