@@ -1,11 +1,5 @@
-pub mod Gathered
 pub mod Lists
-pub mod Counted
 pub mod Ends
 pub mod Defined
 pub mod Joining
-pub mod Triples
 pub mod Started
-pub mod Tuples
-pub mod MoreThings
-pub mod Twice

@@ -1,19 +1,21 @@
 -- Lists of formulas up to a limit: one list after another, and lists that are too long.
-use Rattle.std.proofs.Common.{◌≡◌, ℕ, zero, suc, ◌+◌, ◌-◌, ◌<◌, ◌≤◌, Bool, true, false, cond, Option, Some, None, List, [], ◌∷◌, ◌++◌, length, map, drop, drop-cons, get_or, length-append, refl, sym, ◌∙◌, ap, arith}
+use Rattle.std.proofs.Common.{◌≡◌, ℕ, zero, suc, ◌+◌, ◌-◌, ◌<◌, ◌≤◌, Bool, true, false, cond, Option, Some, None, List, [], ◌∷◌, ◌++◌, length, map, drop, drop-cons, get_or, slice_index, length-append, append_assoc, refl, sym, ◌∙◌, ap, arith}
 use Rattle.std.specs.Prelude.{ltb, Result, Ok, Err}
 use Rattle.std.specs.List.{flat_map}
 use Rattle.std.specs.Option.{option_and_then}
 use Rattle.std.proofs.lemmas.Bool.{ltb-true, ltb-false}
 use Rattle.std.proofs.lemmas.Option.{same_Some}
-use Rattle.std.proofs.lemmas.List.{length-map}
+use Rattle.std.proofs.lemmas.List.{length-map, map-append}
+use Rattle.spec_core.specs.World.{each_before}
 use Rattle.ground_atoms.specs.Formulas.{form_of}
 use Rattle.ground_atoms.specs.declared.formula.GroundFormula.{GroundFormula}
-use Rattle.ground_problem.specs.Symbols.{Symbolic}
+use Rattle.ground_problem.specs.Symbols.{Symbolic, negated}
 use Rattle.ground_numbers.specs.Numbered.{Numbered}
 use Rattle.ground_atoms.specs.Known.{Known}
 use Rattle.ground_atoms.specs.Making.{MadeList, make, make_all}
 use Rattle.ground_problem.specs.Problem.{most_formulas}
 use Rattle.ground_groups.specs.Limited.{make_upto, Appends, HasRoomFor, IsWithin}
+use Rattle.ground_groups.specs.Lines.{signed}
 use Rattle.ground_groups.specs.declared.refused.GroundRefused.{GroundRefused}
 use Rattle.ground_groups.specs.declared.refused.GroundRefused.TheVariants.{TooMany, Memory}
 
@@ -99,6 +101,28 @@ pub refused_beyond : (why : GroundRefused) (old new : List GroundFormula) (k now
 refused_beyond TooMany old new k now f vs h = instances_beyond old k f vs h
 refused_beyond Memory old new k now f vs h = tt
 
+-- ---- one formula for each choice of constants
+
+-- one constant more is chosen, and then each of those that are left
+pub chosen_next : (f : List ℕ → Symbolic) (before longer xs : List ℕ) (ts : List (List ℕ)) (i : ℕ) → i < length xs → longer ≡ before ++ slice_index xs i ∷ []
+    → map (λ vs. f (before ++ vs)) (each_before (drop i xs) ts) ≡ map (λ vs. f (longer ++ vs)) ts ++ map (λ vs. f (before ++ vs)) (each_before (drop (i + 1) xs) ts)
+chosen_next f before longer xs ts i h e =
+    let g : List ℕ → Symbolic = λ vs. f (before ++ vs) in
+    let x = slice_index xs i in
+    let s : suc i ≡ i + 1 = omega arith in
+    ap (λ (ys : List ℕ). map g (each_before ys ts)) (drop-cons xs i 0 h)
+    ∙ map-append g (map (λ t. x ∷ t) ts) (each_before (drop (suc i) xs) ts)
+    ∙ (λ j. firsts ts j ++ map g (each_before (drop (s j) xs) ts))
+  where
+    firsts : (ts : List (List ℕ)) → map (λ vs. f (before ++ vs)) (map (λ t. slice_index xs i ∷ t) ts) ≡ map (λ vs. f (longer ++ vs)) ts
+    firsts [] = refl
+    firsts (t ∷ ts) = (let a = sym (append_assoc before (slice_index xs i ∷ []) t) ∙ ap (λ (l : List ℕ). l ++ t) (sym e) in λ j. f (a j) ∷ firsts ts j)
+
+-- each of them is false
+pub false_each : (f : List ℕ → Symbolic) (vss : List (List ℕ)) → map (λ vs. signed false (f vs)) vss ≡ map negated (map f vss)
+false_each f [] = refl
+false_each f (vs ∷ vss) = ap (λ (fs : List Symbolic). negated (f vs) ∷ fs) (false_each f vss)
+
 -- ---- one group of formulas for each two members of two lists, up to the end of the shorter one
 
 pub pair_next : {X Y : Type 0} (z : ℕ → List X → List Y → List Symbolic) (f : ℕ → X → Y → List Symbolic) → ((n : ℕ) (x : X) (y : Y) (xs : List X) (ys : List Y) → z n (x ∷ xs) (y ∷ ys) ≡ f n x y ++ z (n + 1) xs ys)
@@ -120,14 +144,6 @@ pub pair_refused : (fs gs hs all : List Symbolic) → hs ≡ fs ++ gs → (why :
     → Appends {A = Unit {0}} (Err why) out k fs new now → Appends {A = Unit {0}} (Err why) first start all new now
 pair_refused fs gs hs all s TooMany out new first k now start e g = sym e ∙ ap (make_upto (map form_of out) k) s ∙ upto_none (map form_of out) k fs gs g
 pair_refused fs gs hs all s Memory out new first k now start e g = tt
-
-pub refused_beyond_false : (why : GroundRefused) (old new : List GroundFormula) (k now : Known) (g : Symbolic → Symbolic) (f : List ℕ → Symbolic) (vs : List (List ℕ)) → HasRoomFor (Err why) (most_formulas - length old) (length vs) → Appends {A = Unit {0}} (Err why) old k (map g (map f vs)) new now
-refused_beyond_false TooMany old new k now g f vs h =
-    let a : length (map form_of old) ≡ length old = length-map old form_of in
-    let b : length (map f vs) ≡ length vs = length-map vs f in
-    let c : length (map g (map f vs)) ≡ length (map f vs) = length-map (map f vs) g in
-    upto_beyond (map form_of old) k (map g (map f vs)) (omega (arith, a, b, c, h))
-refused_beyond_false Memory old new k now g f vs h = tt
 
 -- ---- one group after another
 

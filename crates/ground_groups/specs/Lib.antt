@@ -1,5 +1,4 @@
 pub mod Limited
-pub mod Calls
 pub mod Lines
 pub mod Defined
 pub mod Rules

@@ -1,5 +1,5 @@
 -- Lists of formulas that are made up to a limit.
-use Rattle.std.specs.Prelude.{◌≡◌, ℕ, zero, suc, ◌+◌, ◌<◌, ◌≤◌, ltb, true, false, cond, Option, Some, None, Result, Ok, Err, List, [], ◌∷◌, ◌++◌, length, map}
+use Rattle.std.specs.Prelude.{◌≡◌, ℕ, ◌<◌, ◌≤◌, ltb, true, false, cond, Option, Some, None, Result, Ok, Err, List, [], ◌∷◌, ◌++◌, length, map}
 use Rattle.ground_problem.specs.Symbols.{Symbolic}
 use Rattle.ground_problem.specs.Problem.{most_formulas}
 use Rattle.ground_numbers.specs.Numbered.{Numbered}
@@ -37,11 +37,6 @@ abbrev pub HasRoomFor : Result (Unit {0}) GroundRefused → ℕ → ℕ → Type
 HasRoomFor (Ok value) room n = Unit {0}
 HasRoomFor (Err TooMany) room n = room < n
 HasRoomFor (Err Memory) room n = Unit {0}
-
--- how many pairs so many members of a list make
-abbrev pub pair_count : ℕ → ℕ
-pair_count zero = 0
-pair_count (suc n) = n + pair_count n
 
 -- whether so many are within the limit
 abbrev pub IsWithin : Result (Unit {0}) GroundRefused → ℕ → Type 0

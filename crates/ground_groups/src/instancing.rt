@@ -10,14 +10,14 @@ ghost use Rattle.ground_problem.specs.Problem.{most_formulas};
 ghost use Rattle.ground_problem.specs.Constants.{choices};
 ghost use Rattle.stage_defs.specs.Settings.{readings_in, caller_in};
 ghost use Rattle.ground_groups.specs.Limited.{Appends, HasRoomFor};
-ghost use Rattle.ground_groups.specs.Calls.{constants_in};
+ghost use Rattle.ground_constants.specs.Calls.{constants_in};
 ghost use Rattle.ground_groups.specs.Lines.{signed};
 
 use crate::adding::{MOST_FORMULAS, has_room};
-use crate::assigning::{count_choices, options_of};
-use crate::constants::Named;
 use crate::refused::GroundRefused;
 use ground_atoms::{Atoms, GroundFormula};
+use ground_constants::assigning::{count_choices, options_of};
+use ground_constants::constants::Named;
 use items::Items;
 use spec_core::Formula;
 use stage_defs::{Setting, formula, negated};
@@ -90,7 +90,8 @@ fn add_choices(
     match options {
         [] => add_signed(atoms, alloc, setting, sign, form, chosen.as_slice(), out),
         [first, rest @ ..] => {
-            for constant in first {
+            let constants = first.as_slice();
+            for constant in constants {
                 chosen.push(*constant)?;
                 match add_choices(atoms, alloc, setting, sign, form, rest, chosen, out) {
                     Ok(()) => {}

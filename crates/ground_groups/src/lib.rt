@@ -1,9 +1,10 @@
-// The groups of formulas of which the ground problem of an obligation is made, over numbered atoms.
+// The groups of formulas by which a ground problem states an obligation, over numbered atoms: what is true at the entry, that the
+// conclusion fails, and what readings after a call are.
 //
-// It stands on `stage_defs`, which makes formulas at a stage. Each group is appended to the formulas so far; it says that there are too
-// many exactly where the list would have more than its limit. Definitions, in specs/: `Calls` (the constants and the calls of an
-// obligation, as a program holds them), `Limited` (lists of formulas up to a limit). `Lines`, `Defined` and `Rules` say groups as a
-// program goes over them, and serve the proofs.
+// It stands on `ground_constants`, which has the constants and the calls, and on `stage_defs`, which makes formulas at a stage. Each
+// group is appended to the formulas so far; it says that there are too many exactly where the list would have more than its limit.
+// Definitions, in specs/: `Limited` (lists of formulas up to a limit). `Lines`, `Defined` and `Rules` say groups as a program goes
+// over them, and serve the proofs. The groups of equality stand in `ground_equality`.
 #![tactic(auto)]
 
 /// The value of a call; where it fails, lets go of these values and ends with its error. Values that are let go by name are let go
@@ -21,19 +22,13 @@ macro_rules! or_drop {
 }
 
 pub mod adding;
-pub mod agreeing;
-pub mod assigning;
 pub mod conflicting;
-pub mod constants;
 pub mod defining;
 pub mod differing;
 pub mod entry;
-pub mod equating;
 pub mod instancing;
-pub mod numbering;
 pub mod parts;
 pub mod ready;
 pub mod refused;
-pub mod things;
 
 pub use refused::GroundRefused;

@@ -15,7 +15,7 @@ decreases-add_choices l = length l.options.now
 abbrev pub invariant-loop-constant : goal.invariant-loop-constant
 invariant-loop-constant l = record {
   made :
-      make_upto (map form_of l.out) l.atoms (map (λ vs. signed l.sign (formula (readings_in l.setting) (caller_in l.setting) (l.fn.chosen ++ vs) (forms.form_of l.form))) (each_before (drop l.constant-index l.first) (choices l.rest)))
-      ≡ make_upto (map form_of l.initial.out) l.initial.atoms (map (λ vs. signed l.sign (formula (readings_in l.setting) (caller_in l.setting) (l.fn.chosen ++ vs) (forms.form_of l.form))) (each_before l.first (choices l.rest)));
+      make_upto (map form_of l.out) l.atoms (map (λ vs. signed l.sign (formula (readings_in l.setting) (caller_in l.setting) (l.fn.chosen ++ vs) (forms.form_of l.form))) (each_before (drop l.constant-index l.constants) (choices l.rest)))
+      ≡ make_upto (map form_of l.initial.out) l.initial.atoms (map (λ vs. signed l.sign (formula (readings_in l.setting) (caller_in l.setting) (l.fn.chosen ++ vs) (forms.form_of l.form))) (choices l.options));
   chosen : l.chosen ≡ l.fn.chosen;
 }

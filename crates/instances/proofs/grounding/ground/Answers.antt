@@ -1,7 +1,7 @@
 use Rattle.std.proofs.Common.{◌≡◌, ap}
 use Rattle.ground_problem.specs.Constants.{Constants, constants_of}
 use Rattle.ground_problem.specs.Problem.{formulas_of}
-use Rattle.ground_groups.specs.Calls.{constants_in, numbered_arguments}
+use Rattle.ground_constants.specs.Calls.{constants_in, numbered_arguments}
 use Rattle.instances.proofs.Whole.{few_made, table_made, forms_made, ground_refused}
 use Rattle.instances.proofs.grounding.ground.Goals as goal
 

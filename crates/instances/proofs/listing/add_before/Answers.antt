@@ -2,7 +2,7 @@ use Rattle.std.proofs.Common.{◌≡◌, ℕ, List, ◌++◌, rules, subst}
 use Rattle.obligation_list.specs.Breaking.{operations_of}
 use Rattle.ground_problem.specs.Entry.{entry, calls_ready, calls_free}
 use Rattle.ground_groups.specs.Limited.{Appends}
-use Rattle.ground_groups.specs.Calls.{constants_in}
+use Rattle.ground_constants.specs.Calls.{constants_in}
 use Rattle.ground_groups.proofs.Lists.{seq, seq_refused}
 use Rattle.instances.proofs.listing.add_before.Goals as goal
 

@@ -2,7 +2,7 @@ use Rattle.std.proofs.Common.{◌≡◌, [], Ok, Err, rules, ap}
 use Rattle.ground_problem.specs.Constants.{Constants, constants_of}
 use Rattle.ground_problem.specs.Problem.{stated}
 use Rattle.ground_atoms.specs.Calls.{calls_of}
-use Rattle.ground_groups.specs.Calls.{constants_in, numbered_arguments}
+use Rattle.ground_constants.specs.Calls.{constants_in, numbered_arguments}
 use Rattle.ground_groups.proofs.Lists.{seq_refused}
 use Rattle.ground_groups.proofs.Started.{start_at, defined_then}
 use Rattle.instances.proofs.listing.add_second.Goals as goal

@@ -1,0 +1,4 @@
+pub mod Gathered
+pub mod Counted
+pub mod Arguments
+pub mod MoreThings

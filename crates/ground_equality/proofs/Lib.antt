@@ -1,0 +1,4 @@
+pub mod Triples
+pub mod Tuples
+pub mod Twice
+pub mod Pairs
