@@ -19,19 +19,19 @@ ghost use Rattle.ground_problem.specs.Problem.{most_formulas};
 ghost use Rattle.ground_groups.specs.Limited.{Appends, HasRoomFor};
 ghost use Rattle.ground_equality.specs.Pairs.{pair_count};
 
+use effectors::is_thing;
+use ground_atoms::{Atom, Atoms, GroundFormula, NamedReading, Tuple};
+use ground_groups::GroundRefused;
 use ground_groups::adding::{MOST_FORMULAS, has_room};
 use ground_groups::differing::sum;
 use ground_groups::parts::{all_of, join_lengths, join_same};
-use ground_groups::GroundRefused;
-use effectors::is_thing;
-use ground_atoms::{Atom, Atoms, GroundFormula, NamedReading, Tuple};
 use items::Items;
 use spec_core::{Spec, Thing};
-use stage_defs::{both, either, equal, negated};
+use stage_defs::{both, either, equal, negated, same_const};
 use std::alloc::{AllocError, Global};
 
-// Two tuples are equal, place by place.
-fn tuples_same(
+// Two tuples of any lengths are equal, place by place.
+fn places_same(
     atoms: &mut Atoms,
     alloc: Global,
     left: &[u32],
@@ -48,6 +48,33 @@ fn tuples_same(
     let parts = join_lengths(alloc, left.len() == right.len(), done)?;
     let all = all_of(parts);
     Ok(all)
+}
+
+// Two tuples are equal, place by place. Those of one or two places, which most are, are joined at once.
+fn tuples_same(
+    atoms: &mut Atoms,
+    alloc: Global,
+    left: &[u32],
+    right: &[u32],
+) -> Result<GroundFormula, AllocError>
+    ensures { IfOk result (λ f. IsMade atoms.old
+        (symbols.all_parts (equality.tuples_same left.now right.now)) atoms.new f) }
+{
+    match left {
+        [a] => match right {
+            [b] => same_const(atoms, *a, *b),
+            _ => places_same(atoms, alloc, left, right),
+        },
+        [a, c] => match right {
+            [b, d] => {
+                let first = same_const(atoms, *a, *b)?;
+                let second = same_const(atoms, *c, *d)?;
+                both(alloc, first, second)
+            }
+            _ => places_same(atoms, alloc, left, right),
+        },
+        _ => places_same(atoms, alloc, left, right),
+    }
 }
 
 // The number of a relation's reading at the entry.

@@ -7,10 +7,10 @@ ghost use Rattle.ground_problem.specs.Equality as equality;
 ghost use Rattle.stage_defs.specs.Settings.{IsMade};
 ghost use Rattle.ground_groups.specs.Limited.{Appends};
 
-use ground_groups::adding::has_room;
+use ground_atoms::{Atom, Atoms, GroundFormula};
 use ground_constants::assigning::as_number;
 use ground_groups::GroundRefused;
-use ground_atoms::{Atom, Atoms, GroundFormula};
+use ground_groups::adding::has_room;
 use items::Items;
 use stage_defs::{both, either, negated};
 use std::alloc::{AllocError, Global};

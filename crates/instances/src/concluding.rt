@@ -7,8 +7,8 @@ ghost use Rattle.ground_constants.specs.Calls.{constants_in};
 ghost use Rattle.ground_groups.specs.Limited.{Appends};
 
 use ground_atoms::{Atoms, GroundFormula};
-use ground_groups::GroundRefused;
 use ground_constants::constants::{Named, invariant_line, requires_line};
+use ground_groups::GroundRefused;
 use ground_groups::differing::add_differs;
 use ground_groups::entry::args_of;
 use ground_groups::instancing::{add_false, add_false_instances};

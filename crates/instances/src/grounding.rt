@@ -13,13 +13,13 @@ ghost use Rattle.instances.specs.Ground.{IsGround};
 
 use crate::listing::add_all_defined;
 use ground_atoms::{Atoms, GroundCall, GroundFormula, NamedReading};
-use ground_groups::GroundRefused;
-use ground_equality::agreeing::add_congruence;
 use ground_constants::constants::{Named, constants, operations_of};
-use ground_groups::defining::readings_after;
-use ground_equality::equating::add_equality;
 use ground_constants::numbering::number_arguments;
 use ground_constants::things::things_of;
+use ground_equality::agreeing::add_congruence;
+use ground_equality::equating::add_equality;
+use ground_groups::GroundRefused;
+use ground_groups::defining::readings_after;
 use ground_numbers::law_arguments_are_first;
 use items::Items;
 use obligation_list::Obligation;

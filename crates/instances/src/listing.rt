@@ -12,9 +12,9 @@ ghost use Rattle.ground_constants.specs.Calls.{constants_in, numbered_arguments}
 
 use crate::concluding::add_conclusion;
 use ground_atoms::{Atoms, GroundFormula};
+use ground_constants::constants::Named;
 use ground_groups::GroundRefused;
 use ground_groups::conflicting::add_free;
-use ground_constants::constants::Named;
 use ground_groups::defining::add_definitions;
 use ground_groups::entry::add_invariants;
 use ground_groups::ready::add_all_ready;
