@@ -3,7 +3,7 @@ ghost use Rattle.std.specs.Prelude.{◌≡◌, ◌≤◌, true, not, ◌&&◌, I
 ghost use Rattle.proof_lines.specs.Marks.{HasMarks};
 ghost use Rattle.proof_lines.specs.Clauses.{is_empty, has, resolvent, insert, join, same_lit, sub, distinct, without, flip, negations, holds_both_ways};
 
-use crate::marks::{is_among, marks_for};
+use crate::marks::{SHORT_TABLE, are_few, is_among, mark_all, marks_for};
 use items::Items;
 use std::alloc::{AllocError, Global};
 use std::marker::Model;
@@ -90,7 +90,10 @@ impl Clause {
     pub fn of_opposites(alloc: Global, lits: &[Lit]) -> Result<Clause, AllocError>
         ensures { IfOk result (λ c. c ≡ negations lits.now) }
     {
-        let mut clause = Clause::empty(alloc);
+        let room = Vec::with_capacity(alloc, lits.len())?;
+        let mut clause = Clause {
+            lits: Items::from_vec(room),
+        };
         for lit in lits {
             clause.insert(lit.opposite())?;
         }
@@ -113,11 +116,9 @@ impl Clause {
         };
         left.law_distinct();
         right.law_distinct();
-        let marks = marks_for(alloc, left.lits(), right.lits())?;
         let most = (left.lits().len() + right.lits().len()).saturating_sub(2);
         let mut lits = Vec::with_capacity(alloc, most)?;
-        put_without(&mut lits, left.lits(), up)?;
-        put_right(&mut lits, marks.as_slice(), left.lits(), right.lits(), up)?;
+        put_resolvent(alloc, &mut lits, left.lits(), right.lits(), up)?;
         Ok(Clause {
             lits: Items::from_vec(lits),
         })
@@ -247,7 +248,7 @@ fn put_new(
     requires there { has out.old.items lit ≡ (not (same_lit lit up) && has left.now lit) }
     ensures { OnOk result (out.new.items ≡ insert out.old.items lit) }
 {
-    if !lit.same(up) && is_among(marks, left, lit) {
+    if is_among(marks, left, lit) && !lit.same(up) {
         return Ok(());
     }
     out.push(lit)?;
@@ -274,4 +275,54 @@ fn put_right(
         }
     }
     Ok(())
+}
+
+// Puts the resolvent of two clauses into an empty list. The literals of the left one are marked in a table on the stack.
+fn put_few(out: &mut Vec<Lit>, left: &[Lit], right: &[Lit], up: Lit) -> Result<(), AllocError>
+    requires none { out.old.items ≡ [] }
+    requires right { distinct right.now ≡ true }
+    ensures { OnOk result (out.new.items ≡ join (without up left.now)
+        (without (flip up) right.now)) }
+{
+    let mut table = [false; SHORT_TABLE];
+    mark_all(&mut table, left);
+    put_others(out, left, up)?;
+    put_right(out, &table, left, right, up)
+}
+
+// The same of many literals. The table has room for the greatest, and runs of literals are copied at once.
+fn put_many(
+    alloc: Global,
+    out: &mut Vec<Lit>,
+    left: &[Lit],
+    right: &[Lit],
+    up: Lit,
+) -> Result<(), AllocError>
+    requires none { out.old.items ≡ [] }
+    requires right { distinct right.now ≡ true }
+    ensures { OnOk result (out.new.items ≡ join (without up left.now)
+        (without (flip up) right.now)) }
+{
+    let marks = marks_for(alloc, left, right)?;
+    put_without(out, left, up)?;
+    put_right(out, marks.as_slice(), left, right, up)
+}
+
+// The same, by the way that takes less.
+fn put_resolvent(
+    alloc: Global,
+    out: &mut Vec<Lit>,
+    left: &[Lit],
+    right: &[Lit],
+    up: Lit,
+) -> Result<(), AllocError>
+    requires none { out.old.items ≡ [] }
+    requires right { distinct right.now ≡ true }
+    ensures { OnOk result (out.new.items ≡ join (without up left.now)
+        (without (flip up) right.now)) }
+{
+    if are_few(left.len(), right.len()) {
+        return put_few(out, left, right, up);
+    }
+    put_many(alloc, out, left, right, up)
 }

@@ -17,6 +17,7 @@ use lin_rows::Row;
 use std::alloc::{AllocError, Global};
 
 /// The row that is kept under a number, if one is.
+#[inline(always)]
 pub fn kept_at(rows: &[Option<Row>], number: usize) -> Option<&Row>
     ensures { option_copied result ≡ kept_at rows.now number }
 {
@@ -94,6 +95,7 @@ pub fn ends_of(
 }
 
 // Adds the next row, unless nothing names it after so many steps.
+#[inline(always)]
 fn push_row(
     rows: &mut Vec<Option<Row>>,
     ends: &[usize],
@@ -115,6 +117,7 @@ fn push_row(
 }
 
 // Lets a row go that nothing names after so many steps.
+#[inline(always)]
 fn let_go(rows: &mut Vec<Option<Row>>, ends: &[usize], taken: usize, number: usize)
     ensures { rows.new.items ≡ cond (is_done ends.now taken number)
         (slice_set rows.old.items number None) rows.old.items }
@@ -125,6 +128,7 @@ fn let_go(rows: &mut Vec<Option<Row>>, ends: &[usize], taken: usize, number: usi
 }
 
 /// Adds the row of a step, after which so many are taken.
+#[inline(always)]
 pub fn push_step(
     rows: &mut Vec<Option<Row>>,
     ends: &[usize],
@@ -143,6 +147,7 @@ pub fn push_step(
 }
 
 /// The row of a step, from the two rows that are kept for it.
+#[inline(always)]
 pub fn step_sum(alloc: Global, rows: &[Option<Row>], step: &RowStep) -> Result<Row, LineRefused>
     ensures { MatchResult result
         (λ row. step_sum (kept_at rows.now step.now.left) (kept_at rows.now step.now.right) step.now

@@ -1,9 +1,9 @@
 // Marks by literal: one look tells whether a literal is one of many, in place of a look at each of them.
 //
 // A table has a mark for each literal up to a greatest one. Making it takes room and time in proportion to the greatest atom, which should be one
-// of a problem, and time in proportion to the literals that are marked. So only long lists have one. What lies beyond a table is looked for
-// among the literals: an empty table is right for all of them.
-ghost use Rattle.std.specs.Prelude.{◌≡◌, ◌≤◌, true, IfOk, slice_set};
+// of a problem, and time in proportion to the literals that are marked. So only long lists have one of their own. Short ones share the size of a
+// table that stands on the stack. What lies beyond a table is looked for among the literals: an empty table is right for all of them.
+ghost use Rattle.std.specs.Prelude.{◌≡◌, ◌≤◌, true, IfOk, [], slice_set};
 ghost use Rattle.proof_lines.specs.Clauses.{has, holds_both_ways};
 ghost use Rattle.proof_lines.specs.Marks.{sign_place, place, HasMarks};
 
@@ -14,6 +14,9 @@ use std::alloc::{AllocError, Global};
 const FEW_LITERALS: usize = 8;
 
 const FEW_COMPARISONS: usize = 4_096;
+
+/// How many places a table has for clauses that aren't long: those of the first 256 atoms.
+pub const SHORT_TABLE: usize = 512;
 
 fn sign_place(positive: bool) -> usize
     ensures is { result ≡ sign_place positive }
@@ -41,12 +44,22 @@ fn places(lits: &[Lit]) -> usize {
     count
 }
 
-fn mark(marks: &mut Vec<bool>, lit: Lit)
-    ensures { marks.new.items ≡ slice_set marks.old.items (place lit) true }
+fn mark(marks: &mut [bool], lit: Lit)
+    ensures { marks.new ≡ slice_set marks.old (place lit) true }
 {
     let at = place(lit);
     if at < marks.len() {
         marks[at] = true;
+    }
+}
+
+/// Marks some literals in a table, and no others.
+pub fn mark_all(marks: &mut [bool], lits: &[Lit])
+    ensures { HasMarks marks.new lits.now }
+{
+    marks.fill(false);
+    for lit in lits {
+        mark(marks, *lit);
     }
 }
 
@@ -55,13 +68,12 @@ fn marks_of(alloc: Global, count: usize, lits: &[Lit]) -> Result<Vec<bool>, Allo
     ensures { IfOk result (λ marks. HasMarks marks.items lits.now) }
 {
     let mut marks = vec![in alloc; false; count]?;
-    for lit in lits {
-        mark(&mut marks, *lit);
-    }
+    mark_all(marks.as_mut_slice(), lits);
     Ok(marks)
 }
 
-fn are_few(one: usize, other: usize) -> bool {
+/// Whether a scan for each of some literals among others takes less than a table that goes up to the greatest.
+pub fn are_few(one: usize, other: usize) -> bool {
     one < FEW_LITERALS || other < FEW_LITERALS || one.saturating_mul(other) < FEW_COMPARISONS
 }
 
@@ -69,11 +81,10 @@ fn are_few(one: usize, other: usize) -> bool {
 pub fn marks_for(alloc: Global, lits: &[Lit], others: &[Lit]) -> Result<Vec<bool>, AllocError>
     ensures { IfOk result (λ marks. HasMarks marks.items lits.now) }
 {
-    let count = if are_few(lits.len(), others.len()) {
-        0
-    } else {
-        places(lits).max(places(others))
-    };
+    if are_few(lits.len(), others.len()) {
+        return marks_of(alloc, 0, lits);
+    }
+    let count = places(lits).max(places(others));
     marks_of(alloc, count, lits)
 }
 

@@ -31,6 +31,7 @@ fn has_row(atoms: &[AtomKind], lit: Lit) -> bool
 }
 
 /// The row of a literal, tightened. Range comes exactly where a negation leaves the range of a row.
+#[inline(always)]
 pub fn lit_row(alloc: Global, atoms: &[AtomKind], lit: Lit) -> Result<Row, LineRefused>
     requires { has_row atoms.now lit ≡ true }
     ensures { MatchResult result
@@ -93,6 +94,7 @@ pub fn all_have_rows(atoms: &[AtomKind], used: &[Lit]) -> bool
 }
 
 /// The row of a step, from its two rows.
+#[inline(always)]
 pub fn sum_of_step(
     alloc: Global,
     left: &Row,

@@ -14,6 +14,13 @@ IsKind (kinds.Resolve left right) l = (named l ≡ rising left right) × (unless
 IsKind kinds.Drop l = (named l ≡ []) × (unless_drop l ≡ [])
 IsKind kinds.Other l = (named l ≡ []) × (unless_drop l ≡ l ∷ [])
 
+-- the same of each of some lines
+unfoldable pub AreKinds : List LogLine → List Line → Type 0
+AreKinds [] [] = Unit {0}
+AreKinds [] (l ∷ ls) = ⊥
+AreKinds (k ∷ ks) [] = ⊥
+AreKinds (k ∷ ks) (l ∷ ls) = IsKind k l × AreKinds ks ls
+
 -- which of these lines names a clause last, where they are counted from a number on; else the number
 -- that was found before
 abbrev pub last_in : ℕ → ℕ → List Line → ℕ → ℕ

@@ -2,9 +2,9 @@
 //
 // The lines of a report that stands aren't built anew: all that upgrading has to know of a line is
 // which clauses it names, and only lines that resolve two clauses name some. So the bytes of a log are
-// gone through twice: a table has for each clause the last line that names it, and then each line is
-// copied, with a Drop line behind it where it names clauses last. Besides the table, of four bytes for
-// each clause, nothing is kept of a line.
+// gone through twice. First a list has what each line is, and a table for each clause the last line
+// that names it. Then each line is copied, with a Drop line behind it where it names clauses last. So
+// each line is read once. The list takes 12 bytes for each line, the table four for each clause.
 ghost use Rattle.std.specs.Prelude.{◌≡◌, ℕ, ◌+◌, ◌==◌, ◌<◌, ◌≤◌, ◌++◌, ◌∷◌, [], List, true, codes};
 ghost use Rattle.std.specs.Prelude.{cond, drop, filter, length, slice_index_or, IfOk, OnOk};
 ghost use Rattle.std.specs.Str.{bytes_eq};
@@ -16,7 +16,7 @@ ghost use Rattle.report_bytes.specs.Bytes.{pieces};
 ghost use Rattle.report_lines.specs.Logs.{line_format};
 ghost use Rattle.report_lines.specs.Words.{left};
 ghost use Rattle.report_upgrader.specs.declared.log_bytes.LogLine.TheVariants.{Resolve};
-ghost use Rattle.report_upgrader.specs.LastLines.{IsKind, last_naming, is_last, with_drops};
+ghost use Rattle.report_upgrader.specs.LastLines.{IsKind, AreKinds, last_naming, is_last, with_drops};
 ghost use Rattle.report_upgrader.specs.LastLines.{IsWritten};
 ghost use Rattle.report_upgrader.specs.Passing.{proved_text, say_log, IsText};
 
@@ -90,13 +90,13 @@ fn note(table: &mut Vec<u32>, number: u32, at: u32) -> Result<(), AllocError>
     Ok(())
 }
 
-// Notes in a table which clauses this line names.
-fn note_line(table: &mut Vec<u32>, line: &[u8], at: u32) -> Result<(), AllocError>
-    ensures { (l : Given) → IsText l line.now
+// Notes in a table which clauses a line of this kind names.
+fn note_kind(table: &mut Vec<u32>, kind: LogLine, at: u32) -> Result<(), AllocError>
+    ensures { (l : Given) → IsKind kind l
         → OnOk result ((n : ℕ) → slice_index_or table.new.items n 0
         ≡ cond (stands_in (named l) n) at (slice_index_or table.old.items n 0)) }
 {
-    match kind_of(line)? {
+    match kind {
         LogLine::Resolve(left, right) => {
             note(table, left, at)?;
             note(table, right, at)
@@ -105,10 +105,18 @@ fn note_line(table: &mut Vec<u32>, line: &[u8], at: u32) -> Result<(), AllocErro
     }
 }
 
-// For each clause the last of so many lines that names it.
-fn last_lines(alloc: Global, count: u32, lines: &[u8]) -> Result<Vec<u32>, AllocError>
-    ensures { (ls : List Given) → length ls ≡ count → say_log ls (pieces lines.now)
+// For each clause the last of so many lines that names it. What each line is stands in a list then.
+fn last_lines(
+    alloc: Global,
+    count: u32,
+    lines: &[u8],
+    kinds: &mut Vec<LogLine>,
+) -> Result<Vec<u32>, AllocError>
+    requires { kinds.old.items ≡ [] }
+    ensures table { (ls : List Given) → length ls ≡ count → say_log ls (pieces lines.now)
         → IfOk result (λ table. (n : ℕ) → slice_index_or table.items n 0 ≡ last_naming ls n) }
+    ensures kinds { (ls : List Given) → length ls ≡ count → say_log ls (pieces lines.now)
+        → OnOk result (AreKinds kinds.new.items ls) }
 {
     let mut table = Vec::new(alloc);
     let mut rest = lines;
@@ -116,7 +124,9 @@ fn last_lines(alloc: Global, count: u32, lines: &[u8]) -> Result<Vec<u32>, Alloc
         let Some((line, behind)) = next_line(rest) else {
             return Err(AllocError);
         };
-        note_line(&mut table, line, taken + 1)?;
+        let kind = kind_of(line)?;
+        note_kind(&mut table, kind, taken + 1)?;
+        kinds.push(kind)?;
         rest = behind;
     }
     Ok(table)
@@ -236,15 +246,21 @@ fn write_resolve(
     Ok(written)
 }
 
-// Adds a line as it is, unless it drops clauses, and a Drop line of the clauses that it names last.
-// Answers how many lines these are.
+// Adds a line of this kind as it is, unless it drops clauses, and a Drop line of the clauses that it
+// names last. Answers how many lines these are.
 #[tactic(auto, using(crate::proofs::LastLines::drop_written))]
-fn write_line(last: &[u32], at: u32, line: &[u8], out: &mut Vec<u8>) -> Result<u32, AllocError>
-    ensures { (l : Given) → IsText l line.now
+fn write_line(
+    last: &[u32],
+    at: u32,
+    kind: LogLine,
+    line: &[u8],
+    out: &mut Vec<u8>,
+) -> Result<u32, AllocError>
+    ensures { (l : Given) → IsText l line.now → IsKind kind l
         → IfOk result
         (λ n. IsWritten (with_drops last.now at l) out.old.items out.new.items n) }
 {
-    match kind_of(line)? {
+    match kind {
         LogLine::Resolve(left, right) => write_resolve(last, at, line, left, right, out),
         LogLine::Drop => Ok(0),
         LogLine::Other => {
@@ -254,15 +270,17 @@ fn write_line(last: &[u32], at: u32, line: &[u8], out: &mut Vec<u8>) -> Result<u
     }
 }
 
-// Adds the upgraded log of so many lines. Answers how many lines it has, and the bytes behind the log.
+// Adds the upgraded log of so many lines of these kinds. Answers how many lines it has, and the bytes
+// behind the log.
 fn write_lines<'a>(
     last: &[u32],
+    kinds: &[LogLine],
     count: u32,
     lines: &'a [u8],
     out: &mut Vec<u8>,
 ) -> Result<(u32, &'a [u8]), AllocError>
     ensures written { (ls : List Given) → length ls ≡ count → say_log ls (pieces lines.now)
-        → ((n : ℕ) → slice_index_or last.now n 0 ≡ last_naming ls n)
+        → ((n : ℕ) → slice_index_or last.now n 0 ≡ last_naming ls n) → AreKinds kinds.now ls
         → IfOk result (λ x. IsWritten (upgraded ls) out.old.items out.new.items x.0) }
     ensures behind { IfOk result (λ x. drop count (pieces lines.now) ≡ pieces x.1.now) }
     ensures fewer { IfOk result (λ x. length x.1.now ≤ length lines.now) }
@@ -273,7 +291,10 @@ fn write_lines<'a>(
         let Some((line, behind)) = next_line(rest) else {
             return Err(AllocError);
         };
-        let more = write_line(last, taken + 1, line, out)?;
+        let Some(kind) = kinds.get(taken as usize) else {
+            return Err(AllocError);
+        };
+        let more = write_line(last, taken + 1, *kind, line, out)?;
         written = sum(written, more)?;
         rest = behind;
     }
@@ -293,9 +314,10 @@ pub fn pass_log<'a>(
     ensures behind { IfOk result (λ behind. drop count (pieces lines.now) ≡ pieces behind.now) }
     ensures fewer { IfOk result (λ behind. length behind.now ≤ length lines.now) }
 {
-    let last = last_lines(alloc, count, lines)?;
+    let mut kinds = Vec::new(alloc);
+    let last = last_lines(alloc, count, lines, &mut kinds)?;
     let mut log = Vec::new(alloc);
-    let (written, behind) = write_lines(last.as_slice(), count, lines, &mut log)?;
+    let (written, behind) = write_lines(last.as_slice(), kinds.as_slice(), count, lines, &mut log)?;
     write_verdict_word(text, VerdictWord::Proved(written))?;
     text.extend_from_slice(log.as_slice())?;
     Ok(behind)

@@ -6,4 +6,4 @@ use Rattle.report_upgrader.proofs.LogBytes.{IsNoting}
 use Rattle.report_upgrader.proofs.log_bytes.last_lines.Given as goal
 
 abbrev pub invariant-lines : goal.invariant-lines
-invariant-lines l = (ls : List Line) → length ls ≡ l.count → say_log ls (pieces l.lines) → IsNoting ls l.taken (pieces l.rest) l.table.items
+invariant-lines l = (ls : List Line) → length ls ≡ l.count → say_log ls (pieces l.lines) → IsNoting ls l.taken (pieces l.rest) l.table.items l.kinds.items

@@ -6,5 +6,5 @@ use Rattle.proof_lines.proofs.clause.Clause.resolvent.Goals as goal
 
 pub invariant_of-result : goal.invariant_of-result
 invariant_of-result c =
-    let left : distinct c.lits-6.result.now ≡ true = rw c.lits-6.ensures c.law_distinct.ensures in
-    subst (λ (z : List Lit). distinct z ≡ true) (sym (c.from_vec.ensures ∙ c.in_ok-put_right.ensures)) (distinct-resolvent c.args.atom c.lits-6.result.now c.lits-7.result.now left)
+    let left : distinct c.lits-3.result.now ≡ true = rw c.lits-3.ensures c.law_distinct.ensures in
+    subst (λ (z : List Lit). distinct z ≡ true) (sym (c.from_vec.ensures ∙ c.in_ok-put_resolvent.ensures)) (distinct-resolvent c.args.atom c.lits-3.result.now c.lits-4.result.now left)
