@@ -24,6 +24,7 @@ fn digits(text: &[u8]) -> Option<u64>
 }
 
 // The number that the digits up to the first space write, and how many there are, unless more than 19, or another byte stands there.
+#[inline(always)]
 fn front_digits(bytes: &[u8]) -> Option<(u64, usize)>
     ensures len { IfSome result (λ x. x.1 ≡ position_or_len (λ b. b == 32) bytes.now) }
     ensures within { IfSome result (λ x. x.1 ≤ length bytes.now) }
@@ -46,6 +47,7 @@ fn front_digits(bytes: &[u8]) -> Option<(u64, usize)>
 
 /// The short number that the first word of bytes spells, and how long the word is. None says nothing.
 #[tactic(auto, using(crate::proofs::ShortNumbers::front_read))]
+#[inline(always)]
 pub fn front_number(bytes: &[u8]) -> Option<(u64, usize)>
     ensures len { IfSome result (λ x. x.1 ≡ position_or_len (λ b. b == 32) bytes.now) }
     ensures within { IfSome result (λ x. x.1 ≤ length bytes.now) }
@@ -75,6 +77,7 @@ fn short_number(word: &[u8]) -> Option<u64>
 }
 
 /// The number that a word spells without a sign, up to 2^127 - 1.
+#[inline(always)]
 pub fn word_number(word: &[u8]) -> Option<u128>
     ensures { result ≡ size_read word.now }
 {

@@ -9,16 +9,26 @@ ghost use Rattle.report_lines.specs.Words.{left, Gives};
 use crate::digits::{word_integer, word_number};
 use crate::words::{ReadError, Words, keyword, next, next_number};
 
-/// A number up to a bound.
+/// A number up to a bound. Most are short, so these are read where they stand.
+#[inline(always)]
 pub fn number(words: Words<'_>, most: u32) -> Result<(u32, Words<'_>), ReadError>
     ensures { Gives (λ x. (x.0, left x.1)) result ((number most).get (left words.entry)) }
 {
-    if let Some((number, rest)) = next_number(words) {
-        if number > most as u64 {
-            return Err(ReadError::Form);
-        }
-        return Ok((number as u32, rest));
+    let Some((number, rest)) = next_number(words) else {
+        return long_number(words, most);
+    };
+    if number > most as u64 {
+        return Err(ReadError::Form);
     }
+    Ok((number as u32, rest))
+}
+
+// The same of a word that may be long.
+#[cold]
+#[inline(never)]
+fn long_number(words: Words<'_>, most: u32) -> Result<(u32, Words<'_>), ReadError>
+    ensures { Gives (λ x. (x.0, left x.1)) result ((number most).get (left words.entry)) }
+{
     let (word, rest) = next(words)?;
     let Some(number) = word_number(word) else {
         return Err(ReadError::Form);
@@ -30,6 +40,7 @@ pub fn number(words: Words<'_>, most: u32) -> Result<(u32, Words<'_>), ReadError
 }
 
 /// A count, or the number of a clause, a row, an atom or a name.
+#[inline(always)]
 pub fn count(words: Words<'_>) -> Result<(u32, Words<'_>), ReadError>
     ensures { Gives (λ x. (x.0, left x.1)) result (count_format.get (left words.entry)) }
 {
@@ -37,7 +48,21 @@ pub fn count(words: Words<'_>) -> Result<(u32, Words<'_>), ReadError>
 }
 
 /// A whole number in the range of a row.
+#[tactic(auto, using(crate::proofs::ShortNumbers::whole_read))]
+#[inline(always)]
 pub fn integer(words: Words<'_>) -> Result<(i128, Words<'_>), ReadError>
+    ensures { Gives (λ x. (x.0, left x.1)) result (integer_format.get (left words.entry)) }
+{
+    match next_number(words) {
+        Some((number, rest)) => Ok((number as i128, rest)),
+        None => long_integer(words),
+    }
+}
+
+// The same of a word that may be long, or has a sign.
+#[cold]
+#[inline(never)]
+fn long_integer(words: Words<'_>) -> Result<(i128, Words<'_>), ReadError>
     ensures { Gives (λ x. (x.0, left x.1)) result (integer_format.get (left words.entry)) }
 {
     let (word, rest) = next(words)?;
@@ -82,6 +107,7 @@ pub fn behind<'a>(words: Words<'a>, key: &[u8]) -> Result<(u32, Words<'a>), Read
 }
 
 /// A count, and a whole number in the range of a row.
+#[inline(always)]
 pub fn pair(words: Words<'_>) -> Result<((u32, i128), Words<'_>), ReadError>
     ensures { Gives (λ x. (x.0, left x.1)) result
         ((both count_format integer_format).get (left words.entry)) }

@@ -60,6 +60,7 @@ impl<'a> Words<'a> {
     }
 }
 
+#[inline(always)]
 fn word_len(bytes: &[u8]) -> usize
     ensures len { result ≡ position_or_len (λ b. b == 32) bytes.now }
     ensures within { result ≤ length bytes.now }
@@ -73,6 +74,7 @@ fn word_len(bytes: &[u8]) -> usize
 }
 
 // The words behind the next word, which is so long.
+#[inline(always)]
 fn behind(words: Words<'_>, len: usize) -> Words<'_>
     requires open { words.over ≡ false }
     requires len { len ≡ position_or_len (λ b. b == 32) words.rest.now }
@@ -92,6 +94,7 @@ fn behind(words: Words<'_>, len: usize) -> Words<'_>
 }
 
 /// The next word, and the words behind it.
+#[inline(always)]
 pub fn next(words: Words<'_>) -> Result<(&[u8], Words<'_>), ReadError>
     ensures { Gives (λ x. (x.0.now, left x.1)) result (next_of (left words.entry)) }
 {
@@ -103,6 +106,7 @@ pub fn next(words: Words<'_>) -> Result<(&[u8], Words<'_>), ReadError>
 }
 
 /// The number that the next word spells, where it is a short one, and the words behind it. None says nothing.
+#[inline(always)]
 pub(crate) fn next_number(words: Words<'_>) -> Option<(u64, Words<'_>)>
     ensures { IfSome result (λ x. (w : List ℕ) × (next_of (left words.entry) ≡ Some (w, left x.1))
         × (size_read w ≡ Some x.0)) }
