@@ -4,7 +4,8 @@
 // ones. A sum of multiples of many rows is made row by row. Tightening divides a partial sum, so what was added so far is a multiple of
 // it, the scale: to add m times a row, the partial sum is taken scale / g times and the row m / g times, where g is their greatest
 // common divisor, and the new scale is g times what tightening divided by.
-use indexed_rows::Held;
+use crate::listing::RowList;
+use crate::narrow::NarrowRows;
 use items::Items;
 use lin_rows::{Row, sum_of_multiples, tighten};
 use proof_lines::RowStep;
@@ -14,7 +15,9 @@ use std::alloc::Global;
 /// The rows of a line. Those of the steps stand behind the given ones.
 #[derive(Drop)]
 pub struct Derivation {
-    pub rows: Held,
+    pub rows: RowList,
+    /// The given rows in narrow numbers.
+    pub narrow: NarrowRows,
     /// The numbers of the given rows that are used.
     pub used: Items<u32>,
     pub steps: Items<RowStep>,
@@ -34,23 +37,28 @@ struct Partial {
     scale: i128,
 }
 
-/// The line of no rows.
-pub fn no_rows(alloc: Global) -> Derivation {
-    Derivation {
-        rows: Held::new(alloc),
+/// The line of no rows, with room for so many given ones.
+pub fn no_rows(alloc: Global, given: usize) -> Option<Derivation> {
+    let rows = RowList::new(alloc, given)?;
+    Some(Derivation {
+        rows,
+        narrow: NarrowRows::new(alloc),
         used: Items::new(alloc),
         steps: Items::new(alloc),
-    }
+    })
 }
 
 /// Takes a given row, unless an equal one is there; whether it is a contradiction.
 pub fn take(derivation: &mut Derivation, alloc: Global, number: u32, given: &Row) -> Option<bool> {
     let row = tighten(alloc, given).ok()?;
-    if derivation.rows.has(&row) {
+    let slot = derivation.rows.slot_of(&row);
+    if derivation.rows.has(slot, &row) {
+        drop(row);
         return Some(false);
     }
     let refuted = row.is_contradiction();
-    derivation.rows.push(alloc, row).ok()?;
+    derivation.narrow.push(&row);
+    derivation.rows.push_given(slot, row)?;
     derivation.used.push(number).ok()?;
     Some(refuted)
 }
@@ -90,7 +98,7 @@ fn push_step(derivation: &mut Derivation, alloc: Global, step: RowStep) -> Optio
     let right = row_at(derivation, step.right)?;
     let sum = sum_of_multiples(alloc, left, step.first, right, step.second).ok()?;
     let by = divided_by(left, step.first, right, step.second, &sum);
-    derivation.rows.push(alloc, sum).ok()?;
+    derivation.rows.push(sum)?;
     derivation.steps.push(step).ok()?;
     by
 }

@@ -102,9 +102,11 @@ fn values_of(attempt: Attempt) -> Vec<i128> {
         values,
         sums,
         moved,
+        naming,
     } = attempt;
     drop(sums);
     drop(moved);
+    drop(naming);
     values
 }
 
@@ -118,7 +120,7 @@ fn try_rounding(
 ) -> Option<Vec<i128>> {
     let values = round(vertex, alloc, way)?;
     let mut attempt = attempt_at(derivation, alloc, values)?;
-    let mended = mend(derivation, &mut attempt, moves);
+    let mended = mend(derivation, alloc, &mut attempt, moves);
     let values = values_of(attempt);
     match mended {
         Some(true) if are_in_state(values.as_slice()) => Some(values),
@@ -211,8 +213,14 @@ fn turn_on(guide: &mut Guide, alloc: Global) -> Option<Turn> {
 
 // The line of a derivation.
 fn refutation(derivation: Derivation) -> Proposal {
-    let Derivation { rows, used, steps } = derivation;
+    let Derivation {
+        rows,
+        narrow,
+        used,
+        steps,
+    } = derivation;
     drop(rows);
+    drop(narrow);
     Proposal::Refutation { used, steps }
 }
 
@@ -263,7 +271,7 @@ fn guide_of(derivation: Derivation, alloc: Global, ints: u32) -> Option<Guide> {
 /// Numbers that may satisfy all rows, or a line that may refute them; nothing where a number has no room, where a limit is met, or for
 /// want of memory.
 pub fn propose(alloc: Global, rows: &[Row], ints: u32) -> Option<Proposal> {
-    let mut derivation = no_rows(alloc);
+    let mut derivation = no_rows(alloc, rows.len())?;
     match take_all(&mut derivation, alloc, rows) {
         Some(false) => {}
         Some(true) => return Some(refutation(derivation)),

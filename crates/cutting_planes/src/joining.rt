@@ -1,5 +1,6 @@
 // Rows that join the tableau late: only those that a vertex breaks, the worst of them first.
 use crate::combining::{Derivation, row_at};
+use crate::narrow::narrow_point;
 use crate::rounding::over_one_denominator;
 use lin_rows::{Row, RowTerm};
 use simplex::number::{at, product};
@@ -49,13 +50,16 @@ fn excess(row: &Row, numerators: &[i128], denominator: i128) -> Option<u128> {
     if beyond <= 0 {
         return Some(0);
     }
+    Some(in_length(row, beyond))
+}
+
+// How far it is beyond a row, in the row's own length.
+fn in_length(row: &Row, beyond: i128) -> u128 {
     let scaled = beyond.unsigned_abs().saturating_mul(1024);
-    Some(
-        scaled
-            .checked_div(length(row.terms()))
-            .unwrap_or(0)
-            .saturating_add(1),
-    )
+    scaled
+        .checked_div(length(row.terms()))
+        .unwrap_or(0)
+        .saturating_add(1)
 }
 
 /// A given row that a vertex breaks, and how far the vertex is beyond it; 0 once the row has joined.
@@ -63,6 +67,34 @@ fn excess(row: &Row, numerators: &[i128], denominator: i128) -> Option<u128> {
 struct Broken {
     number: usize,
     excess: u128,
+}
+
+// The given rows that a vertex breaks, where rows and vertex have narrow numbers.
+fn broken_narrow_rows(
+    derivation: &Derivation,
+    alloc: Global,
+    joined: &[bool],
+    numerators: &[i128],
+    denominator: i128,
+) -> Option<Vec<Broken>> {
+    if !derivation.narrow.are_all() {
+        return None;
+    }
+    let point = narrow_point(alloc, numerators, denominator)?;
+    let beyond = derivation.narrow.beyond(alloc, joined, &point);
+    drop(point);
+    let beyond = beyond?;
+    let rows = derivation.rows.as_slice();
+    let mut list = Vec::new(alloc);
+    for (number, beyond) in beyond.as_slice() {
+        let excess = in_length(rows.get(*number)?, *beyond);
+        list.push(Broken {
+            number: *number,
+            excess,
+        })
+        .ok()?;
+    }
+    Some(list)
 }
 
 // The given rows that a vertex breaks.
@@ -73,6 +105,9 @@ fn broken_rows(
     numerators: &[i128],
     denominator: i128,
 ) -> Option<Vec<Broken>> {
+    if let Some(list) = broken_narrow_rows(derivation, alloc, joined, numerators, denominator) {
+        return Some(list);
+    }
     let mut list = Vec::new(alloc);
     for (number, row) in derivation.rows.as_slice().iter().enumerate() {
         if !joined.get(number).copied().unwrap_or(true) {

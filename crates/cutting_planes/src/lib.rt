@@ -17,18 +17,20 @@
 // coins and thin slabs are decided without a split. A name that the vertex puts beyond the numbers of a state gets a bound there; what
 // rests on such a bound is no proposal, since it wasn't given.
 //
-// What it costs. Few rows join, so most of the time goes into reading the rows once for each vertex. 15 times cuts are made, up to two at a
-// time.
+// What it costs. Few rows join, so most of the time goes into reading the rows once for each vertex. They are read in narrow numbers,
+// one row behind the other, where all have room there (src/narrow). 15 times cuts are made, up to two at a time.
 //
-// The layer stands on `simplex`, on `lin_rows` and `proof_lines`, whose rows and steps it makes, and on `indexed_rows`.
-// Files, in the order in which a reader needs them: src/combining (sums of multiples as steps), src/rounding and src/repairing (whole
-// numbers near a vertex), src/joining (rows that join late), src/cuts, src/guide (what is proposed).
+// The layer stands on `simplex`, and on `lin_rows` and `proof_lines`, whose rows and steps it makes.
+// Files, in the order in which a reader needs them: src/listing and src/narrow (the rows), src/combining (sums of multiples as steps),
+// src/rounding and src/repairing (whole numbers near a vertex), src/joining (rows that join late), src/cuts, src/guide (what is proposed).
 #![tactic(auto)]
 
 mod combining;
 mod cuts;
 mod guide;
 mod joining;
+mod listing;
+mod narrow;
 mod repairing;
 mod rounding;
 

@@ -25,6 +25,8 @@ pub struct Attempt {
     pub sums: Vec<i128>,
     /// The number of moves up to the last one of each name.
     pub moved: Vec<u32>,
+    /// The numbers of the given rows that name each name, once a name is to be moved.
+    pub naming: Vec<Vec<u32>>,
 }
 
 // A name's new value is so far from its old one.
@@ -110,11 +112,44 @@ fn change(row: &Row, sum: i128, step: Move) -> i128 {
     lack(after).saturating_sub(lack(before))
 }
 
+// The numbers of the given rows that name a name.
+fn naming_at(attempt: &Attempt, name: u32) -> &[u32] {
+    match attempt.naming.get(name as usize) {
+        Some(numbers) => numbers.as_slice(),
+        None => &[],
+    }
+}
+
+// Puts the number of a row into the lists of the names of its terms.
+fn list_row(naming: &mut [Vec<u32>], number: u32, terms: &[RowTerm]) -> Option<()> {
+    for term in terms {
+        if let Some(numbers) = naming.get_mut(term.place as usize) {
+            numbers.push(number).ok()?;
+        }
+    }
+    Some(())
+}
+
+// Lists for each name the given rows that name it.
+fn list_naming(derivation: &Derivation, alloc: Global, attempt: &mut Attempt) -> Option<()> {
+    for _ in attempt.naming.len()..attempt.values.len() {
+        attempt.naming.push(Vec::new(alloc)).ok()?;
+    }
+    for (number, row) in derivation.rows.as_slice().iter().enumerate() {
+        if number < attempt.sums.len() {
+            let number = u32::try_from(number).ok()?;
+            list_row(attempt.naming.as_mut_slice(), number, row.terms())?;
+        }
+    }
+    Some(())
+}
+
 // How much more all rows lack after a move.
-fn cost(derivation: &Derivation, sums: &[i128], step: Move) -> i128 {
+fn cost(derivation: &Derivation, attempt: &Attempt, step: Move) -> i128 {
     let rows = derivation.rows.as_slice();
+    let sums = attempt.sums.as_slice();
     let mut cost = 0i128;
-    for number in derivation.rows.naming(step.name) {
+    for number in naming_at(attempt, step.name) {
         let index = *number as usize;
         if index < rows.len() && index < sums.len() {
             cost = cost.saturating_add(change(&rows[index], sums[index], step));
@@ -136,7 +171,7 @@ fn price(derivation: &Derivation, attempt: &Attempt, step: Move, moves: u32) -> 
     if !is_in_state(value.checked_add(step.by)?) {
         return None;
     }
-    let cost = cost(derivation, attempt.sums.as_slice(), step);
+    let cost = cost(derivation, attempt, step);
     if is_resting(attempt.moved.as_slice(), step.name, moves) {
         return Some(cost.saturating_add(RESTING));
     }
@@ -165,15 +200,27 @@ fn cheapest(
     found
 }
 
-// Brings the sums up to date.
-fn move_sums(derivation: &Derivation, sums: &mut [i128], step: Move) -> Option<()> {
+// Brings the sum of a row up to date.
+fn move_sum(derivation: &Derivation, sums: &mut [i128], number: u32, step: Move) -> Option<()> {
+    let index = number as usize;
     let rows = derivation.rows.as_slice();
-    for number in derivation.rows.naming(step.name) {
-        let index = *number as usize;
-        if index < rows.len() && index < sums.len() {
-            let more = rows[index].coefficient(step.name).checked_mul(step.by)?;
-            sums[index] = sums[index].checked_add(more)?;
-        }
+    if index < rows.len() && index < sums.len() {
+        let more = rows[index].coefficient(step.name).checked_mul(step.by)?;
+        sums[index] = sums[index].checked_add(more)?;
+    }
+    Some(())
+}
+
+// Brings the sums up to date.
+fn move_sums(
+    derivation: &Derivation,
+    naming: &[Vec<u32>],
+    sums: &mut [i128],
+    step: Move,
+) -> Option<()> {
+    let numbers = naming.get(step.name as usize)?;
+    for number in numbers.as_slice() {
+        move_sum(derivation, sums, *number, step)?;
     }
     Some(())
 }
@@ -185,14 +232,23 @@ fn make_move(derivation: &Derivation, attempt: &mut Attempt, step: Move, moves: 
     if name < attempt.moved.len() {
         attempt.moved[name] = moves;
     }
-    move_sums(derivation, attempt.sums.as_mut_slice(), step)
+    let naming = attempt.naming.as_slice();
+    move_sums(derivation, naming, attempt.sums.as_mut_slice(), step)
 }
 
 // Moves one name; whether all rows hold already.
-fn mend_one(derivation: &Derivation, attempt: &mut Attempt, moves: u32) -> Option<bool> {
+fn mend_one(
+    derivation: &Derivation,
+    alloc: Global,
+    attempt: &mut Attempt,
+    moves: u32,
+) -> Option<bool> {
     let Some(number) = worst(derivation, attempt.sums.as_slice()) else {
         return Some(true);
     };
+    if attempt.naming.is_empty() {
+        list_naming(derivation, alloc, attempt)?;
+    }
     let row = row_at(derivation, number)?;
     let beyond = at(attempt.sums.as_slice(), number as usize).checked_sub(row.bound())?;
     let step = cheapest(derivation, attempt, row, beyond, moves)?;
@@ -201,9 +257,14 @@ fn mend_one(derivation: &Derivation, attempt: &mut Attempt, moves: u32) -> Optio
 }
 
 /// Whether the given rows hold after some moves at most.
-pub fn mend(derivation: &Derivation, attempt: &mut Attempt, most: u32) -> Option<bool> {
+pub fn mend(
+    derivation: &Derivation,
+    alloc: Global,
+    attempt: &mut Attempt,
+    most: u32,
+) -> Option<bool> {
     for moves in 0..most {
-        if mend_one(derivation, attempt, moves.saturating_add(1))? {
+        if mend_one(derivation, alloc, attempt, moves.saturating_add(1))? {
             return Some(true);
         }
     }
@@ -225,6 +286,7 @@ pub fn attempt_at(derivation: &Derivation, alloc: Global, values: Vec<i128>) -> 
         values,
         sums,
         moved,
+        naming: Vec::new(alloc),
     })
 }
 
