@@ -72,9 +72,11 @@ fn held_assignment(
 ) -> Result<RowAssignment, AllocError>
     ensures { IfOk result (λ d. AreHeld problem.now.atoms trail.now d.lits d.rows) }
 {
+    let few = Vec::with_capacity(alloc, lits.len())?;
+    let rows = Vec::with_capacity(alloc, lits.len())?;
     let mut assignment = RowAssignment {
-        lits: Items::new(alloc),
-        rows: Items::new(alloc),
+        lits: Items::from_vec(few),
+        rows: Items::from_vec(rows),
     };
     for lit in lits {
         assign_lit(alloc, problem, trail, &mut assignment, *lit)?;

@@ -10,11 +10,12 @@ use search_logs::Trail;
 use std::alloc::{AllocError, Global};
 use std::cmp::min;
 
-/// The atoms that may have no value, how many atoms and clauses were looked at, the atoms of the trail in its order, the values that
-/// atoms had last, and the rows of the trail.
+/// The atoms that may have no value, and whether they go by activity, how many atoms and clauses were looked at, the atoms of the
+/// trail in its order, the values that atoms had last, and the rows of the trail.
 #[derive(Drop)]
 pub struct Hints {
     pub queue: DecisionQueue,
+    pub by_activity: bool,
     pub atoms: u32,
     pub clauses: usize,
     pub assigned: Vec<u32>,
@@ -43,10 +44,18 @@ fn first_unassigned(queue: &mut DecisionQueue, trail: &Trail, atoms: u32) -> Opt
     None
 }
 
+fn is_by_activity(order: Order) -> bool {
+    match order {
+        Order::Activity => true,
+        Order::Number => false,
+    }
+}
+
 impl Hints {
     pub(crate) fn new(alloc: Global, order: Order) -> Hints {
         Hints {
             queue: DecisionQueue::new(alloc, order),
+            by_activity: is_by_activity(order),
             atoms: 0,
             clauses: 0,
             assigned: Vec::new(alloc),
@@ -67,7 +76,9 @@ impl Hints {
 
     /// Takes note of a problem, under a trail without literals.
     pub(crate) fn begin(&mut self, problem: &Problem, trail: &Trail) -> Result<(), AllocError> {
-        self.count(problem)?;
+        if self.by_activity {
+            self.count(problem)?;
+        }
         self.clauses = problem.clauses.len();
         self.cut(problem, trail)
     }
@@ -103,6 +114,9 @@ impl Hints {
 
     // Raises the activity of the atoms that further clauses name: those that the last conflict gave.
     fn learn(&mut self, problem: &Problem) {
+        if !self.by_activity {
+            return;
+        }
         if self.clauses < problem.clauses.len() {
             self.queue.fade();
         }

@@ -2,8 +2,8 @@
 ghost use Rattle.std.specs.Prelude.{◌≡◌, ◌≢◌, ◌<◌, ℕ, [], true, cond, length, slice_index_or, OnOk, IfOk};
 ghost use Rattle.watched_search.specs.Watches.{is_among, list_at, Keeps, code};
 
-use items::Items;
 use proof_lines::Lit;
+use short_lists::ShortList;
 use std::alloc::{AllocError, Global};
 use std::mem;
 
@@ -16,12 +16,12 @@ pub(crate) fn code(lit: Lit) -> usize
 }
 
 // Makes room for the list with a number.
-fn widen(alloc: Global, lists: &mut Vec<Items<u32>>, number: usize) -> Result<(), AllocError>
+fn widen(alloc: Global, lists: &mut Vec<ShortList>, number: usize) -> Result<(), AllocError>
     ensures kept { (k : ℕ) → list_at lists.new.items k ≡ list_at lists.old.items k }
     ensures wide { OnOk result (number < length lists.new.items) }
 {
     while lists.len() <= number {
-        lists.push(Items::new(alloc))?;
+        lists.push(ShortList::new(alloc))?;
     }
     Ok(())
 }
@@ -29,7 +29,7 @@ fn widen(alloc: Global, lists: &mut Vec<Items<u32>>, number: usize) -> Result<()
 /// Adds a clause to the list of a literal.
 pub(crate) fn enter(
     alloc: Global,
-    lists: &mut Vec<Items<u32>>,
+    lists: &mut Vec<ShortList>,
     lit: Lit,
     clause: u32,
 ) -> Result<(), AllocError>
@@ -43,7 +43,7 @@ pub(crate) fn enter(
 }
 
 /// Exchanges the list with a number for an empty one.
-pub(crate) fn exchange(lists: &mut Vec<Items<u32>>, number: usize, other: &mut Items<u32>)
+pub(crate) fn exchange(lists: &mut Vec<ShortList>, number: usize, other: &mut ShortList)
     requires empty { other.old ≡ [] }
     ensures other { other.new ≡ list_at lists.old.items number }
     ensures kept { (k : ℕ) → k ≢ number → list_at lists.new.items k ≡ list_at lists.old.items k }

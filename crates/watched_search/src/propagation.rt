@@ -10,11 +10,11 @@ ghost use Rattle.watched_search.specs.Ready.{IsReady, StayWatched, MayPush};
 use crate::lists::{code, enter, exchange};
 use crate::looking::ClauseStatus;
 use crate::watches::Watches;
-use items::Items;
 use proof_lines::{Lit, Problem};
 use sat_core::finding::Found;
 use sat_core::growing::{clause_count, lits_of};
 use search_logs::{Entry, Trail};
+use short_lists::ShortList;
 use std::alloc::{AllocError, Global};
 
 /// The watched literals, with the number of a false clause if one was met, and the clauses that are still to be looked at.
@@ -22,7 +22,7 @@ use std::alloc::{AllocError, Global};
 pub struct Propagation {
     pub watches: Watches,
     pub conflict: Option<u32>,
-    pub left: Items<u32>,
+    pub left: ShortList,
 }
 
 impl Propagation {
@@ -33,7 +33,7 @@ impl Propagation {
         Propagation {
             watches: Watches::new(alloc),
             conflict: None,
-            left: Items::new(alloc),
+            left: ShortList::new(alloc),
         }
     }
 

@@ -9,13 +9,14 @@ use crate::looking::{ClauseStatus, Watched, look_at, pair_of, rests};
 use items::Items;
 use proof_lines::Lit;
 use search_logs::Trail;
+use short_lists::ShortList;
 use std::alloc::{AllocError, Global};
 
 /// The literals that each clause watches, the clauses that watch each literal, and the clauses that may be unit.
 #[derive(Drop)]
 pub struct Watches {
     pub pairs: Vec<Watched>,
-    pub lists: Vec<Items<u32>>,
+    pub lists: Vec<ShortList>,
     pub units: Items<u32>,
 }
 
@@ -26,7 +27,7 @@ const NO_LIST: usize = usize::MAX;
 // that is being gone through.
 fn list(
     alloc: Global,
-    lists: &mut Vec<Items<u32>>,
+    lists: &mut Vec<ShortList>,
     clause: u32,
     watched: Watched,
     from: usize,
@@ -48,7 +49,7 @@ fn list(
 // Adds a clause to the lists of two literals, which may be one.
 fn enter_both(
     alloc: Global,
-    lists: &mut Vec<Items<u32>>,
+    lists: &mut Vec<ShortList>,
     pair: Watched,
     clause: u32,
 ) -> Result<(), AllocError>
