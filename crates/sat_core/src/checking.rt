@@ -211,15 +211,21 @@ fn interpretation(
     Ok(Interpretation { truths, ints })
 }
 
-// What follows from an answer of the solver about the rows of a settled trail that assigns all atoms.
+// The rows of a trail that a solver was asked about, and what it answered.
+#[derive(Drop)]
+struct TheoryCheck {
+    assignment: RowAssignment,
+    answer: TheoryAnswer,
+}
+
+// What follows from a check of the rows of a settled trail that assigns all atoms.
 fn follow<T: Theory>(
     alloc: Global,
     problem: &Problem,
     grown: &mut Problem,
     trail: &mut Trail,
     log: &mut Items<Line>,
-    assignment: RowAssignment,
-    answer: TheoryAnswer,
+    check: TheoryCheck,
     budget: u32,
 ) -> Result<Outcome, AllocError>
     requires search { InSearch (record {
@@ -229,13 +235,15 @@ fn follow<T: Theory>(
     requires settled { Settled trail.old grown.old.clauses }
     requires assigned { (a : ℕ) → a < length grown.old.atoms → is_assigned trail.old a ≡ true }
     requires rows { IsRowAssignment grown.old.atoms trail.old
-        (length grown.old.atoms) assignment.lits assignment.rows }
-    requires answered { IsTheoryAnswer T.MAY_SPLIT T.MAY_STOP grown.old.ints assignment.rows answer }
+        (length grown.old.atoms) check.assignment.lits check.assignment.rows }
+    requires answered { IsTheoryAnswer T.MAY_SPLIT T.MAY_STOP
+        grown.old.ints check.assignment.rows check.answer }
     ensures outcome { IfOk result
         (λ o. IsOutcome o T.MAY_SPLIT T.MAY_STOP problem.now budget grown.old trail.old log.old grown.new trail.new log.new) }
     ensures stays { IfOk result (λ o. IfContinue o
         (IsStay grown.old.clauses trail.old grown.new.clauses trail.new)) }
 {
+    let TheoryCheck { assignment, answer } = check;
     match answer {
         TheoryAnswer::Model(ints) => {
             problem.law_fits();
@@ -301,7 +309,6 @@ pub fn final_check<T: Theory>(
     grown.law_fits();
     let assignment = row_assignment(alloc, grown, trail)?;
     let answer = theory.check(alloc, assignment.rows.as_slice(), grown.ints);
-    follow::<T>(
-        alloc, problem, grown, trail, log, assignment, answer, budget,
-    )
+    let check = TheoryCheck { assignment, answer };
+    follow::<T>(alloc, problem, grown, trail, log, check, budget)
 }

@@ -22,20 +22,20 @@ interpretation-requires g c = let n = c.requires.search.keeps.atom_count in let 
 pub returns-in_ok-found-in-Model-clause-outcome : goal.returns-in_ok-found-in-Model-clause-outcome
 returns-in_ok-found-in-Model-clause-outcome g c =
     let p = c.args.problem.now in
-    let m = subst (λ (z : TheoryAnswer). IsAnswer g.T.Theory.MAY_SPLIT g.T.Theory.MAY_STOP c.args.grown.now.ints c.args.assignment.rows z) c.in-Model.is c.requires.answered in
+    let m = subst (λ (z : TheoryAnswer). IsAnswer g.T.Theory.MAY_SPLIT g.T.Theory.MAY_STOP c.args.grown.now.ints c.args.check.assignment.rows z) c.in-Model.is c.requires.answered in
     let e = c.in_ok-found-in-Model.ensures in
     subst (λ z. IsModelOf p (record { truths = c.in_ok-found-in-Model.found.truths; ints = z })) (sym e.ints)
-    (model_of (aim_of p g.T.Theory.MAY_SPLIT) c.args.budget c.args.grown.now c.args.trail.now c.args.log.now c.args.assignment.lits c.args.assignment.rows c.in_ok-found-in-Model.found.truths c.in-Model.ints c.law_fits.ensures c.requires.search c.requires.settled c.requires.assigned c.requires.rows m e.many e.each)
+    (model_of (aim_of p g.T.Theory.MAY_SPLIT) c.args.budget c.args.grown.now c.args.trail.now c.args.log.now c.args.check.assignment.lits c.args.check.assignment.rows c.in_ok-found-in-Model.found.truths c.in-Model.ints c.law_fits.ensures c.requires.search c.requires.settled c.requires.assigned c.requires.rows m e.many e.each)
 
 pub picked-requires : goal.picked-requires
 picked-requires g c =
-    let a = subst (λ (z : TheoryAnswer). IsAnswer g.T.Theory.MAY_SPLIT g.T.Theory.MAY_STOP c.args.grown.now.ints c.args.assignment.rows z) c.in-Conflict.is c.requires.answered in
-    given-lits c.args.grown.now.atoms c.args.assignment.lits c.args.assignment.rows c.in-Conflict.used (stand-of c.args.grown.now.atoms c.args.assignment.lits c.args.assignment.rows c.requires.rows.stand) a.given
+    let a = subst (λ (z : TheoryAnswer). IsAnswer g.T.Theory.MAY_SPLIT g.T.Theory.MAY_STOP c.args.grown.now.ints c.args.check.assignment.rows z) c.in-Conflict.is c.requires.answered in
+    given-lits c.args.grown.now.atoms c.args.check.assignment.lits c.args.check.assignment.rows c.in-Conflict.used (stand-of c.args.grown.now.atoms c.args.check.assignment.lits c.args.check.assignment.rows c.requires.rows.stand) a.given
 
 pub refute-requires : goal.refute-requires
 refute-requires g c =
-    let a = subst (λ (z : TheoryAnswer). IsAnswer g.T.Theory.MAY_SPLIT g.T.Theory.MAY_STOP c.args.grown.now.ints c.args.assignment.rows z) c.in-Conflict.is c.requires.answered in
-    refutation-so g.T.Theory.MAY_SPLIT g.T.Theory.MAY_STOP c.args.problem.now c.args.budget c.args.grown.now c.args.trail.now c.args.log.now c.args.assignment.lits c.args.assignment.rows c.in-Conflict.used c.in-Ok.value c.requires.search c.requires.settled c.requires.rows a.given c.in-Ok.ensures
+    let a = subst (λ (z : TheoryAnswer). IsAnswer g.T.Theory.MAY_SPLIT g.T.Theory.MAY_STOP c.args.grown.now.ints c.args.check.assignment.rows z) c.in-Conflict.is c.requires.answered in
+    refutation-so g.T.Theory.MAY_SPLIT g.T.Theory.MAY_STOP c.args.problem.now c.args.budget c.args.grown.now c.args.trail.now c.args.log.now c.args.check.assignment.lits c.args.check.assignment.rows c.in-Conflict.used c.in-Ok.value c.requires.search c.requires.settled c.requires.rows a.given c.in-Ok.ensures
     c.in-Conflict.steps a
 
 pub returns-in-Ok-clause-outcome : goal.returns-in-Ok-clause-outcome
@@ -50,19 +50,19 @@ returns-in-Ok-clause-stays g c =
 
 pub cause_of-requires : goal.cause_of-requires
 cause_of-requires g c =
-    let a = subst (λ (z : TheoryAnswer). IsAnswer g.T.Theory.MAY_SPLIT g.T.Theory.MAY_STOP c.args.grown.now.ints c.args.assignment.rows z) c.in-Split.is c.requires.answered in
-    given-lits c.args.grown.now.atoms c.args.assignment.lits c.args.assignment.rows c.in-Split.used (stand-of c.args.grown.now.atoms c.args.assignment.lits c.args.assignment.rows c.requires.rows.stand) a.1.given
+    let a = subst (λ (z : TheoryAnswer). IsAnswer g.T.Theory.MAY_SPLIT g.T.Theory.MAY_STOP c.args.grown.now.ints c.args.check.assignment.rows z) c.in-Split.is c.requires.answered in
+    given-lits c.args.grown.now.atoms c.args.check.assignment.lits c.args.check.assignment.rows c.in-Split.used (stand-of c.args.grown.now.atoms c.args.check.assignment.lits c.args.check.assignment.rows c.requires.rows.stand) a.1.given
 
 pub split-requires-clause-fits : goal.split-requires-clause-fits
 split-requires-clause-fits g c =
-    let a = subst (λ (z : TheoryAnswer). IsAnswer g.T.Theory.MAY_SPLIT g.T.Theory.MAY_STOP c.args.grown.now.ints c.args.assignment.rows z) c.in-Split.is c.requires.answered in
+    let a = subst (λ (z : TheoryAnswer). IsAnswer g.T.Theory.MAY_SPLIT g.T.Theory.MAY_STOP c.args.grown.now.ints c.args.check.assignment.rows z) c.in-Split.is c.requires.answered in
     let f : FitsSigned w128 c.in-Split.at = search rules in
-    let h = splits-in_range (rows_at c.args.assignment.rows c.in-Split.used) c.in-Split.steps c.in-Split.place c.in-Split.at c.in-Split.low c.in-Split.high c.in-Split.values (rows_at-are_rows c.args.assignment.rows c.in-Split.used c.law_rows.ensures) a.1.cause in
+    let h = splits-in_range (rows_at c.args.check.assignment.rows c.in-Split.used) c.in-Split.steps c.in-Split.place c.in-Split.at c.in-Split.low c.in-Split.high c.in-Split.values (rows_at-are_rows c.args.check.assignment.rows c.in-Split.used c.law_rows.ensures) a.1.cause in
     simp to_z-of_z h
 
 pub returns-in_ok-cause-in-Split-clause-outcome : goal.returns-in_ok-cause-in-Split-clause-outcome
 returns-in_ok-cause-in-Split-clause-outcome g c =
-    let a = subst (λ (z : TheoryAnswer). IsAnswer g.T.Theory.MAY_SPLIT g.T.Theory.MAY_STOP c.args.grown.now.ints c.args.assignment.rows z) c.in-Split.is c.requires.answered in
+    let a = subst (λ (z : TheoryAnswer). IsAnswer g.T.Theory.MAY_SPLIT g.T.Theory.MAY_STOP c.args.grown.now.ints c.args.check.assignment.rows z) c.in-Split.is c.requires.answered in
     let f : FitsSigned w128 c.in-Split.at = search rules in
     let o = simp to_z-of_z at c.split.ensures in
     let r = c.in_ok-cause-in-Split.ensures.rest in
@@ -71,7 +71,7 @@ returns-in_ok-cause-in-Split-clause-outcome g c =
     IfOk-weaker c.split.result
     (λ (o : Outcome). IsSplitOff o c.args.budget c.args.grown.now c.args.log.now (at_most c.in-Split.place c.in-Split.at) (SplitLine c.in-Split.place c.in-Split.at c.in_ok-cause-in-Split.cause.used c.in_ok-cause-in-Split.cause.steps c.in_ok-cause-in-Split.cause.low c.in_ok-cause-in-Split.cause.high c.in_ok-cause-in-Split.cause.values) c.split.new.grown c.split.new.log)
     (λ (o : Outcome). IsOutcome o g.T.Theory.MAY_SPLIT g.T.Theory.MAY_STOP c.args.problem.now c.args.budget c.args.grown.now c.args.trail.now c.args.log.now c.split.new.grown c.args.trail.now c.split.new.log)
-    (λ z h. splits-outcome g.T.Theory.MAY_SPLIT g.T.Theory.MAY_STOP c.args.problem.now c.args.budget c.args.grown.now c.args.trail.now c.args.log.now c.args.assignment.lits c.args.assignment.rows c.in-Split.used c.in_ok-cause-in-Split.cause.used c.requires.search c.requires.settled c.requires.rows a.1.given c.in_ok-cause-in-Split.ensures.used z c.in-Split.place c.in-Split.at c.in-Split.steps c.in-Split.low c.in-Split.high c.in-Split.values c.split.new.grown c.split.new.log a.1 a.0
+    (λ z h. splits-outcome g.T.Theory.MAY_SPLIT g.T.Theory.MAY_STOP c.args.problem.now c.args.budget c.args.grown.now c.args.trail.now c.args.log.now c.args.check.assignment.lits c.args.check.assignment.rows c.in-Split.used c.in_ok-cause-in-Split.cause.used c.requires.search c.requires.settled c.requires.rows a.1.given c.in_ok-cause-in-Split.ensures.used z c.in-Split.place c.in-Split.at c.in-Split.steps c.in-Split.low c.in-Split.high c.in-Split.values c.split.new.grown c.split.new.log a.1 a.0
     (subst (λ (l : Line). IsSplitOff z c.args.budget c.args.grown.now c.args.log.now (at_most c.in-Split.place c.in-Split.at) l c.split.new.grown c.split.new.log) e h))
     o
 
@@ -88,20 +88,20 @@ returns-in_ok-cause-in-Split-clause-stays g c =
 
 pub picked-requires-in-Rows : goal.picked-requires-in-Rows
 picked-requires-in-Rows g c =
-    let a = subst (λ (z : TheoryAnswer). IsAnswer g.T.Theory.MAY_SPLIT g.T.Theory.MAY_STOP c.args.grown.now.ints c.args.assignment.rows z) c.in-Rows.is c.requires.answered in
-    given-lits c.args.grown.now.atoms c.args.assignment.lits c.args.assignment.rows c.in-Rows.used (stand-of c.args.grown.now.atoms c.args.assignment.lits c.args.assignment.rows c.requires.rows.stand) a.1.given
+    let a = subst (λ (z : TheoryAnswer). IsAnswer g.T.Theory.MAY_SPLIT g.T.Theory.MAY_STOP c.args.grown.now.ints c.args.check.assignment.rows z) c.in-Rows.is c.requires.answered in
+    given-lits c.args.grown.now.atoms c.args.check.assignment.lits c.args.check.assignment.rows c.in-Rows.used (stand-of c.args.grown.now.atoms c.args.check.assignment.lits c.args.check.assignment.rows c.requires.rows.stand) a.1.given
 
 pub returns-in-Ok-picked-clause-outcome : goal.returns-in-Ok-picked-clause-outcome
 returns-in-Ok-picked-clause-outcome g c =
-    let a = subst (λ (z : TheoryAnswer). IsAnswer g.T.Theory.MAY_SPLIT g.T.Theory.MAY_STOP c.args.grown.now.ints c.args.assignment.rows z) c.in-Rows.is c.requires.answered in
-    (a.0, rows-so g.T.Theory.MAY_SPLIT g.T.Theory.MAY_STOP c.args.problem.now c.args.budget c.args.grown.now c.args.trail.now c.args.log.now c.args.assignment.lits c.args.assignment.rows c.in-Rows.used c.in-Ok-picked.value c.requires.search c.requires.settled c.requires.rows a.1.given c.in-Ok-picked.ensures c.in-Rows.steps a.1)
+    let a = subst (λ (z : TheoryAnswer). IsAnswer g.T.Theory.MAY_SPLIT g.T.Theory.MAY_STOP c.args.grown.now.ints c.args.check.assignment.rows z) c.in-Rows.is c.requires.answered in
+    (a.0, rows-so g.T.Theory.MAY_SPLIT g.T.Theory.MAY_STOP c.args.problem.now c.args.budget c.args.grown.now c.args.trail.now c.args.log.now c.args.check.assignment.lits c.args.check.assignment.rows c.in-Rows.used c.in-Ok-picked.value c.requires.search c.requires.settled c.requires.rows a.1.given c.in-Ok-picked.ensures c.in-Rows.steps a.1)
 
 pub picked-requires-in-Range : goal.picked-requires-in-Range
 picked-requires-in-Range g c =
-    let a = subst (λ (z : TheoryAnswer). IsAnswer g.T.Theory.MAY_SPLIT g.T.Theory.MAY_STOP c.args.grown.now.ints c.args.assignment.rows z) c.in-Range.is c.requires.answered in
-    given-lits c.args.grown.now.atoms c.args.assignment.lits c.args.assignment.rows c.in-Range.used (stand-of c.args.grown.now.atoms c.args.assignment.lits c.args.assignment.rows c.requires.rows.stand) a.1.given
+    let a = subst (λ (z : TheoryAnswer). IsAnswer g.T.Theory.MAY_SPLIT g.T.Theory.MAY_STOP c.args.grown.now.ints c.args.check.assignment.rows z) c.in-Range.is c.requires.answered in
+    given-lits c.args.grown.now.atoms c.args.check.assignment.lits c.args.check.assignment.rows c.in-Range.used (stand-of c.args.grown.now.atoms c.args.check.assignment.lits c.args.check.assignment.rows c.requires.rows.stand) a.1.given
 
 pub returns-in-Ok-picked-2-clause-outcome : goal.returns-in-Ok-picked-2-clause-outcome
 returns-in-Ok-picked-2-clause-outcome g c =
-    let a = subst (λ (z : TheoryAnswer). IsAnswer g.T.Theory.MAY_SPLIT g.T.Theory.MAY_STOP c.args.grown.now.ints c.args.assignment.rows z) c.in-Range.is c.requires.answered in
-    (a.0, range-so g.T.Theory.MAY_SPLIT g.T.Theory.MAY_STOP c.args.problem.now c.args.budget c.args.grown.now c.args.trail.now c.args.log.now c.args.assignment.lits c.args.assignment.rows c.in-Range.used c.in-Ok-picked-2.value c.requires.search c.requires.settled c.requires.rows a.1.given c.in-Ok-picked-2.ensures c.in-Range.steps c.in-Range.what a.1)
+    let a = subst (λ (z : TheoryAnswer). IsAnswer g.T.Theory.MAY_SPLIT g.T.Theory.MAY_STOP c.args.grown.now.ints c.args.check.assignment.rows z) c.in-Range.is c.requires.answered in
+    (a.0, range-so g.T.Theory.MAY_SPLIT g.T.Theory.MAY_STOP c.args.problem.now c.args.budget c.args.grown.now c.args.trail.now c.args.log.now c.args.check.assignment.lits c.args.check.assignment.rows c.in-Range.used c.in-Ok-picked-2.value c.requires.search c.requires.settled c.requires.rows a.1.given c.in-Ok-picked-2.ensures c.in-Range.steps c.in-Range.what a.1)
