@@ -5,59 +5,119 @@
 // both of whose literals shorten many clauses: the product of what they do counts, so that neither branch stays long (Freeman, 1995). Which
 // atoms are tried goes by the clauses that have two or three open literals.
 //
+// A literal weighs as much as becomes of its clauses where it is false. One with two open literals forces the other; one with three is left
+// with two, which counts for more where each of these is likely to become false. That is so where its opposite weighs much. So the weights
+// are found in a few rounds, each by those of the round before it (Mijnders, de Wilde and Heule, 2010).
+//
 // A decision looks at all clauses that count. So there is a bound on how often clauses are visited.
 use crate::assignment::{Truth, truth_of};
 use crate::codes::opposite;
 use crate::watching::Clauses;
 use std::alloc::{AllocError, Global};
+use std::mem;
 
-// What a clause adds to the weight of its open literals, if it has two of them, and if it has three.
-const WEIGHT_OF_TWO: u64 = 5;
+// What the average literal weighs.
+const UNIT: u64 = 1024;
 
-const WEIGHT_OF_THREE: u64 = 1;
+// The least and the most that a literal weighs.
+const LEAST: u64 = UNIT / 10;
+
+const MOST: u64 = UNIT * 25;
+
+// How much more a clause with two open literals counts than one with three.
+const FORCING: u64 = 5;
+
+// In how many rounds the weights are found.
+const ROUNDS: u32 = 5;
 
 // A learned clause counts if it has so many literals or fewer.
 const SHORT: usize = 3;
 
-// How much more the product of two weights counts than their sum.
-const PRODUCT: u64 = 1024;
+/// The open literals of a clause that has two or three of them, and none that is true.
+#[derive(Clone, Copy)]
+pub struct Short {
+    first: u32,
+    second: u32,
+    third: Option<u32>,
+}
 
-/// The clauses that count, how much each literal weighs, which atoms were taken, and how many visits of clauses are left.
+/// The clauses that count, and those of them that are short now; how much each literal weighs, and how much it weighed in the round before;
+/// which atoms were taken, and how many visits of clauses are left.
 #[derive(Drop)]
 pub struct Lookahead {
     atoms: u32,
     clauses: Vec<u32>,
+    shorts: Vec<Short>,
     weights: Vec<u64>,
+    before: Vec<u64>,
     taken: Vec<bool>,
     visits: usize,
 }
 
-/// How good a decision is that does so much in the one branch, and so much in the other.
+/// How good a decision is that does so much in the one branch, and so much in the other. The product counts for more than the sum.
 pub(crate) fn score(left: u64, right: u64) -> u64 {
     left.saturating_mul(right)
-        .saturating_mul(PRODUCT)
         .saturating_add(left)
         .saturating_add(right)
 }
 
-// How many literals of a clause are open, or 0 where one is true.
-fn open_of(lits: &[u32], truths: &[Truth]) -> usize {
+// The open literals of a clause, if these are two or three and none is true.
+fn short_of(lits: &[u32], truths: &[Truth]) -> Option<Short> {
     let mut open = 0usize;
+    let mut short = Short {
+        first: 0,
+        second: 0,
+        third: None,
+    };
     for lit in lits {
         match truth_of(truths, *lit) {
-            Truth::True => return 0,
-            Truth::Open => open = open.saturating_add(1),
+            Truth::True => return None,
+            Truth::Open => {
+                match open {
+                    0 => short.first = *lit,
+                    1 => short.second = *lit,
+                    2 => short.third = Some(*lit),
+                    _ => return None,
+                }
+                open = open.saturating_add(1);
+            }
             Truth::False => {}
         }
     }
-    open
+    if open < 2 {
+        return None;
+    }
+    Some(short)
 }
 
-fn weight_of(open: usize) -> u64 {
-    match open {
-        2 => WEIGHT_OF_TWO,
-        3 => WEIGHT_OF_THREE,
-        _ => 0,
+fn is_true(lits: &[u32], truths: &[Truth]) -> bool {
+    for lit in lits {
+        if truth_of(truths, *lit) == Truth::True {
+            return true;
+        }
+    }
+    false
+}
+
+fn at(weights: &[u64], lit: u32) -> u64 {
+    match weights.get(lit as usize) {
+        Some(weight) => *weight,
+        None => 0,
+    }
+}
+
+// The product of two weights.
+fn product(left: u64, right: u64) -> u64 {
+    left.saturating_mul(right) / UNIT
+}
+
+fn bounded(weight: u64) -> u64 {
+    if weight < LEAST {
+        LEAST
+    } else if weight > MOST {
+        MOST
+    } else {
+        weight
     }
 }
 
@@ -65,26 +125,74 @@ impl Lookahead {
     /// No clause counts, and none may be visited.
     pub(crate) fn new(alloc: Global, atoms: u32) -> Result<Lookahead, AllocError> {
         let mut weights = Vec::new(alloc);
+        let mut before = Vec::new(alloc);
         let mut taken = Vec::new(alloc);
         for _ in 0..atoms {
-            weights.push(0)?;
-            weights.push(0)?;
+            for _ in 0..2 {
+                weights.push(0)?;
+                before.push(0)?;
+            }
             taken.push(false)?;
         }
         Ok(Lookahead {
             atoms,
             clauses: Vec::new(alloc),
+            shorts: Vec::new(alloc),
             weights,
+            before,
             taken,
             visits: 0,
         })
     }
 
-    /// Lets all clauses count that there are, and so many visits of clauses.
-    pub(crate) fn begin(&mut self, clauses: &Clauses, visits: usize) -> Result<(), AllocError> {
+    // Counts how many clauses name each literal, of those that aren't true.
+    fn count_names(&mut self, clauses: &Clauses, truths: &[Truth]) {
         for number in 0..clauses.len() {
             if let Ok(number) = u32::try_from(number) {
-                self.clauses.push(number)?;
+                let lits = clauses.lits(number);
+                if !is_true(lits, truths) {
+                    self.count_in(lits);
+                }
+            }
+        }
+    }
+
+    fn count_in(&mut self, lits: &[u32]) {
+        for lit in lits {
+            let place = *lit as usize;
+            if place < self.before.len() {
+                self.before[place] = self.before[place].saturating_add(1);
+            }
+        }
+    }
+
+    // Whether a clause isn't true, and the opposite of each of its literals stands in such a clause. Any other can be made true and
+    // leaves the rest as it was.
+    fn is_relevant(&self, lits: &[u32], truths: &[Truth]) -> bool {
+        if is_true(lits, truths) {
+            return false;
+        }
+        for lit in lits {
+            if truth_of(truths, *lit) == Truth::Open && self.opposed(*lit) == 0 {
+                return false;
+            }
+        }
+        true
+    }
+
+    /// Lets all clauses count that matter, and so many visits of clauses.
+    pub(crate) fn begin(
+        &mut self,
+        clauses: &Clauses,
+        truths: &[Truth],
+        visits: usize,
+    ) -> Result<(), AllocError> {
+        self.count_names(clauses, truths);
+        for number in 0..clauses.len() {
+            if let Ok(number) = u32::try_from(number) {
+                if self.is_relevant(clauses.lits(number), truths) {
+                    self.clauses.push(number)?;
+                }
             }
         }
         self.visits = visits;
@@ -105,43 +213,125 @@ impl Lookahead {
     }
 
     fn weight(&self, lit: u32) -> u64 {
-        match self.weights.get(lit as usize) {
-            Some(weight) => *weight,
-            None => 0,
-        }
+        at(self.weights.as_slice(), lit)
     }
 
-    fn forget(&mut self) {
+    // How much the opposite of a literal weighed in the round before.
+    fn opposed(&self, lit: u32) -> u64 {
+        at(self.before.as_slice(), opposite(lit))
+    }
+
+    // Finds the clauses that are short now.
+    fn collect(&mut self, clauses: &Clauses, truths: &[Truth]) -> Result<(), AllocError> {
+        self.visits = self.visits.saturating_sub(self.clauses.len());
+        self.shorts.clear();
+        for number in &self.clauses {
+            if let Some(short) = short_of(clauses.lits(*number), truths) {
+                self.shorts.push(short)?;
+            }
+        }
+        Ok(())
+    }
+
+    // Whether an atom has no value and a short clause names it.
+    fn counts(&self, truths: &[Truth], negative: u32) -> bool {
+        truth_of(truths, negative) == Truth::Open
+            && (self.weight(negative) > LEAST || self.weight(opposite(negative)) > LEAST)
+    }
+
+    // What the literals of those atoms weigh on average.
+    fn average(&self, truths: &[Truth]) -> u64 {
+        let mut many = 0u64;
+        let mut sum = 0u64;
+        for atom in 0..self.atoms {
+            let negative = atom.saturating_mul(2);
+            if self.counts(truths, negative) {
+                many = many.saturating_add(2);
+                sum = sum.saturating_add(self.weight(negative));
+                sum = sum.saturating_add(self.weight(opposite(negative)));
+            }
+        }
+        if many == 0 {
+            return UNIT;
+        }
+        sum / many
+    }
+
+    // Begins a round: the weights so far become those of the round before, by their average.
+    fn begin_round(&mut self, truths: &[Truth]) {
+        let average = self.average(truths);
+        mem::swap(&mut self.weights, &mut self.before);
         for weight in &mut self.weights {
             *weight = 0;
         }
-        for taken in &mut self.taken {
-            *taken = false;
+        if average == 0 {
+            return;
+        }
+        for weight in &mut self.before {
+            *weight = weight.saturating_mul(UNIT) / average;
         }
     }
 
-    fn add(&mut self, lits: &[u32], truths: &[Truth], weight: u64) {
-        for lit in lits {
-            let place = *lit as usize;
-            if truth_of(truths, *lit) == Truth::Open && place < self.weights.len() {
-                self.weights[place] = self.weights[place].saturating_add(weight);
+    fn add(&mut self, lit: u32, weight: u64) {
+        let place = lit as usize;
+        if place < self.weights.len() {
+            self.weights[place] = self.weights[place].saturating_add(weight);
+        }
+    }
+
+    // Adds what a short clause gives its literals.
+    fn count(&mut self, short: Short) {
+        let first = self.opposed(short.first);
+        let second = self.opposed(short.second);
+        match short.third {
+            None => {
+                self.add(short.first, second.saturating_mul(FORCING));
+                self.add(short.second, first.saturating_mul(FORCING));
+            }
+            Some(lit) => {
+                let third = self.opposed(lit);
+                self.add(short.first, product(second, third));
+                self.add(short.second, product(first, third));
+                self.add(lit, product(first, second));
             }
         }
+    }
+
+    fn count_all(&mut self) {
+        for place in 0..self.shorts.len() {
+            if let Some(short) = self.shorts.get(place) {
+                let short = *short;
+                self.count(short);
+            }
+        }
+    }
+
+    fn bound(&mut self) {
+        for weight in &mut self.weights {
+            *weight = bounded(*weight);
+        }
+    }
+
+    // Finds the weights by those of the round before.
+    fn refine(&mut self, truths: &[Truth]) {
+        self.begin_round(truths);
+        self.count_all();
+        self.bound();
     }
 
     /// Weighs all open literals. No atom is taken then.
-    pub(crate) fn weigh(&mut self, clauses: &Clauses, truths: &[Truth]) {
-        self.forget();
-        self.visits = self.visits.saturating_sub(self.clauses.len());
-        for place in 0..self.clauses.len() {
-            if let Some(number) = self.clauses.get(place) {
-                let lits = clauses.lits(*number);
-                let weight = weight_of(open_of(lits, truths));
-                if weight > 0 {
-                    self.add(lits, truths, weight);
-                }
-            }
+    pub(crate) fn weigh(&mut self, clauses: &Clauses, truths: &[Truth]) -> Result<(), AllocError> {
+        for taken in &mut self.taken {
+            *taken = false;
         }
+        for weight in &mut self.weights {
+            *weight = UNIT;
+        }
+        self.collect(clauses, truths)?;
+        for _ in 0..ROUNDS {
+            self.refine(truths);
+        }
+        Ok(())
     }
 
     // How good an atom is by its weights alone, if it is open and wasn't taken.

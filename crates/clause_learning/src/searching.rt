@@ -336,7 +336,7 @@ impl Search {
     // The literal that is decided by lookahead, where an atom has no value.
     fn look(&mut self) -> Result<Option<u32>, AllocError> {
         self.lookahead
-            .weigh(&self.clauses, self.assignment.truths.as_slice());
+            .weigh(&self.clauses, self.assignment.truths.as_slice())?;
         let mut best = None;
         let mut most = 0;
         for _ in 0..LOOKS {
@@ -432,7 +432,9 @@ impl Search {
     fn prepare(&mut self, atoms: u32, budget: u32) -> Result<(), AllocError> {
         if self.style.looks {
             let visits = (budget as usize).saturating_mul(VISITS);
-            return self.lookahead.begin(&self.clauses, visits);
+            return self
+                .lookahead
+                .begin(&self.clauses, self.assignment.truths.as_slice(), visits);
         }
         for atom in 0..atoms {
             self.queue.insert(atom, false)?;
