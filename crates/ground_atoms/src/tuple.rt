@@ -71,13 +71,24 @@ impl Tuple {
     }
 }
 
+// Whether constants are equal, place by place. Those of one and two places are compared without a loop.
+fn same_consts(left: &[u32], right: &[u32]) -> bool
+    ensures { result ≡ pointwise nat_eq left.now right.now }
+{
+    match (left, right) {
+        ([a], [b]) => *a == *b,
+        ([a, b], [c, d]) => *a == *c && *b == *d,
+        _ => left == right,
+    }
+}
+
 impl PartialEq for Tuple {
     ghost eq = { pointwise nat_eq };
 
     ghost laws = { Prim.search (comparing, rules) };
 
     fn eq(&self, other: &Tuple) -> bool {
-        self.consts() == other.consts()
+        same_consts(self.consts(), other.consts())
     }
 }
 
