@@ -27,7 +27,7 @@ use Rattle.simulate_text.specs.declared.said.Stop.{Stop}
 use Rattle.simulate_text.specs.declared.said.Stop.TheVariants as stop
 use Rattle.simulate_text.specs.declared.simulation.Simulation.{Simulation}
 use Rattle.simulate_text.specs.Course.{Simulated, Part, GrantHeard, goes_on, stops, saying, with_net, stepped, told, broken_of, unless_broken, asked_at, heard_by, granted, hears_grant, asked_once, asks, begun, begins, is_waiting, tries_again, taken, takes, calls, part_of, replica_of as caller}
-use Rattle.simulate_text.specs.Reached.{simulated_in, IsOf, IsGone, PartDone, IsPart, StepDone, IsStep, Does}
+use Rattle.simulate_text.specs.Reached.{simulated_in, IsOf, IsAsked, IsGone, PartDone, IsPart, StepDone, IsStep, Does}
 
 -- ---- replicas
 
@@ -82,9 +82,9 @@ abbrev pub step_done : {R : Type 0} → List ℕ → Option Stop → Simulation 
 step_done text stop sim = record { text = text; stop = stop; sim = sim }
 
 -- it stops, and nothing was said
-pub stopped_part : {R : Type 0} (d : Specification) (w : World) (how : Stop) (sim : Simulation R) (before : List Said) → IsOf d w sim.net
+pub stopped_part : {R : Type 0} (d : Specification) (w : World) (how : Stop) (sim : Simulation R) (before : List Said) → IsAsked d w sim
     → IsPart d w (stops how (simulated_in sim)) before (part_done before (Some how) sim)
-stopped_part d w how sim before of = record { said_is = append-nil before; stop_is = refl; after_is = refl; of = of }
+stopped_part d w how sim before asked = record { said_is = append-nil before; stop_is = refl; after_is = refl; asked = asked }
 
 -- a part is carried out as one that it is equal to
 pub as_part : {R : Type 0} (d : Specification) (w : World) (part other : Part) (before : List Said) (after : PartDone R) → other ≡ part
@@ -93,11 +93,11 @@ as_part d w part other before after e is = subst (λ (p : Part). IsPart d w p be
 
 -- A part is carried out where another was, from another simulation on, to which it is equal there.
 pub does_from : {E R : Type 0} (r : Result (Option Stop) E) (part other : Specification → World → Simulated → Part) (mid old : Simulation R) (before said : List Said) (new : Simulation R)
-    → ((d : Specification) (w : World) → IsOf d w old.net → IsOf d w mid.net × (other d w (simulated_in old) ≡ part d w (simulated_in mid)))
+    → ((d : Specification) (w : World) → IsAsked d w old → IsAsked d w mid × (other d w (simulated_in old) ≡ part d w (simulated_in mid)))
     → IfOk r (λ stop. Does part mid before (part_done said stop new)) → IfOk r (λ stop. Does other old before (part_done said stop new))
 does_from r part other mid old before said new e does =
     IfOk-weaker r (λ stop. Does part mid before (part_done said stop new)) (λ stop. Does other old before (part_done said stop new))
-    (λ stop does d w of. as_part d w (part d w (simulated_in mid)) (other d w (simulated_in old)) before (part_done said stop new) (e d w of).1 (does d w (e d w of).0)) does
+    (λ stop does d w asked. as_part d w (part d w (simulated_in mid)) (other d w (simulated_in old)) before (part_done said stop new) (e d w asked).1 (does d w (e d w asked).0)) does
 
 -- something was said before a part was carried out
 pub said_first : {R : Type 0} (d : Specification) (w : World) (what : Said) (part : Part) (before mid said : List Said) (stop : Option Stop) (after : Simulation R) → mid ≡ before ++ what ∷ []
@@ -106,7 +106,7 @@ said_first d w what part before mid said stop after e is = record {
   said_is = sym (append_assoc before (what ∷ []) part.said) ∙ ap (λ (l : List Said). l ++ part.said) (sym e) ∙ is.said_is;
   stop_is = is.stop_is;
   after_is = is.after_is;
-  of = is.of;
+  asked = is.asked;
 }
 
 pub asked_part : (d : Specification) (w : World) (r : ℕ) (sim : Simulated) (next : Part) (o : Option ℕ) → o ≡ broken_of d w (slice_get sim.net.replicas r)
@@ -195,5 +195,5 @@ step_part d w part k r s before text start said told stop after none is a b e = 
       ∙ ap (λ (l : List Said). before ++ said_lines d k (caller s) l) (b ∙ sym is.said_is ∙ ap (λ (l : List Said). l ++ part.said) none);
   stop_is = is.stop_is;
   after_is = is.after_is;
-  of = is.of;
+  asked = is.asked;
 }

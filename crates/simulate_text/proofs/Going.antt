@@ -17,7 +17,7 @@ use Rattle.simulate_text.specs.Lines.{said_lines}
 use Rattle.simulate_text.specs.Course.{Simulated, Course, broken_of, replica_of, part_of, unless_stopped, course_from, first_simulated, unless_broken_first, course}
 use Rattle.simulate_text.specs.Text.{replica_text, replica_texts}
 use Rattle.simulate_text.proofs.Carrying.{step_done}
-use Rattle.simulate_text.specs.Reached.{simulated_in, IsOf, IsStep, CourseDone, IsReached}
+use Rattle.simulate_text.specs.Reached.{simulated_in, IsOf, IsAsked, IsStep, CourseDone, IsReached}
 
 -- what is left of a course
 abbrev pub course_done : {R : Type 0} → List ℕ → ℕ → Stop → Simulation R → CourseDone R
@@ -60,7 +60,7 @@ module _ (d : Specification) (w : World) (whole : Course) (before : List ℕ) wh
           at_is = r.at_is ∙ ap (λ (x : Course). x.at) c;
           stop_is = r.stop_is ∙ ap (λ (x : Course). x.stop) c;
           after_is = r.after_is ∙ ap (λ (x : Course). x.after) c;
-          of = is.of;
+          of = is.asked.of;
         }
 
     -- and one at which it goes on
@@ -113,12 +113,12 @@ at_start d w n ss before text at how sim after first e is =
 -- what holds between two steps, of the simulation as it is now
 pub record Between {R : Type 0} (d : Specification) (w : World) (whole : Course) (before text : List ℕ) (k : ℕ) (left : List Step) (now : Simulation R) : Type 0 where
   pub remaining : Remaining d w whole before text k left (simulated_in now)
-  pub of : IsOf d w now.net
+  pub asked : IsAsked d w now
 
 -- before the first step
-pub between_first : {R : Type 0} (d : Specification) (w : World) (ss : List Step) (text : List ℕ) (sim : Simulation R) → IsOf d w sim.net
+pub between_first : {R : Type 0} (d : Specification) (w : World) (ss : List Step) (text : List ℕ) (sim : Simulation R) → IsAsked d w sim
     → Between d w (course_from d w 0 ss (simulated_in sim)) text text 0 ss sim
-between_first d w ss text sim of = record { remaining = record { text_is = refl; at_is = refl; stop_is = refl; after_is = refl }; of = of }
+between_first d w ss text sim asked = record { remaining = record { text_is = refl; at_is = refl; stop_is = refl; after_is = refl }; asked = asked }
 
 module _ {R : Type 0} (d : Specification) (w : World) (whole : Course) (before text longer : List ℕ) (k : ℕ) (all : List Step) (now after : Simulation R) (s : Step) (below : k < length all)
     (here : s ≡ get_or all k s) (is : Between d w whole before text k (drop k all) now) (o : Option Stop)
@@ -132,7 +132,7 @@ module _ {R : Type 0} (d : Specification) (w : World) (whole : Course) (before t
   ends_here how e = at_stop d w whole before text longer k s (drop (k + 1) all) (simulated_in now) after o remaining_here went how e
 
   pub leads_on : o ≡ None → Between d w whole before longer (k + 1) (drop (k + 1) all) after
-  leads_on e = record { remaining = at_next d w whole before text longer k s (drop (k + 1) all) (simulated_in now) after o remaining_here went e; of = went.of }
+  leads_on e = record { remaining = at_next d w whole before text longer k s (drop (k + 1) all) (simulated_in now) after o remaining_here went e; asked = went.asked }
 
 -- behind the last step
 pub done_here : {R : Type 0} (d : Specification) (w : World) (whole : Course) (before text : List ℕ) (k : ℕ) (all : List Step) (now : Simulation R) → length all ≤ k → k ≤ length all
@@ -141,7 +141,7 @@ done_here d w whole before text k all now past within is =
     let same : k ≡ length all = omega (arith, past, within) in
     let none : drop k all ≡ [] = drop_of_length-le all past in
     subst (λ n. IsReached d w whole before (course_done text n stop.Done now)) same
-    (at_last d w whole before text k now (subst (λ (l : List Step). Remaining d w whole before text k l (simulated_in now)) none is.remaining) is.of)
+    (at_last d w whole before text k now (subst (λ (l : List Step). Remaining d w whole before text k l (simulated_in now)) none is.remaining) is.asked.of)
 
 -- ---- the replicas
 

@@ -2,3 +2,4 @@ mod Keeping
 pub mod Safety
 mod Carrying
 mod Going
+mod Unbroken

@@ -1,5 +1,5 @@
 -- What the code of a simulation leaves. This serves the code and its proofs.
-use Rattle.std.specs.Prelude.{◌≡◌, ℕ, List, ◌++◌, Option, Result}
+use Rattle.std.specs.Prelude.{◌≡◌, ℕ, List, ◌++◌, Option, Result, replicate}
 use Rattle.spec_core.specs.declared.world.World.{World}
 use Rattle.spec_core.specs.Specification.{Specification}
 use Rattle.token_protocol.specs.declared.network.NetDid.{NetDid}
@@ -9,7 +9,8 @@ use Rattle.simulate_text.specs.declared.said.Said.{Said}
 use Rattle.simulate_text.specs.declared.said.SimulateRefused.{SimulateRefused}
 use Rattle.simulate_text.specs.declared.said.Stop.{Stop}
 use Rattle.simulate_text.specs.declared.simulation.Simulation.{Simulation}
-use Rattle.simulate_text.specs.Course.{Simulated, Part, Course, told}
+use Rattle.simulate_text.specs.Course.{Simulated, Part, Course, told, first_simulated}
+use Rattle.simulate_text.specs.Unbroken.{AreUnbroken}
 
 -- the simulation that the code holds
 abbrev pub simulated_in : {R : Type 0} → Simulation R → Simulated
@@ -20,6 +21,18 @@ simulated_in sim =
 pub record IsOf (d : Specification) (w : World) (net : HeldNet) : Type 0 where
   pub spec : net.spec ≡ d
   pub world : net.world ≡ w
+
+-- a simulation of so many replicas before its first step, whose invariants weren't asked
+pub record IsFirst {R : Type 0} (d : Specification) (w : World) (replicas : ℕ)
+    (sim : Simulation R) : Type 0 where
+  pub of : IsOf d w sim.net
+  pub first : simulated_in sim ≡ first_simulated d w replicas
+  pub unknown : sim.unbroken.items ≡ replicate replicas 0
+
+-- a simulation of this specification in this world, in which what is known of its invariants is so
+pub record IsAsked {R : Type 0} (d : Specification) (w : World) (sim : Simulation R) : Type 0 where
+  pub of : IsOf d w sim.net
+  pub unbroken : AreUnbroken sim.net sim.unbroken.items
 
 -- a step of a network, with this outcome, was carried out
 pub record IsGone (d : Specification) (w : World) (o : Outcome) (before : Network)
@@ -40,13 +53,13 @@ pub record IsPart {R : Type 0} (d : Specification) (w : World) (part : Part) (be
   pub said_is : before ++ part.said ≡ after.said
   pub stop_is : part.stop ≡ after.stop
   pub after_is : part.after ≡ simulated_in after.sim
-  pub of : IsOf d w after.sim.net
+  pub asked : IsAsked d w after.sim
 
 -- This part was carried out, whatever the specification and the world of the network are.
 abbrev pub Does : {R : Type 0} → (Specification → World → Simulated → Part) → Simulation R
     → List Said → PartDone R → Type 0
 Does part old before after =
-    (d : Specification) (w : World) → IsOf d w old.net
+    (d : Specification) (w : World) → IsAsked d w old
     → IsPart d w (part d w (simulated_in old)) before after
 
 -- What the code has after a step: the text so far, whether it stops there, and the simulation.
@@ -61,7 +74,7 @@ pub record IsStep {R : Type 0} (d : Specification) (w : World) (part : Part)
   pub text_is : after.text ≡ before ++ lines part.said
   pub stop_is : part.stop ≡ after.stop
   pub after_is : part.after ≡ simulated_in after.sim
-  pub of : IsOf d w after.sim.net
+  pub asked : IsAsked d w after.sim
 
 -- What the code has where the loop over the steps ends: the text so far, at which step it stops and how, and the simulation.
 pub record CourseDone (R : Type 0) : Type 0 where

@@ -1,30 +1,36 @@
 // A simulation, and the parts of its steps.
 
-ghost use Rattle.std.specs.Prelude.{◌≡◌, ◌≢◌, Ok, set, slice_get, IfOk, OnOk};
+ghost use Rattle.std.specs.Prelude.{◌≡◌, ◌≢◌, ◌<◌, Ok, Some, length, set, slice_get, IfOk, IfSome};
+ghost use Rattle.std.specs.Prelude.{OnOk};
 ghost use Rattle.spec_core.specs.declared.world.World.{World as Setting};
 ghost use Rattle.spec_core.specs.Specification.{Specification};
-ghost use Rattle.token_protocol.specs.Network.{outcome};
+ghost use Rattle.spec_core.specs.Meaning.{broken_at};
+ghost use Rattle.token_protocol.specs.Network.{Replica, outcome, events_of};
 ghost use Rattle.token_core.specs.HeldNet.{network_held};
 ghost use Rattle.simulate_text.specs.Course.{refusal_of, heard_by_all, broken_of, saying, asked_at};
 ghost use Rattle.simulate_text.specs.Course.{ran, void, granted, hears_grant, asks, begun, begins};
 ghost use Rattle.simulate_text.specs.Course.{is_waiting, tries_again, taken, takes};
-ghost use Rattle.simulate_text.specs.Course.{first_simulated};
-ghost use Rattle.simulate_text.specs.Reached.{simulated_in, IsOf, IsGone, Does};
+ghost use Rattle.simulate_text.specs.Unbroken.{IsUnbrokenAfter, AreUnbroken, StaysUnbroken};
+ghost use Rattle.simulate_text.specs.Unbroken.{IsLastCall};
+ghost use Rattle.simulate_text.specs.Reached.{IsOf, IsFirst, IsGone, Does};
 
 use crate::said::{Said, SimulateRefused, Stop};
+use invariants_after::invariant_broken_after;
 use partial_truth::invariant_broken_at;
 use spec_core::Call;
 use std::alloc::{AllocError, Global};
-use token_core::{Net, Runner, number_of};
+use token_core::{Happened, Net, Runner, number_of};
 use token_protocol::{NetDid, NetRefused, NetStep, WhyVoid};
 
 /// A simulation: its network, and the numbers of the messages that it delivers again: for each event that of its Done, and for each
-/// replica that of the first grant of the last call that waited there.
+/// replica that of the first grant of the last call that waited there. Beside them stands for each replica after how many events its
+/// state is known to break no invariant.
 #[derive(Drop)]
 pub struct Simulation<R: Runner + Drop> {
     pub net: Net<R>,
     pub dones: Vec<u32>,
     pub grants: Vec<u32>,
+    pub unbroken: Vec<u32>,
 }
 
 /// A number as one of 32 bits, where it has no more.
@@ -80,11 +86,13 @@ fn go<R: Runner + Drop>(
     net: &mut Net<R>,
     step: &NetStep,
 ) -> Result<Result<NetDid, SimulateRefused>, AllocError>
-    ensures { IfOk result
+    ensures gone { IfOk result
         (λ it. (d : Specification) (w : Setting) → IsOf d w net.old
         → IsGone d w (outcome d w (network_held net.old) step.now) (network_held net.old) it
         net.new) }
+    ensures unbroken { OnOk result (StaysUnbroken net.old net.new) }
 {
+    net.is_executed();
     match net.step(step) {
         Ok(did) => Ok(Ok(did)),
         Err(why) => Ok(Err(refusal_of(why)?)),
@@ -93,10 +101,11 @@ fn go<R: Runner + Drop>(
 
 // All replicas in turn hear a message.
 fn tell_all<R: Runner + Drop>(net: &mut Net<R>, message: u32) -> Result<(), AllocError>
-    ensures { OnOk result
+    ensures told { OnOk result
         ((d : Specification) (w : Setting) → IsOf d w net.old
         → IsOf d w net.new
         × (heard_by_all d w message (network_held net.old) ≡ network_held net.new)) }
+    ensures unbroken { OnOk result (StaysUnbroken net.old net.new) }
 {
     let count = as_number(net.replica_count())?;
     for replica in 0..count {
@@ -105,7 +114,7 @@ fn tell_all<R: Runner + Drop>(net: &mut Net<R>, message: u32) -> Result<(), Allo
     Ok(())
 }
 
-/// The first invariant that the state of a replica breaks.
+/// The first invariant that the state of a replica breaks. All are asked, at all elements.
 pub fn broken_of<R: Runner + Drop>(net: &Net<R>, replica: u32) -> Option<usize>
     ensures { (d : Specification) (w : Setting) → IsOf d w net.now
         → result ≡ broken_of d w (slice_get (network_held net.now).replicas replica) }
@@ -115,6 +124,77 @@ pub fn broken_of<R: Runner + Drop>(net: &Net<R>, replica: u32) -> Option<usize>
     }
     let runner = net.runner();
     invariant_broken_at(runner.spec(), runner.world(), net.state_of(replica))
+}
+
+// The call of an event.
+fn call_of(happened: &Happened) -> &Call
+    ensures { result.now ≡ happened.now.event.call }
+{
+    &happened.event.call
+}
+
+// The call of the event that a replica has taken last, where it has taken one more than so many.
+fn last_call<R: Runner + Drop>(net: &Net<R>, replica: u32, count: u32) -> Option<&Call>
+    requires { replica < length net.now.replicas }
+    ensures { IfSome result
+        (λ call. (at : Replica) → slice_get (network_held net.now).replicas replica ≡ Some at
+        → IsLastCall (events_of (network_held net.now)) at.taken count call.now) }
+{
+    let taken = net.taken(replica);
+    let count = count as usize;
+    if count >= taken.len() || taken.len() - count > 1 {
+        return None;
+    }
+    let Some(happened) = net.events().get(taken[count] as usize) else {
+        return None;
+    };
+    Some(call_of(happened))
+}
+
+// The first invariant that the state of a replica breaks, where that after its first so many events breaks none. After one event more
+// each is asked only where it reads what the event's call writes.
+fn broken_after<R: Runner + Drop>(net: &Net<R>, replica: u32, count: u32) -> Option<usize>
+    requires { replica < length net.now.replicas }
+    ensures { (at : Replica) → slice_get (network_held net.now).replicas replica ≡ Some at
+        → IsUnbrokenAfter net.now.spec net.now.world (events_of (network_held net.now)) at.taken
+        count
+        → result ≡ broken_at net.now.spec net.now.world at.node.state }
+{
+    net.is_executed();
+    match last_call(net, replica, count) {
+        Some(call) => {
+            let runner = net.runner();
+            invariant_broken_after(runner.spec(), runner.world(), net.state_of(replica), call)
+        }
+        None => broken_of(net, replica),
+    }
+}
+
+// The first invariant that the state of a replica breaks. Where it breaks none, that is known from then on.
+fn ask_invariants<R: Runner + Drop>(
+    net: &Net<R>,
+    unbroken: &mut Vec<u32>,
+    replica: u32,
+) -> Option<usize>
+    ensures broken { (d : Specification) (w : Setting) → IsOf d w net.now
+        → AreUnbroken net.now unbroken.old.items
+        → result ≡ broken_of d w (slice_get (network_held net.now).replicas replica) }
+    ensures unbroken { AreUnbroken net.now unbroken.old.items
+        → AreUnbroken net.now unbroken.new.items }
+{
+    if replica as usize >= net.replica_count() {
+        return None;
+    }
+    net.is_executed();
+    let count = number_at(unbroken, replica).unwrap_or(0);
+    match broken_after(net, replica, count) {
+        Some(place) => return Some(place),
+        None => {}
+    }
+    if let Ok(count) = as_number(net.taken(replica).len()) {
+        set_number(unbroken, replica, count);
+    }
+    None
 }
 
 // Whether a call of a replica waits for its grant.
@@ -128,19 +208,20 @@ impl<R: Runner + Drop> Simulation<R> {
     /// A simulation of so many replicas, before its first step.
     pub fn new(alloc: Global, runner: R, replicas: u32) -> Result<Simulation<R>, AllocError>
         ensures { IfOk result
-            (λ sim. IsOf (R.specification runner) (R.setting runner) sim.net
-            × (simulated_in sim
-            ≡ first_simulated (R.specification runner) (R.setting runner) replicas)) }
+            (λ sim. IsFirst (R.specification runner) (R.setting runner) replicas sim) }
     {
         let net = Net::new(alloc, runner, replicas)?;
         let mut grants = Vec::new(alloc);
+        let mut unbroken = Vec::new(alloc);
         for _i in 0..replicas {
             grants.push(0)?;
+            unbroken.push(0)?;
         }
         Ok(Simulation {
             net,
             dones: Vec::new(alloc),
             grants,
+            unbroken,
         })
     }
 
@@ -158,7 +239,7 @@ impl<R: Runner + Drop> Simulation<R> {
     {
         self.dones.push(done)?;
         said.push(Said::Call(event))?;
-        match broken_of(&self.net, replica) {
+        match ask_invariants(&self.net, &mut self.unbroken, replica) {
             Some(place) => Ok(Some(Stop::Broken(place))),
             None => Ok(None),
         }
@@ -309,7 +390,7 @@ impl<R: Runner + Drop> Simulation<R> {
             (record { said = said.new.items; stop = stop; sim = self.new })) }
     {
         said.push(Said::Take(event))?;
-        match broken_of(&self.net, replica) {
+        match ask_invariants(&self.net, &mut self.unbroken, replica) {
             Some(place) => Ok(Some(Stop::Broken(place))),
             None => self.try_again(replica, said),
         }

@@ -8,10 +8,11 @@ ghost use Rattle.replica_replay.specs.Steps.{operation_named as named_operation}
 ghost use Rattle.token_core.specs.HeldNet.{HeldReplica, replica_of as replica_held, network_held};
 ghost use Rattle.simulate_text.specs.Lines.{said_lines};
 ghost use Rattle.simulate_text.specs.Course.{calls, takes, part_of, replica_of, course_from};
-ghost use Rattle.simulate_text.specs.Course.{course, first_simulated};
+ghost use Rattle.simulate_text.specs.Course.{course};
 ghost use Rattle.simulate_text.specs.Text.{replica_text, replica_texts, simulate_text};
 ghost use Rattle.simulate_text.specs.Text.{simulate_status, status_of};
-ghost use Rattle.simulate_text.specs.Reached.{simulated_in, IsOf, Does, IsStep, IsReached};
+ghost use Rattle.simulate_text.specs.Reached.{simulated_in, IsAsked, IsFirst, Does, IsStep};
+ghost use Rattle.simulate_text.specs.Reached.{IsReached};
 
 use crate::lines::{push_lines, push_stop};
 use crate::said::{Said, SimulateRefused, Stop};
@@ -105,7 +106,7 @@ fn write_step<R: Runner + Drop>(
     text: &mut Vec<u8>,
 ) -> Result<Option<Stop>, AllocError>
     ensures { IfOk result
-        (λ stop. (w : Setting) → IsOf spec.now w sim.old.net
+        (λ stop. (w : Setting) → IsAsked spec.now w sim.old
         → IsStep spec.now w (part_of spec.now w step.now (simulated_in sim.old))
         (said_lines spec.now number (replica_of step.now)) text.old.items
         (record { text = text.new.items; stop = stop; sim = sim.new })) }
@@ -132,7 +133,7 @@ fn write_steps<R: Runner + Drop>(
     text: &mut Vec<u8>,
 ) -> Result<Stopped, AllocError>
     ensures { IfOk result
-        (λ s. (w : Setting) → IsOf spec.now w sim.old.net
+        (λ s. (w : Setting) → IsAsked spec.now w sim.old
         → IsReached spec.now w (course_from spec.now w 0 steps.now (simulated_in sim.old))
         text.old.items
         (record { text = text.new.items; at = s.at; stop = s.stop; sim = sim.new })) }
@@ -158,8 +159,7 @@ fn write_course<R: Runner + Drop>(
     text: &mut Vec<u8>,
 ) -> Result<Stopped, AllocError>
     ensures { IfOk result
-        (λ s. (w : Setting) (replicas : ℕ) → 1 ≤ replicas
-        → simulated_in sim.old ≡ first_simulated spec.now w replicas → IsOf spec.now w sim.old.net
+        (λ s. (w : Setting) (replicas : ℕ) → 1 ≤ replicas → IsFirst spec.now w replicas sim.old
         → IsReached spec.now w (course spec.now w replicas steps.now) text.old.items
         (record { text = text.new.items; at = s.at; stop = s.stop; sim = sim.new })) }
 {
@@ -230,12 +230,11 @@ fn write_simulation<R: Runner + Drop>(
     text: &mut Vec<u8>,
 ) -> Result<u8, AllocError>
     ensures text { OnOk result
-        ((w : Setting) (replicas : ℕ) → 1 ≤ replicas
-        → simulated_in sim.old ≡ first_simulated spec.now w replicas → IsOf spec.now w sim.old.net
+        ((w : Setting) (replicas : ℕ) → 1 ≤ replicas → IsFirst spec.now w replicas sim.old
         → text.new.items ≡ text.old.items ++ simulate_text spec.now w replicas steps.now) }
     ensures status { IfOk result
         (λ status. (w : Setting) (replicas : ℕ) → 1 ≤ replicas
-        → simulated_in sim.old ≡ first_simulated spec.now w replicas → IsOf spec.now w sim.old.net
+        → IsFirst spec.now w replicas sim.old
         → status ≡ simulate_status spec.now w replicas steps.now) }
 {
     push(text, b"cise simulate 1\n")?;

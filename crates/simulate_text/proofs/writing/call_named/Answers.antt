@@ -12,10 +12,10 @@ returns g c =
     let old = c.args.sim.now in let r = c.args.replica in
     let call : Call = record { op = c.in-Some.op; args = c.in_ok-args.args } in
     does_from c.call.result (λ d w. begins d w r call) (λ d w. calls d w r c.args.args.now (operation_named d c.args.name.now)) old old c.args.said.now.items c.call.new.said.items c.call.new.self
-    (λ d w of. (
-      of,
+    (λ d w asked. (
+      asked,
       calls_part d w (simulated_in old) r c.in-Some.op c.args.name.now c.args.args.now c.in_ok-args.args
-          (ap (λ (x : Specification). operation_named x c.args.name.now) (sym (c.spec.ensures ∙ c.runner.ensures.spec ∙ of.spec)) ∙ sym c.operation_named.ensures ∙ c.in-Some.is)
+          (ap (λ (x : Specification). operation_named x c.args.name.now) (sym (c.spec.ensures ∙ c.runner.ensures.spec ∙ asked.of.spec)) ∙ sym c.operation_named.ensures ∙ c.in-Some.is)
           c.in_ok-args.ensures,
     ))
     c.call.ensures

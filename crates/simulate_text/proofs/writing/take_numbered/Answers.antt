@@ -13,13 +13,13 @@ returns-in-Some g c =
     let found : slice_get old.dones.items e ≡ Some c.in-Some.done
     = sym (c.number_at.ensures ∙ ap (λ (l : List ℕ). slice_get l e) c.deref.ensures.value) ∙ c.in-Some.is in
     does_from c.take.result (λ d w. takes d w r e (Some c.in-Some.done)) (λ d w s. takes d w r e (slice_get s.dones e) s) old old c.args.said.now.items c.take.new.said.items c.take.new.self
-    (λ d w of. (of, ap (λ (o : Option ℕ). takes d w r e o (simulated_in old)) found)) c.take.ensures
+    (λ d w asked. (asked, ap (λ (o : Option ℕ). takes d w r e o (simulated_in old)) found)) c.take.ensures
 
 pub returns-in-None : goal.returns-in-None
-returns-in-None g c = λ d w of.
+returns-in-None g c = λ d w asked.
     let old = c.args.sim.now in let r = c.args.replica in let e = c.args.event in let before = c.args.said.now.items in
     let none : slice_get old.dones.items e ≡ None
     = sym (c.number_at.ensures ∙ ap (λ (l : List ℕ). slice_get l e) c.deref.ensures.value) ∙ c.in-None.is in
     let how = stop.Refused refusal.NoEvent in
     as_part d w (stops how (simulated_in old)) (takes d w r e (slice_get old.dones.items e) (simulated_in old)) before (part_done before (Some how) old)
-    (ap (λ (o : Option ℕ). takes d w r e o (simulated_in old)) none) (stopped_part d w how old before of)
+    (ap (λ (o : Option ℕ). takes d w r e o (simulated_in old)) none) (stopped_part d w how old before asked)

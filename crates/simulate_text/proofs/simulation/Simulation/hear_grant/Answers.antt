@@ -9,12 +9,12 @@ use Rattle.simulate_text.proofs.simulation.Simulation.hear_grant.Goals as goal
 pub returns : goal.returns
 returns g c =
     let old = c.args.self.now in
-    let mid : Simulation g.row.R.Denot = record { net = c.go.new.net; dones = old.dones; grants = old.grants } in
+    let mid : Simulation g.row.R.Denot = record { net = c.go.new.net; dones = old.dones; grants = old.grants; unbroken = old.unbroken } in
     does_from c.granted.result (λ d w. granted d w (grant_heard c.args.replica c.in_ok-sent.sent c.args.tells) c.in_ok-answer.answer)
     (λ d w. hears_grant d w c.args.replica c.args.message c.args.tells) mid old c.args.said.now.items c.granted.new.said.items c.granted.new.self
-    (λ d w of.
-    let gone = c.in_ok-answer.ensures d w of in (
-      gone.of,
+    (λ d w asked.
+    let gone = c.in_ok-answer.ensures.gone d w asked.of in (
+      record { of = gone.of; unbroken = c.in_ok-answer.ensures.unbroken old.unbroken.items asked.unbroken },
       hears_part d w (simulated_in old) (network_held c.go.new.net) c.args.replica c.args.message c.in_ok-sent.sent c.args.tells c.in_ok-answer.answer
           (sym (c.in_ok-sent.ensures ∙ ap length c.messages.ensures)) gone.told_is gone.net_is,
     ))

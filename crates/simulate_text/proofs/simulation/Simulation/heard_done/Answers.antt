@@ -10,4 +10,4 @@ pub returns-in-Took : goal.returns-in-Took
 returns-in-Took g c =
     let old = c.args.self.now in let r = c.args.replica in let e = c.args.event in
     does_from c.took.result (λ d w s. saying (said.Take e) (asked_at d w r s (tries_again d w r s))) (λ d w. taken d w r e (Ok c.args.did.now)) old old c.args.said.now.items c.took.new.said.items c.took.new.self
-    (λ d w of. (of, ap (λ (x : NetDid). taken d w r e (Ok x) (simulated_in old)) c.in-Took.is)) c.took.ensures
+    (λ d w asked. (asked, ap (λ (x : NetDid). taken d w r e (Ok x) (simulated_in old)) c.in-Took.is)) c.took.ensures

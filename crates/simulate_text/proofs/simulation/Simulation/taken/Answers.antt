@@ -10,4 +10,4 @@ pub returns-in-Ok : goal.returns-in-Ok
 returns-in-Ok g c =
     let old = c.args.self.now in let r = c.args.replica in let e = c.args.event in
     does_from c.heard_done.result (λ d w. taken d w r e (Ok c.in-Ok.did)) (λ d w. taken d w r e c.args.answer) old old c.args.said.now.items c.heard_done.new.said.items c.heard_done.new.self
-    (λ d w of. (of, ap (λ (x : Result NetDid SimulateRefused). taken d w r e x (simulated_in old)) c.in-Ok.is)) c.heard_done.ensures
+    (λ d w asked. (asked, ap (λ (x : Result NetDid SimulateRefused). taken d w r e x (simulated_in old)) c.in-Ok.is)) c.heard_done.ensures

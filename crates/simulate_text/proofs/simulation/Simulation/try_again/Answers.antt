@@ -13,4 +13,4 @@ returns g c =
     let is : get_or old.grants.items r 0 ≡ grant
     = sym (c.unwrap_or-grant.ensures ∙ ap (λ (o : Option ℕ). unwrap_or o 0) (c.number_at.ensures ∙ ap (λ (l : List ℕ). slice_get l r) c.deref.ensures.value) ∙ unwrap_or-slice_get old.grants.items r 0) in
     does_from c.hear_grant.result (λ d w. hears_grant d w r grant false) (λ d w. tries_again d w r) old old c.args.said.now.items c.hear_grant.new.said.items c.hear_grant.new.self
-    (λ d w of. (of, tries_part d w (simulated_in old) r grant (sym c.is_waiting.ensures ∙ c.if-not-is_waiting.false) is)) c.hear_grant.ensures
+    (λ d w asked. (asked, tries_part d w (simulated_in old) r grant (sym c.is_waiting.ensures ∙ c.if-not-is_waiting.false) is)) c.hear_grant.ensures

@@ -5,11 +5,11 @@ use Rattle.simulate_text.specs.Reached.{simulated_in}
 use Rattle.simulate_text.proofs.simulation.Simulation.void.Goals as goal
 
 pub returns : goal.returns
-returns g c = λ d w of.
-    let told = c.in_ok-tell_all.ensures d w of in
+returns g c = λ d w asked.
+    let told = c.in_ok-tell_all.ensures.told d w asked.of in
     record {
       said_is = sym c.in_ok-push.ensures.items;
       stop_is = refl;
       after_is = ap (λ (n : Network). with_net (simulated_in c.args.self.now) n) told.1;
-      of = told.0;
+      asked = record { of = told.0; unbroken = c.in_ok-tell_all.ensures.unbroken c.args.self.now.unbroken.items asked.unbroken };
     }
