@@ -84,15 +84,22 @@ fn is_small(row: &Row) -> bool {
             .all(|term| term.coef.unsigned_abs() < GREATEST_COEFFICIENT)
 }
 
+// Whether a slack is that of a row.
+fn is_slack_of(slack: &Slack, derivation: &Derivation, row: &Row) -> bool {
+    let Some(number) = slack.row else {
+        return false;
+    };
+    match row_at(derivation, number) {
+        Some(other) => same_row(other, row),
+        None => false,
+    }
+}
+
 // Whether the tableau has a row already.
 fn has_row(tableau: &Tableau, derivation: &Derivation, row: &Row) -> bool {
     for slack in tableau.slacks.as_slice() {
-        if let Some(number) = slack.row {
-            if let Some(other) = row_at(derivation, number) {
-                if same_row(other, row) {
-                    return true;
-                }
-            }
+        if is_slack_of(slack, derivation, row) {
+            return true;
         }
     }
     false

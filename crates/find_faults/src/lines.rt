@@ -184,30 +184,19 @@ pub fn line_fault<'t>(
             }
             sentence_fault(scope, sentence)
         }
-        Line::Insert(word, mark, spots, guard) => {
+        Line::Insert(word, mark, spots, guard) | Line::Remove(word, mark, spots, guard) => {
             if let Some(fault) = update_limit(operation, *word) {
                 return Some(fault);
             }
             insert_fault(scope, mark, spots.as_slice(), guard)
         }
-        Line::Remove(word, mark, spots, guard) => {
-            if let Some(fault) = update_limit(operation, *word) {
-                return Some(fault);
+        Line::Add(word, mark, spots, amount, guard) | Line::Set(word, mark, spots, amount, guard) =>
+            {
+                if let Some(fault) = update_limit(operation, *word) {
+                    return Some(fault);
+                }
+                amount_fault(scope, mark, spots.as_slice(), amount, guard)
             }
-            insert_fault(scope, mark, spots.as_slice(), guard)
-        }
-        Line::Add(word, mark, spots, amount, guard) => {
-            if let Some(fault) = update_limit(operation, *word) {
-                return Some(fault);
-            }
-            amount_fault(scope, mark, spots.as_slice(), amount, guard)
-        }
-        Line::Set(word, mark, spots, amount, guard) => {
-            if let Some(fault) = update_limit(operation, *word) {
-                return Some(fault);
-            }
-            amount_fault(scope, mark, spots.as_slice(), amount, guard)
-        }
         Line::Takes(word, reading, _) => {
             let count = operation.takes.len();
             if let Some(fault) = limit_at(Which::Takes, MOST_TAKES, count, *word) {

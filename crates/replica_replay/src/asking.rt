@@ -22,7 +22,7 @@ ghost use Rattle.replica_replay.specs.Holding.{calls_of};
 ghost use Rattle.token_rules.specs.Rivals.{rivals_of};
 ghost use Rattle.replica_replay.specs.Steps.{operation_named as operation_named_of};
 
-use crate::keeping::Happened;
+use crate::keeping::{Happened, Replica};
 use crate::order::Order;
 use crate::step::StepRefused;
 use effectors::{ApplyRefused, apply_over};
@@ -93,13 +93,12 @@ pub fn least_unseen(
     None
 }
 
-/// Why a call is refused before its effect is tried.
+/// Why a call at a replica is refused before its effect is tried.
 pub fn asked(
     spec: &Spec,
     world: &World,
     happened: &[Happened],
-    taken: &Order,
-    state: &State,
+    at: &Replica,
     call: &Call,
     rivals: &[Rivalry],
 ) -> Option<StepRefused>
@@ -108,7 +107,7 @@ pub fn asked(
     requires rivals { rivals.now ≡ rivals_of spec.now call.now.op }
     ensures refusal { (next : Option StepRefused)
         → call_asked spec.now world.now (calls_of happened.now)
-        (record { taken = taken.now; state = reads state.now }) call.now next
+        (record { taken = at.now.order; state = reads at.now.state }) call.now next
         ≡ option_or result next }
     ensures fits { result ≡ None → call_fits spec.now world.now call.now ≡ true }
 {
@@ -116,15 +115,15 @@ pub fn asked(
     if !call.fits(spec, world) {
         return Some(StepRefused::Arguments);
     }
-    if let Some(event) = least_unseen(spec, world, taken, call, rivals, happened) {
+    if let Some(event) = least_unseen(spec, world, &at.order, call, rivals, happened) {
         return Some(StepRefused::Conflict { event });
     }
-    if let Some(place) = requires_broken_at(spec, world, state, call) {
+    if let Some(place) = requires_broken_at(spec, world, &at.state, call) {
         return Some(StepRefused::Precondition {
             line: place as u32 + 1,
         });
     }
-    if let Some(place) = observes_broken_at(spec, world, state, call) {
+    if let Some(place) = observes_broken_at(spec, world, &at.state, call) {
         return Some(StepRefused::Observation {
             line: place as u32 + 1,
         });
@@ -146,28 +145,29 @@ pub fn taking_asked(taken: &Order, event: u32, seen: &[u32]) -> Option<StepRefus
     None
 }
 
-/// The state after a call's effect, written over a spare one that reads as the old one, if there is one.
+/// The state of a replica after a call's effect, written over a spare one that reads as the old one, if there is one.
 pub fn state_after_call(
     alloc: Global,
     spec: &Spec,
     world: &World,
-    state: &State,
+    at: &Replica,
     spare: Option<State>,
     call: &Call,
 ) -> Result<State, StepRefused>
     requires world { world_fits spec.now world.now ≡ true }
-    requires state { is_state spec.now world.now state.now ≡ true }
+    requires state { is_state spec.now world.now at.now.state ≡ true }
     requires call { call_fits spec.now world.now call.now ≡ true }
-    requires spare { IsSpare spec.now world.now state.now spare }
+    requires spare { IsSpare spec.now world.now at.now.state spare }
     ensures reads { IfOk result
-        (λ s. reads s ≡ after spec.now world.now call.now (reads state.now)) }
+        (λ s. reads s ≡ after spec.now world.now call.now (reads at.now.state)) }
     ensures fits { IfOk result (λ s. is_state spec.now world.now s ≡ true) }
-    ensures ok { OnOk result (effect_refused spec.now world.now (reads state.now) call.now ≡ None) }
+    ensures ok { OnOk result
+        (effect_refused spec.now world.now (reads at.now.state) call.now ≡ None) }
     ensures err { IfErr result
         (λ why. (why ≡ StepRefused.Memory)
-        ⊎ (effect_refused spec.now world.now (reads state.now) call.now ≡ Some why)) }
+        ⊎ (effect_refused spec.now world.now (reads at.now.state) call.now ≡ Some why)) }
 {
-    match apply_over(alloc, spec, world, state, spare, call) {
+    match apply_over(alloc, spec, world, &at.state, spare, call) {
         Ok(next) => Ok(next),
         Err(
             ApplyRefused::Range {

@@ -146,26 +146,11 @@ impl<'a> Replay<'a> {
         let rivals = rivals_of(self.alloc, self.spec, op)?;
         let args = Items::from_slice(self.alloc, args)?;
         let call = Call { op, args };
-        match asked(
-            self.spec,
-            &self.world,
-            &self.happened,
-            &at.order,
-            &at.state,
-            &call,
-            &rivals,
-        ) {
+        match asked(self.spec, &self.world, &self.happened, at, &call, &rivals) {
             Some(why) => Err(why),
             None => {
                 let spare = take_spare(&mut self.spares, replica as usize);
-                match state_after_call(
-                    self.alloc,
-                    self.spec,
-                    &self.world,
-                    &at.state,
-                    spare,
-                    &call,
-                ) {
+                match state_after_call(self.alloc, self.spec, &self.world, at, spare, &call) {
                     Ok(state) => keep_call(
                         self.alloc,
                         self.spec,
@@ -207,14 +192,7 @@ impl<'a> Replay<'a> {
             Some(why) => Err(why),
             None => {
                 let spare = take_spare(&mut self.spares, replica as usize);
-                match state_after_call(
-                    self.alloc,
-                    self.spec,
-                    &self.world,
-                    &at.state,
-                    spare,
-                    &found.call,
-                ) {
+                match state_after_call(self.alloc, self.spec, &self.world, at, spare, &found.call) {
                     Ok(state) => keep_taking(
                         self.alloc,
                         self.spec,

@@ -63,14 +63,20 @@ fn constant_names(spec: &Spec, world: &World, gone: Gone) -> bool {
     false
 }
 
+fn argument_is(param: Option<&Param>, arg: i64, gone: Gone) -> bool {
+    match param {
+        Some(param) => match param.kind {
+            Kind::Sort(sort) => sort == gone.sort && arg == gone.element as i64,
+            Kind::Int => false,
+        },
+        None => false,
+    }
+}
+
 fn argument_names(params: &[Param], args: &[i64], gone: Gone) -> bool {
     for (place, arg) in args.iter().enumerate() {
-        if let Some(param) = params.get(place) {
-            if let Kind::Sort(sort) = param.kind {
-                if sort == gone.sort && *arg == gone.element as i64 {
-                    return true;
-                }
-            }
+        if argument_is(params.get(place), *arg, gone) {
+            return true;
         }
     }
     false
