@@ -15,7 +15,7 @@ use crate::combining::{Derivation, Multiple, combine, is_contradiction, row_at};
 use crate::joining::join;
 use lin_rows::{Row, same_row};
 use simplex::number::at;
-use simplex::{Equation, Tableau, numerator, slack_of};
+use simplex::{Equation, Slack, Tableau, numerator, slack_of};
 use std::alloc::Global;
 
 /// The most cuts at a time.
