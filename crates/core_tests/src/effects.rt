@@ -109,12 +109,17 @@ fn has_after_both(
 const SWAP_BOTH: CallOutline = (0, &[]);
 
 /// The first counter as it is read after one swap and after two, and both counters once the swap is made.
+fn swapped_in(rt: &impl Abort, alloc: Global, at: &mut Setting) -> [i128; 4] {
+    let once = count(rt, alloc, at, SWAP_BOTH, 0, &[]);
+    let twice = count_after_both(rt, alloc, at, SWAP_BOTH, 0, &[]);
+    at.make(rt, alloc, 0, &[]);
+    [once, twice, at.count(0, &[]), at.count(1, &[])]
+}
+
+/// The same of the first setting.
 fn swapped(rt: &impl Abort, alloc: Global) -> [i128; 4] {
     let mut at = first_setting(rt, alloc, swap(), &[]);
-    let once = count(rt, alloc, &at, SWAP_BOTH, 0, &[]);
-    let twice = count_after_both(rt, alloc, &at, SWAP_BOTH, 0, &[]);
-    at.make(rt, alloc, 0, &[]);
-    let found = [once, twice, at.count(0, &[]), at.count(1, &[])];
+    let found = swapped_in(rt, alloc, &mut at);
     drop(at);
     found
 }
@@ -130,14 +135,19 @@ const PUT: CallOutline = (0, &[1]);
 const TAKE: CallOutline = (1, &[1]);
 
 /// Whether element 1 and element 0 are there after 1 is put, and 1 after it is put and taken, and after it is taken and put.
+fn put_and_taken_in(rt: &impl Abort, alloc: Global, set: &Setting) -> [bool; 4] {
+    [
+        has(rt, alloc, set, PUT, 1),
+        has(rt, alloc, set, PUT, 0),
+        has_after_both(rt, alloc, set, PUT, TAKE, 1),
+        has_after_both(rt, alloc, set, TAKE, PUT, 1),
+    ]
+}
+
+/// The same of a set of two elements.
 fn put_and_taken(rt: &impl Abort, alloc: Global) -> [bool; 4] {
     let set = first_setting(rt, alloc, set(), &[2]);
-    let found = [
-        has(rt, alloc, &set, PUT, 1),
-        has(rt, alloc, &set, PUT, 0),
-        has_after_both(rt, alloc, &set, PUT, TAKE, 1),
-        has_after_both(rt, alloc, &set, TAKE, PUT, 1),
-    ];
+    let found = put_and_taken_in(rt, alloc, &set);
     drop(set);
     found
 }
@@ -149,16 +159,27 @@ fn an_element_that_is_put_is_there_until_it_is_dropped(rt: HostRuntime) {
 }
 
 /// Whether the lamp of room 0, lit before a night, is lit after it, and the hours of both rooms.
+fn after_night_in(
+    rt: &impl Abort,
+    alloc: Global,
+    lamps: &mut Setting,
+    night: CallOutline,
+) -> (bool, [i128; 2]) {
+    lamps.set_has(rt, 0, &[0], true);
+    let lit = has(rt, alloc, lamps, night, 0);
+    let hours = [
+        count(rt, alloc, lamps, night, 0, &[0]),
+        count(rt, alloc, lamps, night, 0, &[1]),
+    ];
+    (lit, hours)
+}
+
+/// The same of two rooms.
 fn after_night(rt: &impl Abort, alloc: Global, night: CallOutline) -> (bool, [i128; 2]) {
     let mut lamps = first_setting(rt, alloc, lamps(), &[2]);
-    lamps.set_has(rt, 0, &[0], true);
-    let lit = has(rt, alloc, &lamps, night, 0);
-    let hours = [
-        count(rt, alloc, &lamps, night, 0, &[0]),
-        count(rt, alloc, &lamps, night, 0, &[1]),
-    ];
+    let found = after_night_in(rt, alloc, &mut lamps, night);
     drop(lamps);
-    (lit, hours)
+    found
 }
 
 #[test]
@@ -170,10 +191,15 @@ fn a_guarded_update_of_every_room_reads_the_old_state(rt: HostRuntime) {
 }
 
 /// With what a deposit of 1 is refused where the balance is the greatest of the range.
+fn refused_beyond_in(rt: &impl Abort, alloc: Global, accounts: &mut Setting) -> Option<[i128; 3]> {
+    accounts.make(rt, alloc, 0, &[0, 1_000_000_000_000_000]);
+    refused(rt, alloc, accounts, (0, &[0, 1]))
+}
+
+/// The same of one account.
 fn refused_beyond(rt: &impl Abort, alloc: Global) -> Option<[i128; 3]> {
     let mut accounts = first_setting(rt, alloc, deposits(), &[1]);
-    accounts.make(rt, alloc, 0, &[0, 1_000_000_000_000_000]);
-    let found = refused(rt, alloc, &accounts, (0, &[0, 1]));
+    let found = refused_beyond_in(rt, alloc, &mut accounts);
     drop(accounts);
     found
 }

@@ -10,13 +10,18 @@ use std::process::Abort;
 type Flag = (bool, Option<usize>);
 
 /// The flag at first, and in the empty state.
-fn flags(rt: &impl Abort, alloc: Global) -> (Flag, Flag) {
-    let mut at = first_setting(rt, alloc, flag(), &[]);
+fn flags_in(rt: &impl Abort, alloc: Global, at: &mut Setting) -> (Flag, Flag) {
     let first = (at.has(0, &[]), at.broken());
     at.empty(rt, alloc);
-    let empty = (at.has(0, &[]), at.broken());
+    (first, (at.has(0, &[]), at.broken()))
+}
+
+/// The same of the first setting.
+fn flags(rt: &impl Abort, alloc: Global) -> (Flag, Flag) {
+    let mut at = first_setting(rt, alloc, flag(), &[]);
+    let found = flags_in(rt, alloc, &mut at);
     drop(at);
-    (first, empty)
+    found
 }
 
 #[test]
@@ -27,10 +32,15 @@ fn the_flag_is_up_at_first_and_down_in_the_empty_state(rt: HostRuntime) {
 }
 
 /// Two balances, of which the second was changed to 7.
+fn balances_in(rt: &impl Abort, accounts: &mut Setting) -> [i128; 2] {
+    accounts.set_count(rt, 0, &[1], 7);
+    [accounts.count(0, &[0]), accounts.count(0, &[1])]
+}
+
+/// The same of the first setting.
 fn balances(rt: &impl Abort, alloc: Global) -> [i128; 2] {
     let mut accounts = first_setting(rt, alloc, deposits(), &[2]);
-    accounts.set_count(rt, 0, &[1], 7);
-    let found = [accounts.count(0, &[0]), accounts.count(0, &[1])];
+    let found = balances_in(rt, &mut accounts);
     drop(accounts);
     found
 }
@@ -42,15 +52,20 @@ fn one_balance_changes_alone(rt: HostRuntime) {
 }
 
 /// Whether element 0 and element 1 are there once 1 is put in, and 1 once it is taken out.
-fn elements(rt: &impl Abort, alloc: Global) -> [bool; 3] {
-    let mut at = first_setting(rt, alloc, set(), &[2]);
+fn elements_in(rt: &impl Abort, at: &mut Setting) -> [bool; 3] {
     at.set_has(rt, 0, &[1], true);
     let other = at.has(0, &[0]);
     let put_in = at.has(0, &[1]);
     at.set_has(rt, 0, &[1], false);
-    let taken_out = at.has(0, &[1]);
+    [other, put_in, at.has(0, &[1])]
+}
+
+/// The same of the first setting.
+fn elements(rt: &impl Abort, alloc: Global) -> [bool; 3] {
+    let mut at = first_setting(rt, alloc, set(), &[2]);
+    let found = elements_in(rt, &mut at);
     drop(at);
-    [other, put_in, taken_out]
+    found
 }
 
 #[test]
@@ -60,16 +75,22 @@ fn one_tuple_is_put_in_and_taken_out(rt: HostRuntime) {
 }
 
 /// Whether a copy is the same at first, and after the original has changed.
-fn copied(rt: &impl Abort, alloc: Global) -> [bool; 2] {
-    let mut accounts = first_setting(rt, alloc, deposits(), &[2]);
+fn copied_in(rt: &impl Abort, accounts: &mut Setting) -> [bool; 2] {
     accounts.set_count(rt, 0, &[0], -3);
     let copy = accounts.state.copy().expect(rt, "memory");
     let at_first = copy.same(&accounts.state);
     accounts.set_count(rt, 0, &[1], 1);
     let after_change = copy.same(&accounts.state);
     drop(copy);
-    drop(accounts);
     [at_first, after_change]
+}
+
+/// The same of the first setting.
+fn copied(rt: &impl Abort, alloc: Global) -> [bool; 2] {
+    let mut accounts = first_setting(rt, alloc, deposits(), &[2]);
+    let found = copied_in(rt, &mut accounts);
+    drop(accounts);
+    found
 }
 
 #[test]
@@ -87,14 +108,19 @@ fn is_shown(rt: &impl Abort, alloc: Global, at: &Setting, want: &str) -> bool {
     found
 }
 
-/// Whether these lines show a state of tournaments with two players, one of them enrolled, and with changed seats.
-fn players_are_shown(rt: &impl Abort, alloc: Global, want: &str) -> bool {
-    let mut at = first_setting(rt, alloc, tournaments(), &[2, 3]);
+/// Two players, one of them enrolled, and changed seats.
+fn enroll(rt: &impl Abort, at: &mut Setting) {
     at.set_has(rt, 2, &[1, 0], true);
     at.set_has(rt, 0, &[1], true);
     at.set_has(rt, 0, &[0], true);
     at.set_count(rt, 0, &[0], -30);
     at.set_count(rt, 0, &[1], 0);
+}
+
+/// Whether these lines show a state of tournaments with those.
+fn players_are_shown(rt: &impl Abort, alloc: Global, want: &str) -> bool {
+    let mut at = first_setting(rt, alloc, tournaments(), &[2, 3]);
+    enroll(rt, &mut at);
     let shown = is_shown(rt, alloc, &at, want);
     drop(at);
     shown

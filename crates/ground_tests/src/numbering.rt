@@ -27,6 +27,7 @@ fn equal_ones_have_one_number(rt: HostRuntime) {
     assert!(&rt; atoms.atom(2).is_some() && atoms.atom(3).is_none());
     assert!(&rt; atoms.int(0).is_some() && atoms.int(1).is_none());
     assert!(&rt; atoms.named().len() == 2 && atoms.named()[1].stage == 1);
+    drop(atoms);
 }
 
 // A multiple of the first parameter of the first call.
@@ -51,4 +52,5 @@ fn sums_that_cancel_are_truth_values(rt: HostRuntime) {
     drop(open);
     assert!(&rt; atoms.int(0).is_some() && atoms.int(1).is_none());
     assert!(&rt; atoms.atom(0).is_some() && atoms.atom(1).is_none());
+    drop(atoms);
 }

@@ -108,7 +108,10 @@ fn the_effect_is_called_by_a_network(rt: HostRuntime) {
         world,
     };
     let native = Native::new(&spec, world, NoMemory {}, guard);
-    assert!(&rt; network_lacks_memory(alloc, &spec, native, &schedule));
+    let lacks = network_lacks_memory(alloc, &spec, native, &schedule);
+    drop(schedule);
+    drop(spec);
+    assert!(&rt; lacks);
 }
 
 #[test]
@@ -125,5 +128,8 @@ fn the_guard_is_asked_by_a_network(rt: HostRuntime) {
         world,
     };
     let native = Native::new(&spec, world, effect, NoMemory {});
-    assert!(&rt; network_lacks_memory(alloc, &spec, native, &schedule));
+    let lacks = network_lacks_memory(alloc, &spec, native, &schedule);
+    drop(schedule);
+    drop(spec);
+    assert!(&rt; lacks);
 }

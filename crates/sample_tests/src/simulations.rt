@@ -1,6 +1,7 @@
 // Simulations of schedules of the bank, with the texts that were worked out by hand.
-use crate::rows::{OUT_OF_RANGE, Row, TAKEN_TOO_EARLY, TWO_DEPOSITS, TWO_WITHDRAWALS};
-use crate::running::ends_with;
+use crate::replays::{
+    OUT_OF_RANGE, Row, TAKEN_TOO_EARLY, TWO_DEPOSITS, TWO_WITHDRAWALS, check_all,
+};
 
 /// A withdrawal that waits for another one, and is run when that was taken.
 const GRANTED: &[u8] = b"{\"sizes\":{\"Account\":1},\"constants\":{},\"replicas\":2,\"steps\":[
@@ -33,7 +34,7 @@ const NO_REPLICA: &[u8] = b"{\"sizes\":{\"Account\":1},\"constants\":{},\"replic
 {\"replica\":0,\"call\":\"deposit\",\"args\":[0,5]},
 {\"replica\":1,\"call\":\"deposit\",\"args\":[0,7]}]}";
 
-const ROWS: [Row; 10] = [
+static ROWS: &[Row] = &[
     Row {
         schedule: GRANTED,
         status: 0,
@@ -182,17 +183,5 @@ count balance 0 5
 
 #[test]
 fn simulations_come_to_their_texts(rt: HostRuntime) {
-    for row in &ROWS {
-        let words = &["simulate", "schedule.json"];
-        let same = ends_with(
-            rt.alloc(),
-            words,
-            row.schedule,
-            false,
-            false,
-            row.status,
-            row.text,
-        );
-        assert!(rt; same.expect(&rt, "memory"));
-    }
+    check_all(&rt, rt.alloc(), &["simulate", "schedule.json"], ROWS);
 }

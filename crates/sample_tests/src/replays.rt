@@ -1,5 +1,7 @@
 // Replays of schedules of the bank, with the texts that were worked out by hand.
-use crate::running::ends_with;
+use crate::running::{Port, ends_with};
+use std::alloc::Global;
+use std::process::Abort;
 
 /// Two withdrawals from one account, of which the second doesn't know the first.
 pub const TWO_WITHDRAWALS: &[u8] =
@@ -35,7 +37,7 @@ pub struct Row {
     pub text: &'static [u8],
 }
 
-const ROWS: [Row; 4] = [
+static ROWS: &[Row] = &[
     Row {
         schedule: TWO_WITHDRAWALS,
         status: 4,
@@ -99,52 +101,59 @@ count balance 0 1
     },
 ];
 
-#[test]
-fn schedules_come_to_their_texts(rt: HostRuntime) {
-    for row in &ROWS {
-        let words = &["replay", "schedule.json"];
-        let same = ends_with(
-            rt.alloc(),
-            words,
-            row.schedule,
-            false,
-            false,
-            row.status,
-            row.text,
-        );
-        assert!(rt; same.expect(&rt, "memory"));
+/// Checks that a command comes to the status and the text of each row.
+pub fn check_all(rt: &impl Abort, alloc: Global, words: &[&str], rows: &[Row]) {
+    for row in rows {
+        let same = ends_with(rt, alloc, words, row.schedule, None, row.status, row.text);
+        assert!(rt; same);
     }
 }
 
 #[test]
+fn schedules_come_to_their_texts(rt: HostRuntime) {
+    check_all(&rt, rt.alloc(), &["replay", "schedule.json"], ROWS);
+}
+
+/// Words that aren't accepted.
+static REFUSED: &[&[&str]] = &[
+    &[],
+    &["replay"],
+    &["simulate"],
+    &["check", "s"],
+    &["replay", "s", "t"],
+    &["simulate", "s", "t"],
+];
+
+#[test]
 fn other_words_are_refused(rt: HostRuntime) {
-    let refused: [&[&str]; 6] = [
-        &[],
-        &["replay"],
-        &["simulate"],
-        &["check", "s"],
-        &["replay", "s", "t"],
-        &["simulate", "s", "t"],
-    ];
-    for words in &refused {
-        let same = ends_with(
-            rt.alloc(),
-            words,
-            TWO_DEPOSITS,
-            false,
-            false,
-            2,
-            b"refused words\n",
-        );
-        assert!(rt; same.expect(&rt, "memory"));
+    for words in REFUSED {
+        let text = b"refused words\n";
+        let same = ends_with(&rt, rt.alloc(), words, TWO_DEPOSITS, None, 2, text);
+        assert!(rt; same);
     }
 }
 
 #[test]
 fn a_fault_stops_a_run(rt: HostRuntime) {
     let words = &["replay", "schedule.json"];
-    let unread = ends_with(rt.alloc(), words, TWO_DEPOSITS, true, false, 6, b"");
-    assert!(rt; unread.expect(&rt, "memory"));
-    let unwritten = ends_with(rt.alloc(), words, TWO_DEPOSITS, false, true, 7, b"");
-    assert!(rt; unwritten.expect(&rt, "memory"));
+    let unread = ends_with(
+        &rt,
+        rt.alloc(),
+        words,
+        TWO_DEPOSITS,
+        Some(Port::Source),
+        6,
+        b"",
+    );
+    assert!(rt; unread);
+    let unwritten = ends_with(
+        &rt,
+        rt.alloc(),
+        words,
+        TWO_DEPOSITS,
+        Some(Port::Sink),
+        7,
+        b"",
+    );
+    assert!(rt; unwritten);
 }
