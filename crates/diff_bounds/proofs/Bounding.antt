@@ -5,7 +5,7 @@ use Rattle.std.proofs.lemmas.Bool.Decides.{nat_tests}
 use Rattle.lin_rows.specs.Numbers.{in_range}
 use Rattle.lin_rows.proofs.Ring.{add_mul}
 use Rattle.lin_rows.proofs.Rounding.{mul_le}
-use Rattle.proof_lines.specs.Evidence.{in_state}
+use Rattle.line_rows.specs.Evidence.{in_state}
 use Rattle.diff_bounds.specs.Differences.{state_limit}
 
 -- HOW FAR VALUES LIE FROM 0

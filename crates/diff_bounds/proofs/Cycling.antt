@@ -11,9 +11,9 @@ use Rattle.lin_rows.specs.Divisors.{tightened}
 use Rattle.lin_rows.specs.Sums.{row_sum}
 use Rattle.proof_lines.specs.declared.line.RowStep.{RowStep}
 use Rattle.proof_lines.specs.declared.line.Why.TheVariants.{Place, Range}
-use Rattle.proof_lines.specs.Refusals.{need, or_broken}
+use Rattle.line_rows.specs.Refusals.{need, or_broken}
 use Rattle.proof_lines.specs.Numbers.{stands_in, are_different}
-use Rattle.proof_lines.specs.Steps.{no_row, row_at, step_row, held_rows, refutes_so}
+use Rattle.line_rows.specs.Steps.{no_row, row_at, step_row, held_rows, refutes_so}
 use Rattle.theory_api.specs.Laws.{rows_at, is_some_row, IsConflict}
 use Rattle.theory_api.proofs.Ends.{held_rows-more, row_at-more}
 use Rattle.diff_bounds.specs.declared.edges.Edge.{Edge}

@@ -5,7 +5,7 @@ use Rattle.std.proofs.lemmas.Int.{ints}
 use Rattle.lin_rows.specs.Rows.{Row, point_of, value_at}
 use Rattle.lin_rows.specs.Divisors.{tightened}
 use Rattle.lin_rows.proofs.Rounding.{mul_le}
-use Rattle.proof_lines.specs.Steps.{row_at}
+use Rattle.line_rows.specs.Steps.{row_at}
 use Rattle.diff_bounds.specs.declared.edges.Edge.{Edge}
 use Rattle.diff_bounds.specs.declared.walks.Visit.{Visit}
 use Rattle.diff_bounds.specs.declared.walks.Walks.{Walks}

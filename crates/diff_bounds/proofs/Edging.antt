@@ -13,7 +13,7 @@ use Rattle.diff_bounds.specs.Differences.{is_unit, are_difference, state_limit, 
 use Rattle.diff_bounds.specs.Spans.{place_value, Spans}
 use Rattle.lin_rows.specs.Divisors.{divisor_of, divided_term, tightened}
 use Rattle.lin_rows.proofs.Rounding.{tightened-cases}
-use Rattle.proof_lines.specs.Steps.{row_at}
+use Rattle.line_rows.specs.Steps.{row_at}
 use Rattle.diff_bounds.specs.Differences.{is_taken}
 use Rattle.diff_bounds.specs.Edges.{edge_at, no_edge, IsNear, AreNear, LieBetween, IsEdge, AreFirstEdges, AreEdges}
 

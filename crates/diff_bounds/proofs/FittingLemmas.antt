@@ -21,8 +21,8 @@ use Rattle.lin_rows.proofs.Rounding.{IsDivisor, divisor_of-row, value_at-divided
 use Rattle.proof_lines.specs.declared.clause.Lit.{Lit}
 use Rattle.proof_lines.specs.declared.problem.AtomKind.{AtomKind}
 use Rattle.proof_lines.specs.declared.problem.AtomKind.TheVariants.{Plain, Row as OfRow}
-use Rattle.proof_lines.specs.Evidence.{in_state}
-use Rattle.proof_lines.specs.Steps.{row_of_kind, atom_row, lit_row}
+use Rattle.line_rows.specs.Evidence.{in_state}
+use Rattle.line_rows.specs.Steps.{row_of_kind, atom_row, lit_row}
 use Rattle.diff_bounds.specs.Differences.{is_unit, is_near, is_taken, are_taken, is_there_taken, row_fits, atom_fits}
 use Rattle.diff_bounds.specs.Fitting.{over, is_simple}
 

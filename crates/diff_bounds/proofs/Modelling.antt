@@ -7,9 +7,9 @@ use Rattle.std.proofs.lemmas.List.{get_or_append_left, get_or_push, length_push}
 use Rattle.lin_rows.specs.Rows.{Row, is_row, value_at, point_of}
 use Rattle.lin_rows.specs.Divisors.{tightened}
 use Rattle.lin_rows.proofs.Rounding.{satisfies-of_tightened}
-use Rattle.proof_lines.specs.Evidence.{in_state}
+use Rattle.line_rows.specs.Evidence.{in_state}
 use Rattle.proof_lines.specs.Problems.{row_true}
-use Rattle.proof_lines.specs.Steps.{row_at}
+use Rattle.line_rows.specs.Steps.{row_at}
 use Rattle.theory_api.specs.Laws.{IsModel, all_satisfied}
 use Rattle.diff_bounds.specs.declared.edges.Edge.{Edge}
 use Rattle.diff_bounds.specs.declared.walks.Visit.{Visit}

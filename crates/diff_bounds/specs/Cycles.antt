@@ -5,7 +5,7 @@ use Rattle.lin_rows.specs.Rows.{Row}
 use Rattle.lin_rows.specs.Divisors.{tightened}
 use Rattle.proof_lines.specs.declared.line.RowStep.{RowStep}
 use Rattle.proof_lines.specs.Numbers.{are_different}
-use Rattle.proof_lines.specs.Steps.{row_at}
+use Rattle.line_rows.specs.Steps.{row_at}
 use Rattle.theory_api.specs.declared.answer.TheoryAnswer.{TheoryAnswer}
 use Rattle.theory_api.specs.declared.answer.TheoryAnswer.TheVariants.{Model, Conflict, Split, Rows, Range, Memory}
 use Rattle.diff_bounds.specs.declared.walks.Visit.{Visit}

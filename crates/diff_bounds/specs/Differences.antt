@@ -8,7 +8,7 @@ use Rattle.lin_rows.specs.Divisors.{tightened}
 use Rattle.proof_lines.specs.declared.problem.AtomKind.{AtomKind}
 use Rattle.proof_lines.specs.declared.problem.AtomKind.TheVariants.{Plain, Row as OfRow}
 use Rattle.proof_lines.specs.Problems.{PlainProblem}
-use Rattle.proof_lines.specs.Evidence.{in_state}
+use Rattle.line_rows.specs.Evidence.{in_state}
 
 -- DIFFERENCE ROWS
 

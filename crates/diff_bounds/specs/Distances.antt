@@ -2,7 +2,7 @@
 use Rattle.std.specs.Prelude.{◌≡◌, ℕ, ◌*◌, ◌<◌, ◌≤◌, max, ℤ, pos, ◌+ℤ◌, ◌-ℤ◌, ◌≤ℤ◌, unsigned_abs, List, [], ◌∷◌, length}
 use Rattle.lin_rows.specs.Rows.{Row, point_of}
 use Rattle.lin_rows.specs.Divisors.{tightened}
-use Rattle.proof_lines.specs.Steps.{row_at}
+use Rattle.line_rows.specs.Steps.{row_at}
 use Rattle.theory_api.specs.declared.answer.TheoryAnswer.{TheoryAnswer}
 use Rattle.theory_api.specs.declared.answer.TheoryAnswer.TheVariants.{Model, Conflict, Split, Rows, Range, Memory}
 use Rattle.diff_bounds.specs.Spans.{Spans}

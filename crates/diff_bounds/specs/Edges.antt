@@ -3,7 +3,7 @@ use Rattle.std.specs.Prelude.{◌≡◌, ℕ, ◌+◌, ◌<◌, ◌≤◌, ℤ, 
 use Rattle.lin_rows.specs.declared.term.RowTerm.{RowTerm}
 use Rattle.lin_rows.specs.Rows.{Row, value_at}
 use Rattle.lin_rows.specs.Divisors.{tightened}
-use Rattle.proof_lines.specs.Steps.{row_at}
+use Rattle.line_rows.specs.Steps.{row_at}
 use Rattle.diff_bounds.specs.declared.edges.Edge.{Edge}
 use Rattle.diff_bounds.specs.Differences.{state_limit}
 use Rattle.diff_bounds.specs.Spans.{place_value, Spans}

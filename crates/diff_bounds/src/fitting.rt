@@ -7,9 +7,9 @@ ghost use Rattle.std.specs.Ordering.{int_eq};
 ghost use Rattle.lin_rows.specs.Numbers.{in_range};
 ghost use Rattle.lin_rows.specs.Rows.{Row as RowForm, rises_from, negated};
 ghost use Rattle.proof_lines.specs.declared.clause.Lit.{Lit as LitForm};
-ghost use Rattle.proof_lines.specs.Evidence.{in_state};
+ghost use Rattle.line_rows.specs.Evidence.{in_state};
 ghost use Rattle.proof_lines.specs.Problems.{PlainProblem};
-ghost use Rattle.proof_lines.specs.Steps.{lit_row};
+ghost use Rattle.line_rows.specs.Steps.{lit_row};
 ghost use Rattle.diff_bounds.specs.Differences.{is_near, is_taken, are_taken, is_there_taken, row_fits, atom_fits, problem_fits};
 ghost use Rattle.diff_bounds.specs.Fitting.{is_simple};
 

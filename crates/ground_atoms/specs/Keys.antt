@@ -10,7 +10,7 @@ use Rattle.std.proofs.lemmas.Bool.{and_parts, and_from}
 use Rattle.std.proofs.lemmas.Bool.Decides.{Decides-int_eq, Decides-eqb}
 use Rattle.lin_rows.specs.declared.term.RowTerm.{RowTerm}
 use Rattle.lin_rows.specs.Rows.{Row}
-use Rattle.proof_lines.specs.Evidence.{same_terms, same_row}
+use Rattle.line_rows.specs.Evidence.{same_terms, same_row}
 
 -- what a term puts into a hash: its place and its coefficient
 abbrev pub fed_term : RowTerm → fed.HashWrites

@@ -1,7 +1,7 @@
 // Rows, as parts of what is numbered.
 ghost use Rattle.std.specs.Prelude.{◌≡◌};
 ghost use Rattle.std.specs.Cmp.{partial_equiv_from_equiv};
-ghost use Rattle.proof_lines.specs.Evidence.{same_row};
+ghost use Rattle.line_rows.specs.Evidence.{same_row};
 ghost use Rattle.ground_atoms.specs.Keys.{fed_row, rows_equal, fed_alike};
 
 use lin_rows::{Row, same_row};

@@ -5,7 +5,7 @@ use Rattle.std.specs.Str.{bytes_eq}
 use Rattle.std.proofs.lemmas.Bool.{and_parts, and_from}
 use Rattle.std.proofs.lemmas.Bool.Decides.{Decides-eqb}
 use Rattle.std.proofs.lemmas.Slice.Eq.{bytes_eq-Decides}
-use Rattle.proof_lines.proofs.Certificates.{same_row-refl, same_row-is}
+use Rattle.line_rows.proofs.Certificates.{same_row-refl, same_row-is}
 use Rattle.ground_problem.specs.Symbols.{Integer, argument, reading, partial}
 use Rattle.ground_numbers.specs.Numbers.{Atom, same_atom, has_atom, row_atom, same_atoms, same_integers}
 

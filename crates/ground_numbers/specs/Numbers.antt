@@ -5,7 +5,7 @@ use Rattle.std.specs.List.{list_any, position_or_len, fold}
 use Rattle.lin_rows.specs.declared.term.RowTerm.{RowTerm}
 use Rattle.lin_rows.specs.Rows.{Row}
 use Rattle.lin_rows.specs.Sums.{put}
-use Rattle.proof_lines.specs.Evidence.{same_row}
+use Rattle.line_rows.specs.Evidence.{same_row}
 use Rattle.ground_problem.specs.Symbols.{Stage, Integer, argument, reading, partial, Part, number, multiple, Symbolic, always, same, has, at_most, negated, both, either}
 use Rattle.ground_numbers.specs.Numbered.{Numbered, known, literal, negation, conjunction, disjunction}
 

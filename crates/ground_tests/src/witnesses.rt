@@ -2,7 +2,7 @@
 
 ghost use Rattle.std.specs.Prelude.{◌≡◌, true};
 ghost use Rattle.std.specs.List.{list_all};
-ghost use Rattle.proof_lines.specs.Evidence.{in_state};
+ghost use Rattle.line_rows.specs.Evidence.{in_state};
 ghost use Rattle.obligation_list.specs.Obligations.{IsObligation};
 ghost use Rattle.instances.specs.Ground.{IsGrounded};
 

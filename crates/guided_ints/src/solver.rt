@@ -2,7 +2,7 @@
 ghost use Rattle.std.specs.Prelude.{◌≡◌, true, IfSome, IsTrue};
 ghost use Rattle.std.specs.List.{list_all};
 ghost use Rattle.lin_rows.specs.Rows.{point_of};
-ghost use Rattle.proof_lines.specs.Evidence.{in_state};
+ghost use Rattle.line_rows.specs.Evidence.{in_state};
 ghost use Rattle.proof_lines.specs.Problems.{row_true};
 ghost use Rattle.theory_api.specs.Laws.{IsAnswer, IsModel, all_satisfied};
 

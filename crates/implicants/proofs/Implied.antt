@@ -4,7 +4,7 @@ use Rattle.std.proofs.lemmas.Bool.{or_cases, or_left, or_right, and_from}
 use Rattle.proof_lines.specs.declared.clause.Lit.{Lit}
 use Rattle.proof_lines.specs.declared.problem.AtomKind.{AtomKind}
 use Rattle.proof_lines.specs.Clauses.{has, same_bool, lit_true, clause_true, all_true}
-use Rattle.proof_lines.specs.Steps.{has_row}
+use Rattle.line_rows.specs.Steps.{has_row}
 use Rattle.search_logs.proofs.Trails.{all_has}
 use Rattle.implicants.specs.Implicants.{plain_value, holds_by, is_met, IsImplicant, Agrees}
 

@@ -4,7 +4,7 @@ use Rattle.std.specs.List.{list_any, list_all}
 use Rattle.proof_lines.specs.declared.clause.Lit.{Lit}
 use Rattle.proof_lines.specs.declared.problem.AtomKind.{AtomKind}
 use Rattle.proof_lines.specs.Clauses.{has, same_bool, lit_of}
-use Rattle.proof_lines.specs.Steps.{has_row}
+use Rattle.line_rows.specs.Steps.{has_row}
 use Rattle.search_logs.specs.declared.trail.Entry.{Entry}
 use Rattle.search_logs.specs.Trails.{in_trail}
 use Rattle.implicants.specs.declared.choosing.Chosen.{Chosen}

@@ -4,7 +4,7 @@ use Rattle.std.specs.List.{list_any, list_all}
 use Rattle.proof_lines.specs.declared.clause.Lit.{Lit}
 use Rattle.proof_lines.specs.declared.problem.AtomKind.{AtomKind}
 use Rattle.proof_lines.specs.Clauses.{has, same_bool, lit_true}
-use Rattle.proof_lines.specs.Steps.{has_row}
+use Rattle.line_rows.specs.Steps.{has_row}
 
 -- the value of a plain atom; one beyond the list is false
 abbrev pub plain_value : List Bool → ℕ → Bool

@@ -2,7 +2,7 @@
 ghost use Rattle.std.specs.Prelude.{◌≡◌, ◌<◌, ◌⊎◌, ℕ, [], true, false, None, length, slice_index_or, OnOk, IfOk, IfSome, MatchOption};
 ghost use Rattle.std.specs.List.{list_any, list_all};
 ghost use Rattle.proof_lines.specs.Clauses.{has};
-ghost use Rattle.proof_lines.specs.Steps.{has_row};
+ghost use Rattle.line_rows.specs.Steps.{has_row};
 ghost use Rattle.search_logs.specs.Trails.{in_trail};
 ghost use Rattle.implicants.specs.Implicants.{plain_value, holds_by, is_met, IsImplicant};
 ghost use Rattle.implicants.specs.Choosing.{is_sign, is_marked, is_candidate, AreChosen, IsAdded, IsCovered, IsUnmet, AreCovered};

@@ -3,9 +3,9 @@ use Rattle.std.proofs.Common.{◌≡◌, ℕ, suc, ◌<◌, ◌||◌, Bool, true
 use Rattle.std.specs.Prelude.{is_some}
 use Rattle.std.specs.List.{list_any}
 use Rattle.lin_rows.specs.Rows.{Row}
-use Rattle.proof_lines.specs.Evidence.{same_row}
-use Rattle.proof_lines.specs.Steps.{row_at}
-use Rattle.proof_lines.proofs.Certificates.{same_row-is}
+use Rattle.line_rows.specs.Evidence.{same_row}
+use Rattle.line_rows.specs.Steps.{row_at}
+use Rattle.line_rows.proofs.Certificates.{same_row-is}
 use Rattle.indexed_rows.specs.Fingerprints.{fingerprint}
 
 pub not-held : (f : ℕ → Option ℕ) (rows : List Row) (row : Row) → ((i : ℕ) → i < length rows → is_some (f (fingerprint (row_at rows i))) ≡ true) → f (fingerprint row) ≡ None

@@ -5,7 +5,7 @@ use Rattle.std.specs.HashMap.{HashMap, get}
 use Rattle.std.specs.Prelude.{Option}
 use Rattle.lin_rows.specs.declared.term.RowTerm.{RowTerm}
 use Rattle.lin_rows.specs.Rows.{Row}
-use Rattle.proof_lines.specs.Steps.{is_negative}
+use Rattle.line_rows.specs.Steps.{is_negative}
 
 -- fingerprints are below this prime number
 abbrev pub fingerprint_limit : ℕ

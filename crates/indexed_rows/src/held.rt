@@ -5,9 +5,9 @@
 // all rows are compared. The other index has for each place the numbers of the rows that name it.
 ghost use Rattle.std.specs.Prelude.{◌≡◌, ℕ, ◌<◌, ◌||◌, ◌==◌, cond, true, length, OnErr, OnOk, Some, is_some, [], ◌∷◌, ◌++◌};
 ghost use Rattle.std.specs.List.{list_any};
-ghost use Rattle.proof_lines.specs.Evidence.{same_row};
+ghost use Rattle.line_rows.specs.Evidence.{same_row};
 ghost use Rattle.proof_lines.specs.Numbers.{stands_in};
-ghost use Rattle.proof_lines.specs.Steps.{row_at};
+ghost use Rattle.line_rows.specs.Steps.{row_at};
 ghost use Rattle.indexed_rows.specs.Fingerprints.{fingerprint, fingerprint_limit, found, mixed, number_part};
 ghost use Rattle.indexed_rows.specs.Naming.{KeepsLists, lists};
 ghost use Rattle.indexed_rows.specs.Places.{names};
@@ -16,8 +16,8 @@ use crate::counts::Counts;
 use crate::naming::{list_all, numbers_at};
 use items::Items;
 use lin_rows::{Row, RowTerm};
-use proof_lines::evidence::same_row;
-use proof_lines::splitting::is_negative;
+use line_rows::evidence::same_row;
+use line_rows::splitting::is_negative;
 use std::alloc::{AllocError, Global};
 use std::collections::HashMap;
 use std::marker::Model;
@@ -34,7 +34,7 @@ pub struct Held {
 impl Model for Held {
     ghost use Rattle.std.specs.Prelude.{List, ℕ, ◌≡◌, ◌<◌, true, length, is_some};
     ghost use Rattle.lin_rows.specs.Rows.{Row};
-    ghost use Rattle.proof_lines.specs.Steps.{row_at};
+    ghost use Rattle.line_rows.specs.Steps.{row_at};
     ghost use Rattle.indexed_rows.specs.Fingerprints.{fingerprint, found};
     ghost use Rattle.indexed_rows.specs.Naming.{IsNaming};
 

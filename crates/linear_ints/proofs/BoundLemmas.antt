@@ -2,7 +2,7 @@ use Rattle.std.proofs.Common.{◌≡◌, ℕ, zero, suc, ◌<◌, ℤ, pos, negs
 use Rattle.std.proofs.lemmas.Bool.{and_parts}
 use Rattle.lin_rows.specs.Numbers.{is_zero}
 use Rattle.lin_rows.specs.Rows.{Row, coefficient_at}
-use Rattle.proof_lines.specs.Steps.{is_positive, is_negative}
+use Rattle.line_rows.specs.Steps.{is_positive, is_negative}
 use Rattle.linear_ints.specs.Fractions.{size}
 use Rattle.theory_api.specs.Ends.{names_none}
 use Rattle.linear_ints.specs.Sides.{is_on}

@@ -4,7 +4,7 @@ use Rattle.std.proofs.lemmas.Int.{ints}
 use Rattle.std.proofs.lemmas.Bool.Decides.{nat_tests}
 use Rattle.std.proofs.Math.Nat.{div-add-mod', mod-lt, mul-le-mul_left, mul_comm}
 use Rattle.lin_rows.proofs.Ring.{mul_neg}
-use Rattle.proof_lines.proofs.Gap.{over_so}
+use Rattle.line_rows.proofs.Gap.{over_so}
 use Rattle.linear_ints.specs.Ceilings.{is_beyond, taken, IsBound}
 
 one_more : (q d : ℕ) → (q + 1) * d ≡ q * d + d

@@ -6,7 +6,7 @@ use Rattle.std.proofs.lemmas.Bool.Decides.{nat_tests}
 use Rattle.lin_rows.specs.declared.term.RowTerm.{RowTerm}
 use Rattle.lin_rows.specs.Rows.{Row, value_at, is_contradiction, has_no_terms, point_of}
 use Rattle.proof_lines.specs.Problems.{row_true}
-use Rattle.proof_lines.specs.Splits.{other_names}
+use Rattle.line_rows.specs.Splits.{other_names}
 use Rattle.theory_api.specs.Chosen.{Choice, is_named, chosen_point, are_driven, AreChosen}
 use Rattle.linear_ints.specs.Points.{with_value, values_of, is_filled_but}
 use Rattle.theory_api.specs.Ends.{after}

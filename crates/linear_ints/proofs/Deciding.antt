@@ -7,8 +7,8 @@ use Rattle.lin_rows.proofs.Ring.{mul_neg}
 use Rattle.lin_rows.proofs.Kept.{rises_of}
 use Rattle.lin_rows.proofs.CancellingLemmas.{size_positive}
 use Rattle.proof_lines.specs.Problems.{row_true}
-use Rattle.proof_lines.specs.Steps.{row_at}
-use Rattle.proof_lines.specs.Splits.{split_cause}
+use Rattle.line_rows.specs.Steps.{row_at}
+use Rattle.line_rows.specs.Splits.{split_cause}
 use Rattle.theory_api.specs.Chosen.{Choice, is_named, chosen_point, is_driven}
 use Rattle.linear_ints.specs.Fractions.{size, floor_of, IsInGap}
 use Rattle.linear_ints.specs.Points.{with_value, values_of}

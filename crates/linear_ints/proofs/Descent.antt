@@ -11,8 +11,8 @@ use Rattle.lin_rows.proofs.Kept.{rises_of}
 use Rattle.lin_rows.proofs.Points.{option_map-went}
 use Rattle.lin_rows.specs.declared.combining.Combined.{Combined}
 use Rattle.proof_lines.specs.Problems.{row_true}
-use Rattle.proof_lines.specs.Steps.{row_at}
-use Rattle.proof_lines.specs.Splits.{rest_at, split_cause}
+use Rattle.line_rows.specs.Steps.{row_at}
+use Rattle.line_rows.specs.Splits.{rest_at, split_cause}
 use Rattle.proof_lines.proofs.Sets.{same_nat-refl}
 use Rattle.theory_api.specs.Chosen.{Choice, is_named, chosen_point}
 use Rattle.theory_api.specs.Elimination.{stage}

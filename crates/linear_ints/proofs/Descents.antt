@@ -12,12 +12,12 @@ use Rattle.proof_lines.specs.declared.line.RangeWhat.{RangeWhat}
 use Rattle.proof_lines.specs.declared.line.RangeWhat.TheVariants.{Value, Sum}
 use Rattle.proof_lines.specs.declared.line.Why.{Why}
 use Rattle.proof_lines.specs.declared.line.Why.TheVariants.{Place}
-use Rattle.proof_lines.specs.Steps.{row_at, is_positive, is_negative}
-use Rattle.proof_lines.specs.Splits.{rest_at, other_names, split_fits, split_cause}
-use Rattle.proof_lines.specs.Refusals.{then_}
-use Rattle.proof_lines.specs.Splits.{at_most}
+use Rattle.line_rows.specs.Steps.{row_at, is_positive, is_negative}
+use Rattle.line_rows.specs.Splits.{rest_at, other_names, split_fits, split_cause}
+use Rattle.line_rows.specs.Refusals.{then_}
+use Rattle.line_rows.specs.Splits.{at_most}
 use Rattle.proof_lines.specs.Numbers.{stands_in}
-use Rattle.proof_lines.specs.Evidence.{in_state, range_shown, all_cancel, is_beyond}
+use Rattle.line_rows.specs.Evidence.{in_state, range_shown, all_cancel, is_beyond}
 use Rattle.theory_api.specs.Chosen.{Choice, chosen_point}
 use Rattle.theory_api.specs.Elimination.{stage, ends_in_order}
 use Rattle.theory_api.specs.Laws.{IsModel, IsBeyond, IsSplit, HasChosen}

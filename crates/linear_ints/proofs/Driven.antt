@@ -8,7 +8,7 @@ use Rattle.lin_rows.specs.Numbers.{is_zero}
 use Rattle.lin_rows.specs.Rows.{Row, is_row, value_at, coefficient_at}
 use Rattle.lin_rows.proofs.Kept.{rises_of}
 use Rattle.proof_lines.specs.Problems.{row_true}
-use Rattle.proof_lines.specs.Steps.{no_row, row_at, is_negative, is_positive}
+use Rattle.line_rows.specs.Steps.{no_row, row_at, is_negative, is_positive}
 use Rattle.theory_api.specs.Chosen.{Choice, chosen_point, allows, is_least, is_greatest, is_driven}
 use Rattle.linear_ints.specs.Fractions.{size}
 use Rattle.linear_ints.specs.Points.{with_value, is_filled_but}

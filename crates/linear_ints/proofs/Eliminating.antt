@@ -7,7 +7,7 @@ use Rattle.std.proofs.lemmas.List.Folds.{list_any-append}
 use Rattle.std.proofs.lemmas.Map.Views.{any-filter_same}
 use Rattle.lin_rows.specs.Numbers.{is_zero}
 use Rattle.lin_rows.specs.Rows.{Row, is_contradiction, coefficient_at}
-use Rattle.proof_lines.specs.Steps.{row_at, is_positive, is_negative}
+use Rattle.line_rows.specs.Steps.{row_at, is_positive, is_negative}
 use Rattle.proof_lines.specs.Numbers.{stands_in, are_different}
 use Rattle.theory_api.specs.Elimination.{stage}
 use Rattle.linear_ints.specs.declared.tableau.Tableau.{Tableau}

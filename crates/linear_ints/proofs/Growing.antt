@@ -4,9 +4,9 @@ use Rattle.std.proofs.lemmas.List.{length-append, get_or_append_left}
 use Rattle.std.proofs.lemmas.List.Folds.{list_all-append}
 use Rattle.std.proofs.lemmas.Bool.{and_parts, and_from, or_cases}
 use Rattle.lin_rows.specs.Rows.{Row, has_no_terms, is_contradiction, coefficient_at}
-use Rattle.proof_lines.specs.Steps.{no_row, row_at}
-use Rattle.proof_lines.specs.Evidence.{same_row}
-use Rattle.proof_lines.proofs.Certificates.{same_row-is}
+use Rattle.line_rows.specs.Steps.{no_row, row_at}
+use Rattle.line_rows.specs.Evidence.{same_row}
+use Rattle.line_rows.proofs.Certificates.{same_row-is}
 use Rattle.linear_ints.specs.declared.tableau.Tableau.{Tableau}
 use Rattle.theory_api.specs.Ends.{names_none}
 use Rattle.linear_ints.specs.Standing.{IsCombinedAt}

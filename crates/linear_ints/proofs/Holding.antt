@@ -10,13 +10,13 @@ use Rattle.lin_rows.specs.Numbers.{is_zero}
 use Rattle.lin_rows.specs.Sums.{row_sum}
 use Rattle.lin_rows.proofs.Points.{is_zero-is}
 use Rattle.lin_rows.proofs.CancellingLemmas.{coefficient_at-combined}
-use Rattle.proof_lines.specs.Steps.{row_at}
-use Rattle.proof_lines.specs.Evidence.{same_row, all_different}
+use Rattle.line_rows.specs.Steps.{row_at}
+use Rattle.line_rows.specs.Evidence.{same_row, all_different}
 use Rattle.theory_api.specs.Laws.{IsConflict, IsTooMany}
 use Rattle.linear_ints.specs.declared.tableau.Tableau.{Tableau}
 use Rattle.theory_api.specs.Ends.{names_none}
 use Rattle.linear_ints.specs.Standing.{IsCombinedAt}
-use Rattle.proof_lines.specs.Evidence.{row_limit}
+use Rattle.line_rows.specs.Evidence.{row_limit}
 use Rattle.linear_ints.specs.Tableaux.{IsRun, IsTableau, CanMeet, IsGrown}
 use Rattle.linear_ints.specs.Needed.{is_needed}
 use Rattle.theory_api.proofs.Cancels.{all_different-more}

@@ -5,7 +5,7 @@ use Rattle.std.proofs.lemmas.Int.{ints}
 use Rattle.lin_rows.specs.Rows.{Row, is_row, value_at, point_of}
 use Rattle.lin_rows.specs.Divisors.{tightened}
 use Rattle.lin_rows.proofs.Rounding.{satisfies-of_tightened}
-use Rattle.proof_lines.specs.Evidence.{in_state}
+use Rattle.line_rows.specs.Evidence.{in_state}
 use Rattle.proof_lines.specs.Problems.{row_true}
 use Rattle.theory_api.specs.Chosen.{Choice, chosen_point}
 use Rattle.theory_api.specs.Laws.{IsModel, all_satisfied}

@@ -13,7 +13,7 @@ use Rattle.std.proofs.lemmas.List.Folds.{list_any_more}
 use Rattle.std.proofs.Math.Seq.{take-length}
 use Rattle.lin_rows.specs.Rows.{Row}
 use Rattle.proof_lines.specs.Numbers.{stands_in}
-use Rattle.proof_lines.specs.Steps.{row_at}
+use Rattle.line_rows.specs.Steps.{row_at}
 use Rattle.indexed_rows.specs.Places.{names}
 use Rattle.linear_ints.specs.Sides.{is_on, is_on_at, IsSide, IsBoundAt, Attains, IsGreatest, IsGreatestOf}
 use Rattle.linear_ints.proofs.BoundLemmas.{on-named}

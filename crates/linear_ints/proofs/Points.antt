@@ -13,7 +13,7 @@ use Rattle.lin_rows.specs.Rows.{Row, value_at, sum_from, rises_from, coefficient
 use Rattle.lin_rows.proofs.Kept.{Rises, rises}
 use Rattle.proof_lines.specs.Problems.{row_true}
 use Rattle.proof_lines.specs.Numbers.{stands_in}
-use Rattle.proof_lines.specs.Splits.{point, put_rising, other_terms, places_of, other_names}
+use Rattle.line_rows.specs.Splits.{point, put_rising, other_terms, places_of, other_names}
 use Rattle.proof_lines.proofs.Sets.{same_nat-refl}
 use Rattle.theory_api.specs.Chosen.{Choice, is_named, chosen_point, is_among, are_among}
 use Rattle.linear_ints.specs.Points.{Agree, with_value, values_of}

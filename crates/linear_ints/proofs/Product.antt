@@ -5,8 +5,8 @@ use Rattle.std.proofs.lemmas.Bool.{and_from, le-leb, lt-ltb, eq-eqb}
 use Rattle.lin_rows.specs.Rows.{Row, coefficient_at}
 use Rattle.lin_rows.specs.Cancelling.{combined}
 use Rattle.proof_lines.specs.declared.line.RangeWhat.TheVariants.{Product}
-use Rattle.proof_lines.specs.Steps.{row_at}
-use Rattle.proof_lines.specs.Evidence.{range_shown, all_cancel, is_beyond}
+use Rattle.line_rows.specs.Steps.{row_at}
+use Rattle.line_rows.specs.Evidence.{range_shown, all_cancel, is_beyond}
 use Rattle.theory_api.specs.Elimination.{stage, first_place, meet, eliminate, ends_in_order}
 use Rattle.theory_api.specs.Laws.{IsBeyond}
 use Rattle.linear_ints.specs.declared.tableau.Tableau.{Tableau}

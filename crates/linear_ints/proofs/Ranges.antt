@@ -7,9 +7,9 @@ use Rattle.lin_rows.specs.Numbers.{is_zero}
 use Rattle.lin_rows.specs.Rows.{Row, coefficient_at}
 use Rattle.lin_rows.specs.Cancelling.{combined}
 use Rattle.proof_lines.specs.declared.line.RangeWhat.TheVariants.{Product, Value, Sum}
-use Rattle.proof_lines.specs.Evidence.{in_state, values_fit, rest_with, leaves_state, is_beyond}
-use Rattle.proof_lines.specs.Steps.{row_at, is_positive, is_negative}
-use Rattle.proof_lines.specs.Splits.{rest_at, other_names, point}
+use Rattle.line_rows.specs.Evidence.{in_state, values_fit, rest_with, leaves_state, is_beyond}
+use Rattle.line_rows.specs.Steps.{row_at, is_positive, is_negative}
+use Rattle.line_rows.specs.Splits.{rest_at, other_names, point}
 use Rattle.proof_lines.proofs.Sets.{same_nat-refl}
 use Rattle.linear_ints.specs.Fractions.{size}
 use Rattle.linear_ints.specs.Points.{values_of}

@@ -14,10 +14,10 @@ use Rattle.lin_rows.proofs.Points.{option_map-went, is_zero-is}
 use Rattle.lin_rows.proofs.Rounding.{is_row-tightened}
 use Rattle.lin_rows.proofs.Sums.{is_row-sum}
 use Rattle.proof_lines.specs.declared.line.RowStep.{RowStep}
-use Rattle.proof_lines.specs.Steps.{row_at, held_rows}
+use Rattle.line_rows.specs.Steps.{row_at, held_rows}
 use Rattle.proof_lines.specs.Numbers.{stands_in}
-use Rattle.proof_lines.specs.Evidence.{cancels_at}
-use Rattle.proof_lines.proofs.Sound.{ok_is}
+use Rattle.line_rows.specs.Evidence.{cancels_at}
+use Rattle.line_rows.proofs.Sound.{ok_is}
 use Rattle.theory_api.specs.Elimination.{eliminate}
 use Rattle.theory_api.specs.Laws.{rows_at, is_some_row}
 use Rattle.linear_ints.specs.declared.tableau.Tableau.{Tableau}

@@ -8,7 +8,7 @@ use Rattle.lin_rows.specs.declared.term.RowTerm.{RowTerm}
 use Rattle.lin_rows.specs.Rows.{Row, is_row, coefficient_at}
 use Rattle.lin_rows.proofs.Kept.{rises_of}
 use Rattle.proof_lines.specs.Numbers.{stands_in}
-use Rattle.proof_lines.specs.Steps.{row_at, is_negative, is_positive}
+use Rattle.line_rows.specs.Steps.{row_at, is_negative, is_positive}
 use Rattle.theory_api.specs.Ends.{names_none}
 use Rattle.linear_ints.proofs.Filling.{all-named}
 use Rattle.linear_ints.proofs.Splitting.{lt_so}

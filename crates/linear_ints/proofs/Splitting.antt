@@ -12,9 +12,9 @@ use Rattle.lin_rows.proofs.CancellingLemmas.{size_positive}
 use Rattle.proof_lines.specs.declared.line.RowStep.{RowStep}
 use Rattle.proof_lines.specs.declared.line.Why.TheVariants.{Place, SplitCause}
 use Rattle.proof_lines.specs.Problems.{row_true}
-use Rattle.proof_lines.specs.Splits.{is_in_gap, in_gap, size_at, with_rests, rest_at, split_point, split_cause, split_fits, other_names}
-use Rattle.proof_lines.specs.Steps.{is_negative, is_positive, held_rows, row_at}
-use Rattle.proof_lines.specs.Refusals.{then_}
+use Rattle.line_rows.specs.Splits.{is_in_gap, in_gap, size_at, with_rests, rest_at, split_point, split_cause, split_fits, other_names}
+use Rattle.line_rows.specs.Steps.{is_negative, is_positive, held_rows, row_at}
+use Rattle.line_rows.specs.Refusals.{then_}
 use Rattle.proof_lines.proofs.Sets.{same_nat-refl}
 use Rattle.linear_ints.specs.Fractions.{floor_of, size, IsInGap, Between}
 use Rattle.linear_ints.specs.Points.{with_value, values_of}

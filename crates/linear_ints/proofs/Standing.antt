@@ -13,7 +13,7 @@ use Rattle.lin_rows.proofs.Rounding.{divisor_of-row, value_at-divided, is_row-ti
 use Rattle.lin_rows.proofs.Sums.{row_fit-went, row_sum-went, is_row-times, is_row-plus}
 use Rattle.lin_rows.proofs.CancellingLemmas.{unit_point, value_at-unit, coefficient_at-combined}
 use Rattle.proof_lines.specs.Problems.{row_true}
-use Rattle.proof_lines.specs.Steps.{row_at}
+use Rattle.line_rows.specs.Steps.{row_at}
 use Rattle.theory_api.specs.Elimination.{stage}
 use Rattle.linear_ints.specs.Points.{with_value}
 use Rattle.linear_ints.specs.Standing.{place_at, TrueFrom, IsCombined}

@@ -5,13 +5,13 @@ use Rattle.std.proofs.lemmas.List.{length-append, length-map}
 use Rattle.std.proofs.lemmas.Bool.{and_from}
 use Rattle.lin_rows.specs.Rows.{Row, is_contradiction}
 use Rattle.lin_rows.specs.Divisors.{tightened}
-use Rattle.proof_lines.specs.Steps.{row_at, refutes_so, last_row}
-use Rattle.proof_lines.specs.Evidence.{all_different, all_cancel, rows_shown}
+use Rattle.line_rows.specs.Steps.{row_at, refutes_so, last_row}
+use Rattle.line_rows.specs.Evidence.{all_different, all_cancel, rows_shown}
 use Rattle.theory_api.specs.Laws.{rows_at, is_some_row, are_given, IsConflict, IsTooMany}
 use Rattle.linear_ints.specs.declared.tableau.Tableau.{Tableau}
-use Rattle.proof_lines.specs.Evidence.{row_limit}
+use Rattle.line_rows.specs.Evidence.{row_limit}
 use Rattle.linear_ints.specs.Tableaux.{IsRun}
-use Rattle.proof_lines.proofs.KeptLines.{length-with_steps}
+use Rattle.line_rows.proofs.KeptLines.{length-with_steps}
 use Rattle.linear_ints.proofs.Pairing.{row_at-last}
 
 -- THE CERTIFICATES of a tableau that stops

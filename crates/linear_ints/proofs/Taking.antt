@@ -6,14 +6,14 @@ use Rattle.std.proofs.lemmas.Bool.{cases_lt}
 use Rattle.lin_rows.specs.Numbers.{is_zero}
 use Rattle.lin_rows.specs.Rows.{Row, is_row, is_contradiction, coefficient_at}
 use Rattle.lin_rows.specs.Divisors.{tightened}
-use Rattle.proof_lines.specs.Steps.{no_row, row_at}
+use Rattle.line_rows.specs.Steps.{no_row, row_at}
 use Rattle.proof_lines.specs.Numbers.{stands_in}
-use Rattle.proof_lines.specs.Evidence.{same_row}
-use Rattle.proof_lines.proofs.Certificates.{all_at}
+use Rattle.line_rows.specs.Evidence.{same_row}
+use Rattle.line_rows.proofs.Certificates.{all_at}
 use Rattle.theory_api.specs.Laws.{IsConflict, IsTooMany}
 use Rattle.linear_ints.specs.declared.tableau.Tableau.{Tableau}
 use Rattle.linear_ints.specs.Descent.{Paired}
-use Rattle.proof_lines.specs.Evidence.{row_limit}
+use Rattle.line_rows.specs.Evidence.{row_limit}
 use Rattle.linear_ints.specs.Tableaux.{IsRun, IsTaking, IsElimination, AreTaken}
 use Rattle.theory_api.proofs.Cancels.{all_different-more}
 use Rattle.linear_ints.proofs.Growing.{held-at, taken-append}

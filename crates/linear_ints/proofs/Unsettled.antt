@@ -9,11 +9,11 @@ use Rattle.lin_rows.specs.Numbers.{fit}
 use Rattle.lin_rows.specs.Rows.{Row, value_at, opposite, negated}
 use Rattle.lin_rows.specs.Divisors.{common_divisor, tightened}
 use Rattle.lin_rows.proofs.Points.{option_map-went, fit-is}
-use Rattle.proof_lines.specs.Splits.{at_most}
-use Rattle.proof_lines.specs.Evidence.{same_row}
-use Rattle.proof_lines.specs.Steps.{row_at}
+use Rattle.line_rows.specs.Splits.{at_most}
+use Rattle.line_rows.specs.Evidence.{same_row}
+use Rattle.line_rows.specs.Steps.{row_at}
 use Rattle.proof_lines.proofs.Sets.{same_nat-refl}
-use Rattle.proof_lines.proofs.Certificates.{same_row-is}
+use Rattle.line_rows.proofs.Certificates.{same_row-is}
 use Rattle.theory_api.specs.Laws.{settles, is_that}
 use Rattle.linear_ints.specs.Fractions.{size, IsInGap, InOrder}
 

@@ -1,6 +1,6 @@
 -- The least whole number in the range of a state that is at least a fraction.
 use Rattle.std.specs.Prelude.{◌≡◌, ℕ, ◌^◌, nat_lt, ℤ, pos, neg_ℤ, ◌*ℤ◌, ◌≤ℤ◌, int_lt, Bool, true, cond, ◌⊎◌}
-use Rattle.proof_lines.specs.Evidence.{in_state}
+use Rattle.line_rows.specs.Evidence.{in_state}
 use Rattle.linear_ints.specs.Driven.{IsCeiling}
 
 -- n / d is above the range of a state

@@ -1,7 +1,7 @@
 -- The lowest and the highest value that the rows of a place allow it, and the number nearest to 0 between them.
 use Rattle.std.specs.Prelude.{◌≡◌, ℕ, ◌<◌, ◌^◌, length, ℤ, pos, neg_ℤ, ◌-ℤ◌, ◌<ℤ◌, int_lt, true, cond, List, ◌⊎◌}
 use Rattle.lin_rows.specs.Rows.{Row, is_row, value_at, coefficient_at}
-use Rattle.proof_lines.specs.Steps.{row_at}
+use Rattle.line_rows.specs.Steps.{row_at}
 use Rattle.theory_api.specs.Chosen.{Choice, chosen_point}
 use Rattle.linear_ints.specs.Fractions.{size}
 use Rattle.linear_ints.specs.Points.{is_filled_but}

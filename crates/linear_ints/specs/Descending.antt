@@ -2,9 +2,9 @@
 use Rattle.std.specs.Prelude.{◌≡◌, ℕ, ◌<◌, length, ℤ, pos, neg_ℤ, ◌-ℤ◌, Bool, true, false, List, [], take, Some, None}
 use Rattle.std.specs.List.{list_all}
 use Rattle.lin_rows.specs.Rows.{Row, point_of}
-use Rattle.proof_lines.specs.Steps.{row_at}
-use Rattle.proof_lines.specs.Splits.{rest_at}
-use Rattle.proof_lines.specs.Evidence.{in_state}
+use Rattle.line_rows.specs.Steps.{row_at}
+use Rattle.line_rows.specs.Splits.{rest_at}
+use Rattle.line_rows.specs.Evidence.{in_state}
 use Rattle.theory_api.specs.Chosen.{Choice, chosen_point}
 use Rattle.linear_ints.specs.declared.tableau.Tableau.{Tableau}
 use Rattle.linear_ints.specs.declared.bounds.Fault.{Fault}

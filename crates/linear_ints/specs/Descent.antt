@@ -3,7 +3,7 @@ use Rattle.std.specs.Prelude.{◌≡◌, ℕ, ◌<◌, ◌≤◌, length, ℤ, p
 use Rattle.lin_rows.specs.Numbers.{is_zero}
 use Rattle.lin_rows.specs.Rows.{Row, is_row, is_contradiction, coefficient_at}
 use Rattle.lin_rows.specs.Divisors.{tightened}
-use Rattle.proof_lines.specs.Steps.{row_at}
+use Rattle.line_rows.specs.Steps.{row_at}
 use Rattle.theory_api.specs.Chosen.{Choice, is_named, chosen_point, are_driven}
 use Rattle.theory_api.specs.Elimination.{stage}
 use Rattle.theory_api.specs.Ends.{after}

@@ -3,7 +3,7 @@ use Rattle.std.specs.Prelude.{◌≡◌, ℕ, ◌==◌, ℤ, Bool, cond, ◌||�
 use Rattle.std.specs.List.{list_all}
 use Rattle.lin_rows.specs.declared.term.RowTerm.{RowTerm}
 use Rattle.lin_rows.specs.Rows.{Row}
-use Rattle.proof_lines.specs.Splits.{other_names}
+use Rattle.line_rows.specs.Splits.{other_names}
 use Rattle.theory_api.specs.Chosen.{Choice, is_named}
 
 -- two points have the same values at the names of terms

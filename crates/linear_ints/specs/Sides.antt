@@ -2,8 +2,8 @@
 use Rattle.std.specs.Prelude.{◌≡◌, ℕ, ◌<◌, ℤ, pos, neg_ℤ, ◌-ℤ◌, ◌≤ℤ◌, ◌^◌, Bool, true, cond, ◌&&◌, nat_lt, List, length, slice_index_or, Some, ◌⊎◌}
 use Rattle.lin_rows.specs.Rows.{Row, coefficient_at, point_of}
 use Rattle.proof_lines.specs.Numbers.{stands_in}
-use Rattle.proof_lines.specs.Steps.{row_at, is_positive, is_negative}
-use Rattle.proof_lines.specs.Splits.{rest_at}
+use Rattle.line_rows.specs.Steps.{row_at, is_positive, is_negative}
+use Rattle.line_rows.specs.Splits.{rest_at}
 use Rattle.linear_ints.specs.Fractions.{size}
 use Rattle.theory_api.specs.Ends.{names_none}
 use Rattle.linear_ints.specs.Ceilings.{IsBound}

@@ -5,7 +5,7 @@ use Rattle.lin_rows.specs.Sums.{row_sum}
 use Rattle.lin_rows.specs.Cancelling.{first_factor, second_factor}
 use Rattle.proof_lines.specs.declared.line.RowStep.{RowStep}
 use Rattle.proof_lines.specs.Problems.{row_true}
-use Rattle.proof_lines.specs.Splits.{rest_at, splits}
+use Rattle.line_rows.specs.Splits.{rest_at, splits}
 use Rattle.linear_ints.specs.Fractions.{floor_of, size}
 use Rattle.linear_ints.specs.Points.{with_value, values_of}
 

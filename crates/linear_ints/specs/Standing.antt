@@ -4,7 +4,7 @@ use Rattle.lin_rows.specs.declared.combining.Combined.{Combined}
 use Rattle.lin_rows.specs.Rows.{Row, has_no_terms, is_contradiction}
 use Rattle.lin_rows.specs.Cancelling.{combined}
 use Rattle.proof_lines.specs.Problems.{row_true}
-use Rattle.proof_lines.specs.Steps.{row_at}
+use Rattle.line_rows.specs.Steps.{row_at}
 use Rattle.theory_api.specs.Elimination.{stage}
 
 -- the place of an order at a stage

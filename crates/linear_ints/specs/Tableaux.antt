@@ -4,9 +4,9 @@ use Rattle.std.specs.List.{list_any, list_all}
 use Rattle.lin_rows.specs.Numbers.{is_zero}
 use Rattle.lin_rows.specs.Rows.{Row, is_row, is_contradiction, coefficient_at}
 use Rattle.lin_rows.specs.Divisors.{tightened}
-use Rattle.proof_lines.specs.Steps.{row_at, held_rows}
+use Rattle.line_rows.specs.Steps.{row_at, held_rows}
 use Rattle.proof_lines.specs.Numbers.{stands_in, are_different}
-use Rattle.proof_lines.specs.Evidence.{row_limit, all_different, all_cancel}
+use Rattle.line_rows.specs.Evidence.{row_limit, all_different, all_cancel}
 use Rattle.theory_api.specs.Elimination.{eliminate}
 use Rattle.theory_api.specs.Laws.{rows_at, is_some_row}
 use Rattle.linear_ints.specs.declared.tableau.Tableau.{Tableau}

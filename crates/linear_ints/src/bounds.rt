@@ -2,7 +2,7 @@
 ghost use Rattle.std.specs.Prelude.{◌≡◌, ◌<◌, ◌≤◌, ◌-ℤ◌, pos, int_lt, cond, true, false, length, take, MatchOption, MatchResult};
 ghost use Rattle.lin_rows.specs.Numbers.{is_zero};
 ghost use Rattle.lin_rows.specs.Rows.{coefficient_at, point_of, sum_from};
-ghost use Rattle.proof_lines.specs.Splits.{rest_at};
+ghost use Rattle.line_rows.specs.Splits.{rest_at};
 ghost use Rattle.linear_ints.specs.Ceilings.{IsBound, is_beyond};
 ghost use Rattle.linear_ints.specs.Descending.{IsFault, IsFaultAt};
 ghost use Rattle.linear_ints.specs.Fractions.{size};
@@ -15,7 +15,7 @@ use crate::sides::is_on_at;
 use crate::tableau::Tableau;
 use indexed_rows::Order;
 use lin_rows::{Row, RowTerm, add_product};
-use proof_lines::splitting::is_above;
+use line_rows::splitting::is_above;
 
 /// Why a row gives no bound.
 #[derive(Clone, Copy)]

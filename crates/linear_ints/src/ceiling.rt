@@ -2,7 +2,7 @@
 ghost use Rattle.std.specs.Prelude.{◌≡◌, ◌<◌, ◌≤◌, ◌^◌, ◌+◌, ◌-◌, ◌-ℤ◌, ◌/◌, pos, false, int_lt, IfSome, MatchOption, true};
 ghost use Rattle.linear_ints.specs.Ceilings.{is_beyond, taken, IsBound};
 
-use proof_lines::splitting::{distance, is_above};
+use line_rows::splitting::{distance, is_above};
 
 // Whether the fraction (more - less) / by is above 10^15.
 fn is_beyond(more: &i128, less: &i128, by: u128) -> bool

@@ -3,8 +3,8 @@ ghost use Rattle.std.specs.Prelude.{◌≡◌, ◌<◌, ◌<ℤ◌, ◌+◌, ◌
 ghost use Rattle.std.specs.List.{list_all};
 ghost use Rattle.lin_rows.specs.Numbers.{in_range};
 ghost use Rattle.lin_rows.specs.Rows.{is_row, point_of};
-ghost use Rattle.proof_lines.specs.Splits.{other_names};
-ghost use Rattle.proof_lines.specs.Steps.{row_at};
+ghost use Rattle.line_rows.specs.Splits.{other_names};
+ghost use Rattle.line_rows.specs.Steps.{row_at};
 ghost use Rattle.theory_api.specs.Laws.{IsModel};
 ghost use Rattle.linear_ints.specs.Deciding.{nearest};
 ghost use Rattle.linear_ints.specs.Descending.{AreBounds, AreZeros, IsDescent, IsFaultAt};
@@ -20,7 +20,7 @@ use items::Items;
 use lin_rows::Row;
 use lin_rows::number::minus;
 use proof_lines::RangeWhat;
-use proof_lines::splitting::{is_above, is_negative, is_positive, names_of_one, names_of_two};
+use line_rows::splitting::{is_above, is_negative, is_positive, names_of_one, names_of_two};
 use std::alloc::{AllocError, Global};
 
 // The values of names.

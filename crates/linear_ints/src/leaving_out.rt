@@ -18,7 +18,7 @@ use indexed_rows::{Held, Order, fewest, prefix};
 use items::Items;
 use lin_rows::{Combined, Row, combine};
 use proof_lines::RowStep;
-use proof_lines::splitting::{is_negative, is_positive};
+use line_rows::splitting::{is_negative, is_positive};
 use std::alloc::{AllocError, Global};
 
 /// What stands when a combination is left out.

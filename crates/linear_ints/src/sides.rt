@@ -3,7 +3,7 @@ ghost use Rattle.std.specs.Prelude.{◌≡◌, cond, not, length, IfOk};
 ghost use Rattle.std.specs.List.{list_all, filter};
 ghost use Rattle.lin_rows.specs.Rows.{coefficient_at};
 ghost use Rattle.proof_lines.specs.Numbers.{stands_in};
-ghost use Rattle.proof_lines.specs.Steps.{is_negative, is_positive};
+ghost use Rattle.line_rows.specs.Steps.{is_negative, is_positive};
 ghost use Rattle.theory_api.specs.Ends.{names_none};
 ghost use Rattle.linear_ints.specs.Sides.{is_on, is_on_at, IsSide};
 
@@ -11,7 +11,7 @@ use crate::tableau::Tableau;
 use indexed_rows::Order;
 use items::Items;
 use lin_rows::{Row, RowTerm};
-use proof_lines::splitting::{is_negative, is_positive};
+use line_rows::splitting::{is_negative, is_positive};
 use std::alloc::{AllocError, Global};
 
 /// Whether a row names none of some places.

@@ -1,7 +1,7 @@
 // The steps at one place: each of its upper rows is combined with each of its lower ones.
 ghost use Rattle.std.specs.Prelude.{◌≡◌, ◌<◌, true, length, MatchResult, Some, [], ◌∷◌};
 ghost use Rattle.lin_rows.specs.Cancelling.{combined};
-ghost use Rattle.proof_lines.specs.Steps.{row_at};
+ghost use Rattle.line_rows.specs.Steps.{row_at};
 ghost use Rattle.linear_ints.specs.Needed.{is_needed};
 ghost use Rattle.linear_ints.specs.Standing.{IsCombinedAt};
 ghost use Rattle.linear_ints.specs.Stops.{IsEarlyStop};

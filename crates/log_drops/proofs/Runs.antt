@@ -13,9 +13,9 @@ use Rattle.proof_lines.specs.declared.line.Why.TheVariants.{Place, Pivot, Contra
 use Rattle.proof_lines.specs.Numbers.{are_different, stands_in}
 use Rattle.proof_lines.specs.Clauses.{has, lit_of, resolvent, negations}
 use Rattle.proof_lines.specs.Problems.{PlainProblem}
-use Rattle.proof_lines.specs.Refusals.{then_}
-use Rattle.proof_lines.specs.Steps.{line_rows, ends_badly, row_at}
-use Rattle.proof_lines.specs.Splits.{at_most, is_at_most, split_fits, split_cause}
+use Rattle.line_rows.specs.Refusals.{then_}
+use Rattle.line_rows.specs.Steps.{line_rows, ends_badly, row_at}
+use Rattle.line_rows.specs.Splits.{at_most, is_at_most, split_fits, split_cause}
 use Rattle.proof_kernel.specs.Rules.{State, next, start, is_live, clause_at, clause_or_empty, grown, named as with_atom, resolved, combined, combined_after, split, split_after, dropped, without_clauses, cleared, is_some_number, run, run_from}
 use Rattle.proof_kernel.proofs.States.{length-cleared}
 use Rattle.log_drops.specs.Upgraded.{rising, named, is_named, last_named, drop_line, unless_drop, upgraded}

@@ -4,7 +4,7 @@ ghost use Rattle.std.specs.List.{list_all};
 ghost use Rattle.spec_core.specs.Fits.{in_state_range, world_fits};
 ghost use Rattle.obligation_list.specs.Obligations.{IsObligation};
 ghost use Rattle.obligation_list.specs.Refuting.{IsRefutation};
-ghost use Rattle.proof_lines.specs.Evidence.{in_state};
+ghost use Rattle.line_rows.specs.Evidence.{in_state};
 ghost use Rattle.proof_lines.specs.Problems.{atom_true, meaning_of};
 ghost use Rattle.ground_problem.specs.Symbols.{all_true};
 ghost use Rattle.ground_problem.specs.Constants.{constants_of};

@@ -16,15 +16,15 @@ use Rattle.proof_lines.specs.declared.line.Why.{Why}
 use Rattle.proof_lines.specs.declared.line.Why.TheVariants.{Place, Pivot, Contradiction, SplitAgain, Dropped}
 use Rattle.proof_lines.specs.Clauses.{is_empty, has, lit_of, same_bool, clause_true, all_true, resolvent, negations}
 use Rattle.proof_lines.specs.Problems.{Meaning, atom_true, kind_true, atoms_below, PlainProblem, makes_true, has_good_row}
-use Rattle.proof_lines.specs.Refusals.{then_, IsTold}
-use Rattle.proof_lines.specs.Steps.{line_rows, ends_badly, row_at}
-use Rattle.proof_lines.specs.Splits.{split_fits, split_cause, at_most, is_at_most}
+use Rattle.line_rows.specs.Refusals.{then_, IsTold}
+use Rattle.line_rows.specs.Steps.{line_rows, ends_badly, row_at}
+use Rattle.line_rows.specs.Splits.{split_fits, split_cause, at_most, is_at_most}
 use Rattle.proof_kernel.specs.Rules.{State, StateFits, next, holds, live_of, is_live, clause_at, grown, named, resolved, combined, combined_after, split, split_after, dropped, without_clauses, is_some_number, cleared, start}
 use Rattle.proof_lines.specs.Numbers.{are_different}
 use Rattle.std.proofs.lemmas.Bool.{and_parts, and_from}
 use Rattle.proof_lines.proofs.Sets.{resolvent-true}
 use Rattle.proof_kernel.proofs.States.{live_of-push, all-live_of, all-cleared, live_of-map}
-use Rattle.proof_lines.proofs.Sound.{ok_is, farkas-true, none_empty}
+use Rattle.line_rows.proofs.Sound.{ok_is, farkas-true, none_empty}
 
 -- what soundness asks of a state: literals name atoms, and the rows of atoms are rows
 pub record Keeps (s : State) : Type 0 where

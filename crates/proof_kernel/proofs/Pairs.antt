@@ -7,7 +7,7 @@ use Rattle.std.proofs.lemmas.List.Folds.{list_any-append}
 use Rattle.lin_rows.specs.declared.term.RowTerm.{RowTerm}
 use Rattle.proof_lines.specs.declared.problem.AtomKind.{AtomKind}
 use Rattle.proof_lines.specs.declared.problem.AtomKind.TheVariants.{Plain, Row as OfRow}
-use Rattle.proof_lines.specs.Splits.{is_at_most}
+use Rattle.line_rows.specs.Splits.{is_at_most}
 use Rattle.proof_kernel.specs.Atoms.{same_pair, has_pair, pair_of, pair_at, is_pair}
 
 -- the pair of an atom says which row `place <= at` it has

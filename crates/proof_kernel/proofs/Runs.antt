@@ -16,12 +16,12 @@ use Rattle.proof_lines.specs.declared.line.Why.TheVariants.{Place, Pivot, Contra
 use Rattle.proof_lines.specs.Numbers.{are_different}
 use Rattle.proof_lines.specs.Clauses.{has, lit_of, resolvent, negations, all_true}
 use Rattle.proof_lines.specs.Problems.{PlainProblem, Meaning, HasNoInterpretation, makes_true, atom_true, atoms_below, names_below, has_good_row, fits}
-use Rattle.proof_lines.specs.Refusals.{then_}
-use Rattle.proof_lines.specs.Steps.{line_rows, ends_badly, row_at}
-use Rattle.proof_lines.specs.Splits.{at_most, is_at_most, split_fits, split_cause}
-use Rattle.proof_lines.proofs.Names.{all-resolvent, all-weaker, negations-below}
-use Rattle.proof_lines.proofs.Sound.{ok_is}
-use Rattle.proof_lines.proofs.LineRows.{line-are_rows, row_at-is_row, split-in_range, is_row-at_most}
+use Rattle.line_rows.specs.Refusals.{then_}
+use Rattle.line_rows.specs.Steps.{line_rows, ends_badly, row_at}
+use Rattle.line_rows.specs.Splits.{at_most, is_at_most, split_fits, split_cause}
+use Rattle.line_rows.proofs.Names.{all-resolvent, all-weaker, negations-below}
+use Rattle.line_rows.proofs.Sound.{ok_is}
+use Rattle.line_rows.proofs.LineRows.{line-are_rows, row_at-is_row, split-in_range, is_row-at_most}
 use Rattle.proof_kernel.specs.Rules.{State, next, holds, start, live_of, is_live, clause_at, grown, named, resolved, combined, combined_after, split, split_after, dropped, without_clauses, is_some_number, run, run_from}
 use Rattle.proof_kernel.proofs.States.{live_of-push, live_of-map, all-live_of, all-cleared}
 use Rattle.proof_kernel.proofs.Lines.{Keeps, Went, then-went, start-holds, next-sound}

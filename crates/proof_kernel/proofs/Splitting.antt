@@ -8,10 +8,10 @@ use Rattle.proof_lines.specs.declared.clause.Lit.{Lit}
 use Rattle.proof_lines.specs.declared.line.RowStep.{RowStep}
 use Rattle.proof_lines.specs.declared.line.Why.{Why}
 use Rattle.proof_lines.specs.declared.line.Why.TheVariants.{Place}
-use Rattle.proof_lines.specs.Refusals.{then_}
-use Rattle.proof_lines.specs.Steps.{line_rows, row_at}
-use Rattle.proof_lines.specs.Kept.{kept_at, HasKept}
-use Rattle.proof_lines.proofs.Keeping.{found}
+use Rattle.line_rows.specs.Refusals.{then_}
+use Rattle.line_rows.specs.Steps.{line_rows, row_at}
+use Rattle.line_rows.specs.Kept.{kept_at, HasKept}
+use Rattle.line_rows.proofs.Keeping.{found}
 use Rattle.proof_kernel.specs.Rules.{State, split, split_after}
 
 -- the row that is kept under a number is the row of that number

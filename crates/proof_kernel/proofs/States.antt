@@ -12,7 +12,7 @@ use Rattle.proof_kernel.specs.Rules.{State, StateFits, live_of, live_clause, cla
 use Rattle.proof_lines.specs.Numbers.{are_different, stands_in}
 use Rattle.proof_kernel.specs.Evidence.{is_new, each_new}
 use Rattle.std.proofs.lemmas.Bool.{and_parts, and_from, and_right}
-use Rattle.proof_lines.proofs.Names.{all-weaker}
+use Rattle.line_rows.proofs.Names.{all-weaker}
 
 -- the live clauses
 pub live_of-push : (slots : List (Option (List Lit))) (c : List Lit) → live_of (slots ++ Some c ∷ []) ≡ live_of slots ++ c ∷ []

@@ -5,9 +5,9 @@ use Rattle.proof_lines.specs.declared.clause.Lit.{Lit}
 use Rattle.proof_lines.specs.declared.line.RowStep.{RowStep}
 use Rattle.proof_lines.specs.declared.line.RangeWhat.{RangeWhat}
 use Rattle.proof_lines.specs.Clauses.{sub, is_empty, holds_both_ways}
-use Rattle.proof_lines.specs.Steps.{line_rows}
+use Rattle.line_rows.specs.Steps.{line_rows}
 use Rattle.proof_kernel.specs.Rules.{State, live_of}
-use Rattle.proof_lines.specs.Evidence.{row_limit, rows_shown, range_shown}
+use Rattle.line_rows.specs.Evidence.{row_limit, rows_shown, range_shown}
 
 -- A FRESH LOG.
 

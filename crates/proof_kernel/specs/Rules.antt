@@ -12,9 +12,9 @@ use Rattle.proof_lines.specs.declared.line.Why.{Why}
 use Rattle.proof_lines.specs.declared.line.Why.TheVariants.{Place, Pivot, Contradiction, SplitAgain, Dropped}
 use Rattle.proof_lines.specs.Clauses.{has, lit_of, resolvent, negations, is_empty, all_true}
 use Rattle.proof_lines.specs.Problems.{PlainProblem, Meaning, atom_true, atoms_below, names_below, has_good_row}
-use Rattle.proof_lines.specs.Refusals.{need, then_}
-use Rattle.proof_lines.specs.Steps.{line_rows, ends_badly, row_at}
-use Rattle.proof_lines.specs.Splits.{split_fits, split_cause, at_most, is_at_most}
+use Rattle.line_rows.specs.Refusals.{need, then_}
+use Rattle.line_rows.specs.Steps.{line_rows, ends_badly, row_at}
+use Rattle.line_rows.specs.Splits.{split_fits, split_cause, at_most, is_at_most}
 use Rattle.proof_lines.specs.Numbers.{are_different}
 
 -- What stands after some lines: the atoms, the number of integer names, how many clauses the problem has, the clauses by their

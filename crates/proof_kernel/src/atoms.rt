@@ -3,7 +3,7 @@
 ghost use Rattle.std.specs.Prelude.{◌≡◌, ℕ, ℤ, ◌<◌, ◌||◌, ◌++◌, ◌∷◌, [], true, IfOk, OnOk, OnErr, length, option_copied, slice_get};
 ghost use Rattle.std.specs.List.{list_any};
 ghost use Rattle.proof_lines.specs.declared.problem.AtomKind.TheVariants.{Row as OfRow};
-ghost use Rattle.proof_lines.specs.Splits.{is_at_most};
+ghost use Rattle.line_rows.specs.Splits.{is_at_most};
 ghost use Rattle.proof_kernel.specs.Atoms.{has_pair, is_pair, pair_of, room};
 
 use items::Items;
@@ -24,7 +24,7 @@ impl Model for Atoms {
     ghost use Rattle.std.specs.Prelude.{List, ℕ, ℤ, ◌≡◌};
     ghost use Rattle.std.specs.List.{list_any};
     ghost use Rattle.proof_lines.specs.declared.problem.AtomKind.{AtomKind};
-    ghost use Rattle.proof_lines.specs.Splits.{is_at_most};
+    ghost use Rattle.line_rows.specs.Splits.{is_at_most};
     ghost use Rattle.proof_kernel.specs.Atoms.{has_pair};
 
     ghost Value = { List AtomKind };

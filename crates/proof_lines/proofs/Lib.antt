@@ -1,11 +1,3 @@
 pub mod Sets
 pub mod Marking
 pub mod Resolving
-pub mod Names
-pub mod Sound
-pub mod Certificates
-pub mod Gap
-pub mod Points
-pub mod LineRows
-pub mod Keeping
-pub mod KeptLines

@@ -3,8 +3,3 @@ pub mod Clauses
 pub mod Marks
 pub mod Problems
 pub mod Forced
-pub mod Refusals
-pub mod Steps
-pub mod Splits
-pub mod Evidence
-pub mod Kept

@@ -1,14 +1,11 @@
-// Clauses, problems and the lines of a log, with what a line's rows show: what a solver of rows and a search need to know of the
-// proof kernel.
+// Clauses, problems and the lines of a log: what a proof kernel, a search and the reader of a report pass to one another.
 //
 // A problem is clauses over plain atoms and over atoms that stand for rows. A line of a log makes a clause from earlier ones, or
-// from rows that contradict one another, or names a row that two rows leave room for, or drops clauses. The rules that speak of
-// rows alone stand here; what stands after a line is the kernel's matter. The layer stands on `items` and `lin_rows` alone.
+// from rows that contradict one another, or names a row that two rows leave room for, or drops clauses. What rows a line has stands
+// in `line_rows`, and what stands after a line is the kernel's matter. The layer stands on `items` and `lin_rows` alone.
 //
 // Definitions, in the order in which a reader needs them: specs/Numbers (lists of numbers), specs/Clauses (literals and clauses), specs/Problems (problems and
-// what makes them true), specs/Forced (the literals that clauses force), specs/Refusals (rules asked in order, and the first that
-// is broken), specs/Steps (the rows of a line, and when they contradict one another), specs/Splits (the rule of a Split line),
-// specs/Evidence (too many rows, and a number beyond the range), specs/Kept (which rows of a line are kept while it is taken).
+// what makes them true), specs/Forced (the literals that clauses force). specs/Marks mirrors a table by which long clauses are resolved.
 #![tactic(auto)]
 
 /// The value of a call; where it fails, lets go of these values and ends with its error. Values that are let go by name are let go
@@ -26,13 +23,9 @@ macro_rules! or_drop {
 }
 
 pub mod clause;
-pub mod evidence;
-pub mod kept;
 pub mod line;
 pub mod marks;
 pub mod problem;
-pub mod splitting;
-pub mod steps;
 
 pub use clause::{Clause, Lit};
 pub use line::{Line, LineRefused, RangeEvidence, RangeWhat, RowStep, RowsEvidence, Why};

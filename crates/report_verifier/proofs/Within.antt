@@ -11,10 +11,10 @@ use Rattle.proof_lines.specs.declared.line.Why.{Why}
 use Rattle.proof_lines.specs.declared.line.Why.TheVariants.{Place, Pivot, Contradiction, SplitAgain, Dropped}
 use Rattle.proof_lines.specs.Clauses.{has, lit_of, resolvent, negations}
 use Rattle.proof_lines.specs.Numbers.{are_different}
-use Rattle.proof_lines.specs.Refusals.{then_}
-use Rattle.proof_lines.specs.Steps.{line_rows, ends_badly, row_at}
-use Rattle.proof_lines.specs.Splits.{at_most, is_at_most, split_fits, split_cause}
-use Rattle.proof_lines.proofs.Sound.{ok_is}
+use Rattle.line_rows.specs.Refusals.{then_}
+use Rattle.line_rows.specs.Steps.{line_rows, ends_badly, row_at}
+use Rattle.line_rows.specs.Splits.{at_most, is_at_most, split_fits, split_cause}
+use Rattle.line_rows.proofs.Sound.{ok_is}
 use Rattle.proof_kernel.specs.Rules.{State, next, start, is_live, clause_at, grown, named, resolved, combined, combined_after, split, split_after, dropped, without_clauses, is_some_number}
 use Rattle.proof_kernel.proofs.States.{length-cleared}
 use Rattle.proof_kernel.proofs.Lines.{then-went}

@@ -15,12 +15,12 @@ use Rattle.proof_lines.specs.declared.line.Line.{Line}
 use Rattle.proof_lines.specs.declared.line.Line.TheVariants.{Farkas, Split}
 use Rattle.proof_lines.specs.Clauses.{has, sub, flip, lit_of, same_bool, negations, clause_true, all_true, holds_both_ways}
 use Rattle.proof_lines.specs.Problems.{PlainProblem, Meaning, fits, names_below, row_true, atom_true, kind_true, meaning_of}
-use Rattle.proof_lines.specs.Steps.{row_of_kind, atom_row, lit_row, row_at}
+use Rattle.line_rows.specs.Steps.{row_of_kind, atom_row, lit_row, row_at}
 use Rattle.proof_kernel.specs.Rules.{next}
-use Rattle.proof_lines.specs.Splits.{at_most, is_at_most}
+use Rattle.line_rows.specs.Splits.{at_most, is_at_most}
 use Rattle.std.proofs.lemmas.Bool.{and_parts, or_left, or_right, and_from, ltb-true, lt-ltb, not-true}
 use Rattle.proof_lines.proofs.Sets.{same_nat-refl, true_by}
-use Rattle.proof_lines.proofs.LineRows.{row_at-is_row}
+use Rattle.line_rows.proofs.LineRows.{row_at-is_row}
 use Rattle.theory_api.specs.Laws.{all_below, all_satisfied, is_some_row, are_given, rows_at, settles, IsModel, IsConflict, IsSplit, IsTooMany, IsBeyond}
 use Rattle.theory_api.proofs.Standing.{Stand, lit_at}
 use Rattle.search_logs.specs.declared.trail.Entry.{Entry}

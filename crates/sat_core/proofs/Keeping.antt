@@ -11,8 +11,8 @@ use Rattle.proof_lines.specs.Clauses.{has, lit_of}
 use Rattle.proof_lines.specs.Problems.{PlainProblem, fits, names_below, atoms_below}
 use Rattle.proof_kernel.specs.Rules.{next, start}
 use Rattle.std.proofs.lemmas.Bool.{and_parts, and_from, ltb-true}
-use Rattle.proof_lines.proofs.Names.{all-resolvent}
-use Rattle.proof_lines.proofs.Certificates.{all_at}
+use Rattle.line_rows.proofs.Names.{all-resolvent}
+use Rattle.line_rows.proofs.Certificates.{all_at}
 use Rattle.search_logs.specs.Fresh.{IsFresh}
 use Rattle.search_logs.specs.Forcing.{are_plain}
 use Rattle.search_logs.specs.SearchLogs.{with_clause, with_row, standing, is_split, splits, resolved_on}

@@ -13,7 +13,7 @@ use Rattle.proof_lines.specs.declared.line.Line.TheVariants.{Split as SplitLine}
 use Rattle.proof_lines.specs.Clauses.{has, same_lit, lit_of, is_empty}
 use Rattle.proof_lines.specs.Forced.{Forced}
 use Rattle.proof_lines.specs.Problems.{PlainProblem, fits, names_below, atoms_below}
-use Rattle.proof_lines.specs.Splits.{at_most}
+use Rattle.line_rows.specs.Splits.{at_most}
 use Rattle.std.proofs.lemmas.Bool.{and_parts, or_cases, or_parts, eqb-true}
 use Rattle.proof_lines.proofs.Sets.{same_lit-is}
 use Rattle.theory_api.specs.Laws.{all_below, is_some_row, are_given, IsConflict, IsSplit, IsTooMany, IsBeyond}

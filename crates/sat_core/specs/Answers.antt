@@ -11,9 +11,9 @@ use Rattle.proof_lines.specs.declared.line.Line.{Line}
 use Rattle.proof_lines.specs.declared.line.RowsEvidence.{RowsEvidence}
 use Rattle.proof_lines.specs.declared.line.RangeEvidence.{RangeEvidence}
 use Rattle.proof_lines.specs.Problems.{PlainProblem, HasNoInterpretation, meaning_of, makes_true, atom_true}
-use Rattle.proof_lines.specs.Steps.{lit_row}
+use Rattle.line_rows.specs.Steps.{lit_row}
 use Rattle.proof_kernel.specs.Rules.{State, run}
-use Rattle.proof_lines.specs.Evidence.{in_state}
+use Rattle.line_rows.specs.Evidence.{in_state}
 use Rattle.proof_kernel.specs.Answers.{lines_judged, rows_judged, range_judged}
 use Rattle.theory_api.specs.Laws.{HasChosen}
 use Rattle.search_logs.specs.declared.trail.Entry.{Entry}

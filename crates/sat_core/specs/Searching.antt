@@ -10,7 +10,7 @@ use Rattle.proof_lines.specs.declared.line.RowStep.{RowStep}
 use Rattle.proof_lines.specs.declared.line.Line.TheVariants.{Farkas}
 use Rattle.proof_lines.specs.Clauses.{negations, distinct}
 use Rattle.proof_lines.specs.Forced.{Forced}
-use Rattle.proof_lines.specs.Steps.{is_negative}
+use Rattle.line_rows.specs.Steps.{is_negative}
 use Rattle.proof_lines.specs.Problems.{PlainProblem, fits}
 use Rattle.proof_kernel.specs.Rules.{run, next}
 use Rattle.search_logs.specs.declared.trail.Entry.{Entry}

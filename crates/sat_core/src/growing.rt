@@ -8,7 +8,7 @@ ghost use Rattle.search_logs.specs.SearchLogs.{with_clause, with_row};
 ghost use Rattle.sat_core.specs.Searching.{is_true_at_zero};
 
 use lin_rows::Row;
-use proof_lines::splitting::is_negative;
+use line_rows::splitting::is_negative;
 use proof_lines::{AtomKind, Clause, Lit, Problem};
 use std::alloc::AllocError;
 

@@ -13,14 +13,14 @@ use Rattle.proof_lines.specs.declared.line.RowsEvidence.{RowsEvidence}
 use Rattle.proof_lines.specs.declared.line.RangeEvidence.{RangeEvidence}
 use Rattle.proof_lines.specs.Clauses.{has, sub, flip, negations, is_empty, holds_both_ways, distinct}
 use Rattle.proof_lines.specs.Problems.{PlainProblem, atoms_below}
-use Rattle.proof_lines.specs.Steps.{line_rows}
+use Rattle.line_rows.specs.Steps.{line_rows}
 use Rattle.proof_kernel.specs.Rules.{State, live_of, run}
 use Rattle.proof_kernel.specs.Evidence.{is_new, each_new, is_fresh, rows_hold, range_holds}
-use Rattle.proof_lines.specs.Evidence.{rows_shown, range_shown}
+use Rattle.line_rows.specs.Evidence.{rows_shown, range_shown}
 use Rattle.proof_kernel.specs.Answers.{judged, lines_judged, rows_judged, range_judged}
 use Rattle.std.proofs.lemmas.Bool.{and_parts, and_from, lt-ltb, false_from_ne_true}
 use Rattle.proof_lines.proofs.Sets.{flip_twice, distinct-join}
-use Rattle.proof_lines.proofs.Names.{all-join}
+use Rattle.line_rows.proofs.Names.{all-join}
 use Rattle.proof_kernel.proofs.States.{live_of-map}
 use Rattle.theory_api.specs.Laws.{IsTooMany, IsBeyond}
 use Rattle.theory_api.proofs.Standing.{Stand, lit_at}

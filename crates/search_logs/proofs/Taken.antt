@@ -9,9 +9,9 @@ use Rattle.proof_lines.specs.declared.line.Why.TheVariants.{Place, Pivot, Droppe
 use Rattle.lin_rows.specs.Rows.{Row}
 use Rattle.proof_lines.specs.Clauses.{has, flip, lit_of, resolvent, negations, is_empty}
 use Rattle.proof_lines.specs.Problems.{PlainProblem}
-use Rattle.proof_lines.specs.Refusals.{then_}
-use Rattle.proof_lines.specs.Steps.{line_rows, held_rows, refutes_so, row_at, is_some_literal}
-use Rattle.proof_lines.specs.Splits.{split_fits, split_cause, at_most, is_at_most}
+use Rattle.line_rows.specs.Refusals.{then_}
+use Rattle.line_rows.specs.Steps.{line_rows, held_rows, refutes_so, row_at, is_some_literal}
+use Rattle.line_rows.specs.Splits.{split_fits, split_cause, at_most, is_at_most}
 use Rattle.proof_kernel.specs.Rules.{State, next, grown, named, run_from, is_live, clause_at, clause_or_empty, combined_after, split_after}
 use Rattle.std.proofs.lemmas.Bool.{and_parts, lt-ltb}
 use Rattle.theory_api.specs.Laws.{IsConflict, IsSplit, rows_at, is_some_row}

@@ -12,11 +12,11 @@ use Rattle.proof_lines.specs.declared.problem.AtomKind.{AtomKind}
 use Rattle.proof_lines.specs.declared.problem.AtomKind.TheVariants.{Plain, Row as OfRow}
 use Rattle.proof_lines.specs.Clauses.{lit_of}
 use Rattle.proof_lines.specs.Problems.{row_true}
-use Rattle.proof_lines.specs.Steps.{row_of_kind, atom_row, lit_row}
-use Rattle.proof_lines.specs.Splits.{at_most, is_alone, is_at_most}
-use Rattle.proof_lines.specs.Evidence.{same_row}
+use Rattle.line_rows.specs.Steps.{row_of_kind, atom_row, lit_row}
+use Rattle.line_rows.specs.Splits.{at_most, is_alone, is_at_most}
+use Rattle.line_rows.specs.Evidence.{same_row}
 use Rattle.std.proofs.lemmas.Bool.{and_parts, or_cases, or_left, or_right, eqb-true, not-true}
-use Rattle.proof_lines.proofs.Certificates.{same_row-refl}
+use Rattle.line_rows.proofs.Certificates.{same_row-refl}
 use Rattle.theory_api.specs.Laws.{all_satisfied, settles, is_that}
 use Rattle.theory_api.proofs.Standing.{Stand}
 use Rattle.search_logs.specs.declared.trail.Entry.{Entry}

@@ -11,8 +11,8 @@ use Rattle.proof_lines.specs.declared.line.Line.{Line}
 use Rattle.proof_lines.specs.declared.line.Line.TheVariants.{Resolve, Farkas, Split, Drop}
 use Rattle.proof_lines.specs.Clauses.{resolvent, negations, is_empty}
 use Rattle.proof_lines.specs.Problems.{PlainProblem}
-use Rattle.proof_lines.specs.Steps.{line_rows, row_at}
-use Rattle.proof_lines.specs.Splits.{other_names, at_most}
+use Rattle.line_rows.specs.Steps.{line_rows, row_at}
+use Rattle.line_rows.specs.Splits.{other_names, at_most}
 use Rattle.proof_kernel.specs.Rules.{State, run}
 use Rattle.proof_kernel.specs.Evidence.{is_fresh}
 use Rattle.theory_api.specs.Chosen.{AreChosen}

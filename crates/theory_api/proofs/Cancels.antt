@@ -9,8 +9,8 @@ use Rattle.lin_rows.specs.Numbers.{is_zero}
 use Rattle.lin_rows.specs.declared.term.RowTerm.{RowTerm}
 use Rattle.lin_rows.specs.Rows.{Row, coefficient_at}
 use Rattle.proof_lines.specs.declared.line.RowStep.{RowStep}
-use Rattle.proof_lines.specs.Evidence.{cancels_at, cancels_some, cancels, all_cancel, same_row, all_different}
-use Rattle.proof_lines.specs.Steps.{row_at}
+use Rattle.line_rows.specs.Evidence.{cancels_at, cancels_some, cancels, all_cancel, same_row, all_different}
+use Rattle.line_rows.specs.Steps.{row_at}
 use Rattle.theory_api.proofs.Ends.{row_at-more}
 
 -- a place with a coefficient is the place of a term

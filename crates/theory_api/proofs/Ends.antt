@@ -16,11 +16,11 @@ use Rattle.proof_lines.specs.declared.line.RowStep.{RowStep}
 use Rattle.proof_lines.specs.declared.line.RangeWhat.{RangeWhat}
 use Rattle.proof_lines.specs.declared.line.Why.{Why}
 use Rattle.proof_lines.specs.declared.line.Why.TheVariants.{Place, Multiplier, Range}
-use Rattle.proof_lines.specs.Evidence.{cancels_at}
-use Rattle.proof_lines.specs.Refusals.{then_, or_broken}
-use Rattle.proof_lines.specs.Steps.{no_row, row_at, step_row, with_steps, held_rows, is_negative, is_positive}
-use Rattle.proof_lines.proofs.KeptLines.{length-with_steps}
-use Rattle.proof_lines.proofs.Sound.{ok_is}
+use Rattle.line_rows.specs.Evidence.{cancels_at}
+use Rattle.line_rows.specs.Refusals.{then_, or_broken}
+use Rattle.line_rows.specs.Steps.{no_row, row_at, step_row, with_steps, held_rows, is_negative, is_positive}
+use Rattle.line_rows.proofs.KeptLines.{length-with_steps}
+use Rattle.line_rows.proofs.Sound.{ok_is}
 use Rattle.theory_api.specs.Chosen.{Choice, is_named, is_driven, are_driven, is_among, are_among}
 use Rattle.theory_api.specs.Elimination.{stage, first_place, meet, eliminates, ends_in_order, eliminate}
 use Rattle.theory_api.specs.Ends.{last_stage, steps_below, names_none, after}

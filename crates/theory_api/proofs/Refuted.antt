@@ -8,9 +8,9 @@ use Rattle.proof_lines.specs.declared.line.RowStep.{RowStep}
 use Rattle.proof_lines.specs.declared.line.Why.{Why}
 use Rattle.proof_lines.specs.Problems.{Meaning, has_good_row, row_true, atom_true, kind_true}
 use Rattle.proof_lines.specs.Clauses.{lit_true, same_bool}
-use Rattle.proof_lines.specs.Steps.{is_some_literal, row_of_kind, held_rows, refutes_so, row_at}
+use Rattle.line_rows.specs.Steps.{is_some_literal, row_of_kind, held_rows, refutes_so, row_at}
 use Rattle.std.proofs.lemmas.Bool.{and_parts, and_from, ltb-true}
-use Rattle.proof_lines.proofs.Sound.{refuted-apart}
+use Rattle.line_rows.proofs.Sound.{refuted-apart}
 use Rattle.theory_api.specs.Laws.{IsConflict, AreUnsatisfiable, all_satisfied, is_some_row, rows_at}
 use Rattle.theory_api.proofs.Standing.{Stand, stand-line}
 

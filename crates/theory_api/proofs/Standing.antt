@@ -7,8 +7,8 @@ use Rattle.proof_lines.specs.declared.clause.Lit.{Lit}
 use Rattle.proof_lines.specs.declared.problem.AtomKind.{AtomKind}
 use Rattle.proof_lines.specs.declared.line.RowStep.{RowStep}
 use Rattle.proof_lines.specs.declared.line.Why.TheVariants.{Place, Range}
-use Rattle.proof_lines.specs.Refusals.{then_, or_broken}
-use Rattle.proof_lines.specs.Steps.{atom_row, has_row, lit_row, lit_rows, with_row, is_some_literal, with_steps, line_rows, held_rows, row_at}
+use Rattle.line_rows.specs.Refusals.{then_, or_broken}
+use Rattle.line_rows.specs.Steps.{atom_row, has_row, lit_row, lit_rows, with_row, is_some_literal, with_steps, line_rows, held_rows, row_at}
 use Rattle.std.proofs.lemmas.Bool.{and_parts, and_from, ltb-true}
 use Rattle.theory_api.specs.Laws.{rows_at}
 

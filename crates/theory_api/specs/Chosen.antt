@@ -5,7 +5,7 @@ use Rattle.std.specs.Ordering.{int_eq}
 use Rattle.lin_rows.specs.Numbers.{is_zero}
 use Rattle.lin_rows.specs.Rows.{Row, is_contradiction}
 use Rattle.proof_lines.specs.Problems.{row_true}
-use Rattle.proof_lines.specs.Steps.{is_negative, is_positive}
+use Rattle.line_rows.specs.Steps.{is_negative, is_positive}
 
 -- CHOSEN VALUES: a solver puts whole numbers for names one by one, each of them 0 or no further from 0 than a row drives it.
 

@@ -5,9 +5,9 @@ use Rattle.lin_rows.specs.Rows.{Row, coefficient_at}
 use Rattle.proof_lines.specs.declared.line.RowStep.{RowStep}
 use Rattle.proof_lines.specs.declared.line.RangeWhat.{RangeWhat}
 use Rattle.proof_lines.specs.declared.line.RangeWhat.TheVariants.{Product, Value, Sum}
-use Rattle.proof_lines.specs.Evidence.{cancels_at}
+use Rattle.line_rows.specs.Evidence.{cancels_at}
 use Rattle.proof_lines.specs.Numbers.{are_different}
-use Rattle.proof_lines.specs.Steps.{row_at}
+use Rattle.line_rows.specs.Steps.{row_at}
 
 -- ELIMINATION STEPS (Fourier and Motzkin): names are eliminated one after the other in some order, so that no step combines rows
 -- round and round.

@@ -4,7 +4,7 @@ use Rattle.std.specs.List.{list_all}
 use Rattle.lin_rows.specs.Numbers.{is_zero}
 use Rattle.lin_rows.specs.Rows.{Row, coefficient_at}
 use Rattle.proof_lines.specs.declared.line.RowStep.{RowStep}
-use Rattle.proof_lines.specs.Steps.{row_at}
+use Rattle.line_rows.specs.Steps.{row_at}
 use Rattle.theory_api.specs.Chosen.{Choice}
 use Rattle.theory_api.specs.Elimination.{stage}
 

@@ -6,9 +6,9 @@ use Rattle.proof_lines.specs.declared.line.RowStep.{RowStep}
 use Rattle.proof_lines.specs.declared.line.RangeWhat.{RangeWhat}
 use Rattle.proof_lines.specs.declared.line.RangeWhat.TheVariants.{Product, Value, Sum}
 use Rattle.proof_lines.specs.Problems.{row_true}
-use Rattle.proof_lines.specs.Steps.{row_at, held_rows, refutes}
-use Rattle.proof_lines.specs.Splits.{splits, other_names, at_most}
-use Rattle.proof_lines.specs.Evidence.{same_row, in_state, row_limit, rows_shown, range_shown}
+use Rattle.line_rows.specs.Steps.{row_at, held_rows, refutes}
+use Rattle.line_rows.specs.Splits.{splits, other_names, at_most}
+use Rattle.line_rows.specs.Evidence.{same_row, in_state, row_limit, rows_shown, range_shown}
 use Rattle.theory_api.specs.declared.answer.TheoryAnswer.{TheoryAnswer}
 use Rattle.theory_api.specs.declared.answer.TheoryAnswer.TheVariants.{Model, Conflict, Split, Rows, Range, Memory}
 use Rattle.theory_api.specs.Chosen.{AreChosen}

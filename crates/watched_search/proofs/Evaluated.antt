@@ -11,10 +11,10 @@ use Rattle.proof_lines.specs.declared.clause.Lit.{Lit}
 use Rattle.proof_lines.specs.declared.problem.AtomKind.{AtomKind}
 use Rattle.proof_lines.specs.declared.problem.AtomKind.TheVariants.{Plain, Row as OfRow}
 use Rattle.proof_lines.specs.Clauses.{same_lit, same_bool, flip, lit_true, clause_true, all_true}
-use Rattle.proof_lines.specs.Evidence.{in_state}
+use Rattle.line_rows.specs.Evidence.{in_state}
 use Rattle.proof_lines.specs.Forced.{Forced, by_clause}
 use Rattle.proof_lines.specs.Problems.{PlainProblem, Meaning, row_true, kind_true, atom_true, meaning_of}
-use Rattle.proof_lines.proofs.Certificates.{all_at}
+use Rattle.line_rows.proofs.Certificates.{all_at}
 use Rattle.proof_lines.proofs.Sets.{same_lit-is, by_true}
 use Rattle.search_logs.specs.Forcing.{AreRefuted}
 use Rattle.sat_core.specs.Answers.{IsModelOf}

@@ -11,7 +11,7 @@ use Rattle.proof_lines.specs.declared.problem.AtomKind.TheVariants.{Row as OfRow
 use Rattle.proof_lines.specs.declared.line.RowStep.{RowStep}
 use Rattle.proof_lines.specs.declared.line.Line.{Line}
 use Rattle.proof_lines.specs.Problems.{PlainProblem}
-use Rattle.proof_lines.specs.Steps.{row_of_kind, lit_row}
+use Rattle.line_rows.specs.Steps.{row_of_kind, lit_row}
 use Rattle.theory_api.specs.Laws.{all_below, IsConflict}
 use Rattle.theory_api.proofs.Standing.{lit_at}
 use Rattle.search_logs.specs.declared.trail.Entry.{Entry}

@@ -3,7 +3,7 @@
 use crate::evaluating::known_truth;
 use items::Items;
 use lin_rows::Row;
-use proof_lines::splitting::is_negative;
+use line_rows::splitting::is_negative;
 use proof_lines::{AtomKind, Lit, Problem};
 use search_logs::Trail;
 use std::alloc::{AllocError, Global};

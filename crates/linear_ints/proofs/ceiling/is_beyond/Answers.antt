@@ -1,5 +1,5 @@
 use Rattle.std.proofs.Common.{sym, ◌∙◌}
-use Rattle.proof_lines.proofs.Gap.{over_so}
+use Rattle.line_rows.proofs.Gap.{over_so}
 use Rattle.linear_ints.proofs.ceiling.is_beyond.Goals as goal
 
 pub returns-then-is_above : goal.returns-then-is_above

@@ -1,7 +1,7 @@
 use Rattle.std.proofs.Common.{◌≡◌, ℕ, ℤ, ◌<◌, length, map, List, [], ◌∷◌, sym, ◌∙◌, ap, subst}
 use Rattle.std.specs.Prelude.{IfOk}
 use Rattle.lin_rows.specs.Rows.{Row, point_of}
-use Rattle.proof_lines.specs.Splits.{other_names}
+use Rattle.line_rows.specs.Splits.{other_names}
 use Rattle.linear_ints.proofs.SideLemmas.{indexed}
 use Rattle.linear_ints.proofs.descend.values_of_one.Goals as goal
 

@@ -1,5 +1,5 @@
 use Rattle.std.proofs.Common.{◌≡◌, map, take}
-use Rattle.proof_lines.specs.Steps.{row_at}
+use Rattle.line_rows.specs.Steps.{row_at}
 use Rattle.linear_ints.proofs.trim.rows_at.Given as goal
 
 abbrev pub invariant-loop-number : goal.invariant-loop-number

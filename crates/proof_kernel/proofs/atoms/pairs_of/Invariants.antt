@@ -1,6 +1,6 @@
 use Rattle.std.proofs.Common.{◌≡◌, ℕ, ℤ, take}
 use Rattle.std.specs.List.{list_any}
-use Rattle.proof_lines.specs.Splits.{is_at_most}
+use Rattle.line_rows.specs.Splits.{is_at_most}
 use Rattle.proof_kernel.specs.Atoms.{has_pair}
 use Rattle.proof_kernel.proofs.atoms.pairs_of.Given as goal
 

@@ -4,8 +4,8 @@ use Rattle.std.proofs.lemmas.Result.{IfOk-weaker}
 use Rattle.std.proofs.Common.{rules, FitsSigned, ◌≡◌, subst, sym, arith}
 use Rattle.proof_lines.specs.declared.line.Line.{Line}
 use Rattle.proof_lines.specs.declared.line.Line.TheVariants.{Split as SplitLine}
-use Rattle.proof_lines.specs.Splits.{at_most}
-use Rattle.proof_lines.proofs.LineRows.{splits-in_range}
+use Rattle.line_rows.specs.Splits.{at_most}
+use Rattle.line_rows.proofs.LineRows.{splits-in_range}
 use Rattle.theory_api.specs.declared.answer.TheoryAnswer.{TheoryAnswer}
 use Rattle.theory_api.specs.Laws.{rows_at, IsAnswer}
 use Rattle.search_logs.proofs.Valued.{stand-of}

@@ -1,6 +1,6 @@
 use Rattle.std.proofs.Common.{◌∙◌}
 use Rattle.std.specs.Bool.{one_answer}
-use Rattle.proof_lines.specs.Evidence.{same_row}
+use Rattle.line_rows.specs.Evidence.{same_row}
 use Rattle.ground_atoms.specs.Keys.{Decides-same_row}
 use Rattle.ground_atoms.proofs.keyed_row.KeyedRowPartialEq.eq.Goals as goal
 

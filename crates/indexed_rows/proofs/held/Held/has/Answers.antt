@@ -1,7 +1,7 @@
 use Rattle.std.proofs.Common.{◌∙◌, ap, sym, List}
 use Rattle.std.specs.List.{list_any}
 use Rattle.lin_rows.specs.Rows.{Row}
-use Rattle.proof_lines.specs.Evidence.{same_row}
+use Rattle.line_rows.specs.Evidence.{same_row}
 use Rattle.indexed_rows.specs.Fingerprints.{found}
 use Rattle.indexed_rows.proofs.Fingerprinting.{not-held}
 use Rattle.indexed_rows.proofs.held.Held.has.Goals as goal

@@ -2,11 +2,11 @@ use Rattle.std.proofs.Common.{◌≡◌, true, length, sym, ◌∙◌, ap, subst
 use Rattle.proof_lines.specs.declared.clause.Lit.{Lit}
 use Rattle.proof_lines.specs.declared.problem.AtomKind.{AtomKind}
 use Rattle.proof_lines.specs.Clauses.{negations}
-use Rattle.proof_lines.specs.Kept.{Ends}
+use Rattle.line_rows.specs.Kept.{Ends}
 use Rattle.proof_lines.specs.Problems.{atoms_below}
-use Rattle.proof_lines.specs.Steps.{line_rows}
+use Rattle.line_rows.specs.Steps.{line_rows}
 use Rattle.proof_kernel.specs.Rules.{State}
-use Rattle.proof_lines.proofs.Names.{negations-below}
+use Rattle.line_rows.proofs.Names.{negations-below}
 use Rattle.proof_kernel.proofs.kernel.Kernel.farkas.Goals as goal
 
 pub grow-requires : goal.grow-requires

@@ -2,7 +2,7 @@ use Rattle.std.proofs.Common.{◌≡◌, true, length, sym, subst, List}
 use Rattle.proof_lines.specs.declared.clause.Lit.{Lit}
 use Rattle.proof_lines.specs.Problems.{atoms_below}
 use Rattle.proof_kernel.specs.Rules.{State, StateFits}
-use Rattle.proof_lines.proofs.Names.{all-resolvent}
+use Rattle.line_rows.proofs.Names.{all-resolvent}
 use Rattle.proof_kernel.proofs.States.{live-named}
 use Rattle.proof_kernel.proofs.kernel.Kernel.resolve.Goals as goal
 

@@ -3,9 +3,9 @@ use Rattle.std.specs.Prelude.{MatchResult}
 use Rattle.lin_rows.specs.Rows.{Row}
 use Rattle.proof_lines.specs.declared.problem.AtomKind.{AtomKind}
 use Rattle.proof_lines.specs.declared.line.Why.{Why}
-use Rattle.proof_lines.specs.Kept.{kept_at, HasKept}
-use Rattle.proof_lines.specs.Refusals.{IsTold}
-use Rattle.proof_lines.specs.Steps.{line_rows}
+use Rattle.line_rows.specs.Kept.{kept_at, HasKept}
+use Rattle.line_rows.specs.Refusals.{IsTold}
+use Rattle.line_rows.specs.Steps.{line_rows}
 use Rattle.proof_kernel.specs.Rules.{State}
 use Rattle.proof_kernel.proofs.Splitting.{split-there, split-no-low, split-no-high}
 use Rattle.proof_kernel.proofs.kernel.Kernel.split.Goals as goal

@@ -1,0 +1,5 @@
+pub mod Refusals
+pub mod Steps
+pub mod Splits
+pub mod Evidence
+pub mod Kept

@@ -1,5 +1,0 @@
-use Rattle.proof_lines.specs.Kept.{StepsEnd}
-use Rattle.proof_lines.proofs.kept.raise_steps.Given as goal
-
-abbrev pub invariant-loop-i : goal.invariant-loop-i
-invariant-loop-i l = StepsEnd l.steps l.i l.ends
