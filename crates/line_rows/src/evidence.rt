@@ -9,12 +9,12 @@ ghost use Rattle.line_rows.specs.Steps.{with_steps, line_rows};
 ghost use Rattle.line_rows.specs.Splits.{other_names, size_at};
 ghost use Rattle.line_rows.specs.Evidence.{cancels_at, cancels_some, cancels, all_cancel, same_row, all_different, in_state, values_fit, rest_with, product_leaves, leaves_state, range_shown};
 
-use proof_lines::clause::Lit;
 use crate::kept::{ends_of, keep_used, kept_at, push_step, step_sum};
-use proof_lines::line::{LineRefused, RangeWhat, RowStep};
-use proof_lines::problem::AtomKind;
 use crate::splitting::{distance, is_above, is_negative, is_positive, names_of_one, rest_at};
 use lin_rows::{Row, RowRefused, combine, least_factors};
+use proof_lines::clause::Lit;
+use proof_lines::line::{LineRefused, RangeWhat, RowStep};
+use proof_lines::problem::AtomKind;
 use std::alloc::{AllocError, Global};
 
 // Whether a step cancels a place by the least multipliers.

@@ -9,11 +9,11 @@ ghost use Rattle.proof_lines.specs.declared.line.Why.TheVariants.{Range as TheRa
 ghost use Rattle.line_rows.specs.Refusals.{or_broken, IsTold};
 ghost use Rattle.line_rows.specs.Steps.{has_row, lit_rows, used_rows, with_steps, line_rows};
 
+use crate::steps::{all_have_rows, lit_row, sum_of_step};
+use lin_rows::Row;
 use proof_lines::clause::Lit;
 use proof_lines::line::{LineRefused, RowStep, Why};
 use proof_lines::problem::AtomKind;
-use crate::steps::{all_have_rows, lit_row, sum_of_step};
-use lin_rows::Row;
 use std::alloc::{AllocError, Global};
 
 /// The row that is kept under a number, if one is.

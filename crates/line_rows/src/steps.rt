@@ -8,10 +8,10 @@ ghost use Rattle.line_rows.specs.Steps.{atom_row, has_row, lit_row, lit_rows, us
 ghost use Rattle.line_rows.specs.Kept.{step_sum};
 ghost use Rattle.line_rows.specs.Refusals.{or_broken, IsTold};
 
+use lin_rows::{MultiplesRefused, Row, RowRefused, negate, sum_of_multiples, tighten, tighten_own};
 use proof_lines::clause::Lit;
 use proof_lines::line::{LineRefused, RowStep, Why};
 use proof_lines::problem::AtomKind;
-use lin_rows::{MultiplesRefused, Row, RowRefused, negate, sum_of_multiples, tighten, tighten_own};
 use std::alloc::{AllocError, Global};
 
 // The row of an atom, if it is there and has one.

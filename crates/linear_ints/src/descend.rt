@@ -19,8 +19,8 @@ use indexed_rows::prefix;
 use items::Items;
 use lin_rows::Row;
 use lin_rows::number::minus;
-use proof_lines::RangeWhat;
 use line_rows::splitting::{is_above, is_negative, is_positive, names_of_one, names_of_two};
+use proof_lines::RangeWhat;
 use std::alloc::{AllocError, Global};
 
 // The values of names.

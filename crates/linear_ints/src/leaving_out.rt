@@ -17,8 +17,8 @@ use crate::trim::{Conflict, conflict_in};
 use indexed_rows::{Held, Order, fewest, prefix};
 use items::Items;
 use lin_rows::{Combined, Row, combine};
-use proof_lines::RowStep;
 use line_rows::splitting::{is_negative, is_positive};
+use proof_lines::RowStep;
 use std::alloc::{AllocError, Global};
 
 /// What stands when a combination is left out.

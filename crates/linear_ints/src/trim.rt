@@ -13,8 +13,8 @@ ghost use Rattle.theory_api.specs.Laws.{are_given, rows_at, IsConflict};
 
 use items::Items;
 use lin_rows::Row;
-use proof_lines::RowStep;
 use line_rows::steps::refutes_rows;
+use proof_lines::RowStep;
 use std::alloc::{AllocError, Global};
 
 /// A conflict: the numbers of its given rows, and the steps that refute them.
