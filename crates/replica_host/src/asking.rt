@@ -13,12 +13,12 @@ ghost use Rattle.replica_replay.specs.Holding.{calls_of};
 ghost use Rattle.token_rules.specs.Rivals.{rivals_of as rivals_with};
 ghost use Rattle.replica_host.specs.Lines.{observes_asked, lines_asked};
 
+use call_runner::Runner;
 use effectors::ApplyRefused;
 use partial_truth::observes_broken_at;
 use replica_replay::{Happened, Order, StepRefused, least_unseen, operation_named, taking_asked};
 use spec_core::{Call, Spec, State, World};
 use std::alloc::{AllocError, Global};
-use token_core::Runner;
 use token_rules::{Rivalry, rivals_of};
 
 /// The place of the operation of this name.

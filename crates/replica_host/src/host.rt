@@ -11,12 +11,12 @@ ghost use Rattle.replica_replay.specs.Steps.{held_after, answer};
 use crate::asking::{named, rivals, state_after_call, state_after_taking};
 use crate::keeping::{keep_call, keep_taking, replicas_of};
 use crate::native::{Effect, Guard, Native};
+use call_runner::Runner;
 use items::Items;
 use replica_replay::{Happened, Replica, Step, StepRefused, Steps, Taken, count, seen_by_event};
 use spec_core::{Call, State, World};
 use std::alloc::{AllocError, Global};
 use std::marker::Model;
-use token_core::Runner;
 
 /// A replay whose states the application's own effect gives, and whose requires lines its own guard asks. Contracts see what a replay of
 /// the specification would hold: its events form an execution, and what each replica has taken is a delivery order of it.

@@ -11,11 +11,11 @@ ghost use Rattle.spec_core.specs.Fits.{world_fits, call_fits, is_state};
 ghost use Rattle.effectors.specs.declared.applying.ApplyRefused.{ApplyRefused as Refused};
 ghost use Rattle.replica_host.specs.Native.{IsEffect, IsGuard, Meets};
 
+use call_runner::Runner;
 use effectors::ApplyRefused;
 use spec_core::{Call, Spec, State, World};
 use std::alloc::AllocError;
 use std::marker::Model;
-use token_core::Runner;
 
 /// Code that answers the state after a call.
 pub trait Effect: Drop {
@@ -127,5 +127,19 @@ impl<'a, E: Effect, G: Guard> Runner for Native<'a, E, G> {
 
     fn effect(&self, state: &State, call: &Call) -> Result<State, ApplyRefused> {
         self.run(state, call)
+    }
+
+    // The application's code makes states of its own, so none is written over.
+    fn effect_over(
+        &self,
+        state: &State,
+        _spare: Option<State>,
+        call: &Call,
+    ) -> Result<State, ApplyRefused> {
+        self.run(state, call)
+    }
+
+    fn spare(&self, _call: &Call, _latest: &State, _before: State) -> Option<State> {
+        None
     }
 }

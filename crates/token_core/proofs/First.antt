@@ -1,9 +1,8 @@
 -- Replicas before the first step, one more at a time.
-use Rattle.std.specs.Prelude.{true, List, [], ◌∷◌, ◌++◌, map}
+use Rattle.std.specs.Prelude.{List, [], ◌∷◌, ◌++◌, map}
 use Rattle.std.proofs.Common.{◌≡◌, ℕ, zero, suc, ◌+◌, inl, inr, refl, sym, ◌∙◌, ap, subst, arith}
 use Rattle.spec_core.specs.declared.world.World.{World}
 use Rattle.spec_core.specs.Specification.{Specification}
-use Rattle.spec_core.specs.Fits.{is_state}
 use Rattle.executions.proofs.Growth.{front_or_last}
 use Rattle.token_protocol.specs.Node.{Node, first_node}
 use Rattle.token_protocol.specs.Network.{Replica as ReplicaOf, first_replicas, first_network}
@@ -16,7 +15,7 @@ use Rattle.token_protocol.proofs.Places.{absent, map_more}
 use Rattle.token_core.specs.declared.replica.Replica.{Replica}
 use Rattle.token_core.specs.Held.{node_of}
 use Rattle.token_core.specs.HeldNet.{replica_of}
-use Rattle.token_core.specs.Fields.{held_replica, replica_at, network_in, IsNet, IsFirst}
+use Rattle.token_core.specs.Fields.{held_replica, replica_at, network_in, FitsIn, IsNet, IsFirst}
 
 module _ (d : Specification) (w : World) where
   abbrev first : ℕ → ReplicaOf
@@ -36,7 +35,7 @@ module _ (d : Specification) (w : World) where
   pub none_first : (replicas : List Replica) → replicas ≡ [] → IsFirst d w 0 replicas
   none_first replicas e = subst (IsFirst d w 0) (sym e) (record { first = refl; fit = λ r at h. absurd (absent at h) })
 
-  pub more_first : (n : ℕ) (replicas : List Replica) (at : Replica) → IsFirst d w n replicas → replica_at at ≡ first n → is_state d w at.node.state ≡ true → IsFirst d w (n + 1) (replicas ++ at ∷ [])
+  pub more_first : (n : ℕ) (replicas : List Replica) (at : Replica) → IsFirst d w n replicas → replica_at at ≡ first n → FitsIn d w at → IsFirst d w (n + 1) (replicas ++ at ∷ [])
   more_first n replicas at is new fits = record {
     first =
         ap (map replica_of) (map_more held_replica replicas at)
@@ -46,7 +45,7 @@ module _ (d : Specification) (w : World) where
         ∙ sym (first_last 0 n);
     fit = λ r other here. elim (front_or_last replicas at r other here) [
       | inl old ↦ is.fit r other old
-      | inr last ↦ subst (λ (x : Replica). is_state d w x.node.state ≡ true) last.1 fits
+      | inr last ↦ subst (FitsIn d w) last.1 fits
     ];
   }
 

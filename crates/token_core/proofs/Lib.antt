@@ -1,5 +1,3 @@
-pub mod Places
-pub mod Causes
 pub mod Noting
 pub mod Inversion
 pub mod Leaving

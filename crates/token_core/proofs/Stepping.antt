@@ -1,9 +1,8 @@
 -- A step of the fields of a network is a step of the network, and keeps what the fields keep.
-use Rattle.std.specs.Prelude.{true, List, [], ◌∷◌, None, Some, Result, Ok, Err, OnOk, OnErr, map, set, slice_get}
+use Rattle.std.specs.Prelude.{List, [], ◌∷◌, None, Some, Result, Ok, Err, OnOk, OnErr, map, set, slice_get}
 use Rattle.std.proofs.Common.{◌≡◌, ℕ, zero, suc, ◌⊎◌, inl, inr, refl, sym, ◌∙◌, ap, subst}
 use Rattle.spec_core.specs.declared.world.World.{World}
 use Rattle.spec_core.specs.Specification.{Specification}
-use Rattle.spec_core.specs.Fits.{is_state}
 use Rattle.token_protocol.specs.declared.granted.Granted.{Granted}
 use Rattle.token_protocol.specs.declared.network.NetStep.{NetStep}
 use Rattle.token_protocol.specs.declared.network.NetDid.{NetDid}
@@ -17,7 +16,7 @@ use Rattle.token_core.specs.declared.log.Log.{Log}
 use Rattle.token_core.specs.declared.replica.Replica.{Replica}
 use Rattle.token_core.specs.HeldNet.{HeldReplica, replica_of, HeldNet, network_held}
 use Rattle.token_core.specs.Log.{Lists, lists_of, network_with}
-use Rattle.token_core.specs.Fields.{held_replica, replica_at, replicas_in, network_in, held_in, IsNet}
+use Rattle.token_core.specs.Fields.{held_replica, replica_at, replicas_in, network_in, held_in, FitsIn, IsNet}
 use Rattle.token_core.specs.Stepped.{IsStepped}
 use Rattle.token_core.proofs.Leaving.{set_same}
 
@@ -64,7 +63,7 @@ module _ (d : Specification) (w : World) (count : ℕ) where
         (told : (result ≡ Err unable.Memory) ⊎ (result ≡ answer o))
         (ok : OnOk result (network_with (set (replicas_in replicas) r (replica_at next)) granted (lists_of after) ≡ network_after net o))
         (err : OnErr result ((held_replica next ≡ held_replica at) × (lists_of after ≡ lists_of log)))
-        (fits : is_state d w next.node.state ≡ true) where
+        (fits : FitsIn d w next) where
       abbrev new : HeldNet
       new = held_in d w count (set replicas r next) granted after
 
@@ -102,7 +101,7 @@ module _ (d : Specification) (w : World) (count : ℕ) where
       replica_kept = record {
         kept = kept_after result (on_ok result ok) (on_err result err);
         fit = λ q x there. elim (get_set replicas r q next x there) [
-          | inl p ↦ subst (λ (y : Replica). is_state d w y.node.state ≡ true) p.1 fits
+          | inl p ↦ subst (FitsIn d w) p.1 fits
           | inr old_one ↦ is.fit q x old_one
         ];
       }

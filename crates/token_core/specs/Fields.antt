@@ -3,6 +3,7 @@ use Rattle.std.specs.Prelude.{◌≡◌, ℕ, true, List, Some, map, slice_get}
 use Rattle.spec_core.specs.declared.world.World.{World}
 use Rattle.spec_core.specs.Specification.{Specification}
 use Rattle.spec_core.specs.Fits.{is_state}
+use Rattle.effectors.specs.Spare.{IsSpare}
 use Rattle.token_protocol.specs.declared.granted.Granted.{Granted}
 use Rattle.token_protocol.specs.Network.{Network, Replica as ReplicaOf, first_replicas}
 use Rattle.token_protocol.specs.Kept.{IsKept}
@@ -40,16 +41,21 @@ held_in d w steps replicas granted log = record {
   happened = log.happened.items;
 }
 
--- What the fields keep: the network is kept, and the state of each node is one of the world.
+-- The state of a replica's node is one of the world, and so is the one beside it, which reads alike.
+pub record FitsIn (d : Specification) (w : World) (at : Replica) : Type 0 where
+  pub state : is_state d w at.node.state ≡ true
+  pub spare : IsSpare d w at.node.state at.spare
+
+-- What the fields keep: the network is kept, and its replicas fit.
 pub record IsNet (d : Specification) (w : World) (replicas : List Replica) (granted : List Granted)
     (log : Log) : Type 0 where
   pub kept : IsKept d w (network_in replicas granted log)
   pub fit : (r : ℕ) (at : Replica) → slice_get replicas r ≡ Some at
-      → is_state d w at.node.state ≡ true
+      → FitsIn d w at
 
 -- Replicas before the first step.
 pub record IsFirst (d : Specification) (w : World) (count : ℕ)
     (replicas : List Replica) : Type 0 where
   pub first : replicas_in replicas ≡ first_replicas d w 0 count
   pub fit : (r : ℕ) (at : Replica) → slice_get replicas r ≡ Some at
-      → is_state d w at.node.state ≡ true
+      → FitsIn d w at

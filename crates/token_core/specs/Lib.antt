@@ -1,5 +1,4 @@
 pub mod Members
-pub mod Tried
 pub mod Held
 pub mod Ended
 pub mod Log

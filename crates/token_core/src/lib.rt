@@ -1,35 +1,30 @@
 // The token protocol in code: nodes, which run calls that are granted, and a network of them and a manager.
 //
 // It stands on `token_protocol`, whose definitions say what a node answers to a call and to a message, what a network holds after each
-// step, and why what its nodes run is an execution, and on `token_manager`, which grants calls. A `Runner` is a specification in a world
-// with code for its preconditions and effects; `Plain` evaluates them as they are written. `Net` keeps that its events form an execution,
-// that what each replica has taken is a delivery order of it, and that the state of each replica is the state after that. The lists of
-// messages and events share their elements, by `shared_lists`.
+// step, and why what its nodes run is an execution; on `token_manager`, which grants calls; and on `call_runner`, whose `Runner` runs
+// them. `Net` keeps that its events form an execution, that what each replica has taken is a delivery order of it, and that the state of
+// each replica is the state after that. The lists of messages and events share their elements, by `shared_lists`.
 //
 // `specs/Held.antt` and `specs/HeldNet.antt` have a node and a network as a program holds them, `specs/Stepped.antt` what a step of such
-// a network is, `specs/Tried.antt` what trying a call in a state gives; the other files of `specs/` mirror the code.
+// a network is; the other files of `specs/` mirror the code.
 //
 // A step first makes room for all that it may send and keep, and changes a node only then, so a step that finds no memory changes
 // nothing.
 #![tactic(auto)]
 
 mod ids;
-mod lines;
 mod log;
 mod net;
 mod node;
 mod replica;
-mod runner;
-mod trying;
 
+pub use call_runner::{Plain, Runner, Tried, try_call, try_call_over};
 pub use ids::Ids;
 pub use log::{CallEvent, Happened, number_of};
 pub use net::Net;
 pub use node::Node;
-pub use runner::{Plain, Runner};
 pub use token_manager::Manager;
 pub use token_protocol::{
     Begun, EventId, Granted, Heard, Message, NetDid, NetRefused, NetStep, NodeRefused, Request,
     WhyVoid,
 };
-pub use trying::{Tried, try_call};

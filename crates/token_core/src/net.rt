@@ -15,7 +15,7 @@ ghost use Rattle.token_core.specs.Stepped.{IsStepped};
 use crate::log::{Happened, Log};
 use crate::node::Node;
 use crate::replica::{Replica, ask_at, begin_at, hear_at};
-use crate::runner::Runner;
+use call_runner::Runner;
 use shared_lists::SharedList;
 use spec_core::{Call, State};
 use std::alloc::{AllocError, Global};
@@ -71,6 +71,7 @@ fn first_replicas<R: Runner>(
             node,
             taken: Vec::new(alloc),
             front: SharedList::new(alloc),
+            spare: None,
         })?;
     }
     Ok(replicas)

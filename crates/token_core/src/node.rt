@@ -5,8 +5,9 @@ ghost use Rattle.std.specs.Prelude.{OnErr, List};
 ghost use Rattle.std.specs.Option.{option_copied};
 ghost use Rattle.spec_core.specs.State.{reads};
 ghost use Rattle.spec_core.specs.Fits.{call_fits, is_state};
-ghost use Rattle.effectors.specs.Effect.{after_call};
+ghost use Rattle.effectors.specs.Effect.{after, after_call};
 ghost use Rattle.effectors.specs.Beyond.{first_beyond};
+ghost use Rattle.effectors.specs.Spare.{IsSpare};
 ghost use Rattle.token_protocol.specs.Ids.{is_among};
 ghost use Rattle.token_protocol.specs.Node.{waits, with_waiting, with_turn, takes_none, turn_of};
 ghost use Rattle.token_protocol.specs.Node.{begin_with, run, node_after_run, first_node, begin};
@@ -15,16 +16,16 @@ ghost use Rattle.token_protocol.specs.Node.{grant_open, hear_done, take_within, 
 ghost use Rattle.token_protocol.specs.Node.{hear_answer, node_after_hear};
 ghost use Rattle.token_protocol.specs.Node.{first_open as first_open_of};
 ghost use Rattle.token_core.specs.Held.{node_of, waiting_fits, message_fits};
-ghost use Rattle.token_core.specs.Tried.{IsTried};
+ghost use Rattle.call_runner.specs.Tried.{IsTried};
 ghost use Rattle.token_core.specs.Ended.{ended_of, begun_of, heard_of, refused_effect};
 
 use crate::ids::Ids;
-use crate::runner::Runner;
-use crate::trying::{Tried, try_call};
+use call_runner::{Runner, Tried, try_call_over};
 use effectors::ApplyRefused;
 use spec_core::{Call, State};
 use std::alloc::{AllocError, Global};
 use std::marker::Model;
+use std::mem;
 use token_manager::copy_call;
 use token_protocol::{Begun, EventId, Heard, Message, NodeRefused, Request, WhyVoid, same_id};
 
@@ -91,6 +92,25 @@ fn refused_effect(why: ApplyRefused) -> NodeRefused
     }
 }
 
+// The state after a call takes the place of the one before it, of which the spare one is made.
+fn move_to<R: Runner>(
+    runner: &R,
+    call: &Call,
+    state: &mut State,
+    spare: &mut Option<State>,
+    next: State,
+)
+    requires state { is_state (R.specification runner.now) (R.setting runner.now) state.old ≡ true }
+    requires call { call_fits (R.specification runner.now) (R.setting runner.now) call.now ≡ true }
+    requires reads { reads next
+        ≡ after (R.specification runner.now) (R.setting runner.now) call.now (reads state.old) }
+    ensures state { state.new ≡ next }
+    ensures spare { IsSpare (R.specification runner.now) (R.setting runner.now) state.new spare.new }
+{
+    let before = mem::replace(state, next);
+    *spare = runner.spare(call, state, before);
+}
+
 impl Node {
     /// The node of a replica in the initial state, which has taken nothing and used up no turn.
     pub fn new<R: Runner>(alloc: Global, runner: &R, replica: u32) -> Result<Node, AllocError>
@@ -141,9 +161,13 @@ impl Node {
         id: EventId,
         call: Call,
         tried: Tried,
+        spare: &mut Option<State>,
     ) -> Result<Ended, AllocError>
         requires state { is_state (R.specification runner.now) (R.setting runner.now) self.old.state
             ≡ true }
+        requires spare { IsSpare (R.specification runner.now) (R.setting runner.now)
+            self.old.state spare.old }
+        requires call { call_fits (R.specification runner.now) (R.setting runner.now) call ≡ true }
         requires tried { IsTried (R.specification runner.now) (R.setting runner.now)
             (reads self.old.state) call tried }
         ensures ended { IfOk result
@@ -156,6 +180,8 @@ impl Node {
             (run (R.specification runner.now) (R.setting runner.now) (node_of self.old) id call)) }
         ensures fits { OnOk result
             (is_state (R.specification runner.now) (R.setting runner.now) self.new.state ≡ true) }
+        ensures spare { IsSpare (R.specification runner.now) (R.setting runner.now)
+            self.new.state spare.new }
         ensures err { OnErr result (self.new ≡ self.old) }
     {
         match tried {
@@ -166,16 +192,24 @@ impl Node {
             Tried::Ready(state) => {
                 let seen = self.taken.listed()?;
                 self.taken.push(id)?;
-                self.state = state;
+                move_to(runner, &call, &mut self.state, spare, state);
                 Ok(Ended::Happened(Message::Done { id, call, seen }))
             }
         }
     }
 
     // Runs a call.
-    fn run<R: Runner>(&mut self, runner: &R, id: EventId, call: Call) -> Result<Ended, AllocError>
+    fn run<R: Runner>(
+        &mut self,
+        runner: &R,
+        spare: &mut Option<State>,
+        id: EventId,
+        call: Call,
+    ) -> Result<Ended, AllocError>
         requires state { is_state (R.specification runner.now) (R.setting runner.now) self.old.state
             ≡ true }
+        requires spare { IsSpare (R.specification runner.now) (R.setting runner.now)
+            self.old.state spare.old }
         requires call { call_fits (R.specification runner.now) (R.setting runner.now) call ≡ true }
         ensures ended { IfOk result
             (λ ended. ended
@@ -187,22 +221,27 @@ impl Node {
             (run (R.specification runner.now) (R.setting runner.now) (node_of self.old) id call)) }
         ensures fits { OnOk result
             (is_state (R.specification runner.now) (R.setting runner.now) self.new.state ≡ true) }
+        ensures spare { IsSpare (R.specification runner.now) (R.setting runner.now)
+            self.new.state spare.new }
         ensures err { OnErr result (self.new ≡ self.old) }
     {
-        let tried = try_call(runner, &self.state, &call)?;
-        self.end(runner, id, call, tried)
+        let tried = try_call_over(runner, &self.state, spare, &call)?;
+        self.end(runner, id, call, tried, spare)
     }
 
     // A call without a takes line is run at once, and uses up a turn.
     fn run_next<R: Runner>(
         &mut self,
         runner: &R,
+        spare: &mut Option<State>,
         id: EventId,
         call: &Call,
     ) -> Result<Begun, NodeRefused>
         requires turn { self.old.turn < 4000000000 }
         requires state { is_state (R.specification runner.now) (R.setting runner.now) self.old.state
             ≡ true }
+        requires spare { IsSpare (R.specification runner.now) (R.setting runner.now)
+            self.old.state spare.old }
         requires call { call_fits (R.specification runner.now) (R.setting runner.now) call.now
             ≡ true }
         requires free { takes_none (R.specification runner.now) call.now ≡ true }
@@ -218,10 +257,12 @@ impl Node {
             call.now)) }
         ensures fits { OnOk result
             (is_state (R.specification runner.now) (R.setting runner.now) self.new.state ≡ true) }
+        ensures spare { IsSpare (R.specification runner.now) (R.setting runner.now)
+            self.new.state spare.new }
         ensures err { OnErr result (self.new ≡ self.old) }
     {
         let call = copy_call(self.alloc, call)?;
-        let ended = self.run(runner, id, call)?;
+        let ended = self.run(runner, spare, id, call)?;
         self.turn += 1;
         Ok(begun(ended))
     }
@@ -245,6 +286,51 @@ impl Node {
         Ok(Begun::Asked(Request { id, call: asked }))
     }
 
+    /// What `begin` does, with a spare state that an effect may be written over, and one that is brought up to date.
+    pub fn begin_over<R: Runner>(
+        &mut self,
+        runner: &R,
+        spare: &mut Option<State>,
+        call: &Call,
+    ) -> Result<Begun, NodeRefused>
+        requires turn { self.old.turn < 4000000000 }
+        requires state { is_state (R.specification runner.now) (R.setting runner.now) self.old.state
+            ≡ true }
+        requires spare { IsSpare (R.specification runner.now) (R.setting runner.now)
+            self.old.state spare.old }
+        ensures answer { (result ≡ Err NodeRefused.Memory)
+            ⊎ (result
+            ≡ begin_answer
+            (begin (R.specification runner.now) (R.setting runner.now)
+            (node_of self.old) call.now)) }
+        ensures ok { OnOk result
+            (node_of self.new
+            ≡ node_after_begin (node_of self.old)
+            (begin (R.specification runner.now) (R.setting runner.now) (node_of self.old)
+            call.now)) }
+        ensures fits { OnOk result
+            (is_state (R.specification runner.now) (R.setting runner.now) self.new.state ≡ true) }
+        ensures spare { IsSpare (R.specification runner.now) (R.setting runner.now)
+            self.new.state spare.new }
+        ensures err { OnErr result (self.new ≡ self.old) }
+    {
+        if !call.fits(runner.spec(), runner.world()) {
+            return Err(NodeRefused::Arguments);
+        }
+        if let Some(waiting) = &self.waiting {
+            return Err(NodeRefused::Waiting { id: waiting.id });
+        }
+        let id = EventId {
+            replica: self.replica,
+            turn: self.turn,
+        };
+        if runner.spec().takes_of(call.op).is_empty() {
+            self.run_next(runner, spare, id, call)
+        } else {
+            self.wait(id, call)
+        }
+    }
+
     /// The replica makes a call, which uses up a turn: that turn is in the call's id. A call whose operation has a takes line waits;
     /// any other is run at once. It is refused where it doesn't fit, and then where another call waits; a refusal changes nothing.
     pub fn begin<R: Runner>(&mut self, runner: &R, call: &Call) -> Result<Begun, NodeRefused>
@@ -265,21 +351,8 @@ impl Node {
             (is_state (R.specification runner.now) (R.setting runner.now) self.new.state ≡ true) }
         ensures err { OnErr result (self.new ≡ self.old) }
     {
-        if !call.fits(runner.spec(), runner.world()) {
-            return Err(NodeRefused::Arguments);
-        }
-        if let Some(waiting) = &self.waiting {
-            return Err(NodeRefused::Waiting { id: waiting.id });
-        }
-        let id = EventId {
-            replica: self.replica,
-            turn: self.turn,
-        };
-        if runner.spec().takes_of(call.op).is_empty() {
-            self.run_next(runner, id, call)
-        } else {
-            self.wait(id, call)
-        }
+        let mut spare = None;
+        self.begin_over(runner, &mut spare, call)
     }
 
     // The call of this id was neither taken nor is known as void.
@@ -305,11 +378,14 @@ impl Node {
     fn run_waiting<R: Runner>(
         &mut self,
         runner: &R,
+        spare: &mut Option<State>,
         id: EventId,
         call: Call,
     ) -> Result<Heard, NodeRefused>
         requires state { is_state (R.specification runner.now) (R.setting runner.now) self.old.state
             ≡ true }
+        requires spare { IsSpare (R.specification runner.now) (R.setting runner.now)
+            self.old.state spare.old }
         requires call { call_fits (R.specification runner.now) (R.setting runner.now) call ≡ true }
         ensures answer { (result ≡ Err NodeRefused.Memory)
             ⊎ (result
@@ -323,9 +399,11 @@ impl Node {
             (record { id = id; call = call }) None)) }
         ensures fits { OnOk result
             (is_state (R.specification runner.now) (R.setting runner.now) self.new.state ≡ true) }
+        ensures spare { IsSpare (R.specification runner.now) (R.setting runner.now)
+            self.new.state spare.new }
         ensures err { OnErr result (self.new ≡ self.old) }
     {
-        let ended = self.run(runner, id, call)?;
+        let ended = self.run(runner, spare, id, call)?;
         self.waiting = None;
         Ok(heard(ended))
     }
@@ -334,11 +412,14 @@ impl Node {
     fn hear_grant<R: Runner>(
         &mut self,
         runner: &R,
+        spare: &mut Option<State>,
         id: EventId,
         after: &[EventId],
     ) -> Result<Heard, NodeRefused>
         requires state { is_state (R.specification runner.now) (R.setting runner.now) self.old.state
             ≡ true }
+        requires spare { IsSpare (R.specification runner.now) (R.setting runner.now)
+            self.old.state spare.old }
         requires waiting { waiting_fits (R.specification runner.now) (R.setting runner.now)
             self.old.waiting ≡ true }
         ensures answer { (result ≡ Err NodeRefused.Memory)
@@ -353,6 +434,8 @@ impl Node {
             after.now self.old.waiting)) }
         ensures fits { OnOk result
             (is_state (R.specification runner.now) (R.setting runner.now) self.new.state ≡ true) }
+        ensures spare { IsSpare (R.specification runner.now) (R.setting runner.now)
+            self.new.state spare.new }
         ensures err { OnErr result (self.new ≡ self.old) }
     {
         let Some(waiting) = &self.waiting else {
@@ -366,18 +449,21 @@ impl Node {
         }
         let id = waiting.id;
         let call = copy_call(self.alloc, &waiting.call)?;
-        self.run_waiting(runner, id, call)
+        self.run_waiting(runner, spare, id, call)
     }
 
     // The node takes an event of which all that it has seen was taken.
     fn take<R: Runner>(
         &mut self,
         runner: &R,
+        spare: &mut Option<State>,
         id: EventId,
         call: &Call,
     ) -> Result<Heard, NodeRefused>
         requires state { is_state (R.specification runner.now) (R.setting runner.now) self.old.state
             ≡ true }
+        requires spare { IsSpare (R.specification runner.now) (R.setting runner.now)
+            self.old.state spare.old }
         requires call { call_fits (R.specification runner.now) (R.setting runner.now) call.now
             ≡ true }
         ensures answer { (result ≡ Err NodeRefused.Memory)
@@ -397,12 +483,14 @@ impl Node {
             (reads self.old.state)).counters))) }
         ensures fits { OnOk result
             (is_state (R.specification runner.now) (R.setting runner.now) self.new.state ≡ true) }
+        ensures spare { IsSpare (R.specification runner.now) (R.setting runner.now)
+            self.new.state spare.new }
         ensures err { OnErr result (self.new ≡ self.old) }
     {
-        match runner.effect(&self.state, call) {
+        match runner.effect_over(&self.state, spare.take(), call) {
             Ok(next) => {
                 self.taken.push(id)?;
-                self.state = next;
+                move_to(runner, call, &mut self.state, spare, next);
                 Ok(Heard::Took)
             }
             Err(why) => Err(refused_effect(why)),
@@ -413,12 +501,15 @@ impl Node {
     fn hear_done<R: Runner>(
         &mut self,
         runner: &R,
+        spare: &mut Option<State>,
         id: EventId,
         call: &Call,
         seen: &[EventId],
     ) -> Result<Heard, NodeRefused>
         requires state { is_state (R.specification runner.now) (R.setting runner.now) self.old.state
             ≡ true }
+        requires spare { IsSpare (R.specification runner.now) (R.setting runner.now)
+            self.old.state spare.old }
         requires call { call_fits (R.specification runner.now) (R.setting runner.now) call.now
             ≡ true }
         ensures answer { (result ≡ Err NodeRefused.Memory)
@@ -433,6 +524,8 @@ impl Node {
             call.now seen.now)) }
         ensures fits { OnOk result
             (is_state (R.specification runner.now) (R.setting runner.now) self.new.state ≡ true) }
+        ensures spare { IsSpare (R.specification runner.now) (R.setting runner.now)
+            self.new.state spare.new }
         ensures err { OnErr result (self.new ≡ self.old) }
     {
         if self.taken.has(id) {
@@ -441,7 +534,7 @@ impl Node {
         if let Some(missing) = self.taken.first_outside(seen) {
             return Ok(Heard::Awaits(missing));
         }
-        self.take(runner, id, call)
+        self.take(runner, spare, id, call)
     }
 
     // The node gets a Void.
@@ -459,6 +552,50 @@ impl Node {
         }
         self.void.push(id)?;
         Ok(Heard::Noted)
+    }
+
+    /// What `hear` does, with a spare state that an effect may be written over, and one that is brought up to date.
+    pub fn hear_over<R: Runner>(
+        &mut self,
+        runner: &R,
+        spare: &mut Option<State>,
+        message: &Message,
+    ) -> Result<Heard, NodeRefused>
+        requires state { is_state (R.specification runner.now) (R.setting runner.now) self.old.state
+            ≡ true }
+        requires spare { IsSpare (R.specification runner.now) (R.setting runner.now)
+            self.old.state spare.old }
+        requires waiting { waiting_fits (R.specification runner.now) (R.setting runner.now)
+            self.old.waiting ≡ true }
+        requires message { message_fits (R.specification runner.now)
+            (R.setting runner.now) message.now ≡ true }
+        ensures answer { (result ≡ Err NodeRefused.Memory)
+            ⊎ (result
+            ≡ hear_answer
+            (hear (R.specification runner.now) (R.setting runner.now) (node_of self.old)
+            message.now)) }
+        ensures ok { OnOk result
+            (node_of self.new
+            ≡ node_after_hear (node_of self.old)
+            (hear (R.specification runner.now) (R.setting runner.now) (node_of self.old)
+            message.now)) }
+        ensures fits { OnOk result
+            (is_state (R.specification runner.now) (R.setting runner.now) self.new.state ≡ true) }
+        ensures spare { IsSpare (R.specification runner.now) (R.setting runner.now)
+            self.new.state spare.new }
+        ensures err { OnErr result (self.new ≡ self.old) }
+    {
+        match message {
+            Message::Grant { id, after } => {
+                let after = after.to_items()?;
+                self.hear_grant(runner, spare, *id, after.as_slice())
+            }
+            Message::Done { id, call, seen } => {
+                let seen = seen.to_items()?;
+                self.hear_done(runner, spare, *id, call, seen.as_slice())
+            }
+            Message::Void { id } => self.hear_void(*id),
+        }
     }
 
     /// The node gets a message. The grant of the waiting call lets it run once each call that the grant names was taken or is known
@@ -485,16 +622,7 @@ impl Node {
             (is_state (R.specification runner.now) (R.setting runner.now) self.new.state ≡ true) }
         ensures err { OnErr result (self.new ≡ self.old) }
     {
-        match message {
-            Message::Grant { id, after } => {
-                let after = after.to_items()?;
-                self.hear_grant(runner, *id, after.as_slice())
-            }
-            Message::Done { id, call, seen } => {
-                let seen = seen.to_items()?;
-                self.hear_done(runner, *id, call, seen.as_slice())
-            }
-            Message::Void { id } => self.hear_void(*id),
-        }
+        let mut spare = None;
+        self.hear_over(runner, &mut spare, message)
     }
 }

@@ -4,7 +4,6 @@ ghost use Rattle.std.specs.Prelude.{◌≡◌, ℕ, ◌<◌, ◌⊎◌, true, []
 ghost use Rattle.std.specs.Prelude.{List, bytes_eq, length, set, slice_get, vec_len, vec_capacity};
 ghost use Rattle.std.specs.Prelude.{IfOk, OnOk, OnErr};
 ghost use Rattle.std.specs.Option.{option_map};
-ghost use Rattle.spec_core.specs.Fits.{is_state};
 ghost use Rattle.token_protocol.specs.declared.message.Request.{Request as Waiting};
 ghost use Rattle.token_protocol.specs.declared.message.Message.{Message as Sent};
 ghost use Rattle.token_protocol.specs.declared.granted.Granted.{Granted};
@@ -16,14 +15,14 @@ ghost use Rattle.token_core.specs.Held.{node_of, waiting_fits, message_fits};
 ghost use Rattle.token_core.specs.Log.{lists_of, HasRoom, network_with, id_of, event_of, event_for};
 ghost use Rattle.token_core.specs.Log.{after_begun, IsAfterHeard, IsPrepared, Left, after_ran};
 ghost use Rattle.token_core.specs.Log.{after_void};
-ghost use Rattle.token_core.specs.Fields.{held_replica, replica_at};
+ghost use Rattle.token_core.specs.Fields.{held_replica, replica_at, FitsIn};
 ghost use Rattle.token_manager.specs.Grants.{AreGrants};
 
 use crate::log::{CallEvent, Happened, Log, make_room, number_of, put};
 use crate::node::Node;
-use crate::runner::Runner;
+use call_runner::Runner;
 use shared_lists::SharedList;
-use spec_core::Call;
+use spec_core::{Call, State};
 use std::alloc::{AllocError, Global};
 use token_manager::{Manager, copy_call};
 use token_protocol::{Begun, EventId, Heard, Message, NetDid, NetRefused, NodeRefused, WhyVoid};
@@ -39,6 +38,8 @@ pub struct Replica {
     /// The first of these numbers, as a list of which its events have copies. It is brought up to date when an event needs it, and
     /// compared with the numbers then.
     pub front: SharedList<u32>,
+    /// A state beside that of the node, over which its next effect is written.
+    pub spare: Option<State>,
 }
 
 fn are_same(one: &[u32], other: &[u32]) -> bool
@@ -255,8 +256,7 @@ pub fn begin_at<R: Runner>(
     at: &mut Replica,
     call: &Call,
 ) -> Result<NetDid, NetRefused>
-    requires state { is_state (R.specification runner.now) (R.setting runner.now) at.old.node.state
-        ≡ true }
+    requires fits { FitsIn (R.specification runner.now) (R.setting runner.now) at.old }
     ensures answer { (replicas : List ReplicaOf) (granted : List Granted) (r : ℕ)
         → (result ≡ Err NetRefused.Memory)
         ⊎ (result
@@ -271,8 +271,7 @@ pub fn begin_at<R: Runner>(
         (begin_at (network_with replicas granted (lists_of log.old)) r (replica_at at.old)
         (begin (R.specification runner.now) (R.setting runner.now)
         (node_of at.old.node) call.now))) }
-    ensures fits { is_state (R.specification runner.now) (R.setting runner.now) at.new.node.state
-        ≡ true }
+    ensures fits { FitsIn (R.specification runner.now) (R.setting runner.now) at.new }
     ensures err { OnErr result
         ((held_replica at.new ≡ held_replica at.old) × (lists_of log.new ≡ lists_of log.old)) }
 {
@@ -282,7 +281,7 @@ pub fn begin_at<R: Runner>(
     log.make_room()?;
     make_room(&mut at.taken)?;
     let event = event_of(alloc, call, &mut at.front, at.taken.as_slice())?;
-    match at.node.begin(runner, call) {
+    match at.node.begin_over(runner, &mut at.spare, call) {
         Ok(begun) => Ok(keep_begun(log, &mut at.taken, event, begun)),
         Err(why) => Err(refused(why)),
     }
@@ -296,8 +295,7 @@ pub fn hear_at<R: Runner>(
     at: &mut Replica,
     message: u32,
 ) -> Result<NetDid, NetRefused>
-    requires state { is_state (R.specification runner.now) (R.setting runner.now) at.old.node.state
-        ≡ true }
+    requires fits { FitsIn (R.specification runner.now) (R.setting runner.now) at.old }
     requires waiting { waiting_fits (R.specification runner.now) (R.setting runner.now)
         at.old.node.waiting ≡ true }
     requires message { (m : Sent) → slice_get log.old.messages.items message ≡ Some m
@@ -317,8 +315,7 @@ pub fn hear_at<R: Runner>(
         (hears_message (R.specification runner.now) (R.setting runner.now)
         (network_with replicas granted (lists_of log.old)) r (replica_at at.old)
         (slice_get log.old.messages.items message))) }
-    ensures fits { is_state (R.specification runner.now) (R.setting runner.now) at.new.node.state
-        ≡ true }
+    ensures fits { FitsIn (R.specification runner.now) (R.setting runner.now) at.new }
     ensures err { OnErr result
         ((held_replica at.new ≡ held_replica at.old) × (lists_of log.new ≡ lists_of log.old)) }
 {
@@ -330,7 +327,7 @@ pub fn hear_at<R: Runner>(
     let sent = &log.messages[message as usize];
     let event = event_for(alloc, &at.node, &mut at.front, at.taken.as_slice(), sent)?;
     let id = id_of(sent);
-    match at.node.hear(runner, sent) {
+    match at.node.hear_over(runner, &mut at.spare, sent) {
         Ok(heard) => Ok(keep_heard(log, &mut at.taken, id, event, heard)),
         Err(why) => Err(refused(why)),
     }

@@ -31,5 +31,5 @@ returns-in-Ok-clause-ok g c = λ replicas granted r here.
     ∙ ap (λ (l : Lists). after_begun l c.make_room-2.new.list.items c.in_ok-event.event c.in-Ok.begun) c.make_room.ensures.same
     ∙ ap (λ (t : List ℕ). after_begun lists t c.in_ok-event.event c.in-Ok.begun) c.make_room-2.ensures.same in
     let told = told_so c.in-Ok.begun refusal.Memory (begin_answer (begin d w n c.args.call.now)) c.in-Ok.ensures.answer in
-    next_network d w replicas granted lists r n taken left (node_of c.begin.new.self) (node_after_begin n (begin d w n c.args.call.now)) (begin_at (network_with replicas granted lists) r (replica n taken) (begin d w n c.args.call.now))
+    next_network d w replicas granted lists r n taken left (node_of c.begin_over.new.self) (node_after_begin n (begin d w n c.args.call.now)) (begin_at (network_with replicas granted lists) r (replica n taken) (begin d w n c.args.call.now))
     (begin_left d w replicas granted lists r n taken c.args.call.now c.in-Ok.begun c.in_ok-event.event left is after told) c.in-Ok.ensures.ok

@@ -10,8 +10,8 @@ use Rattle.token_core.proofs.Fitting.{read_at}
 use Rattle.token_core.proofs.Leaving.{replica, hear_left, is_prepared, told_so, next_network}
 use Rattle.token_core.proofs.replica.hear_at.Goals as goal
 
-pub hear-requires-clause-message : goal.hear-requires-clause-message
-hear-requires-clause-message g c =
+pub hear_over-requires-clause-message : goal.hear_over-requires-clause-message
+hear_over-requires-clause-message g c =
     let d = g.R.Runner.specification c.args.runner.now in
     let w = g.R.Runner.setting c.args.runner.now in
     let n = node_of c.args.at.now.node in let taken = c.args.at.now.taken.items in let lists = lists_of c.args.log.now in
@@ -70,5 +70,5 @@ returns-in-Ok-clause-ok g c = λ replicas granted r here.
     (subst (λ (i : EventId). IsAfterHeard (lists_of c.make_room.new.self) c.make_room-2.new.list.items i c.in_ok-event.event c.in-Ok.heard left) c.id_of-id.ensures c.keep_heard.ensures)) in
     let told = told_so c.in-Ok.heard refusal.Memory (hear_answer (hear d w n m)) c.in-Ok.ensures.answer in
     let known = hear_left d w replicas granted lists r n taken m c.in-Ok.heard c.in_ok-event.event is left here after told in
-    next_network d w replicas granted lists r n taken left (node_of c.hear.new.self) (node_after_hear n (hear d w n m)) (hear_at (network_with replicas granted lists) r (replica n taken) (hear d w n m)) known c.in-Ok.ensures.ok
+    next_network d w replicas granted lists r n taken left (node_of c.hear_over.new.self) (node_after_hear n (hear d w n m)) (hear_at (network_with replicas granted lists) r (replica n taken) (hear d w n m)) known c.in-Ok.ensures.ok
     ∙ ap (λ o. network_after (network_with replicas granted lists) (hears_message d w (network_with replicas granted lists) r (replica n taken) o)) (sym sent)

@@ -37,3 +37,10 @@ returns g c =
     (replica_stepped d w c.self.inside.steps rs gr log c.self.invariant c.args.replica at c.begin_at.new.at c.begin_at.new.log (step.Begin c.args.replica c.args.call.now) o c.begin_at.result here
     (ap (begins d w (network_in rs gr log) c.args.replica c.args.call.now) there)
     (c.begin_at.ensures.answer (replicas_in rs) gr c.args.replica) (c.begin_at.ensures.ok (replicas_in rs) gr c.args.replica there) c.begin_at.ensures.err c.begin_at.ensures.fits)
+
+pub begin_at-requires : goal.begin_at-requires
+begin_at-requires g c =
+    let rs = c.self.inside.replicas.items in
+    let at = c.index_mut-at.result.now in
+    let lt : c.args.replica < length rs = omega (arith, c.if-replica-len.false, c.len.ensures, c.self.inside.replicas.ok.0) in
+    record { fits = c.self.invariant.fit c.args.replica at (read_at rs c.args.replica at lt c.index_mut-at.ensures.value) }

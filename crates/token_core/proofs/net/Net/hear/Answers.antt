@@ -53,3 +53,10 @@ hear_at-requires-clause-message g c =
     let w = g.R.Runner.setting c.self.inside.runner in
     let rs = c.self.inside.replicas.items in let gr = c.self.inside.manager in let log = c.self.inside.log in
     sent_ok d w (network_in rs gr log) c.self.invariant.kept c.args.message
+
+pub hear_at-requires-clause-fits : goal.hear_at-requires-clause-fits
+hear_at-requires-clause-fits g c =
+    let rs = c.self.inside.replicas.items in
+    let at = c.index_mut-at.result.now in
+    let lt : c.args.replica < length rs = omega (arith, c.if-replica-len.false, c.len.ensures, c.self.inside.replicas.ok.0) in
+    c.self.invariant.fit c.args.replica at (read_at rs c.args.replica at lt c.index_mut-at.ensures.value)

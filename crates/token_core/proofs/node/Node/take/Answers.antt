@@ -1,4 +1,4 @@
-use Rattle.std.proofs.Common.{Ok, Err, Result, ◌≡◌, ◌⊎◌, inr, ap, subst}
+use Rattle.std.proofs.Common.{Ok, Err, Result, ◌≡◌, ◌⊎◌, inr, ◌∙◌, ap, subst}
 use Rattle.spec_core.specs.State.{reads}
 use Rattle.effectors.specs.Effect.{after_call}
 use Rattle.effectors.specs.Beyond.{first_beyond}
@@ -25,9 +25,9 @@ returns-in_ok-push-in-Ok-clause-ok g c =
     let d = g.R.Runner.specification c.args.runner.now in
     let w = g.R.Runner.setting c.args.runner.now in
     let n : HeldNode = record { replica = c.self.inside.replica; turn = c.self.inside.turn; state = c.self.inside.state; taken = c.self.inside.taken; void = c.self.inside.void; waiting = c.self.inside.waiting } in
-    let after : HeldNode = record { replica = c.self.inside.replica; turn = c.self.inside.turn; state = c.in-Ok.next; taken = c.push.new.self; void = c.self.inside.void; waiting = c.self.inside.waiting } in
+    let after : HeldNode = record { replica = c.self.inside.replica; turn = c.self.inside.turn; state = c.move_to.new.state; taken = c.push.new.self; void = c.self.inside.void; waiting = c.self.inside.waiting } in
     subst (λ (n : HeldNode). node_of after ≡ node_after_hear (node_of n) (take_within d w (node_of n) c.args.id c.args.call.now (first_beyond 0 (after_call d w c.args.call.now (reads n.state)).counters))) c.self.view_is
-    (node_took d w n c.args.id c.args.call.now c.in-Ok.next c.push.new.self c.in_ok-push-in-Ok.ensures.ok c.in-Ok.ensures.reads c.in-Ok.ensures.in_range)
+    (node_took d w n c.args.id c.args.call.now c.move_to.new.state c.push.new.self c.in_ok-push-in-Ok.ensures.ok (ap reads c.move_to.ensures.state ∙ c.in-Ok.ensures.reads) c.in-Ok.ensures.in_range)
 
 pub returns-in-Err-clause-answer : goal.returns-in-Err-clause-answer
 returns-in-Err-clause-answer g c =

@@ -12,7 +12,7 @@ use Rattle.effectors.specs.Beyond.{Beyond, first_beyond}
 use Rattle.token_protocol.specs.declared.node.WhyVoid.{WhyVoid}
 use Rattle.token_protocol.specs.declared.node.WhyVoid.TheVariants.{Precondition, Observation}
 use Rattle.token_protocol.specs.Node.{because, false_requires, false_observes, beyond_range, why_void}
-use Rattle.token_manager.proofs.Found.{absent, one_found}
+use Rattle.token_protocol.proofs.Places.{absent, one_found}
 
 abbrev one_more : ℕ → ℕ
 one_more place = place + 1

@@ -12,7 +12,7 @@ use Rattle.spec_core.specs.Meaning.{first_false}
 use Rattle.spec_core.specs.Fits.{world_fits, call_fits}
 use Rattle.spec_core.specs.Typed.{is_specification}
 use Rattle.spec_core.proofs.Operations.{call_operation_fits}
-use Rattle.token_manager.proofs.Found.{absent, one_found}
+use Rattle.token_protocol.proofs.Places.{absent, one_found}
 
 here_or_later : (b : Bool) (n k : ℕ) (rest : Option ℕ) → cond b (Some n) rest ≡ Some k → (n ≡ k) ⊎ (rest ≡ Some k)
 here_or_later true n k rest h = inl (one_found n k h)

@@ -9,9 +9,10 @@ ghost use Rattle.spec_core.specs.Meaning.{first_false};
 ghost use Rattle.spec_core.specs.Fits.{world_fits, call_fits, is_state};
 ghost use Rattle.effectors.specs.Effect.{after, after_call};
 ghost use Rattle.effectors.specs.Beyond.{Beyond, AllInRange, IsFirstBeyond};
+ghost use Rattle.effectors.specs.Spare.{IsSpare};
 
 use crate::lines::requires_line;
-use effectors::{ApplyRefused, apply};
+use effectors::{ApplyRefused, apply, apply_over, caught_up};
 use spec_core::{Call, Spec, State, World};
 use std::alloc::{AllocError, Global};
 
@@ -55,6 +56,36 @@ pub trait Runner {
         ensures range { (b : Beyond) → result ≡ Err (ApplyRefused.Range b.counter b.key b.value)
             → IsFirstBeyond
             (after_call (specification self.now) (setting self.now) call.now (reads state.now)) b };
+
+    /// What `effect` answers. The state may be written over the spare one, so that nothing is copied.
+    fn effect_over(
+        &self,
+        state: &State,
+        spare: Option<State>,
+        call: &Call,
+    ) -> Result<State, ApplyRefused>
+        requires state { is_state (specification self.now) (setting self.now) state.now ≡ true }
+        requires spare { IsSpare (specification self.now) (setting self.now) state.now spare }
+        requires call { call_fits (specification self.now) (setting self.now) call.now ≡ true }
+        ensures reads { IfOk result
+            (λ s. reads s
+            ≡ after (specification self.now) (setting self.now) call.now (reads state.now)) }
+        ensures fits { IfOk result
+            (λ s. is_state (specification self.now) (setting self.now) s ≡ true) }
+        ensures in_range { OnOk result
+            (AllInRange (after_call (specification self.now) (setting self.now) call.now
+            (reads state.now))) }
+        ensures range { (b : Beyond) → result ≡ Err (ApplyRefused.Range b.counter b.key b.value)
+            → IsFirstBeyond
+            (after_call (specification self.now) (setting self.now) call.now (reads state.now)) b };
+
+    /// A spare state for the next call, made of the state before this one; none is allowed.
+    fn spare(&self, call: &Call, latest: &State, before: State) -> Option<State>
+        requires call { call_fits (specification self.now) (setting self.now) call.now ≡ true }
+        requires before { is_state (specification self.now) (setting self.now) before ≡ true }
+        requires reads { reads latest.now
+            ≡ after (specification self.now) (setting self.now) call.now (reads before) }
+        ensures { IsSpare (specification self.now) (setting self.now) latest.now result };
 }
 
 /// The runner that evaluates a specification as it is written.
@@ -96,5 +127,18 @@ impl<'a> Runner for Plain<'a> {
 
     fn effect(&self, state: &State, call: &Call) -> Result<State, ApplyRefused> {
         apply(self.alloc, self.spec, self.world, state, call)
+    }
+
+    fn effect_over(
+        &self,
+        state: &State,
+        spare: Option<State>,
+        call: &Call,
+    ) -> Result<State, ApplyRefused> {
+        apply_over(self.alloc, self.spec, self.world, state, spare, call)
+    }
+
+    fn spare(&self, call: &Call, latest: &State, before: State) -> Option<State> {
+        caught_up(self.alloc, self.spec, self.world, call, latest, before)
     }
 }

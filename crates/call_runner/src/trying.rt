@@ -6,7 +6,8 @@ ghost use Rattle.spec_core.specs.Specification.{op_of};
 ghost use Rattle.spec_core.specs.Meaning.{first_false};
 ghost use Rattle.spec_core.specs.State.{reads};
 ghost use Rattle.spec_core.specs.Fits.{call_fits, is_state};
-ghost use Rattle.token_core.specs.Tried.{IsTried};
+ghost use Rattle.effectors.specs.Spare.{IsSpare};
+ghost use Rattle.call_runner.specs.Tried.{IsTried};
 
 use crate::lines::observes_line;
 use crate::runner::Runner;
@@ -23,8 +24,14 @@ pub enum Tried {
 }
 
 // Tries the effect of a call of which no line is false.
-fn try_effect<R: Runner>(runner: &R, state: &State, call: &Call) -> Result<Tried, AllocError>
+fn try_effect<R: Runner>(
+    runner: &R,
+    state: &State,
+    spare: Option<State>,
+    call: &Call,
+) -> Result<Tried, AllocError>
     requires state { is_state (R.specification runner.now) (R.setting runner.now) state.now ≡ true }
+    requires spare { IsSpare (R.specification runner.now) (R.setting runner.now) state.now spare }
     requires call { call_fits (R.specification runner.now) (R.setting runner.now) call.now ≡ true }
     requires ready { None
         ≡ option_map (λ place. place + 1)
@@ -37,7 +44,7 @@ fn try_effect<R: Runner>(runner: &R, state: &State, call: &Call) -> Result<Tried
     ensures { IfOk result
         (IsTried (R.specification runner.now) (R.setting runner.now) (reads state.now) call.now) }
 {
-    match runner.effect(state, call) {
+    match runner.effect_over(state, spare, call) {
         Ok(next) => Ok(Tried::Ready(next)),
         Err(
             ApplyRefused::Range {
@@ -54,12 +61,21 @@ fn try_effect<R: Runner>(runner: &R, state: &State, call: &Call) -> Result<Tried
     }
 }
 
-/// Tries a call in a state: its requires lines, then its observes lines, then its effect.
-pub fn try_call<R: Runner>(runner: &R, state: &State, call: &Call) -> Result<Tried, AllocError>
+/// What `try_call` answers, with a spare state that the effect may be written over.
+pub fn try_call_over<R: Runner>(
+    runner: &R,
+    state: &State,
+    spare: &mut Option<State>,
+    call: &Call,
+) -> Result<Tried, AllocError>
     requires state { is_state (R.specification runner.now) (R.setting runner.now) state.now ≡ true }
+    requires spare { IsSpare (R.specification runner.now) (R.setting runner.now) state.now
+        spare.old }
     requires call { call_fits (R.specification runner.now) (R.setting runner.now) call.now ≡ true }
-    ensures { IfOk result
+    ensures tried { IfOk result
         (IsTried (R.specification runner.now) (R.setting runner.now) (reads state.now) call.now) }
+    ensures spare { IsSpare (R.specification runner.now) (R.setting runner.now) state.now
+        spare.new }
 {
     if let Some(line) = runner.line_broken(state, call)? {
         return Ok(Tried::Never(WhyVoid::Precondition { line }));
@@ -67,5 +83,16 @@ pub fn try_call<R: Runner>(runner: &R, state: &State, call: &Call) -> Result<Tri
     if let Some(line) = observes_line(runner.spec(), runner.world(), state, call) {
         return Ok(Tried::Never(WhyVoid::Observation { line }));
     }
-    try_effect(runner, state, call)
+    try_effect(runner, state, spare.take(), call)
+}
+
+/// Tries a call in a state: its requires lines, then its observes lines, then its effect.
+pub fn try_call<R: Runner>(runner: &R, state: &State, call: &Call) -> Result<Tried, AllocError>
+    requires state { is_state (R.specification runner.now) (R.setting runner.now) state.now ≡ true }
+    requires call { call_fits (R.specification runner.now) (R.setting runner.now) call.now ≡ true }
+    ensures { IfOk result
+        (IsTried (R.specification runner.now) (R.setting runner.now) (reads state.now) call.now) }
+{
+    let mut spare = None;
+    try_call_over(runner, state, &mut spare, call)
 }
