@@ -6,3 +6,4 @@ pub mod Points
 pub mod LineRows
 pub mod Keeping
 pub mod KeptLines
+pub mod LentRows

@@ -1,5 +1,6 @@
 -- The rows of a line, of which those alone are kept that a later step names, or that what the line says at its end names.
-use Rattle.std.specs.Prelude.{◌≡◌, ℕ, ◌<◌, nat_le, Bool, true, false, not, ◌&&◌, ◌||◌, is_none, List, [], ◌∷◌, length, slice_get, slice_index_or, Option, Some, None, Result, Ok, Err}
+use Rattle.std.specs.Prelude.{◌≡◌, ℕ, ◌<◌, nat_le, nat_eq, unsigned_abs, Bool, true, false, not, ◌&&◌, ◌||◌, is_none, List, [], ◌∷◌, length, slice_get, slice_index_or, Option, Some, None, Result, Ok, Err}
+use Rattle.lin_rows.specs.declared.term.RowTerm.{RowTerm}
 use Rattle.lin_rows.specs.Rows.{Row, is_contradiction}
 use Rattle.lin_rows.specs.Sums.{row_sum}
 use Rattle.proof_lines.specs.declared.line.RowStep.{RowStep}
@@ -24,6 +25,15 @@ pub record AreKept (rows : List Row) (named : List ℕ) (kept : List (Option Row
 -- a line has rows, and those with some numbers are kept
 abbrev pub HasKept : Result (List Row) Why → List ℕ → List (Option Row) → Type 0
 HasKept given named kept = (rows : List Row) × (given ≡ Ok rows) × AreKept rows named kept
+
+-- the first coefficient is 1 or -1, so no others have a divisor in common with it
+abbrev pub is_first_unit : List RowTerm → Bool
+is_first_unit [] = false
+is_first_unit (t ∷ ts) = nat_eq (unsigned_abs t.coef) 1
+
+-- a row is kept, and it is the given one
+abbrev pub Keeps : Option Row → Result Row Why → Type 0
+Keeps kept given = (row : Row) × (kept ≡ Some row) × (given ≡ Ok row)
 
 -- the row of a step, from its two rows, by the order of its tests
 abbrev pub step_sum : Option Row → Option Row → RowStep → Result Row Why

@@ -10,6 +10,7 @@ ghost use Rattle.line_rows.specs.Splits.{other_names, size_at};
 ghost use Rattle.line_rows.specs.Evidence.{cancels_at, cancels_some, cancels, all_cancel, same_row, all_different, in_state, values_fit, rest_with, product_leaves, leaves_state, range_shown};
 
 use crate::kept::{ends_of, keep_used, kept_at, push_step, step_sum};
+use crate::kept_row::KeptRow;
 use crate::splitting::{distance, is_above, is_negative, is_positive, names_of_one, rest_at};
 use lin_rows::{Row, RowRefused, combine, least_factors};
 use proof_lines::clause::Lit;
@@ -165,7 +166,7 @@ fn product_leaves(alloc: Global, left: &Row, right: &Row, place: u32) -> Result<
 }
 
 // Whether a step cancels a place of the two rows that are kept for it.
-fn cancels_kept(rows: &[Option<Row>], step: &RowStep) -> bool
+fn cancels_kept(rows: &[KeptRow<'_>], step: &RowStep) -> bool
     ensures { result ≡ step_cancels (kept_at rows.now step.now.left)
         (kept_at rows.now step.now.right) step.now }
 {
@@ -181,7 +182,7 @@ fn cancels_kept(rows: &[Option<Row>], step: &RowStep) -> bool
 // The rows of steps, after those that are kept, up to the first step that cancels no place.
 fn take_cancelling(
     alloc: Global,
-    rows: &mut Vec<Option<Row>>,
+    rows: &mut Vec<KeptRow<'_>>,
     ends: &[usize],
     steps: &[RowStep],
 ) -> Result<bool, LineRefused>
@@ -208,13 +209,13 @@ fn take_cancelling(
 
 // The rows of a line each of whose steps cancels a place, of which those with some numbers are kept; nothing where a step cancels
 // none. Or else the first rule that the used literals or the steps break.
-fn cancelling_rows(
+fn cancelling_rows<'a>(
     alloc: Global,
-    atoms: &[AtomKind],
+    atoms: &'a [AtomKind],
     used: &[Lit],
     steps: &[RowStep],
     named: &[usize],
-) -> Result<Option<Vec<Option<Row>>>, LineRefused>
+) -> Result<Option<Vec<KeptRow<'a>>>, LineRefused>
     ensures { MatchResult result
         (λ o. MatchOption o
         (all_cancel_in (line_rows atoms.now used.now steps.now) steps.now ≡ false)
@@ -261,7 +262,7 @@ fn second_named(what: &RangeWhat) -> usize
 // Whether a number beyond the range stands in the rows that it names.
 fn is_beyond(
     alloc: Global,
-    rows: &[Option<Row>],
+    rows: &[KeptRow<'_>],
     first: usize,
     second: usize,
     what: &RangeWhat,

@@ -9,7 +9,8 @@ ghost use Rattle.proof_lines.specs.declared.line.Why.TheVariants.{Range as TheRa
 ghost use Rattle.line_rows.specs.Refusals.{or_broken, IsTold};
 ghost use Rattle.line_rows.specs.Steps.{has_row, lit_rows, used_rows, with_steps, line_rows};
 
-use crate::steps::{all_have_rows, lit_row, sum_of_step};
+use crate::kept_row::KeptRow;
+use crate::steps::{all_have_rows, kept_row, sum_of_step};
 use lin_rows::Row;
 use proof_lines::clause::Lit;
 use proof_lines::line::{LineRefused, RowStep, Why};
@@ -18,11 +19,11 @@ use std::alloc::{AllocError, Global};
 
 /// The row that is kept under a number, if one is.
 #[inline(always)]
-pub fn kept_at(rows: &[Option<Row>], number: usize) -> Option<&Row>
+pub fn kept_at<'r>(rows: &'r [KeptRow<'_>], number: usize) -> Option<&'r Row>
     ensures { option_copied result ≡ kept_at rows.now number }
 {
     match rows.get(number) {
-        Some(row) => row.as_ref(),
+        Some(kept) => kept.row(),
         None => None,
     }
 }
@@ -75,8 +76,11 @@ fn raise_named(ends: &mut [usize], named: &[usize], end: usize)
     }
 }
 
+/// A line of at most so many rows keeps them all, so that it isn't asked when each is named last.
+const FEW_ROWS: usize = 64;
+
 /// For each row of a line, after how many steps nothing names it any more. What the line says at its end names rows until after the
-/// last step.
+/// last step. Of few rows nothing is told, and none is let go.
 pub fn ends_of(
     alloc: Global,
     count: usize,
@@ -88,6 +92,9 @@ pub fn ends_of(
         (λ ends. (j : ℕ) → j < length named.now
         → is_done ends.items (length steps.now) (slice_index_or named.now j 0) ≡ false) }
 {
+    if count <= FEW_ROWS {
+        return Ok(Vec::new(alloc));
+    }
     let mut ends = vec![in alloc; 0; count]?;
     raise_steps(ends.as_mut_slice(), steps);
     raise_named(ends.as_mut_slice(), named, steps.len() + 1);
@@ -96,21 +103,21 @@ pub fn ends_of(
 
 // Adds the next row, unless nothing names it after so many steps.
 #[inline(always)]
-fn push_row(
-    rows: &mut Vec<Option<Row>>,
+fn push_row<'a>(
+    rows: &mut Vec<KeptRow<'a>>,
     ends: &[usize],
     taken: usize,
-    row: Row,
+    row: KeptRow<'a>,
 ) -> Result<(), AllocError>
     ensures { OnOk result
         (rows.new.items
         ≡ rows.old.items
-        ++ cond (is_done ends.now taken (length rows.old.items)) None (Some row) ∷ []) }
+        ++ cond (is_done ends.now taken (length rows.old.items)) None row.entry ∷ []) }
 {
     let kept = if is_done(ends, taken, rows.len()) {
-        None
+        KeptRow::none()
     } else {
-        Some(row)
+        row
     };
     rows.push(kept)?;
     Ok(())
@@ -118,19 +125,19 @@ fn push_row(
 
 // Lets a row go that nothing names after so many steps.
 #[inline(always)]
-fn let_go(rows: &mut Vec<Option<Row>>, ends: &[usize], taken: usize, number: usize)
+fn let_go(rows: &mut Vec<KeptRow<'_>>, ends: &[usize], taken: usize, number: usize)
     ensures { rows.new.items ≡ cond (is_done ends.now taken number)
         (slice_set rows.old.items number None) rows.old.items }
 {
     if number < rows.len() && is_done(ends, taken, number) {
-        rows[number] = None;
+        rows[number] = KeptRow::none();
     }
 }
 
 /// Adds the row of a step, after which so many are taken.
 #[inline(always)]
 pub fn push_step(
-    rows: &mut Vec<Option<Row>>,
+    rows: &mut Vec<KeptRow<'_>>,
     ends: &[usize],
     taken: usize,
     step: &RowStep,
@@ -140,7 +147,7 @@ pub fn push_step(
         ((all : List RowView) → KeptUntil all ends.now taken rows.old.items
         → KeptUntil (all ++ row ∷ []) ends.now taken rows.new.items) }
 {
-    push_row(rows, ends, taken, row)?;
+    push_row(rows, ends, taken, KeptRow::made(row))?;
     let_go(rows, ends, taken, step.left as usize);
     let_go(rows, ends, taken, step.right as usize);
     Ok(())
@@ -148,7 +155,7 @@ pub fn push_step(
 
 /// The row of a step, from the two rows that are kept for it.
 #[inline(always)]
-pub fn step_sum(alloc: Global, rows: &[Option<Row>], step: &RowStep) -> Result<Row, LineRefused>
+pub fn step_sum(alloc: Global, rows: &[KeptRow<'_>], step: &RowStep) -> Result<Row, LineRefused>
     ensures { MatchResult result
         (λ row. step_sum (kept_at rows.now step.now.left) (kept_at rows.now step.now.right) step.now
         ≡ Ok row)
@@ -167,7 +174,7 @@ pub fn step_sum(alloc: Global, rows: &[Option<Row>], step: &RowStep) -> Result<R
 // The rows of steps, after those that are kept.
 fn take_steps(
     alloc: Global,
-    rows: &mut Vec<Option<Row>>,
+    rows: &mut Vec<KeptRow<'_>>,
     ends: &[usize],
     steps: &[RowStep],
 ) -> Result<(), LineRefused>
@@ -189,8 +196,17 @@ fn take_steps(
     Ok(())
 }
 
+// For how many rows of a line there is room at once. A line with few rows has about as many steps as used literals.
+fn room_needed(used: &[Lit], ends: &[usize]) -> usize {
+    if ends.is_empty() {
+        used.len().min(FEW_ROWS) * 2
+    } else {
+        ends.len()
+    }
+}
+
 // Room for so many rows at once.
-fn room_for(alloc: Global, count: usize) -> Result<Vec<Option<Row>>, LineRefused>
+fn room_for<'a>(alloc: Global, count: usize) -> Result<Vec<KeptRow<'a>>, LineRefused>
     ensures { MatchResult result (λ rows. rows.items ≡ []) (λ e. e ≡ LineRefused.Memory) }
 {
     match Vec::with_capacity(alloc, count) {
@@ -200,21 +216,21 @@ fn room_for(alloc: Global, count: usize) -> Result<Vec<Option<Row>>, LineRefused
 }
 
 // The rows of used literals, of which those are kept that are named.
-fn keep_rows(
+fn keep_rows<'a>(
     alloc: Global,
-    atoms: &[AtomKind],
+    atoms: &'a [AtomKind],
     used: &[Lit],
     ends: &[usize],
-) -> Result<Vec<Option<Row>>, LineRefused>
+) -> Result<Vec<KeptRow<'a>>, LineRefused>
     requires { list_all (has_row atoms.now) used.now ≡ true }
     ensures { MatchResult result
         (λ kept. HasKeptUntil (or_broken TheRange (lit_rows atoms.now used.now)) ends.now 0
         kept.items)
         (λ e. IsTold e (or_broken TheRange (lit_rows atoms.now used.now))) }
 {
-    let mut rows = room_for(alloc, ends.len())?;
+    let mut rows = room_for(alloc, room_needed(used, ends))?;
     for lit in used {
-        let row = match lit_row(alloc, atoms, *lit) {
+        let row = match kept_row(alloc, atoms, *lit) {
             Ok(row) => row,
             Err(refused) => return Err(refused),
         };
@@ -226,12 +242,12 @@ fn keep_rows(
 }
 
 /// The rows of the used literals of a line, of which those are kept that are named.
-pub fn keep_used(
+pub fn keep_used<'a>(
     alloc: Global,
-    atoms: &[AtomKind],
+    atoms: &'a [AtomKind],
     used: &[Lit],
     ends: &[usize],
-) -> Result<Vec<Option<Row>>, LineRefused>
+) -> Result<Vec<KeptRow<'a>>, LineRefused>
     ensures { MatchResult result
         (λ kept. HasKeptUntil (used_rows atoms.now used.now) ends.now 0 kept.items)
         (λ e. IsTold e (used_rows atoms.now used.now)) }
@@ -243,13 +259,13 @@ pub fn keep_used(
 }
 
 /// The rows of a line, of which those with some numbers are kept, or the first rule that its used literals or steps break.
-pub fn kept_rows(
+pub fn kept_rows<'a>(
     alloc: Global,
-    atoms: &[AtomKind],
+    atoms: &'a [AtomKind],
     used: &[Lit],
     steps: &[RowStep],
     named: &[usize],
-) -> Result<Vec<Option<Row>>, LineRefused>
+) -> Result<Vec<KeptRow<'a>>, LineRefused>
     ensures { MatchResult result
         (λ kept. HasKept (line_rows atoms.now used.now steps.now) named.now kept.items)
         (λ e. IsTold e (line_rows atoms.now used.now steps.now)) }
@@ -268,7 +284,7 @@ pub fn kept_rows(
 }
 
 // Whether the row that is kept under a number is a contradiction.
-fn is_bad(rows: &[Option<Row>], number: usize) -> bool
+fn is_bad(rows: &[KeptRow<'_>], number: usize) -> bool
     ensures { result ≡ is_bad (kept_at rows.now number) }
 {
     match kept_at(rows, number) {

@@ -11,5 +11,6 @@
 
 pub mod evidence;
 pub mod kept;
+pub mod kept_row;
 pub mod splitting;
 pub mod steps;

@@ -1,14 +1,17 @@
 // The rows of a line: those of its used literals, tightened, then those of its steps.
-ghost use Rattle.std.specs.Prelude.{◌≡◌, true, map, IfOk, IsSome, MatchResult, Some, option_copied};
+ghost use Rattle.std.specs.Prelude.{◌≡◌, true, map, IfOk, IsSome, IsTrue, MatchResult, Some, option_copied};
 ghost use Rattle.std.specs.Option.{option_map};
 ghost use Rattle.std.specs.List.{list_all};
 ghost use Rattle.lin_rows.specs.Divisors.{tightened};
 ghost use Rattle.proof_lines.specs.declared.line.Why.TheVariants.{Range as TheRange};
 ghost use Rattle.line_rows.specs.Steps.{atom_row, has_row, lit_row, lit_rows, used_rows, step_row, with_steps, line_rows, ends_badly, refutes};
-ghost use Rattle.line_rows.specs.Kept.{step_sum};
+ghost use Rattle.line_rows.specs.Kept.{step_sum, is_first_unit, Keeps};
 ghost use Rattle.line_rows.specs.Refusals.{or_broken, IsTold};
 
-use lin_rows::{MultiplesRefused, Row, RowRefused, negate, sum_of_multiples, tighten, tighten_own};
+use crate::kept_row::KeptRow;
+use lin_rows::{
+    MultiplesRefused, Row, RowRefused, RowTerm, negate, sum_of_multiples, tighten, tighten_own,
+};
 use proof_lines::clause::Lit;
 use proof_lines::line::{LineRefused, RowStep, Why};
 use proof_lines::problem::AtomKind;
@@ -54,6 +57,54 @@ pub fn lit_row(alloc: Global, atoms: &[AtomKind], lit: Lit) -> Result<Row, LineR
         },
         Err(RowRefused::Range) => Err(LineRefused::Bad(Why::Range)),
         Err(RowRefused::Memory) => Err(LineRefused::Memory),
+    }
+}
+
+#[inline(always)]
+fn is_first_unit(terms: &[RowTerm]) -> bool
+    ensures { result ≡ is_first_unit terms.now }
+{
+    match terms {
+        [] => false,
+        [term, ..] => term.coef.unsigned_abs() == 1,
+    }
+}
+
+#[inline(always)]
+fn has_first_unit(row: &Row) -> bool
+    ensures { result ≡ is_first_unit row.now.terms }
+{
+    is_first_unit(row.terms())
+}
+
+// Whether the first coefficient shows that tightening leaves a row as it is. For most rows it does.
+#[inline(always)]
+fn is_surely_tight(row: &Row) -> bool
+    ensures { IsTrue result → tightened row.now ≡ row.now }
+{
+    row.terms().is_empty() || has_first_unit(row)
+}
+
+/// The row of a literal, tightened, as it is kept: the row of the atom itself, where that is tight and the literal is positive.
+#[inline(always)]
+pub fn kept_row<'a>(
+    alloc: Global,
+    atoms: &'a [AtomKind],
+    lit: Lit,
+) -> Result<KeptRow<'a>, LineRefused>
+    requires { has_row atoms.now lit ≡ true }
+    ensures { MatchResult result
+        (λ kept. Keeps kept (or_broken TheRange (option_map tightened (lit_row atoms.now lit))))
+        (λ e. IsTold e (or_broken TheRange (option_map tightened (lit_row atoms.now lit)))) }
+{
+    if let Some(row) = atom_row(atoms, lit.atom) {
+        if lit.positive && is_surely_tight(row) {
+            return Ok(KeptRow::lent(row));
+        }
+    }
+    match lit_row(alloc, atoms, lit) {
+        Ok(row) => Ok(KeptRow::made(row)),
+        Err(refused) => Err(refused),
     }
 }
 

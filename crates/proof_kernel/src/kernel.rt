@@ -343,7 +343,11 @@ impl Kernel {
         let Some(high_row) = kept_at(kept, high as usize) else {
             return Err(LineRefused::Bad(Why::Place));
         };
-        self.split_after(place, at, low_row, high_row, values)
+        let Ok((low_copy, high_copy)) = own_rows(self.alloc, low_row, high_row) else {
+            return Err(LineRefused::Memory);
+        };
+        drop(rows);
+        self.split_after(place, at, &low_copy, &high_copy, values)
     }
 
     fn split_after(
@@ -413,6 +417,18 @@ impl Kernel {
         clear(&mut self.slots, numbers);
         Ok(())
     }
+}
+
+// Copies of two rows, which may be those of atoms.
+fn own_rows(alloc: Global, low: &Row, high: &Row) -> Result<(Row, Row), AllocError>
+    ensures { IfOk result (λ x. (x.0 ≡ low.now) × (x.1 ≡ high.now)) }
+{
+    let low_copy = low.copy(alloc)?;
+    let Ok(high_copy) = high.copy(alloc) else {
+        drop(low_copy);
+        return Err(AllocError);
+    };
+    Ok((low_copy, high_copy))
 }
 
 fn holds_empty(clauses: &[Clause]) -> bool

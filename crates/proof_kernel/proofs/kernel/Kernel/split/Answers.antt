@@ -34,5 +34,8 @@ returns-clause-exact c =
     let k = subst (λ (z : List AtomKind). HasKept (line_rows z c.args.used.now c.args.steps.now) (c.args.low ∷ c.args.high ∷ []) c.in-Ok.rows.items) atoms c.in-Ok.ensures in
     let e : Some c.in-Some.low_row.now ≡ kept_at c.in-Ok.rows.items c.args.low = c.in-Some.ensures ∙ ap (λ (l : List (Option Row)). kept_at l c.args.low) c.as_slice-kept.ensures.value in
     let f : Some c.in-Some-kept_at.high_row.now ≡ kept_at c.in-Ok.rows.items c.args.high = c.in-Some-kept_at.ensures ∙ ap (λ (l : List (Option Row)). kept_at l c.args.high) c.as_slice-kept.ensures.value in
-    let s = split-there c.args.self.now c.args.place c.args.at.now c.args.used.now c.args.steps.now c.args.low c.args.high c.args.values.now c.in-Ok.rows.items c.in-Some.low_row.now c.in-Some-kept_at.high_row.now p k e f in
+    let own = c.in-Ok-own_rows in
+    let mine : Some own.low_copy ≡ kept_at c.in-Ok.rows.items c.args.low = ap (λ (r : Row). Some r) own.ensures.0 ∙ e in
+    let others : Some own.high_copy ≡ kept_at c.in-Ok.rows.items c.args.high = ap (λ (r : Row). Some r) own.ensures.1 ∙ f in
+    let s = split-there c.args.self.now c.args.place c.args.at.now c.args.used.now c.args.steps.now c.args.low c.args.high c.args.values.now c.in-Ok.rows.items own.low_copy own.high_copy p k mine others in
     subst (λ (o : Result State Why). MatchResult c.split_after.result (λ x. o ≡ Ok c.split_after.new.self) (λ w. IsTold w o)) (sym s) c.split_after.ensures.exact
