@@ -4,22 +4,21 @@
 // ones. A sum of multiples of many rows is made row by row. Tightening divides a partial sum, so what was added so far is a multiple of
 // it, the scale: to add m times a row, the partial sum is taken scale / g times and the row m / g times, where g is their greatest
 // common divisor, and the new scale is g times what tightening divided by.
-use crate::listing::RowList;
+use crate::listing::{RowList, key_of};
 use crate::narrow::NarrowRows;
 use items::Items;
 use lin_rows::{Row, sum_of_multiples, tighten};
 use proof_lines::RowStep;
-use simplex::number::{divisor, sum_of_products};
+use simplex::Number;
+use simplex::number::sum_of_products;
 use std::alloc::Global;
 
 /// The rows of a line. Those of the steps stand behind the given ones.
 #[derive(Drop)]
-pub struct Derivation {
-    pub rows: RowList,
+pub struct Derivation<'r> {
+    pub rows: RowList<'r>,
     /// The given rows in narrow numbers.
     pub narrow: NarrowRows,
-    /// The numbers of the given rows that are used.
-    pub used: Items<u32>,
     pub steps: Items<RowStep>,
 }
 
@@ -37,39 +36,83 @@ struct Partial {
     scale: i128,
 }
 
-/// The line of no rows, with room for so many given ones.
-pub fn no_rows(alloc: Global, given: usize) -> Option<Derivation> {
+// How many terms rows have.
+fn count_terms(rows: &[Row]) -> usize {
+    let mut count = 0usize;
+    for row in rows {
+        count = count.saturating_add(row.terms().len());
+    }
+    count
+}
+
+/// The line of no rows, with room for the given ones.
+pub fn no_rows(alloc: Global, given: &[Row]) -> Option<Derivation<'_>> {
     let rows = RowList::new(alloc, given)?;
+    let Some(narrow) = NarrowRows::new(alloc, given.len(), count_terms(given)) else {
+        drop(rows);
+        return None;
+    };
     Some(Derivation {
         rows,
-        narrow: NarrowRows::new(alloc),
-        used: Items::new(alloc),
+        narrow,
         steps: Items::new(alloc),
     })
 }
 
-/// Takes a given row, unless an equal one is there; whether it is a contradiction.
-pub fn take(derivation: &mut Derivation, alloc: Global, number: u32, given: &Row) -> Option<bool> {
-    let row = tighten(alloc, given).ok()?;
-    let slot = derivation.rows.slot_of(&row);
-    if derivation.rows.has(slot, &row) {
+// Whether tightening surely leaves a row as it is.
+fn is_tight(row: &Row) -> bool {
+    row.terms().is_empty()
+        || row
+            .terms()
+            .iter()
+            .any(|term| term.coef == 1 || term.coef == -1)
+}
+
+// Takes a given row that stays as it is.
+fn take_given(derivation: &mut Derivation<'_>, number: u32, given: &Row) -> Option<bool> {
+    let key = key_of(given);
+    if derivation.rows.has(key, given) {
+        return Some(false);
+    }
+    derivation.narrow.push(given);
+    derivation.rows.push_given(number, key)?;
+    Some(given.is_contradiction())
+}
+
+// Takes a given row, tightened.
+fn take_tightened(derivation: &mut Derivation<'_>, number: u32, row: Row) -> Option<bool> {
+    let key = key_of(&row);
+    if derivation.rows.has(key, &row) {
         drop(row);
         return Some(false);
     }
     let refuted = row.is_contradiction();
     derivation.narrow.push(&row);
-    derivation.rows.push_given(slot, row)?;
-    derivation.used.push(number).ok()?;
+    derivation.rows.push_changed(number, key, row)?;
     Some(refuted)
 }
 
+/// Takes a given row, unless an equal one is there; whether it is a contradiction.
+pub fn take(
+    derivation: &mut Derivation<'_>,
+    alloc: Global,
+    number: u32,
+    given: &Row,
+) -> Option<bool> {
+    if is_tight(given) {
+        return take_given(derivation, number, given);
+    }
+    let row = tighten(alloc, given).ok()?;
+    take_tightened(derivation, number, row)
+}
+
 /// The row with a number.
-pub fn row_at(derivation: &Derivation, number: u32) -> Option<&Row> {
-    derivation.rows.as_slice().get(number as usize)
+pub fn row_at<'d>(derivation: &'d Derivation<'_>, number: u32) -> Option<&'d Row> {
+    derivation.rows.get(number as usize)
 }
 
 /// Whether the row with a number is a contradiction.
-pub fn is_contradiction(derivation: &Derivation, number: u32) -> bool {
+pub fn is_contradiction(derivation: &Derivation<'_>, number: u32) -> bool {
     match row_at(derivation, number) {
         Some(row) => row.is_contradiction(),
         None => false,
@@ -87,13 +130,13 @@ fn divided_by(left: &Row, first: i128, right: &Row, second: i128, sum: &Row) -> 
                 right.coefficient(term.place),
                 second,
             )?;
-            before.checked_div(term.coef)
+            before.over(term.coef)
         }
     }
 }
 
 // Adds a step and its row; what tightening divided by.
-fn push_step(derivation: &mut Derivation, alloc: Global, step: RowStep) -> Option<i128> {
+fn push_step(derivation: &mut Derivation<'_>, alloc: Global, step: RowStep) -> Option<i128> {
     let left = row_at(derivation, step.left)?;
     let right = row_at(derivation, step.right)?;
     let sum = sum_of_multiples(alloc, left, step.first, right, step.second).ok()?;
@@ -105,21 +148,21 @@ fn push_step(derivation: &mut Derivation, alloc: Global, step: RowStep) -> Optio
 
 // Adds a multiple of a row to a partial sum.
 fn add(
-    derivation: &mut Derivation,
+    derivation: &mut Derivation<'_>,
     alloc: Global,
     so_far: Partial,
     more: Multiple,
 ) -> Option<Partial> {
-    let common = divisor(so_far.scale, more.by);
+    let common = so_far.scale.divisor(more.by);
     let number = derivation.rows.len();
     let by = push_step(
         derivation,
         alloc,
         RowStep {
             left: so_far.row,
-            first: so_far.scale.checked_div(common)?,
+            first: so_far.scale.over(common)?,
             right: more.row,
-            second: more.by.checked_div(common)?,
+            second: more.by.over(common)?,
         },
     )?;
     Some(Partial {
@@ -129,7 +172,11 @@ fn add(
 }
 
 /// The number of the row that is the sum of multiples, or of a partial sum that is a contradiction.
-pub fn combine(derivation: &mut Derivation, alloc: Global, multiples: &[Multiple]) -> Option<u32> {
+pub fn combine(
+    derivation: &mut Derivation<'_>,
+    alloc: Global,
+    multiples: &[Multiple],
+) -> Option<u32> {
     let first = multiples.first().copied()?;
     let mut so_far = Partial {
         row: first.row,

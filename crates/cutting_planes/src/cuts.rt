@@ -15,7 +15,7 @@ use crate::combining::{Derivation, Multiple, combine, is_contradiction, row_at};
 use crate::joining::join;
 use lin_rows::{Row, same_row};
 use simplex::number::at;
-use simplex::{Equation, Slack, Tableau, numerator, slack_of};
+use simplex::{Equation, Number, Slack, Tableau, slack_of};
 use std::alloc::Global;
 
 /// The most cuts at a time.
@@ -34,15 +34,16 @@ pub enum Cutting {
 }
 
 // The multiple of the row of a column's slack, where there is one; nothing where a multiple is needed and the column has no row.
-fn multiple_at(
-    tableau: &Tableau,
-    equation: &Equation,
+fn multiple_at<N: Number>(
+    tableau: &Tableau<N>,
+    equation: &Equation<N>,
     column: usize,
     sign: i128,
 ) -> Option<Option<Multiple>> {
     let by = at(equation.numerators.as_slice(), column)
+        .wide()
         .checked_mul(sign)?
-        .checked_rem_euclid(equation.denominator)?;
+        .checked_rem_euclid(equation.denominator.wide())?;
     if by == 0 {
         return Some(None);
     }
@@ -52,10 +53,10 @@ fn multiple_at(
 }
 
 // The multiples of a cut.
-fn multiples_of(
-    tableau: &Tableau,
+fn multiples_of<N: Number>(
+    tableau: &Tableau<N>,
     alloc: Global,
-    equation: &Equation,
+    equation: &Equation<N>,
     sign: i128,
 ) -> Option<Vec<Multiple>> {
     let mut multiples = Vec::new(alloc);
@@ -68,11 +69,12 @@ fn multiples_of(
 }
 
 // Whether an equation is that of a name whose value isn't whole.
-fn is_fractional(tableau: &Tableau, equation: &Equation) -> Option<bool> {
-    if equation.basic >= tableau.names || equation.denominator == 1 {
+fn is_fractional<N: Number>(tableau: &Tableau<N>, equation: &Equation<N>) -> Option<bool> {
+    if equation.basic >= tableau.names || equation.denominator.is_one() {
         return Some(false);
     }
-    let rest = numerator(tableau, equation)?.checked_rem_euclid(equation.denominator)?;
+    let denominator = equation.denominator.wide();
+    let rest = equation.value.wide().checked_rem_euclid(denominator)?;
     Some(rest != 0)
 }
 
@@ -85,7 +87,7 @@ fn is_small(row: &Row) -> bool {
 }
 
 // Whether a slack is that of a row.
-fn is_slack_of(slack: &Slack, derivation: &Derivation, row: &Row) -> bool {
+fn is_slack_of<N: Number>(slack: &Slack<N>, derivation: &Derivation<'_>, row: &Row) -> bool {
     let Some(number) = slack.row else {
         return false;
     };
@@ -96,7 +98,7 @@ fn is_slack_of(slack: &Slack, derivation: &Derivation, row: &Row) -> bool {
 }
 
 // Whether the tableau has a row already.
-fn has_row(tableau: &Tableau, derivation: &Derivation, row: &Row) -> bool {
+fn has_row<N: Number>(tableau: &Tableau<N>, derivation: &Derivation<'_>, row: &Row) -> bool {
     for slack in tableau.slacks.as_slice() {
         if is_slack_of(slack, derivation, row) {
             return true;
@@ -106,7 +108,7 @@ fn has_row(tableau: &Tableau, derivation: &Derivation, row: &Row) -> bool {
 }
 
 // Whether a row is to join the tableau.
-fn is_wanted(tableau: &Tableau, derivation: &Derivation, number: u32) -> bool {
+fn is_wanted<N: Number>(tableau: &Tableau<N>, derivation: &Derivation<'_>, number: u32) -> bool {
     match row_at(derivation, number) {
         Some(row) => is_small(row) && !has_row(tableau, derivation, row),
         None => false,
@@ -114,10 +116,10 @@ fn is_wanted(tableau: &Tableau, derivation: &Derivation, number: u32) -> bool {
 }
 
 // The number of a cut's row.
-fn cut(
-    tableau: &Tableau,
+fn cut<N: Number>(
+    tableau: &Tableau<N>,
     alloc: Global,
-    derivation: &mut Derivation,
+    derivation: &mut Derivation<'_>,
     number: usize,
     sign: i128,
 ) -> Option<u32> {
@@ -128,10 +130,10 @@ fn cut(
 }
 
 // The cuts of an equation, of which those that are wanted are listed.
-fn cut_both(
-    tableau: &Tableau,
+fn cut_both<N: Number>(
+    tableau: &Tableau<N>,
     alloc: Global,
-    derivation: &mut Derivation,
+    derivation: &mut Derivation<'_>,
     number: usize,
     cuts: &mut Vec<u32>,
 ) -> Option<Cutting> {
@@ -149,10 +151,10 @@ fn cut_both(
 }
 
 // The cuts of all equations of names, up to a limit.
-fn cut_all(
-    tableau: &Tableau,
+fn cut_all<N: Number>(
+    tableau: &Tableau<N>,
     alloc: Global,
-    derivation: &mut Derivation,
+    derivation: &mut Derivation<'_>,
     cuts: &mut Vec<u32>,
 ) -> Option<Cutting> {
     for number in 0..tableau.equations.len() {
@@ -166,10 +168,10 @@ fn cut_all(
     Some(Cutting::Made(cuts.len()))
 }
 
-fn join_all(
-    tableau: &mut Tableau,
+fn join_all<N: Number>(
+    tableau: &mut Tableau<N>,
     alloc: Global,
-    derivation: &Derivation,
+    derivation: &Derivation<'_>,
     cuts: &[u32],
 ) -> Option<()> {
     for number in cuts {
@@ -179,10 +181,10 @@ fn join_all(
 }
 
 /// Makes cuts of a vertex that isn't whole, and joins them to the tableau.
-pub fn add_cuts(
-    tableau: &mut Tableau,
+pub fn add_cuts<N: Number>(
+    tableau: &mut Tableau<N>,
     alloc: Global,
-    derivation: &mut Derivation,
+    derivation: &mut Derivation<'_>,
 ) -> Option<Cutting> {
     let mut cuts = Vec::new(alloc);
     let cutting = cut_all(tableau, alloc, derivation, &mut cuts);

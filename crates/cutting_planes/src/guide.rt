@@ -3,12 +3,12 @@ use crate::combining::{Derivation, Multiple, combine, is_contradiction, no_rows,
 use crate::cuts::{Cutting, add_cuts};
 use crate::joining::{bound_names, join_broken};
 use crate::repairing::{Attempt, are_in_state, attempt_at, mend};
-use crate::rounding::{Rounding, is_whole, round};
+use crate::rounding::{Rounding, round};
 use items::Items;
 use lin_rows::Row;
 use proof_lines::RowStep;
 use simplex::number::at;
-use simplex::{Pivoted, Tableau, Vertex, slack_of, solve, start, vertex_of};
+use simplex::{Number, Pivoted, Tableau, Vertex, slack_of, solve, start, vertex_of};
 use std::alloc::Global;
 
 /// The most turns of the guide, in each of which rows join, names get bounds, or cuts are made.
@@ -39,9 +39,9 @@ pub enum Proposal {
 
 /// What stands while the guide works.
 #[derive(Drop)]
-struct Guide {
-    derivation: Derivation,
-    tableau: Tableau,
+struct Guide<'r, N> {
+    derivation: Derivation<'r>,
+    tableau: Tableau<N>,
     joined: Vec<bool>,
     cuts: u32,
     bounds: u32,
@@ -53,10 +53,19 @@ enum Turn {
     Again,
     Numbers(Vec<i128>),
     Refuted,
+    /// A limit is met, or no cut is left to make.
+    GivenUp,
+}
+
+/// How a guide ends.
+#[derive(Drop)]
+enum Ended {
+    Proposed(Proposal),
+    GivenUp,
 }
 
 // Takes the given rows; whether one is a contradiction.
-fn take_all(derivation: &mut Derivation, alloc: Global, rows: &[Row]) -> Option<bool> {
+fn take_all(derivation: &mut Derivation<'_>, alloc: Global, rows: &[Row]) -> Option<bool> {
     for (i, row) in rows.iter().enumerate() {
         if take(derivation, alloc, u32::try_from(i).ok()?, row)? {
             return Some(true);
@@ -66,20 +75,21 @@ fn take_all(derivation: &mut Derivation, alloc: Global, rows: &[Row]) -> Option<
 }
 
 // The multiples by which an infeasible equation refutes the rows; nothing where a bound of our own is among them.
-fn multiples_of(tableau: &Tableau, alloc: Global, number: usize) -> Option<Vec<Multiple>> {
+fn multiples_of<N: Number>(
+    tableau: &Tableau<N>,
+    alloc: Global,
+    number: usize,
+) -> Option<Vec<Multiple>> {
     let equation = tableau.equations.get(number)?;
     let row = slack_of(tableau, equation.basic)?.row?;
+    let by = equation.denominator.wide();
     let mut multiples = Vec::new(alloc);
-    multiples
-        .push(Multiple {
-            row,
-            by: equation.denominator,
-        })
-        .ok()?;
+    multiples.push(Multiple { row, by }).ok()?;
     for (column, variable) in tableau.columns.iter().enumerate() {
-        let by = at(equation.numerators.as_slice(), column).checked_neg()?;
-        if by != 0 {
+        let by = at(equation.numerators.as_slice(), column);
+        if !by.is_zero() {
             let row = slack_of(tableau, *variable)?.row?;
+            let by = by.wide().checked_neg()?;
             multiples.push(Multiple { row, by }).ok()?;
         }
     }
@@ -87,7 +97,7 @@ fn multiples_of(tableau: &Tableau, alloc: Global, number: usize) -> Option<Vec<M
 }
 
 // Adds the multiples up.
-fn refute(guide: &mut Guide, alloc: Global, number: usize) -> Option<Turn> {
+fn refute<N: Number>(guide: &mut Guide<'_, N>, alloc: Global, number: usize) -> Option<Turn> {
     let multiples = multiples_of(&guide.tableau, alloc, number)?;
     let sum = combine(&mut guide.derivation, alloc, multiples.as_slice());
     drop(multiples);
@@ -111,10 +121,10 @@ fn values_of(attempt: Attempt) -> Vec<i128> {
 }
 
 // Whole numbers near a vertex, mended by some moves, where all rows then hold.
-fn try_rounding(
-    derivation: &Derivation,
+fn try_rounding<N: Number>(
+    derivation: &Derivation<'_>,
     alloc: Global,
-    vertex: &Vertex,
+    vertex: &Vertex<N>,
     way: Rounding,
     moves: u32,
 ) -> Option<Vec<i128>> {
@@ -131,26 +141,36 @@ fn try_rounding(
     }
 }
 
-// The same in three ways; a vertex that is whole has one.
-fn try_all(
-    derivation: &Derivation,
+// The values of a whole vertex, which satisfies all rows.
+fn try_whole<N: Number>(vertex: &Vertex<N>, alloc: Global) -> Option<Vec<i128>> {
+    let values = round(vertex, alloc, Rounding::Down)?;
+    if are_in_state(values.as_slice()) {
+        return Some(values);
+    }
+    drop(values);
+    None
+}
+
+// Whole numbers near a vertex that satisfy all rows.
+fn try_all<N: Number>(
+    derivation: &Derivation<'_>,
     alloc: Global,
-    vertex: &Vertex,
+    vertex: &Vertex<N>,
     moves: u32,
 ) -> Option<Vec<i128>> {
+    if vertex.common.is_one() {
+        return try_whole(vertex, alloc);
+    }
     for way in [Rounding::Nearest, Rounding::Down, Rounding::Up] {
         if let Some(values) = try_rounding(derivation, alloc, vertex, way, moves) {
             return Some(values);
-        }
-        if is_whole(vertex) {
-            return None;
         }
     }
     None
 }
 
 // Whole numbers near a vertex that satisfies all rows, or cuts where there are none.
-fn settle(guide: &mut Guide, alloc: Global, vertex: &Vertex) -> Option<Turn> {
+fn settle<N: Number>(guide: &mut Guide<'_, N>, alloc: Global, vertex: &Vertex<N>) -> Option<Turn> {
     let moves = if guide.cuts % MOVE_EVERY == 0 {
         MOVE_LIMIT
     } else {
@@ -160,18 +180,18 @@ fn settle(guide: &mut Guide, alloc: Global, vertex: &Vertex) -> Option<Turn> {
         return Some(Turn::Numbers(values));
     }
     if guide.cuts >= CUT_LIMIT {
-        return None;
+        return Some(Turn::GivenUp);
     }
     guide.cuts = guide.cuts.saturating_add(1);
     match add_cuts(&mut guide.tableau, alloc, &mut guide.derivation)? {
-        Cutting::Made(0) => None,
+        Cutting::Made(0) => Some(Turn::GivenUp),
         Cutting::Made(_) => Some(Turn::Again),
         Cutting::Contradiction(_) => Some(Turn::Refuted),
     }
 }
 
 // What follows from a vertex.
-fn go_on(guide: &mut Guide, alloc: Global, vertex: &Vertex) -> Option<Turn> {
+fn go_on<N: Number>(guide: &mut Guide<'_, N>, alloc: Global, vertex: &Vertex<N>) -> Option<Turn> {
     if join_broken(
         &mut guide.tableau,
         alloc,
@@ -188,9 +208,10 @@ fn go_on(guide: &mut Guide, alloc: Global, vertex: &Vertex) -> Option<Turn> {
     settle(guide, alloc, vertex)
 }
 
-fn take_turn(guide: &mut Guide, alloc: Global) -> Option<Turn> {
+fn take_turn<N: Number>(guide: &mut Guide<'_, N>, alloc: Global) -> Option<Turn> {
     match solve(&mut guide.tableau, alloc)? {
         Pivoted::Infeasible(number) => refute(guide, alloc, number),
+        Pivoted::Spent => Some(Turn::GivenUp),
         Pivoted::Feasible => {
             let vertex = vertex_of(&guide.tableau, alloc)?;
             let turn = go_on(guide, alloc, &vertex);
@@ -200,32 +221,47 @@ fn take_turn(guide: &mut Guide, alloc: Global) -> Option<Turn> {
     }
 }
 
-fn turn_on(guide: &mut Guide, alloc: Global) -> Option<Turn> {
+fn turn_on<N: Number>(guide: &mut Guide<'_, N>, alloc: Global) -> Option<Turn> {
     for _turn in 0..TURN_LIMIT {
         match take_turn(guide, alloc)? {
             Turn::Again => {}
-            Turn::Numbers(values) => return Some(Turn::Numbers(values)),
-            Turn::Refuted => return Some(Turn::Refuted),
+            other => return Some(other),
         }
     }
-    None
+    Some(Turn::GivenUp)
+}
+
+// The numbers of the given rows that a derivation has taken.
+fn numbers_taken(derivation: &Derivation<'_>, alloc: Global) -> Option<Items<u32>> {
+    let count = derivation.rows.given_len();
+    let mut used = Vec::with_capacity(alloc, count).ok()?;
+    for number in 0..count {
+        used.push(derivation.rows.number_of(number)?).ok()?;
+    }
+    Some(Items::from_vec(used))
 }
 
 // The line of a derivation.
-fn refutation(derivation: Derivation) -> Proposal {
+fn refutation(derivation: Derivation<'_>, alloc: Global) -> Option<Proposal> {
+    let used = numbers_taken(&derivation, alloc);
     let Derivation {
         rows,
         narrow,
-        used,
         steps,
     } = derivation;
     drop(rows);
     drop(narrow);
-    Proposal::Refutation { used, steps }
+    match used {
+        Some(used) => Some(Proposal::Refutation { used, steps }),
+        None => {
+            drop(steps);
+            None
+        }
+    }
 }
 
 // What a guide ends with.
-fn ended(guide: Guide, turn: Option<Turn>) -> Option<Proposal> {
+fn conclude<N: Number>(guide: Guide<'_, N>, alloc: Global, turn: Option<Turn>) -> Option<Ended> {
     let Guide {
         derivation,
         tableau,
@@ -235,26 +271,27 @@ fn ended(guide: Guide, turn: Option<Turn>) -> Option<Proposal> {
     } = guide;
     drop(tableau);
     drop(joined);
-    match turn {
-        Some(Turn::Refuted) => Some(refutation(derivation)),
-        Some(Turn::Numbers(values)) => {
-            drop(derivation);
-            Some(Proposal::Numbers(values))
-        }
-        _ => {
-            drop(derivation);
-            None
-        }
+    if let Some(Turn::Refuted) = turn {
+        return Some(Ended::Proposed(refutation(derivation, alloc)?));
+    }
+    drop(derivation);
+    match turn? {
+        Turn::Numbers(values) => Some(Ended::Proposed(Proposal::Numbers(values))),
+        _ => Some(Ended::GivenUp),
     }
 }
 
 // The guide of given rows, none of which has joined.
-fn guide_of(derivation: Derivation, alloc: Global, ints: u32) -> Option<Guide> {
+fn guide_of<N: Number>(
+    derivation: Derivation<'_>,
+    alloc: Global,
+    ints: u32,
+) -> Option<Guide<'_, N>> {
     let Some(tableau) = start(alloc, ints as usize) else {
         drop(derivation);
         return None;
     };
-    let Ok(joined) = vec![in alloc; false; derivation.used.len()] else {
+    let Ok(joined) = vec![in alloc; false; derivation.rows.given_len()] else {
         drop(derivation);
         drop(tableau);
         return None;
@@ -268,19 +305,31 @@ fn guide_of(derivation: Derivation, alloc: Global, ints: u32) -> Option<Guide> {
     })
 }
 
-/// Numbers that may satisfy all rows, or a line that may refute them; nothing where a number has no room, where a limit is met, or for
-/// want of memory.
-pub fn propose(alloc: Global, rows: &[Row], ints: u32) -> Option<Proposal> {
-    let mut derivation = no_rows(alloc, rows.len())?;
+// What is proposed, by a tableau whose numbers have one width; nothing where a number has no room, or for want of memory.
+fn propose_in<N: Number>(alloc: Global, rows: &[Row], ints: u32) -> Option<Ended> {
+    let mut derivation = no_rows(alloc, rows)?;
     match take_all(&mut derivation, alloc, rows) {
         Some(false) => {}
-        Some(true) => return Some(refutation(derivation)),
+        Some(true) => return Some(Ended::Proposed(refutation(derivation, alloc)?)),
         None => {
             drop(derivation);
             return None;
         }
     }
-    let mut guide = guide_of(derivation, alloc, ints)?;
+    let mut guide = guide_of::<N>(derivation, alloc, ints)?;
     let turn = turn_on(&mut guide, alloc);
-    ended(guide, turn)
+    conclude(guide, alloc, turn)
+}
+
+/// Numbers that may satisfy all rows, or a line that may refute them; nothing where a number has no room, where a limit is met, or for
+/// want of memory. A tableau of 64 bits is tried first.
+pub fn propose(alloc: Global, rows: &[Row], ints: u32) -> Option<Proposal> {
+    let ended = match propose_in::<i64>(alloc, rows, ints) {
+        Some(ended) => Some(ended),
+        None => propose_in::<i128>(alloc, rows, ints),
+    };
+    match ended? {
+        Ended::Proposed(proposal) => Some(proposal),
+        Ended::GivenUp => None,
+    }
 }

@@ -1,207 +1,158 @@
 // Rows that join the tableau late: only those that a vertex breaks, the worst of them first.
 use crate::combining::{Derivation, row_at};
-use crate::narrow::narrow_point;
-use crate::rounding::over_one_denominator;
+use crate::worst::{Worst, excess_of};
 use lin_rows::{Row, RowTerm};
-use simplex::number::{at, product};
-use simplex::{Slack, Tableau, Vertex, add_row};
+use simplex::number::at;
+use simplex::{Number, Slack, Tableau, Vertex, add_row, numerator_at};
 use std::alloc::Global;
-
-/// The most rows that join at a time.
-const MOST_AT_ONCE: u32 = 10;
 
 /// How far names may go.
 const FARTHEST: i128 = 1_000_000_000_000_000;
 
 /// The sum of a row's terms.
-pub fn sum_at(row: &Row, values: &[i128]) -> Option<i128> {
+pub fn sum_at<N: Number>(row: &Row, values: &[N]) -> Option<i128> {
     let mut sum = 0i128;
     for term in row.terms() {
-        let more = product(term.coef, at(values, term.place as usize))?;
+        let more = term.coef.times(at(values, term.place as usize).wide())?;
         sum = sum.checked_add(more)?;
     }
     Some(sum)
 }
 
-// The sum of the squares of a row's coefficients; the greatest number where it has no room.
-fn square_length(terms: &[RowTerm]) -> u128 {
+// The length of a row, rounded down.
+fn length(terms: &[RowTerm]) -> u64 {
     let mut sum = 0u128;
     for term in terms {
         let size = term.coef.unsigned_abs();
         sum = sum.saturating_add(size.saturating_mul(size));
     }
-    sum
-}
-
-// The length of a row, rounded down. Most rows have small coefficients.
-fn length(terms: &[RowTerm]) -> u128 {
-    match square_length(terms) {
-        0 => 0,
-        1..4 => 1,
-        4..9 => 2,
-        square => square.isqrt(),
-    }
+    u64::try_from(sum.isqrt()).unwrap_or(u64::MAX)
 }
 
 // How far values, over a denominator, are beyond a row, in its own length; 0 where they satisfy it.
-fn excess(row: &Row, numerators: &[i128], denominator: i128) -> Option<u128> {
-    let sum = sum_at(row, numerators)?;
-    let beyond = sum.checked_sub(product(row.bound(), denominator)?)?;
+fn excess<N: Number>(row: &Row, values: &[N], denominator: N) -> Option<u64> {
+    let most = row.bound().times(denominator.wide())?;
+    let beyond = sum_at(row, values)?.checked_sub(most)?;
     if beyond <= 0 {
         return Some(0);
     }
-    Some(in_length(row, beyond))
+    Some(excess_of(beyond, length(row.terms())))
 }
 
-// How far it is beyond a row, in the row's own length.
-fn in_length(row: &Row, beyond: i128) -> u128 {
-    let scaled = beyond.unsigned_abs().saturating_mul(1024);
-    scaled
-        .checked_div(length(row.terms()))
-        .unwrap_or(0)
-        .saturating_add(1)
-}
-
-/// A given row that a vertex breaks, and how far the vertex is beyond it; 0 once the row has joined.
-#[derive(Clone, Copy)]
-struct Broken {
-    number: usize,
-    excess: u128,
-}
-
-// The given rows that a vertex breaks, where rows and vertex have narrow numbers.
-fn broken_narrow_rows(
-    derivation: &Derivation,
-    alloc: Global,
+// The given rows that values, over a denominator, break, unless they have joined.
+fn enter_broken<N: Number>(
+    derivation: &Derivation<'_>,
     joined: &[bool],
-    numerators: &[i128],
-    denominator: i128,
-) -> Option<Vec<Broken>> {
-    if !derivation.narrow.are_all() {
-        return None;
+    values: &[N],
+    denominator: N,
+    worst: &mut Worst,
+) -> Option<()> {
+    if derivation.narrow.are_for(values, denominator) {
+        return derivation.narrow.broken(joined, values, denominator, worst);
     }
-    let point = narrow_point(alloc, numerators, denominator)?;
-    let beyond = derivation.narrow.beyond(alloc, joined, &point);
-    drop(point);
-    let beyond = beyond?;
-    let rows = derivation.rows.as_slice();
-    let mut list = Vec::new(alloc);
-    for (number, beyond) in beyond.as_slice() {
-        let excess = in_length(rows.get(*number)?, *beyond);
-        list.push(Broken {
-            number: *number,
-            excess,
-        })
-        .ok()?;
-    }
-    Some(list)
-}
-
-// The given rows that a vertex breaks.
-fn broken_rows(
-    derivation: &Derivation,
-    alloc: Global,
-    joined: &[bool],
-    numerators: &[i128],
-    denominator: i128,
-) -> Option<Vec<Broken>> {
-    if let Some(list) = broken_narrow_rows(derivation, alloc, joined, numerators, denominator) {
-        return Some(list);
-    }
-    let mut list = Vec::new(alloc);
-    for (number, row) in derivation.rows.as_slice().iter().enumerate() {
+    for number in 0..derivation.rows.given_len() {
         if !joined.get(number).copied().unwrap_or(true) {
-            let excess = excess(row, numerators, denominator)?;
+            let row = derivation.rows.get(number)?;
+            let excess = excess(row, values, denominator)?;
             if excess > 0 {
-                list.push(Broken { number, excess }).ok()?;
+                worst.enter(number, excess)?;
             }
         }
     }
-    Some(list)
+    Some(())
 }
 
-// The place of the one that is broken most.
-fn worst(list: &[Broken]) -> Option<usize> {
-    let mut most = 0;
-    let mut found = None;
-    for (i, broken) in list.iter().enumerate() {
-        if broken.excess > most {
-            most = broken.excess;
-            found = Some(i);
-        }
+// The numerators of a vertex over one denominator.
+fn over_one_denominator<N: Number>(vertex: &Vertex<N>, alloc: Global) -> Option<Vec<N>> {
+    let mut numerators = Vec::with_capacity(alloc, vertex.numerators.len()).ok()?;
+    for name in 0..vertex.numerators.len() {
+        numerators.push(numerator_at(vertex, name)?).ok()?;
     }
-    found
+    Some(numerators)
+}
+
+// The given rows that a vertex breaks, unless they have joined.
+fn enter_broken_at<N: Number>(
+    derivation: &Derivation<'_>,
+    alloc: Global,
+    joined: &[bool],
+    vertex: &Vertex<N>,
+    worst: &mut Worst,
+) -> Option<()> {
+    if vertex.common.is_one() {
+        let values = vertex.numerators.as_slice();
+        return enter_broken(derivation, joined, values, vertex.common, worst);
+    }
+    let numerators = over_one_denominator(vertex, alloc)?;
+    let values = numerators.as_slice();
+    let entered = enter_broken(derivation, joined, values, vertex.common, worst);
+    drop(numerators);
+    entered
 }
 
 /// A row of the derivation joins the tableau.
-pub fn join(
-    tableau: &mut Tableau,
+pub fn join<N: Number>(
+    tableau: &mut Tableau<N>,
     alloc: Global,
-    derivation: &Derivation,
+    derivation: &Derivation<'_>,
     number: u32,
 ) -> Option<()> {
     let row = row_at(derivation, number)?;
     let slack = Slack {
-        bound: row.bound(),
+        bound: N::of(row.bound())?,
         row: Some(number),
     };
     add_row(tableau, alloc, row.terms(), slack)
 }
 
 // The worst rows join; whether there was one.
-fn join_worst(
-    tableau: &mut Tableau,
+fn join_worst<N: Number>(
+    tableau: &mut Tableau<N>,
     alloc: Global,
-    derivation: &Derivation,
+    derivation: &Derivation<'_>,
     joined: &mut [bool],
-    list: &mut [Broken],
+    worst: &Worst,
 ) -> Option<bool> {
     let mut any = false;
-    for _join in 0..MOST_AT_ONCE {
-        let Some(place) = worst(list) else {
-            return Some(any);
-        };
-        let number = list.get(place)?.number;
+    for broken in worst.as_slice() {
+        let number = broken.number;
         join(tableau, alloc, derivation, u32::try_from(number).ok()?)?;
         any = true;
         if number < joined.len() {
             joined[number] = true;
-        }
-        if place < list.len() {
-            list[place].excess = 0;
         }
     }
     Some(any)
 }
 
 /// The worst of the given rows that a vertex breaks join the tableau; whether there was one.
-pub fn join_broken(
-    tableau: &mut Tableau,
+pub fn join_broken<N: Number>(
+    tableau: &mut Tableau<N>,
     alloc: Global,
-    derivation: &Derivation,
+    derivation: &Derivation<'_>,
     joined: &mut [bool],
-    vertex: &Vertex,
+    vertex: &Vertex<N>,
 ) -> Option<bool> {
-    let (numerators, denominator) = over_one_denominator(vertex, alloc)?;
-    let list = broken_rows(
-        derivation,
-        alloc,
-        joined,
-        numerators.as_slice(),
-        denominator,
-    );
-    drop(numerators);
-    let mut list = list?;
-    let any = join_worst(tableau, alloc, derivation, joined, list.as_mut_slice());
-    drop(list);
+    let mut worst = Worst::new(alloc)?;
+    let any = match enter_broken_at(derivation, alloc, joined, vertex, &mut worst) {
+        Some(()) => join_worst(tableau, alloc, derivation, joined, &worst),
+        None => None,
+    };
+    drop(worst);
     any
 }
 
 // A name may go no further than a state's numbers, up or down.
-fn bound_name(tableau: &mut Tableau, alloc: Global, name: u32, coef: i128) -> Option<()> {
-    let terms = [RowTerm { place: name, coef }];
+fn bound_name<N: Number>(
+    tableau: &mut Tableau<N>,
+    alloc: Global,
+    name: usize,
+    coef: i128,
+) -> Option<()> {
+    let place = u32::try_from(name).ok()?;
+    let terms = [RowTerm { place, coef }];
     let slack = Slack {
-        bound: FARTHEST,
+        bound: N::of(FARTHEST)?,
         row: None,
     };
     add_row(tableau, alloc, &terms, slack)
@@ -209,15 +160,21 @@ fn bound_name(tableau: &mut Tableau, alloc: Global, name: u32, coef: i128) -> Op
 
 /// Names that a vertex puts beyond a state's numbers get a bound; whether there was one. Such a bound isn't given, so what rests on it
 /// is no proposal.
-pub fn bound_names(tableau: &mut Tableau, alloc: Global, vertex: &Vertex) -> Option<bool> {
+pub fn bound_names<N: Number>(
+    tableau: &mut Tableau<N>,
+    alloc: Global,
+    vertex: &Vertex<N>,
+) -> Option<bool> {
     let mut any = false;
     for (name, numerator) in vertex.numerators.as_slice().iter().enumerate() {
-        let farthest = at(vertex.denominators.as_slice(), name).checked_mul(FARTHEST)?;
-        if *numerator > farthest {
-            bound_name(tableau, alloc, u32::try_from(name).ok()?, 1)?;
+        let denominator = at(vertex.denominators.as_slice(), name).wide();
+        let farthest = denominator.checked_mul(FARTHEST)?;
+        let numerator = numerator.wide();
+        if numerator > farthest {
+            bound_name(tableau, alloc, name, 1)?;
             any = true;
-        } else if *numerator < farthest.checked_neg()? {
-            bound_name(tableau, alloc, u32::try_from(name).ok()?, -1)?;
+        } else if numerator < farthest.checked_neg()? {
+            bound_name(tableau, alloc, name, -1)?;
             any = true;
         }
     }

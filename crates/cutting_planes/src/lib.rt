@@ -17,11 +17,12 @@
 // coins and thin slabs are decided without a split. A name that the vertex puts beyond the numbers of a state gets a bound there; what
 // rests on such a bound is no proposal, since it wasn't given.
 //
-// What it costs. Few rows join, so most of the time goes into reading the rows once for each vertex. They are read in narrow numbers,
-// one row behind the other, where all have room there (src/narrow). 15 times cuts are made, up to two at a time.
+// What it costs. Few rows join, so much of the time goes into reading the rows once for each vertex. They are read in narrow numbers,
+// one row behind the other, where all have room there (src/narrow), and a row that is tight already isn't copied. The tableau has numbers
+// of 64 bits, and all is done once more in 128 where one has no room. 15 times cuts are made, up to two at a time.
 //
 // The layer stands on `simplex`, and on `lin_rows` and `proof_lines`, whose rows and steps it makes.
-// Files, in the order in which a reader needs them: src/listing and src/narrow (the rows), src/combining (sums of multiples as steps),
+// Files, in the order in which a reader needs them: src/listing, src/worst and src/narrow (the rows), src/combining (sums of multiples as steps),
 // src/rounding and src/repairing (whole numbers near a vertex), src/joining (rows that join late), src/cuts, src/guide (what is proposed).
 #![tactic(auto)]
 
@@ -33,5 +34,6 @@ mod listing;
 mod narrow;
 mod repairing;
 mod rounding;
+mod worst;
 
 pub use guide::{Proposal, propose};

@@ -3,7 +3,10 @@
 // Most rows have small coefficients and bounds, and most vertices small numerators over a small denominator. Then a sum has room in 128
 // bits, whatever it is: a product of 32 and 64 bits has less than 96, and there are fewer than 2^31 terms. Where a row or a vertex has a
 // greater number, nothing is answered, and the rows themselves are looked at.
+use crate::worst::{Worst, excess_of};
 use lin_rows::{Row, RowTerm};
+use simplex::Number;
+use simplex::number::at;
 use std::alloc::Global;
 
 #[derive(Clone, Copy)]
@@ -12,11 +15,12 @@ struct NarrowTerm {
     coef: i32,
 }
 
-/// Where the terms of a row end, and its bound.
+/// Where the terms of a row end, its bound, and its length, rounded down.
 #[derive(Clone, Copy)]
 struct NarrowRow {
     end: usize,
     bound: i64,
+    length: u64,
 }
 
 /// The terms of all rows, one row behind the other, and the rows; whether each row that was added is among them.
@@ -35,71 +39,70 @@ fn narrow_term(term: &RowTerm) -> Option<NarrowTerm> {
     })
 }
 
-// Numbers of 64 bits, where all have room.
-fn narrow_numbers(alloc: Global, numbers: &[i128]) -> Option<Vec<i64>> {
-    let mut out = Vec::with_capacity(alloc, numbers.len()).ok()?;
-    for number in numbers {
-        out.push(i64::try_from(*number).ok()?).ok()?;
-    }
-    Some(out)
+fn square(coef: i32) -> u64 {
+    let size = u64::from(coef.unsigned_abs());
+    size.wrapping_mul(size)
 }
 
-fn wide_product(a: i64, b: i64) -> i128 {
-    i128::from(a).wrapping_mul(i128::from(b))
+// The whole root of a number. Most rows have small coefficients.
+fn root(square: u64) -> u64 {
+    match square {
+        0 => 0,
+        1..4 => 1,
+        4..9 => 2,
+        square => square.isqrt(),
+    }
+}
+
+fn is_narrow<N: Number>(number: N) -> bool {
+    i64::try_from(number.wide()).is_ok()
+}
+
+// Whether all values, and their denominator, are narrow.
+fn are_narrow<N: Number>(values: &[N], denominator: N) -> bool {
+    is_narrow(denominator) && values.iter().all(|value| is_narrow(*value))
+}
+
+fn wide_product(a: i128, b: i128) -> i128 {
+    a.wrapping_mul(b)
 }
 
 // The sum of terms.
-fn sum_of(terms: &[NarrowTerm], values: &[i64]) -> i128 {
+fn sum_of<N: Number>(terms: &[NarrowTerm], values: &[N]) -> i128 {
     let mut sum = 0i128;
     for term in terms {
-        let value = values.get(term.place as usize).copied().unwrap_or(0);
-        sum = sum.wrapping_add(wide_product(i64::from(term.coef), value));
+        let value = at(values, term.place as usize).wide();
+        sum = sum.wrapping_add(wide_product(i128::from(term.coef), value));
     }
     sum
 }
 
-/// Values of 64 bits over one denominator.
-#[derive(Drop)]
-pub struct NarrowPoint {
-    values: Vec<i64>,
-    denominator: i64,
-}
-
-/// Values over one denominator, where all have room.
-pub fn narrow_point(alloc: Global, values: &[i128], denominator: i128) -> Option<NarrowPoint> {
-    let denominator = i64::try_from(denominator).ok()?;
-    let values = narrow_numbers(alloc, values)?;
-    Some(NarrowPoint {
-        values,
-        denominator,
-    })
-}
-
 impl NarrowRows {
-    /// No rows.
-    pub fn new(alloc: Global) -> NarrowRows {
-        NarrowRows {
-            terms: Vec::new(alloc),
-            rows: Vec::new(alloc),
+    /// No rows, with room for so many.
+    pub fn new(alloc: Global, rows: usize, terms: usize) -> Option<NarrowRows> {
+        let terms = Vec::with_capacity(alloc, terms).ok()?;
+        let rows = Vec::with_capacity(alloc, rows).ok()?;
+        Some(NarrowRows {
+            terms,
+            rows,
             all: true,
-        }
-    }
-
-    /// Whether each row that was added is among them.
-    pub fn are_all(&self) -> bool {
-        self.all
+        })
     }
 
     // Adds a row, unless a number of it has no room.
     fn try_push(&mut self, row: &Row) -> Option<()> {
         let bound = i64::try_from(row.bound()).ok()?;
+        let mut squares = 0u64;
         for term in row.terms() {
-            self.terms.push(narrow_term(term)?).ok()?;
+            let term = narrow_term(term)?;
+            squares = squares.saturating_add(square(term.coef));
+            self.terms.push(term).ok()?;
         }
         self.rows
             .push(NarrowRow {
                 end: self.terms.len(),
                 bound,
+                length: root(squares),
             })
             .ok()
     }
@@ -111,26 +114,32 @@ impl NarrowRows {
         }
     }
 
-    /// How far a point is beyond each row that isn't left out, times the denominator: those that it is beyond, with their numbers.
-    pub fn beyond(
+    /// Whether each row that was added is among them, and values over a denominator are narrow too.
+    pub fn are_for<N: Number>(&self, values: &[N], denominator: N) -> bool {
+        self.all && are_narrow(values, denominator)
+    }
+
+    /// The rows that values, over a denominator, break, unless they are left out.
+    pub fn broken<N: Number>(
         &self,
-        alloc: Global,
         left_out: &[bool],
-        point: &NarrowPoint,
-    ) -> Option<Vec<(usize, i128)>> {
-        let mut list = Vec::new(alloc);
+        values: &[N],
+        denominator: N,
+        worst: &mut Worst,
+    ) -> Option<()> {
+        let denominator = denominator.wide();
         let mut start = 0;
         for (number, row) in self.rows.iter().enumerate() {
             if !left_out.get(number).copied().unwrap_or(true) {
                 let terms = self.terms.get(start..row.end).unwrap_or(&[]);
-                let sum = sum_of(terms, point.values.as_slice());
-                let beyond = sum.wrapping_sub(wide_product(row.bound, point.denominator));
+                let most = wide_product(i128::from(row.bound), denominator);
+                let beyond = sum_of(terms, values).wrapping_sub(most);
                 if beyond > 0 {
-                    list.push((number, beyond)).ok()?;
+                    worst.enter(number, excess_of(beyond, row.length))?;
                 }
             }
             start = row.end;
         }
-        Some(list)
+        Some(())
     }
 }

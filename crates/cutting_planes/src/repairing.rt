@@ -6,6 +6,7 @@
 use crate::combining::{Derivation, row_at};
 use crate::joining::sum_at;
 use lin_rows::{Row, RowTerm};
+use simplex::Number;
 use simplex::number::{at, put};
 use std::alloc::Global;
 
@@ -41,12 +42,12 @@ pub fn is_in_state(value: i128) -> bool {
     value.unsigned_abs() <= FARTHEST
 }
 
-fn sums_of(derivation: &Derivation, alloc: Global, values: &[i128]) -> Option<Vec<i128>> {
-    let mut sums = Vec::new(alloc);
-    for row in derivation.rows.as_slice() {
-        if sums.len() < derivation.used.len() {
-            sums.push(sum_at(row, values)?).ok()?;
-        }
+fn sums_of(derivation: &Derivation<'_>, alloc: Global, values: &[i128]) -> Option<Vec<i128>> {
+    let count = derivation.rows.given_len();
+    let mut sums = Vec::with_capacity(alloc, count).ok()?;
+    for number in 0..count {
+        sums.push(sum_at(derivation.rows.get(number)?, values)?)
+            .ok()?;
     }
     Some(sums)
 }
@@ -63,15 +64,26 @@ fn greatest_size(terms: &[RowTerm]) -> i128 {
     most
 }
 
+// How far a sum is beyond a row, for its greatest coefficient; nothing where the row holds.
+fn share_beyond(row: &Row, sum: i128) -> Option<i128> {
+    let beyond = sum.saturating_sub(row.bound());
+    if beyond <= 0 {
+        return None;
+    }
+    let size = greatest_size(row.terms());
+    Some(beyond.saturating_mul(1024).over(size).unwrap_or(0))
+}
+
 // The number of the given row that is broken most; without a number where all hold.
-fn worst(derivation: &Derivation, sums: &[i128]) -> Option<u32> {
+fn worst(derivation: &Derivation<'_>, sums: &[i128]) -> Option<u32> {
     let mut most = 0i128;
     let mut found = None;
-    for (number, row) in derivation.rows.as_slice().iter().enumerate() {
-        let beyond = at(sums, number).saturating_sub(row.bound());
-        if number < sums.len() && beyond > 0 {
-            let size = greatest_size(row.terms());
-            let share = beyond.saturating_mul(1024).checked_div(size).unwrap_or(0);
+    for (number, sum) in sums.iter().enumerate() {
+        let share = match derivation.rows.get(number) {
+            Some(row) => share_beyond(row, *sum),
+            None => None,
+        };
+        if let Some(share) = share {
             if share >= most {
                 most = share.saturating_add(1);
                 found = u32::try_from(number).ok();
@@ -131,28 +143,26 @@ fn list_row(naming: &mut [Vec<u32>], number: u32, terms: &[RowTerm]) -> Option<(
 }
 
 // Lists for each name the given rows that name it.
-fn list_naming(derivation: &Derivation, alloc: Global, attempt: &mut Attempt) -> Option<()> {
+fn list_naming(derivation: &Derivation<'_>, alloc: Global, attempt: &mut Attempt) -> Option<()> {
     for _ in attempt.naming.len()..attempt.values.len() {
         attempt.naming.push(Vec::new(alloc)).ok()?;
     }
-    for (number, row) in derivation.rows.as_slice().iter().enumerate() {
-        if number < attempt.sums.len() {
-            let number = u32::try_from(number).ok()?;
-            list_row(attempt.naming.as_mut_slice(), number, row.terms())?;
-        }
+    for number in 0..attempt.sums.len() {
+        let row = derivation.rows.get(number)?;
+        let number = u32::try_from(number).ok()?;
+        list_row(attempt.naming.as_mut_slice(), number, row.terms())?;
     }
     Some(())
 }
 
 // How much more all rows lack after a move.
-fn cost(derivation: &Derivation, attempt: &Attempt, step: Move) -> i128 {
-    let rows = derivation.rows.as_slice();
-    let sums = attempt.sums.as_slice();
+fn cost(derivation: &Derivation<'_>, attempt: &Attempt, step: Move) -> i128 {
     let mut cost = 0i128;
     for number in naming_at(attempt, step.name) {
         let index = *number as usize;
-        if index < rows.len() && index < sums.len() {
-            cost = cost.saturating_add(change(&rows[index], sums[index], step));
+        if let Some(row) = derivation.rows.get(index) {
+            let sum = at(attempt.sums.as_slice(), index);
+            cost = cost.saturating_add(change(row, sum, step));
         }
     }
     cost
@@ -166,7 +176,7 @@ fn is_resting(moved: &[u32], name: u32, moves: u32) -> bool {
 }
 
 // What a move costs; nothing where it leaves the numbers of a state.
-fn price(derivation: &Derivation, attempt: &Attempt, step: Move, moves: u32) -> Option<i128> {
+fn price(derivation: &Derivation<'_>, attempt: &Attempt, step: Move, moves: u32) -> Option<i128> {
     let value = at(attempt.values.as_slice(), step.name as usize);
     if !is_in_state(value.checked_add(step.by)?) {
         return None;
@@ -180,7 +190,7 @@ fn price(derivation: &Derivation, attempt: &Attempt, step: Move, moves: u32) -> 
 
 // The cheapest move that makes a row hold.
 fn cheapest(
-    derivation: &Derivation,
+    derivation: &Derivation<'_>,
     attempt: &Attempt,
     row: &Row,
     beyond: i128,
@@ -201,19 +211,18 @@ fn cheapest(
 }
 
 // Brings the sum of a row up to date.
-fn move_sum(derivation: &Derivation, sums: &mut [i128], number: u32, step: Move) -> Option<()> {
+fn move_sum(derivation: &Derivation<'_>, sums: &mut [i128], number: u32, step: Move) -> Option<()> {
     let index = number as usize;
-    let rows = derivation.rows.as_slice();
-    if index < rows.len() && index < sums.len() {
-        let more = rows[index].coefficient(step.name).checked_mul(step.by)?;
-        sums[index] = sums[index].checked_add(more)?;
-    }
+    let row = derivation.rows.get(index)?;
+    let more = row.coefficient(step.name).checked_mul(step.by)?;
+    let sum = at(sums, index).checked_add(more)?;
+    put(sums, index, sum);
     Some(())
 }
 
 // Brings the sums up to date.
 fn move_sums(
-    derivation: &Derivation,
+    derivation: &Derivation<'_>,
     naming: &[Vec<u32>],
     sums: &mut [i128],
     step: Move,
@@ -225,7 +234,12 @@ fn move_sums(
     Some(())
 }
 
-fn make_move(derivation: &Derivation, attempt: &mut Attempt, step: Move, moves: u32) -> Option<()> {
+fn make_move(
+    derivation: &Derivation<'_>,
+    attempt: &mut Attempt,
+    step: Move,
+    moves: u32,
+) -> Option<()> {
     let name = step.name as usize;
     let value = at(attempt.values.as_slice(), name).checked_add(step.by)?;
     put(attempt.values.as_mut_slice(), name, value);
@@ -238,7 +252,7 @@ fn make_move(derivation: &Derivation, attempt: &mut Attempt, step: Move, moves: 
 
 // Moves one name; whether all rows hold already.
 fn mend_one(
-    derivation: &Derivation,
+    derivation: &Derivation<'_>,
     alloc: Global,
     attempt: &mut Attempt,
     moves: u32,
@@ -258,7 +272,7 @@ fn mend_one(
 
 /// Whether the given rows hold after some moves at most.
 pub fn mend(
-    derivation: &Derivation,
+    derivation: &Derivation<'_>,
     alloc: Global,
     attempt: &mut Attempt,
     most: u32,
@@ -272,7 +286,11 @@ pub fn mend(
 }
 
 /// An attempt with these numbers.
-pub fn attempt_at(derivation: &Derivation, alloc: Global, values: Vec<i128>) -> Option<Attempt> {
+pub fn attempt_at(
+    derivation: &Derivation<'_>,
+    alloc: Global,
+    values: Vec<i128>,
+) -> Option<Attempt> {
     let Some(sums) = sums_of(derivation, alloc, values.as_slice()) else {
         drop(values);
         return None;

@@ -19,13 +19,14 @@
 // comes twice (Bland). Nobody has to believe this: there is a limit of pivots.
 //
 // Numbers. An equation has whole numerators over one positive denominator of its own, divided by what divides them all after each pivot. So
-// nothing is rounded, and fractions are compared by products. A number has 128 bits; where one has no room, nothing is answered.
+// nothing is rounded, and fractions are compared by products. The numbers of a tableau have one width, 64 or 128 bits (`Number`); where
+// one has no room, nothing is answered. An equation keeps the value of its variable, so that no sum is made to see which slack is beyond.
 //
-// What it costs. A pivot takes as long as the equations that name its column are large; there are 2,000 pivots at most, and they look at a
-// million numbers at most. Rows may join at any time, in terms of the columns as they are then, and the pivots go on from there.
+// What it costs. A pivot takes as long as the equations that name its column are many, and the one that is put into them names columns;
+// there are 2,000 pivots at most, and they look at a million numbers at most. Rows may join at any time, in terms of the columns as they are then, and the pivots go on from there.
 //
 // Nothing is promised of the answers but that they come: a caller tests them. The layer stands on `lin_rows`, for the terms of rows.
-// Files, in the order in which a reader needs them: src/number (numbers that may have no room), src/tableau (the equations), src/pivoting (the
+// Files, in the order in which a reader needs them: src/number (the widths of numbers), src/tableau (the equations), src/pivoting (the
 // pivots), src/vertex (the values of the names).
 #![tactic(auto)]
 
@@ -34,6 +35,7 @@ mod pivoting;
 mod tableau;
 mod vertex;
 
+pub use number::Number;
 pub use pivoting::{Pivoted, solve};
-pub use tableau::{Equation, Slack, Tableau, add_row, numerator, slack_of, start};
-pub use vertex::{Vertex, vertex_of};
+pub use tableau::{Equation, Slack, Tableau, add_row, slack_of, start};
+pub use vertex::{Vertex, numerator_at, vertex_of};

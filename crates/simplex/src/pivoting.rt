@@ -6,9 +6,12 @@
 // all of which are at their greatest: the sum can't fall, and so the equation's multipliers refute the rows. Of the slacks beyond their
 // bounds, and of the columns that help, the least variable is taken each time (Bland), so that no tableau comes twice; the limit of
 // pivots makes it plain that the method ends.
-use crate::number::{add_multiples, at, divisor, put, reduce, scale};
-use crate::tableau::{Equation, Tableau, numerator, slack_of};
+use crate::number::{Number, at, put, scale};
+use crate::tableau::{
+    Equation, Tableau, add_numerators, expand, list_named, reduce_equation, slack_of,
+};
 use std::alloc::Global;
+use std::mem;
 
 /// How the pivots end.
 #[derive(Clone, Copy)]
@@ -17,21 +20,23 @@ pub enum Pivoted {
     Feasible,
     /// The equation with this number shows that they can't be.
     Infeasible(usize),
+    /// Too many pivots were made, or too many numbers were looked at.
+    Spent,
 }
 
 // Whether an equation's basic variable is a slack beyond its bound.
-fn is_beyond(tableau: &Tableau, equation: &Equation) -> Option<bool> {
+fn is_beyond<N: Number>(tableau: &Tableau<N>, equation: &Equation<N>) -> Option<bool> {
     match slack_of(tableau, equation.basic) {
         None => Some(false),
         Some(slack) => {
-            let greatest = slack.bound.checked_mul(equation.denominator)?;
-            Some(numerator(tableau, equation)? > greatest)
+            let greatest = slack.bound.times(equation.denominator)?;
+            Some(equation.value.is_above(greatest))
         }
     }
 }
 
 // The equation of the least basic slack beyond its bound; without a number where there is none.
-fn leaving(tableau: &Tableau) -> Option<Option<usize>> {
+fn leaving<N: Number>(tableau: &Tableau<N>) -> Option<Option<usize>> {
     let mut least = usize::MAX;
     let mut found = None;
     for (number, equation) in tableau.equations.iter().enumerate() {
@@ -44,93 +49,99 @@ fn leaving(tableau: &Tableau) -> Option<Option<usize>> {
 }
 
 // The column with the least variable by which an equation's basic slack may fall.
-fn entering(tableau: &Tableau, equation: &Equation) -> Option<usize> {
+fn entering<N: Number>(tableau: &Tableau<N>, equation: &Equation<N>) -> Option<usize> {
     let mut least = usize::MAX;
     let mut found = None;
-    for (column, variable) in tableau.columns.iter().enumerate() {
-        let by = at(equation.numerators.as_slice(), column);
-        if *variable < least && (by > 0 || (by < 0 && *variable < tableau.names)) {
-            least = *variable;
-            found = Some(column);
+    for (column, by) in equation.numerators.iter().enumerate() {
+        if !by.is_zero() {
+            let variable = tableau.columns.get(column).copied()?;
+            if variable < least && (by.is_positive() || variable < tableau.names) {
+                least = variable;
+                found = Some(column);
+            }
         }
     }
     found
 }
 
-// The equation for the variable of a column in place of its basic one, which takes the column.
-fn solve_for(equation: &mut Equation, column: usize) -> Option<()> {
-    let by = at(equation.numerators.as_slice(), column);
-    let (sign, opposite) = if by > 0 { (1i128, -1i128) } else { (-1, 1) };
-    scale(equation.numerators.as_mut_slice(), opposite)?;
-    let numerator = equation.denominator.checked_mul(sign)?;
-    put(equation.numerators.as_mut_slice(), column, numerator);
-    let denominator = by.checked_mul(sign)?;
-    equation.denominator = reduce(equation.numerators.as_mut_slice(), denominator)?;
-    Some(())
-}
-
-// Puts the variable of a column in terms of the others into an equation.
-fn substitute(equation: &mut Equation, column: usize, by: &Equation) -> Option<()> {
-    let multiple = at(equation.numerators.as_slice(), column);
-    let common = divisor(multiple, by.denominator);
-    let first = by.denominator.checked_div(common)?;
-    let second = multiple.checked_div(common)?;
-    put(equation.numerators.as_mut_slice(), column, 0);
-    add_multiples(
-        equation.numerators.as_mut_slice(),
-        first,
-        by.numerators.as_slice(),
-        second,
-    )?;
-    let denominator = equation.denominator.checked_mul(first)?;
-    equation.denominator = reduce(equation.numerators.as_mut_slice(), denominator)?;
-    Some(())
-}
-
-// The same for all equations that name it, but one; how many there are.
-fn substitute_all(
-    equations: &mut [Equation],
-    but: usize,
+// The equation for the variable of a column, which has a value, in place of its basic one, which takes the column and gets its bound.
+fn solve_for<N: Number>(
+    equation: &mut Equation<N>,
     column: usize,
-    by: &Equation,
+    value: N,
+    bound: N,
+) -> Option<()> {
+    let by = at(equation.numerators.as_slice(), column);
+    let rest = equation.value.plus(by.times(value)?.opposite()?)?;
+    let moved = equation.denominator.times(bound)?.plus(rest.opposite()?)?;
+    if by.is_positive() {
+        scale(equation.numerators.as_mut_slice(), N::one().opposite()?)?;
+        put(
+            equation.numerators.as_mut_slice(),
+            column,
+            equation.denominator,
+        );
+        equation.denominator = by;
+        equation.value = moved;
+    } else {
+        put(
+            equation.numerators.as_mut_slice(),
+            column,
+            equation.denominator.opposite()?,
+        );
+        equation.denominator = by.opposite()?;
+        equation.value = moved.opposite()?;
+    }
+    reduce_equation(equation)
+}
+
+// Puts the variable of a column, which had a value, in terms of the others into an equation.
+fn substitute<N: Number>(
+    equation: &mut Equation<N>,
+    column: usize,
+    value: N,
+    by: &Equation<N>,
+    named: &[usize],
+) -> Option<()> {
+    let multiple = at(equation.numerators.as_slice(), column);
+    let common = multiple.divisor(by.denominator);
+    let first = by.denominator.over(common)?;
+    let second = multiple.over(common)?;
+    put(equation.numerators.as_mut_slice(), column, N::zero());
+    equation.value = equation.value.plus(multiple.times(value)?.opposite()?)?;
+    expand(equation, first)?;
+    add_numerators(equation, by, named, second)?;
+    reduce_equation(equation)
+}
+
+// The same for all equations that name it; how many there are.
+fn substitute_all<N: Number>(
+    equations: &mut [Equation<N>],
+    column: usize,
+    value: N,
+    by: &Equation<N>,
+    named: &[usize],
 ) -> Option<usize> {
     let mut count = 1usize;
     for number in 0..equations.len() {
-        let names = at(equations[number].numerators.as_slice(), column) != 0;
-        if names && number != but {
-            substitute(&mut equations[number], column, by)?;
+        if !at(equations[number].numerators.as_slice(), column).is_zero() {
+            substitute(&mut equations[number], column, value, by, named)?;
             count = count.saturating_add(1);
         }
     }
     Some(count)
 }
 
-fn copied(alloc: Global, equation: &Equation) -> Option<Equation> {
-    let numerators = Vec::from_slice(alloc, equation.numerators.as_slice()).ok()?;
-    Some(Equation {
-        basic: equation.basic,
-        denominator: equation.denominator,
-        numerators,
-    })
-}
-
-// The equation for the variable of a column, from that of a basic one.
-fn turned(tableau: &Tableau, alloc: Global, number: usize, column: usize) -> Option<Equation> {
-    let mut equation = copied(alloc, tableau.equations.get(number)?)?;
-    match solve_for(&mut equation, column) {
-        Some(()) => Some(equation),
-        None => {
-            drop(equation);
-            None
-        }
-    }
-}
-
-// Notes that the variable of a column and a basic slack have changed places.
-fn exchange(tableau: &mut Tableau, number: usize, column: usize, by: &mut Equation) -> Option<()> {
+// Notes that the variable of a column and a basic slack, which is now at its bound, have changed places.
+fn exchange<N: Number>(
+    tableau: &mut Tableau<N>,
+    number: usize,
+    column: usize,
+    by: &mut Equation<N>,
+    bound: N,
+) -> Option<()> {
     let name = tableau.columns.get(column).copied()?;
-    let slack = slack_of(tableau, by.basic)?;
-    put(tableau.values.as_mut_slice(), column, slack.bound);
+    put(tableau.values.as_mut_slice(), column, bound);
     if column < tableau.columns.len() {
         tableau.columns[column] = by.basic;
     }
@@ -141,32 +152,76 @@ fn exchange(tableau: &mut Tableau, number: usize, column: usize, by: &mut Equati
     Some(())
 }
 
-// Puts an equation in place of another.
-fn replace(tableau: &mut Tableau, number: usize, by: Equation) {
-    if number < tableau.equations.len() {
-        tableau.equations[number] = by;
+// Exchanges an equation for another one.
+fn exchange_equation<N: Number>(
+    equations: &mut [Equation<N>],
+    number: usize,
+    other: &mut Equation<N>,
+) {
+    if number < equations.len() {
+        mem::swap(&mut equations[number], other);
     }
 }
 
 // Counts the numbers of some equations as looked at.
-fn count_work(tableau: &mut Tableau, equations: usize) -> Option<()> {
-    let numbers = equations.checked_mul(tableau.columns.len())?;
-    tableau.work = tableau.work.checked_sub(numbers)?;
+fn count_work<N: Number>(tableau: &mut Tableau<N>, equations: usize) {
+    let numbers = equations.saturating_mul(tableau.columns.len());
+    tableau.work = tableau.work.saturating_sub(numbers);
+}
+
+// Solves an equation, which has been taken out, for the variable of a column, and puts it into all others.
+fn turn_equation<N: Number>(
+    tableau: &mut Tableau<N>,
+    number: usize,
+    column: usize,
+    by: &mut Equation<N>,
+) -> Option<()> {
+    let bound = slack_of(tableau, by.basic)?.bound;
+    let value = at(tableau.values.as_slice(), column);
+    solve_for(by, column, value, bound)?;
+    exchange(tableau, number, column, by, bound)?;
+    list_named(&mut tableau.named, by.numerators.as_slice())?;
+    let count = substitute_all(
+        tableau.equations.as_mut_slice(),
+        column,
+        value,
+        by,
+        tableau.named.as_slice(),
+    )?;
+    count_work(tableau, count);
     Some(())
 }
 
+// An equation with no numbers.
+fn nothing<N: Number>(alloc: Global) -> Equation<N> {
+    Equation {
+        basic: usize::MAX,
+        denominator: N::one(),
+        value: N::zero(),
+        numerators: Vec::new(alloc),
+    }
+}
+
 // The basic slack of an equation and the variable of a column change places.
-fn pivot(tableau: &mut Tableau, alloc: Global, number: usize, column: usize) -> Option<()> {
-    let mut by = turned(tableau, alloc, number, column)?;
-    let exchanged = exchange(tableau, number, column, &mut by);
-    let substituted = substitute_all(tableau.equations.as_mut_slice(), number, column, &by);
-    replace(tableau, number, by);
-    exchanged?;
-    count_work(tableau, substituted?)
+fn pivot<N: Number>(
+    tableau: &mut Tableau<N>,
+    alloc: Global,
+    number: usize,
+    column: usize,
+) -> Option<()> {
+    let mut by = nothing(alloc);
+    exchange_equation(tableau.equations.as_mut_slice(), number, &mut by);
+    let turned = turn_equation(tableau, number, column, &mut by);
+    exchange_equation(tableau.equations.as_mut_slice(), number, &mut by);
+    drop(by);
+    turned
 }
 
 // One pivot, or how they end.
-fn turn(tableau: &mut Tableau, alloc: Global) -> Option<Option<Pivoted>> {
+fn turn<N: Number>(tableau: &mut Tableau<N>, alloc: Global) -> Option<Option<Pivoted>> {
+    if tableau.work == 0 {
+        return Some(Some(Pivoted::Spent));
+    }
     let Some(number) = leaving(tableau)? else {
         return Some(Some(Pivoted::Feasible));
     };
@@ -177,13 +232,13 @@ fn turn(tableau: &mut Tableau, alloc: Global) -> Option<Option<Pivoted>> {
     Some(None)
 }
 
-/// Pivots until they end; nothing where a number is too large or the pivots are too many.
-pub fn solve(tableau: &mut Tableau, alloc: Global) -> Option<Pivoted> {
+/// Pivots until they end; nothing where a number is too large.
+pub fn solve<N: Number>(tableau: &mut Tableau<N>, alloc: Global) -> Option<Pivoted> {
     for _pivot in 0..tableau.pivots {
         match turn(tableau, alloc)? {
             Some(pivoted) => return Some(pivoted),
             None => tableau.pivots = tableau.pivots.saturating_sub(1),
         }
     }
-    None
+    Some(Pivoted::Spent)
 }
