@@ -1,7 +1,8 @@
 // A clause search that promises nothing, for problems over plain atoms: whoever asks tests what it proposes.
 //
-// It learns from conflicts as MiniSat does (Eén and Sörensson, 2003). Each clause watches two of its literals, with a literal beside the
-// watch that is looked at first. A conflict is resolved back to the first clause with one literal of the last level (the first unique
+// It stands on `watched_clauses` (the clauses and the trail), `decision_queue` and `clause_lookahead` (what is tried before a decision).
+//
+// It learns from conflicts as MiniSat does (Eén and Sörensson, 2003). A conflict is resolved back to the first clause with one literal of the last level (the first unique
 // implication point), and that clause alone is kept and watched. The most active atom is decided, as it was last, and the search begins anew
 // after so many conflicts as the sequence of Luby, Sinclair and Zuckerman (1993) says. A clause that is learned keeps literals that follow
 // from its others: to resolve them away takes more lines than it saves.
@@ -18,17 +19,12 @@
 //
 // A literal of level 0 gets a clause of its own, of that literal alone. A chain resolves such literals away by these, each by one line.
 //
-// The parts, in the order in which a reader needs them: `codes` (literals as numbers), `assignment` (the trail), `watching` (the clauses
-// and what they watch), `chains` (the steps by which clauses were learned, and their lines), `analysis` (a conflict), `lookahead` (what
-// is tried before a decision), `searching`.
+// The parts, in the order in which a reader needs them: `chains` (the steps by which clauses were learned, and their lines), `analysis`
+// (a conflict), `searching`.
 #![tactic(auto)]
 
 mod analysis;
-mod assignment;
 mod chains;
-mod codes;
-mod lookahead;
 mod searching;
-mod watching;
 
 pub use searching::{Proposal, propose};

@@ -39,7 +39,7 @@ pub struct Assignment {
 }
 
 /// What a literal is.
-pub(crate) fn truth_of(truths: &[Truth], lit: u32) -> Truth {
+pub fn truth_of(truths: &[Truth], lit: u32) -> Truth {
     match truths.get(lit as usize) {
         Some(truth) => *truth,
         None => Truth::Open,
@@ -48,7 +48,7 @@ pub(crate) fn truth_of(truths: &[Truth], lit: u32) -> Truth {
 
 impl Assignment {
     /// No atom has a value.
-    pub(crate) fn new(alloc: Global, atoms: u32) -> Result<Assignment, AllocError> {
+    pub fn new(alloc: Global, atoms: u32) -> Result<Assignment, AllocError> {
         let mut truths = Vec::new(alloc);
         let mut causes = Vec::new(alloc);
         let mut phases = Vec::new(alloc);
@@ -68,16 +68,18 @@ impl Assignment {
         })
     }
 
-    pub(crate) fn truth(&self, lit: u32) -> Truth {
+    /// What a literal is.
+    pub fn truth(&self, lit: u32) -> Truth {
         truth_of(self.truths.as_slice(), lit)
     }
 
     /// How many decisions there are.
-    pub(crate) fn level(&self) -> usize {
+    pub fn level(&self) -> usize {
         self.starts.len()
     }
 
-    pub(crate) fn cause(&self, lit: u32) -> Cause {
+    /// How the atom of a literal got its value.
+    pub fn cause(&self, lit: u32) -> Cause {
         match self.causes.get(atom_of(lit) as usize) {
             Some(cause) => *cause,
             None => NO_CAUSE,
@@ -85,7 +87,7 @@ impl Assignment {
     }
 
     /// The literal of an atom with the sign that it had last.
-    pub(crate) fn last_of(&self, atom: u32) -> u32 {
+    pub fn last_of(&self, atom: u32) -> u32 {
         let negative = atom.saturating_mul(2);
         match self.phases.get(atom as usize) {
             Some(true) => negative.saturating_add(1),
@@ -101,7 +103,7 @@ impl Assignment {
     }
 
     /// Takes a literal to be true.
-    pub(crate) fn assign(&mut self, lit: u32, reason: Option<u32>) -> Result<(), AllocError> {
+    pub fn assign(&mut self, lit: u32, reason: Option<u32>) -> Result<(), AllocError> {
         self.set(lit, Truth::True);
         self.set(opposite(lit), Truth::False);
         let atom = atom_of(lit) as usize;
@@ -120,24 +122,20 @@ impl Assignment {
     }
 
     /// Takes a literal to be true as a decision.
-    pub(crate) fn decide(&mut self, lit: u32) -> Result<(), AllocError> {
+    pub fn decide(&mut self, lit: u32) -> Result<(), AllocError> {
         self.starts.push(self.trail.len())?;
         self.assign(lit, None)
     }
 
     /// The next literal of the trail that wasn't propagated.
-    pub(crate) fn next(&mut self) -> Option<u32> {
+    pub fn next(&mut self) -> Option<u32> {
         let lit = *self.trail.get(self.head)?;
         self.head = self.head.saturating_add(1);
         Some(lit)
     }
 
     /// Takes all back that came after so many decisions.
-    pub(crate) fn cut(
-        &mut self,
-        level: usize,
-        queue: &mut DecisionQueue,
-    ) -> Result<(), AllocError> {
+    pub fn cut(&mut self, level: usize, queue: &mut DecisionQueue) -> Result<(), AllocError> {
         let Some(start) = self.starts.get(level) else {
             return Ok(());
         };

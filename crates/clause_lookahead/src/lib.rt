@@ -10,11 +10,13 @@
 // are found in a few rounds, each by those of the round before it (Mijnders, de Wilde and Heule, 2010).
 //
 // A decision looks at all clauses that count. So there is a bound on how often clauses are visited.
-use crate::assignment::{Truth, truth_of};
-use crate::codes::opposite;
-use crate::watching::Clauses;
+//
+// It stands on `watched_clauses`. Nothing is promised of the choice: each call is safe and ends.
+#![tactic(auto)]
+
 use std::alloc::{AllocError, Global};
 use std::mem;
+use watched_clauses::{Clauses, Truth, opposite, truth_of};
 
 // What the average literal weighs.
 const UNIT: u64 = 1024;
@@ -55,7 +57,7 @@ pub struct Lookahead {
 }
 
 /// How good a decision is that does so much in the one branch, and so much in the other. The product counts for more than the sum.
-pub(crate) fn score(left: u64, right: u64) -> u64 {
+pub fn score(left: u64, right: u64) -> u64 {
     left.saturating_mul(right)
         .saturating_add(left)
         .saturating_add(right)
@@ -123,7 +125,7 @@ fn bounded(weight: u64) -> u64 {
 
 impl Lookahead {
     /// No clause counts, and none may be visited.
-    pub(crate) fn new(alloc: Global, atoms: u32) -> Result<Lookahead, AllocError> {
+    pub fn new(alloc: Global, atoms: u32) -> Result<Lookahead, AllocError> {
         let mut weights = Vec::new(alloc);
         let mut before = Vec::new(alloc);
         let mut taken = Vec::new(alloc);
@@ -181,7 +183,7 @@ impl Lookahead {
     }
 
     /// Lets all clauses count that matter, and so many visits of clauses.
-    pub(crate) fn begin(
+    pub fn begin(
         &mut self,
         clauses: &Clauses,
         truths: &[Truth],
@@ -200,7 +202,7 @@ impl Lookahead {
     }
 
     /// Lets a learned clause count, if it is short.
-    pub(crate) fn learn(&mut self, clause: u32, size: usize) -> Result<(), AllocError> {
+    pub fn learn(&mut self, clause: u32, size: usize) -> Result<(), AllocError> {
         if size <= SHORT {
             self.clauses.push(clause)?;
         }
@@ -208,7 +210,7 @@ impl Lookahead {
     }
 
     /// Whether a decision would visit more clauses than it may.
-    pub(crate) fn is_exhausted(&self) -> bool {
+    pub fn is_exhausted(&self) -> bool {
         self.visits < self.clauses.len()
     }
 
@@ -320,7 +322,7 @@ impl Lookahead {
     }
 
     /// Weighs all open literals. No atom is taken then.
-    pub(crate) fn weigh(&mut self, clauses: &Clauses, truths: &[Truth]) -> Result<(), AllocError> {
+    pub fn weigh(&mut self, clauses: &Clauses, truths: &[Truth]) -> Result<(), AllocError> {
         for taken in &mut self.taken {
             *taken = false;
         }
@@ -350,7 +352,7 @@ impl Lookahead {
     }
 
     /// Takes the best atom by weight that is open and wasn't taken.
-    pub(crate) fn take(&mut self, truths: &[Truth]) -> Option<u32> {
+    pub fn take(&mut self, truths: &[Truth]) -> Option<u32> {
         let mut best = None;
         let mut most = 0;
         for atom in 0..self.atoms {
@@ -370,7 +372,7 @@ impl Lookahead {
     }
 
     /// How much literals weighed that are false now.
-    pub(crate) fn done_by(&self, trail: &[u32], start: usize) -> u64 {
+    pub fn done_by(&self, trail: &[u32], start: usize) -> u64 {
         let mut done = 0u64;
         for place in start..trail.len() {
             if let Some(lit) = trail.get(place) {

@@ -70,7 +70,7 @@ fn visited(lits: &mut Vec<u32>, truths: &[Truth], gone: u32) -> Visit {
 
 impl Clauses {
     /// No clause.
-    pub(crate) fn new(alloc: Global, atoms: u32) -> Result<Clauses, AllocError> {
+    pub fn new(alloc: Global, atoms: u32) -> Result<Clauses, AllocError> {
         let mut lists = Vec::new(alloc);
         for _ in 0..atoms {
             lists.push(Vec::new(alloc))?;
@@ -84,12 +84,12 @@ impl Clauses {
     }
 
     /// How many clauses there are.
-    pub(crate) fn len(&self) -> usize {
+    pub fn len(&self) -> usize {
         self.lits.len()
     }
 
     /// The literals of a clause.
-    pub(crate) fn lits(&self, clause: u32) -> &[u32] {
+    pub fn lits(&self, clause: u32) -> &[u32] {
         match self.lits.get(clause as usize) {
             Some(lits) => lits.as_slice(),
             None => &[],
@@ -105,7 +105,7 @@ impl Clauses {
     }
 
     /// Adds a clause, which watches its first two literals. Answers its number.
-    pub(crate) fn add(&mut self, lits: &[u32]) -> Result<u32, AllocError> {
+    pub fn add(&mut self, lits: &[u32]) -> Result<u32, AllocError> {
         let Ok(clause) = u32::try_from(self.lits.len()) else {
             return Err(AllocError);
         };
@@ -151,7 +151,7 @@ impl Clauses {
     }
 
     /// Looks at the clauses that watch a literal which became false. What is forced is assigned.
-    pub(crate) fn follow(
+    pub fn follow(
         &mut self,
         assignment: &mut Assignment,
         gone: u32,

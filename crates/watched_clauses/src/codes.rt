@@ -2,7 +2,7 @@
 use proof_lines::Lit;
 
 /// The number of a literal. Atoms are below 2^31.
-pub(crate) fn code(lit: Lit) -> u32 {
+pub fn code(lit: Lit) -> u32 {
     let double = lit.atom.saturating_mul(2);
     if lit.positive {
         double.saturating_add(1)
@@ -12,14 +12,16 @@ pub(crate) fn code(lit: Lit) -> u32 {
 }
 
 /// The literal of the same atom with the other sign.
-pub(crate) fn opposite(code: u32) -> u32 {
+pub fn opposite(code: u32) -> u32 {
     code ^ 1
 }
 
-pub(crate) fn atom_of(code: u32) -> u32 {
+/// The atom of a literal.
+pub fn atom_of(code: u32) -> u32 {
     code / 2
 }
 
-pub(crate) fn is_positive(code: u32) -> bool {
+/// Whether a literal is its atom, and not the negation of it.
+pub fn is_positive(code: u32) -> bool {
     code % 2 == 1
 }
