@@ -1,4 +1,4 @@
-use Rattle.std.proofs.Common.{◌≡◌, ℕ, zero, suc, ◌+◌, ◌^◌, ◌<◌, ◌≤◌, ℤ, pos, Bool, true, false, not, cond, ◌&&◌, ◌||◌, ◌==◌, ◌⊎◌, inl, inr, List, [], ◌∷◌, ◌++◌, length, map, get_or, refl, sym, ◌∙◌, ap, subst, arith, Option, Some, None, Ok, length-append, slice_get, nat_lt}
+use Rattle.std.proofs.Common.{◌≡◌, ℕ, zero, suc, ◌+◌, ◌^◌, ◌<◌, ℤ, pos, Bool, true, false, not, cond, ◌||◌, ◌==◌, ◌⊎◌, inl, inr, List, [], ◌∷◌, ◌++◌, length, map, get_or, refl, sym, ◌∙◌, ap, subst, arith, Option, Some, None, Ok, length-append, slice_get, nat_lt}
 use Rattle.std.specs.Prelude.{◌-ℤ◌}
 use Rattle.std.specs.List.{list_any, list_all}
 use Rattle.std.specs.Option.{option_and_then, option_map}
@@ -14,33 +14,32 @@ use Rattle.proof_lines.specs.declared.line.RangeWhat.{RangeWhat}
 use Rattle.proof_lines.specs.declared.line.Line.{Line}
 use Rattle.proof_lines.specs.declared.line.Line.TheVariants.{Farkas, Split}
 use Rattle.proof_lines.specs.Clauses.{has, sub, flip, lit_of, same_bool, negations, clause_true, all_true, holds_both_ways}
-use Rattle.proof_lines.specs.Problems.{PlainProblem, Meaning, fits, names_below, row_true, atom_true, kind_true, meaning_of}
+use Rattle.proof_lines.specs.Problems.{PlainProblem, Meaning, fits, names_below, atom_true, kind_true, meaning_of}
 use Rattle.line_rows.specs.Steps.{row_of_kind, atom_row, lit_row, row_at}
 use Rattle.proof_kernel.specs.Rules.{next}
-use Rattle.line_rows.specs.Splits.{at_most, is_at_most}
+use Rattle.line_rows.specs.Splits.{at_most}
 use Rattle.std.proofs.lemmas.Bool.{and_parts, or_left, or_right, and_from, ltb-true, lt-ltb, not-true}
 use Rattle.proof_lines.proofs.Sets.{same_nat-refl, true_by}
 use Rattle.line_rows.proofs.LineRows.{row_at-is_row}
-use Rattle.theory_api.specs.Laws.{all_below, all_satisfied, is_some_row, are_given, rows_at, settles, IsModel, IsConflict, IsSplit, IsTooMany, IsBeyond}
+use Rattle.theory_api.specs.Laws.{all_below, is_some_row, are_given, rows_at, IsModel, IsSplit, IsTooMany, IsBeyond}
 use Rattle.theory_api.proofs.Standing.{Stand, lit_at}
 use Rattle.search_logs.specs.declared.trail.Entry.{Entry}
 use Rattle.search_logs.specs.Trails.{in_trail, negated as opposed, is_assigned, is_false, Settled, NoneFalse, IsTrail}
 use Rattle.search_logs.specs.Fresh.{IsFresh}
-use Rattle.search_logs.specs.Forcing.{AreRefuted, is_plain, are_plain}
-use Rattle.search_logs.specs.Chains.{Begins}
-use Rattle.search_logs.specs.SearchLogs.{SearchLog, IsSearched, between, within, farkas, split, standing, with_clause, with_row, AreHeldRows, AreChosenBetween}
-use Rattle.search_logs.proofs.Trails.{has_all, all_has, one-way}
+use Rattle.search_logs.specs.Forcing.{is_plain, are_plain}
+use Rattle.search_logs.specs.SearchLogs.{SearchLog, IsSearched, between, within, farkas, split, standing, with_clause, with_row, AreHeldRows}
 use Rattle.search_logs.proofs.Chain.{at_old, at_new, longer, old_or_new}
 use Rattle.search_logs.proofs.Begins.{begin_theory, theory_fresh, theory_one_way}
 use Rattle.search_logs.proofs.Forcing.{assigned_one, some_open}
-use Rattle.search_logs.proofs.Taken.{picked-line, farkas_taken, split_taken}
+use Rattle.search_logs.proofs.Taken.{picked-line, split_taken}
 use Rattle.search_logs.proofs.Shown.{false-negations, distinct-negations, false-below, trail_one_way, rows_judged-so, range_judged-so, rows_hold-so, range_holds-so}
 use Rattle.search_logs.proofs.Valued.{stand-of, valued, no_atom}
 use Rattle.sat_core.specs.Answers.{AreRowsOf, IsEasy, IsModelOf, IsStopped, IsTooLong, IsTooLarge}
+use Rattle.sat_core.specs.declared.state.SearchState.{SearchState}
 use Rattle.sat_core.specs.Searching.{Aim, Keeps, InSearch, InChain, IsRowAssignment, IsLevel, IsAnalyzed, IsLearned, IsBefore}
 use Rattle.sat_core.specs.declared.analyzing.Analyzed.{Analyzed}
 use Rattle.sat_core.specs.declared.analyzing.Analyzed.TheVariants.{Empty, Cut, BudgetExhausted as ExhaustedThere, Memory as NoMemory}
-use Rattle.sat_core.proofs.Resolving.{moved_start}
+use Rattle.sat_core.proofs.Resolving.{state-so, moved_start}
 use Rattle.sat_core.proofs.Backjumps.{backjump-from, before-either}
 use Rattle.sat_core.proofs.Keeping.{keeps_clause, keeps_row, clause-below, short_of}
 use Rattle.sat_core.proofs.Ends.{settled_unrefuted, settled_full, searched-so}
@@ -209,25 +208,25 @@ fresh-more first cs c f n w = record {
   ];
 }
 
-pub farkas_begins : (a : Aim) (budget : ℕ) (q : PlainProblem) (t : List Entry) (ls : List Line) (used : List Lit) (steps : List RowStep) (u : List Entry) → InSearch a budget q t ls → Settled t q.clauses → list_all (in_trail t) used ≡ true
-    → ((given : ℕ) → next (standing given q) (Farkas used steps) ≡ Ok (standing given (with_clause q (negations used)))) → (IsEasy a.problem → ⊥) → IsLevel t u (negations used) → length ls < budget → length q.clauses + 1 < 2 ^ 32
-    → (y : InChain a budget (length ls) (with_clause q (negations used)) u (ls ++ Farkas used steps ∷ []) (length q.clauses)) × (y.start ≡ q.clauses)
-farkas_begins a budget q t ls used steps u x w i taken uneasy level room few =
-    let f = false-negations t used i in
-    let b = level q.clauses x.trail w f in
-    let n : length (ls ++ Farkas used steps ∷ []) ≡ length ls + 1 = length-append ls (Farkas used steps ∷ []) in (
+pub farkas_begins : (a : Aim) (budget : ℕ) (s : SearchState) (used : List Lit) (steps : List RowStep) (u : List Entry) → InSearch a budget s → Settled s.trail s.grown.clauses → list_all (in_trail s.trail) used ≡ true
+    → ((given : ℕ) → next (standing given s.grown) (Farkas used steps) ≡ Ok (standing given (with_clause s.grown (negations used)))) → (IsEasy a.problem → ⊥) → IsLevel s.trail u (negations used) → length s.log < budget → length s.grown.clauses + 1 < 2 ^ 32
+    → (y : InChain a budget (length s.log) (record { grown = with_clause s.grown (negations used); trail = u; log = s.log ++ Farkas used steps ∷ [] }) (length s.grown.clauses)) × (y.start ≡ s.grown.clauses)
+farkas_begins a budget s used steps u x w i taken uneasy level room few =
+    let f = false-negations s.trail used i in
+    let b = level s.grown.clauses x.trail w f in
+    let n : length (s.log ++ Farkas used steps ∷ []) ≡ length s.log + 1 = length-append s.log (Farkas used steps ∷ []) in (
       record {
-        keeps = keeps_clause a budget q ls (Farkas used steps) (negations used) x.keeps room refl (taken (length a.problem.clauses))
-            (fresh-more (length a.problem.clauses) q.clauses (negations used) x.keeps.fresh (theory_fresh q.clauses u (negations used) b.0) (theory_one_way q.clauses u (negations used) b.0))
-            (false-below (length q.atoms) t (negations used) f x.below) few;
-        start = q.clauses;
+        keeps = keeps_clause a budget s.grown s.log (Farkas used steps) (negations used) x.keeps room refl (taken (length a.problem.clauses))
+            (fresh-more (length a.problem.clauses) s.grown.clauses (negations used) x.keeps.fresh (theory_fresh s.grown.clauses u (negations used) b.0) (theory_one_way s.grown.clauses u (negations used) b.0))
+            (false-below (length s.grown.atoms) s.trail (negations used) f x.below) few;
+        start = s.grown.clauses;
         from = u;
-        ex = begin_theory q.clauses u (negations used) b.0 (distinct-negations used);
+        ex = begin_theory s.grown.clauses u (negations used) b.0 (distinct-negations used);
         below = λ k h. x.below k (b.1 k h);
-        search = subst (λ (c : List Lit). SearchLog a.problem (ls ++ Farkas used steps ∷ []) (with_clause q (negations used)) (within q.clauses u c)) (sym (at_new q.clauses (negations used))) (farkas x.search u (b.0.trail, b.0.settled) used steps b.0.now);
+        search = subst (λ (c : List Lit). SearchLog a.problem (s.log ++ Farkas used steps ∷ []) (with_clause s.grown (negations used)) (within s.grown.clauses u c)) (sym (at_new s.grown.clauses (negations used))) (farkas x.search u (b.0.trail, b.0.settled) used steps b.0.now);
         since = omega (arith, n);
         grew = λ _. omega (arith, n);
-        early = λ r. absurd (settled_unrefuted a budget q t ls x w (none_false q.clauses t w) r);
+        early = λ r. absurd (settled_unrefuted a budget s x w (none_false s.grown.clauses s.trail w) r);
         uneasy = uneasy;
       },
       refl,
@@ -242,30 +241,30 @@ open_true cs t l v w n o e = ap (λ b. same_bool b l.positive) e ∙ by_sign l.a
     by_sign x true n o = elim (assigned_one t x n) [ inl h ↦ ap (λ z. same_bool z true) h | inr h ↦ absurd cc ]
     by_sign x false n o = ap (λ z. same_bool z false) o
 
-module _ (a : Aim) (budget : ℕ) (q : PlainProblem) (t : List Entry) (ls : List Line) (lits : List Lit) (rows : List Row) (truths : List Bool) (values : List ℤ) (f : fits a.problem ≡ true) (x : InSearch a budget q t ls) (w : Settled t q.clauses) (n : (y : ℕ) → y < length q.atoms → is_assigned t y ≡ true) (d : IsRowAssignment q.atoms t (length q.atoms) lits rows) (m : IsModel q.ints rows values) (many : length truths ≡ length a.problem.atoms) (each : (y : ℕ) → y < length a.problem.atoms → get_or truths y false ≡ in_trail t (lit_of y true)) where
+module _ (a : Aim) (budget : ℕ) (s : SearchState) (lits : List Lit) (rows : List Row) (truths : List Bool) (values : List ℤ) (f : fits a.problem ≡ true) (x : InSearch a budget s) (w : Settled s.trail s.grown.clauses) (n : (y : ℕ) → y < length s.grown.atoms → is_assigned s.trail y ≡ true) (d : IsRowAssignment s.grown.atoms s.trail (length s.grown.atoms) lits rows) (m : IsModel s.grown.ints rows values) (many : length truths ≡ length a.problem.atoms) (each : (y : ℕ) → y < length a.problem.atoms → get_or truths y false ≡ in_trail s.trail (lit_of y true)) where
   meaning : Meaning
   meaning = meaning_of (record { truths = truths; ints = values })
 
-  value : (y : ℕ) → y < length a.problem.atoms → atom_true meaning a.problem.atoms y ≡ in_trail t (lit_of y true)
+  value : (y : ℕ) → y < length a.problem.atoms → atom_true meaning a.problem.atoms y ≡ in_trail s.trail (lit_of y true)
   unfolding meaning
   value y l = by_kind (slice_get a.problem.atoms y) refl
     where
-      by_kind : (o : Option AtomKind) → slice_get a.problem.atoms y ≡ o → kind_true meaning y o ≡ in_trail t (lit_of y true)
+      by_kind : (o : Option AtomKind) → slice_get a.problem.atoms y ≡ o → kind_true meaning y o ≡ in_trail s.trail (lit_of y true)
       by_kind (Some Plain) e = each y l
       by_kind (Some (OfRow r)) e =
-          let k : slice_get q.atoms y ≡ Some (OfRow r) = x.keeps.atoms y l ∙ e in
-          valued (point_of values) q.clauses t q.atoms lits rows y r x.trail (stand-of q.atoms lits rows d.stand) d.in_it m.satisfies (ap row_of_kind k) (d.covers y r (slice_get_within q.atoms y (OfRow r) k) k)
+          let k : slice_get s.grown.atoms y ≡ Some (OfRow r) = x.keeps.atoms y l ∙ e in
+          valued (point_of values) s.grown.clauses s.trail s.grown.atoms lits rows y r x.trail (stand-of s.grown.atoms lits rows d.stand) d.in_it m.satisfies (ap row_of_kind k) (d.covers y r (slice_get_within s.grown.atoms y (OfRow r) k) k)
       by_kind None e = absurd (let g = slice_get-get_or a.problem.atoms y Plain l in cc)
 
   clause_so : (k : ℕ) → k < length a.problem.clauses → clause_true (atom_true meaning a.problem.atoms) (get_or a.problem.clauses k []) ≡ true
   clause_so k l =
-      let g : k < length q.clauses = (let o = x.keeps.first.long in omega arith) in
-      let h : is_false t (get_or a.problem.clauses k []) ≡ false = subst (λ (c : List Lit). is_false t c ≡ false) (x.keeps.first.same k l) (none_false q.clauses t w k g) in
-      let o = some_open t (get_or a.problem.clauses k []) h in
+      let g : k < length s.grown.clauses = (let o = x.keeps.first.long in omega arith) in
+      let h : is_false s.trail (get_or a.problem.clauses k []) ≡ false = subst (λ (c : List Lit). is_false s.trail c ≡ false) (x.keeps.first.same k l) (none_false s.grown.clauses s.trail w k g) in
+      let o = some_open s.trail (get_or a.problem.clauses k []) h in
       let b = clause-below a.problem f k o.0 l o.1 in
       let c = x.keeps.atom_count in
       true_by (atom_true meaning a.problem.atoms) (get_or a.problem.clauses k []) o.0 o.1
-      (open_true q.clauses t o.0 (atom_true meaning a.problem.atoms o.0.atom) x.trail (n o.0.atom (omega arith)) o.2 (value o.0.atom b))
+      (open_true s.grown.clauses s.trail o.0 (atom_true meaning a.problem.atoms o.0.atom) x.trail (n o.0.atom (omega arith)) o.2 (value o.0.atom b))
 
   all_so : (cs : List (List Lit)) → ((k : ℕ) → k < length cs → clause_true (atom_true meaning a.problem.atoms) (get_or cs k []) ≡ true) → all_true (atom_true meaning a.problem.atoms) cs ≡ true
   all_so [] h = refl
@@ -279,93 +278,93 @@ module _ (a : Aim) (budget : ℕ) (q : PlainProblem) (t : List Entry) (ls : List
     in_range = m.in_range;
     makes_true = all_so a.problem.clauses clause_so;
     atoms_true = λ y l. value y l ∙ sym (each y l);
-    unrefuted = λ r. settled_unrefuted a budget q t ls x w (none_false q.clauses t w) r;
+    unrefuted = λ r. settled_unrefuted a budget s x w (none_false s.grown.clauses s.trail w) r;
   }
 
 -- SPLIT, ROWS, RANGE.
 
-module _ (a : Aim) (budget : ℕ) (q : PlainProblem) (t : List Entry) (ls : List Line) (lits : List Lit) (rows : List Row) (used : List ℕ) (x : InSearch a budget q t ls) (w : Settled t q.clauses) (d : IsRowAssignment q.atoms t (length q.atoms) lits rows) (g : are_given rows used ≡ true) where
-  stand : Stand q.atoms lits rows
-  stand = stand-of q.atoms lits rows d.stand
+module _ (a : Aim) (budget : ℕ) (s : SearchState) (lits : List Lit) (rows : List Row) (used : List ℕ) (x : InSearch a budget s) (w : Settled s.trail s.grown.clauses) (d : IsRowAssignment s.grown.atoms s.trail (length s.grown.atoms) lits rows) (g : are_given rows used ≡ true) where
+  stand : Stand s.grown.atoms lits rows
+  stand = stand-of s.grown.atoms lits rows d.stand
 
   pub uneasy_given : IsEasy a.problem → ⊥
-  uneasy_given e = no_plain a budget q ls lits rows used x.keeps stand g e.0
+  uneasy_given e = no_plain a budget s.grown s.log lits rows used x.keeps stand g e.0
 
-  pub picked_in : list_all (in_trail t) (map (lit_at lits) used) ≡ true
-  picked_in = picked-in t lits used d.in_it (given-lits q.atoms lits rows used stand g)
+  pub picked_in : list_all (in_trail s.trail) (map (lit_at lits) used) ≡ true
+  picked_in = picked-in s.trail lits used d.in_it (given-lits s.grown.atoms lits rows used stand g)
 
   one_way : holds_both_ways (map (lit_at lits) used) ≡ false
-  one_way = trail_one_way q.clauses t (map (lit_at lits) used) x.trail picked_in
+  one_way = trail_one_way s.grown.clauses s.trail (map (lit_at lits) used) x.trail picked_in
 
-  pub search_splits : (place : ℕ) (at : ℤ) (steps : List RowStep) (low high : ℕ) (values : List ℤ) → IsSplit q.ints rows place at used steps low high values → (a.split ≡ false → ⊥) → length ls < budget → length q.atoms + 1 < 2 ^ 32
-      → InSearch a budget (with_row q (at_most place at)) t (ls ++ Split place at (map (lit_at lits) used) steps low high values ∷ [])
+  pub search_splits : (place : ℕ) (at : ℤ) (steps : List RowStep) (low high : ℕ) (values : List ℤ) → IsSplit s.grown.ints rows place at used steps low high values → (a.split ≡ false → ⊥) → length s.log < budget → length s.grown.atoms + 1 < 2 ^ 32
+      → InSearch a budget (record { grown = with_row s.grown (at_most place at); trail = s.trail; log = s.log ++ Split place at (map (lit_at lits) used) steps low high values ∷ [] })
   search_splits place at steps low high values c no_split room few =
-      let none = no_atom q.atoms lits rows place at stand (λ y r k. d.covers y r (slice_get_within q.atoms y (OfRow r) k) k) c.unsettled in
-      let taken = split_taken (length a.problem.clauses) q lits rows place at used steps low high values stand c none in
-      let m : length (q.atoms ++ OfRow (at_most place at) ∷ []) ≡ length q.atoms + 1 = length-append q.atoms (OfRow (at_most place at) ∷ []) in
+      let none = no_atom s.grown.atoms lits rows place at stand (λ y r k. d.covers y r (slice_get_within s.grown.atoms y (OfRow r) k) k) c.unsettled in
+      let taken = split_taken (length a.problem.clauses) s.grown lits rows place at used steps low high values stand c none in
+      let m : length (s.grown.atoms ++ OfRow (at_most place at) ∷ []) ≡ length s.grown.atoms + 1 = length-append s.grown.atoms (OfRow (at_most place at) ∷ []) in
       record {
-        keeps = keeps_row a budget q ls (Split place at (map (lit_at lits) used) steps low high values) (at_most place at) x.keeps room refl taken no_split (no_plain a budget q ls lits rows used x.keeps stand g)
-            (and_from (nat_lt place q.ints) true (lt-ltb place q.ints c.place_below) refl) few;
+        keeps = keeps_row a budget s.grown s.log (Split place at (map (lit_at lits) used) steps low high values) (at_most place at) x.keeps room refl taken no_split (no_plain a budget s.grown s.log lits rows used x.keeps stand g)
+            (and_from (nat_lt place s.grown.ints) true (lt-ltb place s.grown.ints c.place_below) refl) few;
         trail = x.trail;
         calm = x.calm;
         below = λ k h. (let b = x.below k h in omega (arith, m, b));
-        search = split x.search t (x.trail, w) place at (map (lit_at lits) used) steps low high values c.held
-            (record { in_it = picked_in; held_is = picked-line q lits rows used steps stand g ∙ c.held_is; eliminated = c.eliminated }) c.chosen;
-        early = λ r. absurd (settled_unrefuted a budget q t ls x w (none_false q.clauses t w) r);
+        search = split x.search s.trail (x.trail, w) place at (map (lit_at lits) used) steps low high values c.held
+            (record { in_it = picked_in; held_is = picked-line s.grown lits rows used steps stand g ∙ c.held_is; eliminated = c.eliminated }) c.chosen;
+        early = λ r. absurd (settled_unrefuted a budget s x w (none_false s.grown.clauses s.trail w) r);
         easy = λ e. absurd (uneasy_given e);
       }
 
-  searched : IsSearched a.problem ls q
-  searched = searched-so a budget q ls between x.keeps x.search (settled_full t q.clauses (none_false q.clauses t w))
+  searched : IsSearched a.problem s.log s.grown
+  searched = searched-so a budget s.grown s.log between x.keeps x.search (settled_full s.trail s.grown.clauses (none_false s.grown.clauses s.trail w))
 
-  stopped : (steps : List RowStep) (what : Option RangeWhat) (held : List Row) → AreHeldRows q.atoms t (map (lit_at lits) used) steps what held → IsStopped a.split a.problem budget ls (map (lit_at lits) used) steps what held
+  stopped : (steps : List RowStep) (what : Option RangeWhat) (held : List Row) → AreHeldRows s.grown.atoms s.trail (map (lit_at lits) used) steps what held → IsStopped a.split a.problem budget s.log (map (lit_at lits) used) steps what held
   stopped steps what held met = record {
     within = x.keeps.room;
-    makes = q;
+    makes = s.grown;
     searched = searched;
-    trail = t;
+    trail = s.trail;
     settled = (x.trail, w);
     met = met;
-    short = short_of a budget q ls x.keeps;
+    short = short_of a budget s.grown s.log x.keeps;
     uneasy = uneasy_given;
-    unrefuted = λ r. settled_unrefuted a budget q t ls x w (none_false q.clauses t w) r;
+    unrefuted = λ r. settled_unrefuted a budget s x w (none_false s.grown.clauses s.trail w) r;
   }
 
-  pub too_long : (steps : List RowStep) → IsTooMany rows used steps → IsTooLong a.split a.problem budget (record { log = ls; used = map (lit_at lits) used; steps = steps })
+  pub too_long : (steps : List RowStep) → IsTooMany rows used steps → IsTooLong a.split a.problem budget (record { log = s.log; used = map (lit_at lits) used; steps = steps })
   too_long steps c =
-      let s = stopped steps None c.held (record { in_it = picked_in; held_is = picked-line q lits rows used steps stand g ∙ c.held_is; eliminated = c.eliminated }) in
+      let ended = stopped steps None c.held (record { in_it = picked_in; held_is = picked-line s.grown lits rows used steps stand g ∙ c.held_is; eliminated = c.eliminated }) in
       record {
-        judged = rows_judged-so a.problem (record { log = ls; used = map (lit_at lits) used; steps = steps }) (standing (length a.problem.clauses) q) x.keeps.runs searched.fresh (rows_hold-so (length a.problem.clauses) q lits rows used steps stand c one_way);
+        judged = rows_judged-so a.problem (record { log = s.log; used = map (lit_at lits) used; steps = steps }) (standing (length a.problem.clauses) s.grown) x.keeps.runs searched.fresh (rows_hold-so (length a.problem.clauses) s.grown lits rows used steps stand c one_way);
         held = c.held;
-        stopped = s;
+        stopped = ended;
       }
 
-  pub too_large : (steps : List RowStep) (what : RangeWhat) → IsBeyond rows used steps what → IsTooLarge a.split a.problem budget (record { log = ls; used = map (lit_at lits) used; steps = steps; what = what })
+  pub too_large : (steps : List RowStep) (what : RangeWhat) → IsBeyond rows used steps what → IsTooLarge a.split a.problem budget (record { log = s.log; used = map (lit_at lits) used; steps = steps; what = what })
   too_large steps what c =
-      let s = stopped steps (Some what) c.held (record { in_it = picked_in; held_is = picked-line q lits rows used steps stand g ∙ c.held_is; eliminated = c.eliminated }) in
+      let ended = stopped steps (Some what) c.held (record { in_it = picked_in; held_is = picked-line s.grown lits rows used steps stand g ∙ c.held_is; eliminated = c.eliminated }) in
       record {
-        judged = range_judged-so a.problem (record { log = ls; used = map (lit_at lits) used; steps = steps; what = what }) (standing (length a.problem.clauses) q) x.keeps.runs searched.fresh (range_holds-so (length a.problem.clauses) q lits rows used steps what stand c one_way);
+        judged = range_judged-so a.problem (record { log = s.log; used = map (lit_at lits) used; steps = steps; what = what }) (standing (length a.problem.clauses) s.grown) x.keeps.runs searched.fresh (range_holds-so (length a.problem.clauses) s.grown lits rows used steps what stand c one_way);
         held = c.held;
-        stopped = s;
+        stopped = ended;
         chosen = c.chosen;
       }
 
-pub refute_chain : (a : Aim) (budget : ℕ) (q : PlainProblem) (t : List Entry) (ls : List Line) (used : List Lit) (steps : List RowStep) (r : PlainProblem) (u : List Entry) (ms : List Line) (n : ℕ) → InSearch a budget q t ls → Settled t q.clauses → list_all (in_trail t) used ≡ true
-    → ((given : ℕ) → next (standing given q) (Farkas used steps) ≡ Ok (standing given (with_clause q (negations used)))) → (IsEasy a.problem → ⊥) → length ls < budget
-    → (n ≡ length q.clauses) × (r ≡ with_clause q (negations used)) × (ms ≡ ls ++ Farkas used steps ∷ []) × (length r.clauses < 2 ^ 32) × IsLevel t u (negations used) → (y : InChain a budget (length ls) r u ms n) × (y.start ≡ q.clauses)
-refute_chain a budget q t ls used steps r u ms n x w i taken uneasy room o =
-    let m = longer q.clauses (negations used) in
-    let k : length (q.clauses ++ negations used ∷ []) < 2 ^ 32 = subst (λ (z : PlainProblem). length z.clauses < 2 ^ 32) o.1 o.3 in
-    moved_start a budget (length ls) q.clauses (with_clause q (negations used)) r u (ls ++ Farkas used steps ∷ []) ms (length q.clauses) n
-    (farkas_begins a budget q t ls used steps u x w i taken uneasy o.4 room (omega (arith, m, k))) (sym o.1) (sym o.2) (sym o.0)
+pub refute_chain : (a : Aim) (budget : ℕ) (s : SearchState) (used : List Lit) (steps : List RowStep) (r : SearchState) (n : ℕ) → InSearch a budget s → Settled s.trail s.grown.clauses → list_all (in_trail s.trail) used ≡ true
+    → ((given : ℕ) → next (standing given s.grown) (Farkas used steps) ≡ Ok (standing given (with_clause s.grown (negations used)))) → (IsEasy a.problem → ⊥) → length s.log < budget
+    → (n ≡ length s.grown.clauses) × (r.grown ≡ with_clause s.grown (negations used)) × (r.log ≡ s.log ++ Farkas used steps ∷ []) × (length r.grown.clauses < 2 ^ 32) × IsLevel s.trail r.trail (negations used) → (y : InChain a budget (length s.log) r n) × (y.start ≡ s.grown.clauses)
+refute_chain a budget s used steps r n x w i taken uneasy room o =
+    let m = longer s.grown.clauses (negations used) in
+    let k : length (s.grown.clauses ++ negations used ∷ []) < 2 ^ 32 = subst (λ (z : PlainProblem). length z.clauses < 2 ^ 32) o.1 o.3 in
+    moved_start a budget (length s.log) s.grown.clauses (record { grown = with_clause s.grown (negations used); trail = r.trail; log = s.log ++ Farkas used steps ∷ [] }) r (length s.grown.clauses) n
+    (farkas_begins a budget s used steps r.trail x w i taken uneasy o.4 room (omega (arith, m, k))) (sym (state-so r _ r.trail _ o.1 refl o.2)) (sym o.0)
 
 -- what the analysis from that chain came to
-pub learned-so : (e : Analyzed) (budget : ℕ) (q : PlainProblem) (t : List Entry) (ls : List Line) (q2 : PlainProblem) (t2 : List Entry) (ls2 : List Line) (n : ℕ) (r : PlainProblem) (u : List Entry) (ms : List Line)
-    → ((a : Aim) → InSearch a budget q t ls → (y : InChain a budget (length ls) q2 t2 ls2 n) × (y.start ≡ q.clauses)) → (IsTrail q.clauses t → (t2 ≡ t) ⊎ IsBefore t2 t) → IsAnalyzed e budget q2 t2 ls2 n r u ms → IsLearned e budget q t ls r u ms
-learned-so Empty budget q t ls q2 t2 ls2 n r u ms f b h = λ a x. h a (length ls) (f a x).0
-learned-so Cut budget q t ls q2 t2 ls2 n r u ms f b h = λ a x.
+pub learned-so : (e : Analyzed) (budget : ℕ) (s m : SearchState) (n : ℕ) (r : SearchState)
+    → ((a : Aim) → InSearch a budget s → (y : InChain a budget (length s.log) m n) × (y.start ≡ s.grown.clauses)) → (IsTrail s.grown.clauses s.trail → (m.trail ≡ s.trail) ⊎ IsBefore m.trail s.trail) → IsAnalyzed e budget m n r → IsLearned e budget s r
+learned-so Empty budget s m n r f b h = λ a x. h a (length s.log) (f a x).0
+learned-so Cut budget s m n r f b h = λ a x.
     let y = f a x in
-    let z = h a (length ls) y.0 in
-    (z.0, z.1, backjump-from y.0.start q.clauses t2 t r.clauses u y.1 (before-either u t2 t (b x.trail)) z.2)
-learned-so ExhaustedThere budget q t ls q2 t2 ls2 n r u ms f b h = λ a x. h a (length ls) (f a x).0
-learned-so NoMemory budget q t ls q2 t2 ls2 n r u ms f b h = tt
+    let z = h a (length s.log) y.0 in
+    (z.0, z.1, backjump-from y.0.start s.grown.clauses m.trail s.trail r.grown.clauses r.trail y.1 (before-either r.trail m.trail s.trail (b x.trail)) z.2)
+learned-so ExhaustedThere budget s m n r f b h = λ a x. h a (length s.log) (f a x).0
+learned-so NoMemory budget s m n r f b h = tt

@@ -1,4 +1,4 @@
-use Rattle.std.proofs.Common.{◌≡◌, ◌≢◌, ℕ, zero, suc, ◌+◌, ◌<◌, ◌≤◌, Bool, true, false, cond, ◌⊎◌, inl, inr, List, [], ◌∷◌, length, get_or, refl, sym, ◌∙◌, ap, subst, arith, Ok}
+use Rattle.std.proofs.Common.{◌≡◌, ◌≢◌, ℕ, zero, suc, ◌<◌, ◌≤◌, Bool, true, false, cond, ◌⊎◌, inl, inr, List, [], ◌∷◌, length, get_or, refl, sym, ◌∙◌, ap, subst, arith}
 use Rattle.std.specs.Prelude.{nat_le}
 use Rattle.std.specs.List.{list_any, list_all}
 use Rattle.std.proofs.lemmas.Bool.Decides.{nat_tests}
@@ -6,18 +6,19 @@ use Rattle.proof_lines.specs.declared.clause.Lit.{Lit}
 use Rattle.proof_lines.specs.declared.line.Line.{Line}
 use Rattle.proof_lines.specs.Clauses.{is_empty}
 use Rattle.proof_lines.specs.Problems.{PlainProblem, fits, has_good_row}
-use Rattle.proof_kernel.specs.Rules.{run, start}
+use Rattle.proof_kernel.specs.Rules.{start}
 use Rattle.proof_kernel.proofs.Runs.{run-refutes}
 use Rattle.std.proofs.lemmas.Bool.{or_left, or_right, cases_eq}
 use Rattle.search_logs.specs.declared.trail.Entry.{Entry}
 use Rattle.search_logs.specs.Trails.{is_false, open_in, before_last, has_decision, older, is_done, Settled, NoneFalse}
 use Rattle.search_logs.specs.Forcing.{AreRefuted}
-use Rattle.search_logs.specs.SearchLogs.{Phase, between, within, SearchLog, standing, IsSearched, splits}
+use Rattle.search_logs.specs.SearchLogs.{Phase, between, within, SearchLog, standing, IsSearched}
 use Rattle.search_logs.proofs.Forcing.{refuted_none, empty_unsat}
 use Rattle.search_logs.proofs.Shown.{standing-fresh, lines_judged-so}
 use Rattle.sat_core.specs.declared.answer.Answer.{Answer}
 use Rattle.sat_core.specs.declared.answer.Answer.TheVariants.{Unsat, Sat, Lines, Rows, Range, Memory}
-use Rattle.sat_core.specs.Answers.{IsEasy, IsRefuted, IsExhausted, IsShort, IsAnswer, ShowsNone}
+use Rattle.sat_core.specs.Answers.{IsEasy, IsRefuted, IsExhausted, IsAnswer, ShowsNone}
+use Rattle.sat_core.specs.declared.state.SearchState.{SearchState}
 use Rattle.sat_core.specs.Searching.{Aim, Keeps, InSearch, InChain}
 use Rattle.sat_core.proofs.Keeping.{short_of}
 
@@ -38,13 +39,13 @@ at_empty (c ∷ cs) zero l h = or_left (is_empty c) (list_any is_empty cs) h
 at_empty (c ∷ cs) (suc k) l h = or_right (is_empty c) (list_any is_empty cs) (at_empty cs k (omega arith) h)
 
 -- a chain that is done where nothing was decided has reached the empty clause
-pub chain_refutes : (a : Aim) (budget before : ℕ) (q : PlainProblem) (t : List Entry) (ls : List Line) (i : ℕ) → InChain a budget before q t ls i → is_done t (get_or q.clauses i []) ≡ true → has_decision t ≡ false → IsRefuted a.split a.problem budget ls
-chain_refutes a budget before q t ls i x d h = record {
-  state = standing (length a.problem.clauses) q;
+pub chain_refutes : (a : Aim) (budget before : ℕ) (s : SearchState) (i : ℕ) → InChain a budget before s i → is_done s.trail (get_or s.grown.clauses i []) ≡ true → has_decision s.trail ≡ false → IsRefuted a.split a.problem budget s.log
+chain_refutes a budget before s i x d h = record {
+  state = standing (length a.problem.clauses) s.grown;
   runs = x.keeps.runs;
-  empty = at_empty q.clauses i x.ex.there (nothing (get_or q.clauses i []) (ap (λ b. cond b (nat_le (open_in (before_last t) (get_or q.clauses i [])) 1) (nat_le (length (get_or q.clauses i [])) 0)) (sym h) ∙ d));
+  empty = at_empty s.grown.clauses i x.ex.there (nothing (get_or s.grown.clauses i []) (ap (λ b. cond b (nat_le (open_in (before_last s.trail) (get_or s.grown.clauses i [])) 1) (nat_le (length (get_or s.grown.clauses i [])) 0)) (sym h) ∙ d));
   within = x.keeps.room;
-  short = short_of a budget q ls x.keeps;
+  short = short_of a budget s.grown s.log x.keeps;
   uneasy = x.uneasy;
 }
   where
@@ -95,40 +96,40 @@ exhausted-so a budget q ls phase k s n b u f =
     }
 
 -- a chain that isn't done, with no line left
-pub chain_exhausts : (a : Aim) (budget before : ℕ) (q : PlainProblem) (t : List Entry) (ls : List Line) (i : ℕ) → InChain a budget before q t ls i → is_done t (get_or q.clauses i []) ≡ false → budget ≤ length ls → IsExhausted a.split a.problem budget ls
-chain_exhausts a budget before q t ls i x n b = exhausted-so a budget q ls (within x.start x.from (get_or q.clauses i [])) x.keeps x.search none b x.uneasy hard
+pub chain_exhausts : (a : Aim) (budget before : ℕ) (s : SearchState) (i : ℕ) → InChain a budget before s i → is_done s.trail (get_or s.grown.clauses i []) ≡ false → budget ≤ length s.log → IsExhausted a.split a.problem budget s.log
+chain_exhausts a budget before s i x n b = exhausted-so a budget s.grown s.log (within x.start x.from (get_or s.grown.clauses i [])) x.keeps x.search none b x.uneasy hard
   where
-    none : (k : ℕ) → k < length q.clauses → is_empty (get_or q.clauses k []) ≡ false
+    none : (k : ℕ) → k < length s.grown.clauses → is_empty (get_or s.grown.clauses k []) ≡ false
     none k l = by_case (cases_eq k i)
       where
-        by_case : (k ≡ i) ⊎ (k ≢ i) → is_empty (get_or q.clauses k []) ≡ false
-        by_case (inl e) = subst (λ (j : ℕ). is_empty (get_or q.clauses j []) ≡ false) (sym e) (undone-full t (get_or q.clauses i []) n)
-        by_case (inr e) = full (older t) (get_or q.clauses k []) (x.ex.others k l e)
+        by_case : (k ≡ i) ⊎ (k ≢ i) → is_empty (get_or s.grown.clauses k []) ≡ false
+        by_case (inl e) = subst (λ (j : ℕ). is_empty (get_or s.grown.clauses j []) ≡ false) (sym e) (undone-full s.trail (get_or s.grown.clauses i []) n)
+        by_case (inr e) = full (older s.trail) (get_or s.grown.clauses k []) (x.ex.others k l e)
 
-    some_left : (t : List Entry) → is_false t (get_or q.clauses i []) ≡ true → 1 ≤ length t
-    some_left [] f = absurd (let u = undone-full t (get_or q.clauses i []) n in let v = empty_false (get_or q.clauses i []) f in cc)
+    some_left : (u : List Entry) → is_false u (get_or s.grown.clauses i []) ≡ true → 1 ≤ length u
+    some_left [] f = absurd (let w = undone-full s.trail (get_or s.grown.clauses i []) n in let v = empty_false (get_or s.grown.clauses i []) f in cc)
       where
         empty_false : (c : List Lit) → is_false [] c ≡ true → is_empty c ≡ true
         empty_false [] f = refl
         empty_false (l ∷ c) f = absurd cc
-    some_left (e ∷ t) f = omega arith
+    some_left (e ∷ u) f = omega arith
 
     hard : AreRefuted a.problem.clauses → length a.problem.atoms ≤ budget → ⊥
-    hard r m = absurd (let y = (x.early r).1 in let s = some_left t x.ex.false_now in omega (arith, y, s))
+    hard r l = absurd (let y = (x.early r).1 in let m = some_left s.trail x.ex.false_now in omega (arith, y, m, l))
 
 -- forced literals refute no clause where a trail is settled
-pub settled_unrefuted : (a : Aim) (budget : ℕ) (q : PlainProblem) (t : List Entry) (ls : List Line) → InSearch a budget q t ls → Settled t q.clauses → NoneFalse t q.clauses → AreRefuted a.problem.clauses → ⊥
-settled_unrefuted a budget q t ls x w n r =
+pub settled_unrefuted : (a : Aim) (budget : ℕ) (s : SearchState) → InSearch a budget s → Settled s.trail s.grown.clauses → NoneFalse s.trail s.grown.clauses → AreRefuted a.problem.clauses → ⊥
+settled_unrefuted a budget s x w n r =
     let y = x.early r in
-    refuted_none a.problem.clauses t r (subst (λ (z : List (List Lit)). Settled t z) y.2 w) (subst (λ (z : List (List Lit)). NoneFalse t z) y.2 n)
+    refuted_none a.problem.clauses s.trail r (subst (λ (z : List (List Lit)). Settled s.trail z) y.2 w) (subst (λ (z : List (List Lit)). NoneFalse s.trail z) y.2 n)
 
 -- a settled trail leaves no clause empty
 pub settled_full : (t : List Entry) (cs : List (List Lit)) → NoneFalse t cs → (k : ℕ) → k < length cs → is_empty (get_or cs k []) ≡ false
 settled_full t cs n k l = full t (get_or cs k []) (n k l)
 
 -- a settled trail where a line is wanted and none is left
-pub search_exhausts : (a : Aim) (budget : ℕ) (q : PlainProblem) (t : List Entry) (ls : List Line) → InSearch a budget q t ls → Settled t q.clauses → NoneFalse t q.clauses → budget ≤ length ls → (IsEasy a.problem → ⊥) → IsExhausted a.split a.problem budget ls
-search_exhausts a budget q t ls x w n b u = exhausted-so a budget q ls between x.keeps x.search (settled_full t q.clauses n) b u (λ r m. settled_unrefuted a budget q t ls x w n r)
+pub search_exhausts : (a : Aim) (budget : ℕ) (s : SearchState) → InSearch a budget s → Settled s.trail s.grown.clauses → NoneFalse s.trail s.grown.clauses → budget ≤ length s.log → (IsEasy a.problem → ⊥) → IsExhausted a.split a.problem budget s.log
+search_exhausts a budget s x w n b u = exhausted-so a budget s.grown s.log between x.keeps x.search (settled_full s.trail s.grown.clauses n) b u (λ r m. settled_unrefuted a budget s x w n r)
 
 -- an empty clause is there from the start
 pub at_once : (split : Bool) (p : PlainProblem) (budget : ℕ) (log : List Line) → log ≡ [] → list_any is_empty p.clauses ≡ true → IsRefuted split p budget log

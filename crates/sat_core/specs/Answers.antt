@@ -1,5 +1,5 @@
 -- What the search answers, and what each answer promises.
-use Rattle.std.specs.Prelude.{◌≡◌, ℕ, ◌+◌, ◌^◌, ◌<◌, ◌≤◌, ℤ, Bool, true, false, List, length, map, slice_index_or, Option, Some, None, Ok}
+use Rattle.std.specs.Prelude.{◌≡◌, ℕ, ◌+◌, ◌^◌, ◌<◌, ◌≤◌, Bool, true, false, List, length, map, slice_index_or, Option, Some, None, Ok}
 use Rattle.std.specs.List.{list_all}
 use Rattle.lin_rows.specs.Rows.{Row}
 use Rattle.proof_lines.specs.declared.clause.Lit.{Lit}

@@ -3,7 +3,6 @@ use Rattle.std.specs.Prelude.{◌≡◌, ◌⊎◌, ℕ, ◌<◌, ◌≤◌, ◌
 use Rattle.lin_rows.specs.Rows.{Row}
 use Rattle.proof_lines.specs.declared.clause.Lit.{Lit}
 use Rattle.proof_lines.specs.declared.line.Line.{Line}
-use Rattle.proof_lines.specs.Problems.{PlainProblem}
 use Rattle.search_logs.specs.declared.trail.Entry.{Entry}
 use Rattle.search_logs.specs.SearchLogs.{with_row}
 use Rattle.sat_core.specs.declared.checking.Outcome.{Outcome}
@@ -11,24 +10,23 @@ use Rattle.sat_core.specs.declared.checking.Outcome.TheVariants.{Continue, Refut
 use Rattle.sat_core.specs.declared.analyzing.Analyzed.{Analyzed}
 use Rattle.sat_core.specs.declared.analyzing.Analyzed.TheVariants.{Empty, Cut, BudgetExhausted as ExhaustedThere, Memory as NoMemory}
 use Rattle.sat_core.specs.Answers.{IsRefuted, IsModelOf, IsExhausted, IsTooLong, IsTooLarge}
-use Rattle.sat_core.specs.Searching.{InSearch, IsBackjump, work}
+use Rattle.sat_core.specs.declared.state.SearchState.{SearchState}
+use Rattle.sat_core.specs.Searching.{Aim, InSearch, IsBackjump, work}
 
--- what a step of a search comes to: it continues, with less left to do, or it ends with an answer
-abbrev pub IsOutcome : Outcome → Bool → Bool → PlainProblem → ℕ → PlainProblem → List Entry
-    → List Line → PlainProblem → List Entry → List Line → Type 0
-IsOutcome Continue split stop p budget q t ls r u ms =
-    InSearch (record { problem = p; split = split }) budget r u ms
-    × (work (record { problem = p; split = split }) budget r u ms
-    < work (record { problem = p; split = split }) budget q t ls)
-IsOutcome Refuted split stop p budget q t ls r u ms = IsRefuted split p budget ms
-IsOutcome (Found i) split stop p budget q t ls r u ms = IsModelOf p i
-IsOutcome BudgetExhausted split stop p budget q t ls r u ms = IsExhausted split p budget ms
-IsOutcome (Rows used steps) split stop p budget q t ls r u ms =
-    (stop ≡ true) × IsTooLong split p budget (record { log = ms; used = used; steps = steps })
-IsOutcome (Range used steps what) split stop p budget q t ls r u ms =
-    (stop ≡ true) × IsTooLarge split p budget
-    (record { log = ms; used = used; steps = steps; what = what })
-IsOutcome Memory split stop p budget q t ls r u ms = Unit {0}
+-- what a step of a search comes to, and in which state: it continues, with less left to do, or it ends with an answer. `stop` is
+-- whether its solver of rows may stop
+abbrev pub IsOutcome : Outcome → Aim → Bool → ℕ → SearchState → SearchState → Type 0
+IsOutcome Continue a stop budget s n = InSearch a budget n × (work a budget n < work a budget s)
+IsOutcome Refuted a stop budget s n = IsRefuted a.split a.problem budget n.log
+IsOutcome (Found i) a stop budget s n = IsModelOf a.problem i
+IsOutcome BudgetExhausted a stop budget s n = IsExhausted a.split a.problem budget n.log
+IsOutcome (Rows used steps) a stop budget s n =
+    (stop ≡ true) × IsTooLong a.split a.problem budget
+    (record { log = n.log; used = used; steps = steps })
+IsOutcome (Range used steps what) a stop budget s n =
+    (stop ≡ true) × IsTooLarge a.split a.problem budget
+    (record { log = n.log; used = used; steps = steps; what = what })
+IsOutcome Memory a stop budget s n = Unit {0}
 
 -- a literal was pushed
 abbrev pub IsPushed : Outcome → List Entry → Lit → Option ℕ → List Entry → Type 0
@@ -41,16 +39,16 @@ IsPushed (Rows used steps) t l reason u = ⊥
 IsPushed (Range used steps what) t l reason u = ⊥
 
 -- a Split line was written and its atom added, or the log has as many lines as it may
-abbrev pub IsSplitOff : Outcome → ℕ → PlainProblem → List Line → Row → Line → PlainProblem
-    → List Line → Type 0
-IsSplitOff Continue budget q ls row line r ms =
-    (length ls < budget) × (r ≡ with_row q row) × (ms ≡ ls ++ line ∷ []) × (length r.atoms < 2 ^ 32)
-IsSplitOff Refuted budget q ls row line r ms = ⊥
-IsSplitOff (Found i) budget q ls row line r ms = ⊥
-IsSplitOff BudgetExhausted budget q ls row line r ms = (budget ≤ length ls) × (r ≡ q) × (ms ≡ ls)
-IsSplitOff (Rows used steps) budget q ls row line r ms = ⊥
-IsSplitOff (Range used steps what) budget q ls row line r ms = ⊥
-IsSplitOff Memory budget q ls row line r ms = ⊥
+abbrev pub IsSplitOff : Outcome → ℕ → SearchState → Row → Line → SearchState → Type 0
+IsSplitOff Continue budget s row line n =
+    (length s.log < budget) × (n.grown ≡ with_row s.grown row) × (n.trail ≡ s.trail)
+    × (n.log ≡ s.log ++ line ∷ []) × (length n.grown.atoms < 2 ^ 32)
+IsSplitOff Refuted budget s row line n = ⊥
+IsSplitOff (Found i) budget s row line n = ⊥
+IsSplitOff BudgetExhausted budget s row line n = (budget ≤ length s.log) × (n ≡ s)
+IsSplitOff (Rows used steps) budget s row line n = ⊥
+IsSplitOff (Range used steps what) budget s row line n = ⊥
+IsSplitOff Memory budget s row line n = ⊥
 
 -- what a step comes to that analyzes a conflict
 abbrev pub outcome_of : Analyzed → Outcome
@@ -70,5 +68,7 @@ IfContinue (Range used steps what) P = Unit {0}
 IfContinue Memory P = Unit {0}
 
 -- the trail and the clauses are as they were, or there was a backjump
-abbrev pub IsStay : List (List Lit) → List Entry → List (List Lit) → List Entry → Type 0
-IsStay cs t ds u = ((u ≡ t) × (ds ≡ cs)) ⊎ IsBackjump cs t ds u
+abbrev pub IsStay : SearchState → SearchState → Type 0
+IsStay s n =
+    ((n.trail ≡ s.trail) × (n.grown.clauses ≡ s.grown.clauses))
+    ⊎ IsBackjump s.grown.clauses s.trail n.grown.clauses n.trail

@@ -18,13 +18,14 @@ use Rattle.search_logs.specs.Trails.{in_trail, has_decision, is_decision, before
 use Rattle.search_logs.specs.Fresh.{IsFresh}
 use Rattle.search_logs.specs.Chains.{Grows, Analyzing, Begins}
 use Rattle.search_logs.specs.SearchLogs.{between, within, SearchLog, standing, splits, with_clause}
-use Rattle.search_logs.specs.Forcing.{AreRefuted, AreSatisfied, are_plain}
+use Rattle.search_logs.specs.Forcing.{AreRefuted, are_plain}
 use Rattle.sat_core.specs.declared.finding.Found.{Found}
 use Rattle.sat_core.specs.declared.finding.Found.TheVariants.{Conflict, Forced as OfForced, Nothing}
 use Rattle.sat_core.specs.declared.analyzing.Chained.{Chained}
 use Rattle.sat_core.specs.declared.analyzing.Chained.TheVariants.{Done, BudgetExhausted, Memory}
 use Rattle.sat_core.specs.declared.analyzing.Analyzed.{Analyzed}
 use Rattle.sat_core.specs.declared.analyzing.Analyzed.TheVariants.{Empty, Cut, BudgetExhausted as ExhaustedThere, Memory as NoMemory}
+use Rattle.sat_core.specs.declared.state.SearchState.{SearchState}
 use Rattle.sat_core.specs.Answers.{AreRowsOf, IsEasy, IsRefuted, IsExhausted}
 
 -- WHERE A SEARCH STANDS. These words are the search's own: its private functions hand them on.
@@ -43,6 +44,10 @@ pub record Aim : Type 0 where
   pub problem : PlainProblem
   pub split : Bool
 
+-- a state with another trail
+abbrev pub with_trail : SearchState → List Entry → SearchState
+with_trail s t = record { grown = s.grown; trail = t; log = s.log }
+
 -- the lines so far make `q` of the problem
 pub record Keeps (a : Aim) (budget : ℕ) (q : PlainProblem) (ls : List Line) : Type 0 where
   pub room : length ls ≤ budget
@@ -60,41 +65,41 @@ pub record Keeps (a : Aim) (budget : ℕ) (q : PlainProblem) (ls : List Line) : 
   pub few_clauses : length q.clauses < 2 ^ 32
   pub few_atoms : length q.atoms < 2 ^ 32
 
--- between chains: the trail is one for all clauses, no clause is false before its newest literal, and while forced literals
+-- a state BETWEEN CHAINS: its trail is one for all clauses, no clause is false before its newest literal, and while forced literals
 -- alone decide, nothing else was done
-pub record InSearch (a : Aim) (budget : ℕ) (q : PlainProblem) (t : List Entry)
-    (ls : List Line) : Type 0 where
-  pub keeps : Keeps a budget q ls
-  pub trail : IsTrail q.clauses t
-  pub calm : IsCalm q.clauses t
-  pub below : (x : ℕ) → is_assigned t x ≡ true → x < length q.atoms
-  pub search : SearchLog a.problem ls q between
-  pub early : AreRefuted a.problem.clauses → (has_decision t ≡ false) × (ls ≡ [])
-      × (q.clauses ≡ a.problem.clauses)
-  pub easy : IsEasy a.problem → (ls ≡ []) × (q.clauses ≡ a.problem.clauses)
-      × (has_decision t ≡ false → (l : Lit) → in_trail t l ≡ true → Forced a.problem.clauses l)
+pub record InSearch (a : Aim) (budget : ℕ) (s : SearchState) : Type 0 where
+  pub keeps : Keeps a budget s.grown s.log
+  pub trail : IsTrail s.grown.clauses s.trail
+  pub calm : IsCalm s.grown.clauses s.trail
+  pub below : (x : ℕ) → is_assigned s.trail x ≡ true → x < length s.grown.atoms
+  pub search : SearchLog a.problem s.log s.grown between
+  pub early : AreRefuted a.problem.clauses → (has_decision s.trail ≡ false) × (s.log ≡ [])
+      × (s.grown.clauses ≡ a.problem.clauses)
+  pub easy : IsEasy a.problem → (s.log ≡ []) × (s.grown.clauses ≡ a.problem.clauses)
+      × (has_decision s.trail ≡ false → (l : Lit) → in_trail s.trail l ≡ true
+      → Forced a.problem.clauses l)
 
--- in a chain, which has reached the clause with number i; the log had `before` lines when the clause was met with which it began
-pub record InChain (a : Aim) (budget before : ℕ) (q : PlainProblem) (t : List Entry)
-    (ls : List Line) (i : ℕ) : Type 0 where
-  pub keeps : Keeps a budget q ls
+-- a state IN A CHAIN, which has reached the clause with number i; the log had `before` lines when the clause was met with which the
+-- chain began
+pub record InChain (a : Aim) (budget before : ℕ) (s : SearchState) (i : ℕ) : Type 0 where
+  pub keeps : Keeps a budget s.grown s.log
   pub start : List (List Lit)
   pub from : List Entry
-  pub ex : Analyzing start from q.clauses t i
-  pub below : (x : ℕ) → is_assigned t x ≡ true → x < length q.atoms
-  pub search : SearchLog a.problem ls q (within start from (slice_index_or q.clauses i []))
-  pub since : before ≤ length ls
-  pub grew : is_done from (slice_index_or q.clauses i []) ≡ true → before < length ls
-  pub early : AreRefuted a.problem.clauses → (has_decision t ≡ false)
-      × (length ls + length t ≤ length a.problem.atoms)
+  pub ex : Analyzing start from s.grown.clauses s.trail i
+  pub below : (x : ℕ) → is_assigned s.trail x ≡ true → x < length s.grown.atoms
+  pub search : SearchLog a.problem s.log s.grown
+      (within start from (slice_index_or s.grown.clauses i []))
+  pub since : before ≤ length s.log
+  pub grew : is_done from (slice_index_or s.grown.clauses i []) ≡ true → before < length s.log
+  pub early : AreRefuted a.problem.clauses → (has_decision s.trail ≡ false)
+      × (length s.log + length s.trail ≤ length a.problem.atoms)
   pub uneasy : IsEasy a.problem → ⊥
 
 -- a chain on its way, whatever search it belongs to
-pub record IsChain (budget : ℕ) (q : PlainProblem) (t : List Entry) (ls : List Line)
-    (i : ℕ) : Type 0 where
+pub record IsChain (budget : ℕ) (s : SearchState) (i : ℕ) : Type 0 where
   pub aim : Aim
   pub before : ℕ
-  pub chain : InChain aim budget before q t ls i
+  pub chain : InChain aim budget before s i
 
 -- a trail is what stands BEFORE one of the decisions of another
 abbrev pub IsBefore : List Entry → List Entry → Type 0
@@ -111,29 +116,28 @@ pub record IsBackjump (cs : List (List Lit)) (t : List Entry) (ds : List (List L
   pub wide : has_decision u ≡ true → (k : ℕ) → length cs ≤ k → k < length ds
       → 2 ≤ open_in (before_last u) (slice_index_or ds k [])
 
--- whatever search a chain belongs to, its going on belongs to it too, and is of the same chain
-abbrev pub GoesOn : ℕ → PlainProblem → List Entry → List Line → ℕ → PlainProblem → List Entry
-    → List Line → ℕ → Type 0
-GoesOn budget q t ls i r u ms j =
-    (a : Aim) (before : ℕ) (x : InChain a budget before q t ls i)
-    → (y : InChain a budget before r u ms j) × (y.start ≡ x.start) × (y.from ≡ x.from)
+-- whatever search a chain belongs to, its going on to another state belongs to it too, and is of the same chain
+abbrev pub GoesOn : ℕ → SearchState → ℕ → SearchState → ℕ → Type 0
+GoesOn budget s i n j =
+    (a : Aim) (before : ℕ) (x : InChain a budget before s i)
+    → (y : InChain a budget before n j) × (y.start ≡ x.start) × (y.from ≡ x.from)
 
--- how the resolving of a chain ended
-abbrev pub IsChained : Chained → ℕ → PlainProblem → List Entry → List Line → ℕ → PlainProblem
-    → List Entry → List Line → Type 0
-IsChained (Done j) budget q t ls i r u ms =
-    GoesOn budget q t ls i r u ms j × (is_done u (slice_index_or r.clauses j []) ≡ true)
-IsChained (BudgetExhausted j) budget q t ls i r u ms =
-    GoesOn budget q t ls i r u ms j × (is_done u (slice_index_or r.clauses j []) ≡ false)
-    × (budget ≤ length ms)
-IsChained Memory budget q t ls i r u ms = Unit {0}
+-- how the resolving of a chain ended, and in which state
+abbrev pub IsChained : Chained → ℕ → SearchState → ℕ → SearchState → Type 0
+IsChained (Done j) budget s i n =
+    GoesOn budget s i n j × (is_done n.trail (slice_index_or n.grown.clauses j []) ≡ true)
+IsChained (BudgetExhausted j) budget s i n =
+    GoesOn budget s i n j × (is_done n.trail (slice_index_or n.grown.clauses j []) ≡ false)
+    × (budget ≤ length n.log)
+IsChained Memory budget s i n = Unit {0}
 
 -- the trail is cut back after a chain, whatever search it belongs to
-abbrev pub IsBackjumpAfter : PlainProblem → List Entry → ℕ → List Entry → Type 0
-IsBackjumpAfter q t i u =
-    (a : Aim) (budget before : ℕ) (ls : List Line) (x : InChain a budget before q t ls i)
-    → is_done t (slice_index_or q.clauses i []) ≡ true → has_decision t ≡ true
-    → InSearch a budget q u ls × (before < length ls) × IsBackjump x.start t q.clauses u
+abbrev pub IsBackjumpAfter : SearchState → ℕ → SearchState → Type 0
+IsBackjumpAfter s i n =
+    (a : Aim) (budget before : ℕ) (x : InChain a budget before s i)
+    → is_done s.trail (slice_index_or s.grown.clauses i []) ≡ true → has_decision s.trail ≡ true
+    → InSearch a budget n × (before < length n.log)
+    × IsBackjump x.start s.trail n.grown.clauses n.trail
 
 -- the trail is cut back to where the chain of a false clause may begin
 abbrev pub IsLevel : List Entry → List Entry → List Lit → Type 0
@@ -142,24 +146,25 @@ IsLevel t u c =
     → Begins cs u c × ((x : ℕ) → is_assigned u x ≡ true → is_assigned t x ≡ true)
     × ((u ≡ t) ⊎ IsBefore u t)
 
--- how a chain ended, whatever search it belongs to
-abbrev pub IsAnalyzed : Analyzed → ℕ → PlainProblem → List Entry → List Line → ℕ → PlainProblem
-    → List Entry → List Line → Type 0
-IsAnalyzed Empty budget q t ls i r u ms =
-    (a : Aim) (before : ℕ) → InChain a budget before q t ls i
-    → IsRefuted a.split a.problem budget ms
-IsAnalyzed Cut budget q t ls i r u ms =
-    (a : Aim) (before : ℕ) (x : InChain a budget before q t ls i)
-    → InSearch a budget r u ms × (before < length ms) × IsBackjump x.start t r.clauses u
-IsAnalyzed ExhaustedThere budget q t ls i r u ms =
-    (a : Aim) (before : ℕ) → InChain a budget before q t ls i
-    → IsExhausted a.split a.problem budget ms
-IsAnalyzed NoMemory budget q t ls i r u ms = Unit {0}
+-- how a chain ended, whatever search it belongs to, and in which state
+abbrev pub IsAnalyzed : Analyzed → ℕ → SearchState → ℕ → SearchState → Type 0
+IsAnalyzed Empty budget s i n =
+    (a : Aim) (before : ℕ) → InChain a budget before s i
+    → IsRefuted a.split a.problem budget n.log
+IsAnalyzed Cut budget s i n =
+    (a : Aim) (before : ℕ) (x : InChain a budget before s i)
+    → InSearch a budget n × (before < length n.log)
+    × IsBackjump x.start s.trail n.grown.clauses n.trail
+IsAnalyzed ExhaustedThere budget s i n =
+    (a : Aim) (before : ℕ) → InChain a budget before s i
+    → IsExhausted a.split a.problem budget n.log
+IsAnalyzed NoMemory budget s i n = Unit {0}
 
 -- what is left to do: lines, and then atoms. There are never more atoms than the problem's and one for each line
-abbrev pub work : Aim → ℕ → PlainProblem → List Entry → List Line → ℕ
-work a budget q t ls =
-    (budget - length ls) * (length a.problem.atoms + budget + 1) + free (length q.atoms) t
+abbrev pub work : Aim → ℕ → SearchState → ℕ
+work a budget s =
+    (budget - length s.log) * (length a.problem.atoms + budget + 1)
+    + free (length s.grown.atoms) s.trail
 
 -- the literals with some numbers
 abbrev pub lit_at : List Lit → ℕ → Lit
@@ -174,27 +179,26 @@ pub record IsRowAssignment (atoms : List AtomKind) (t : List Entry) (first : ℕ
       → list_any (λ l. l.atom == x) lits ≡ true
 
 -- a Farkas line over literals of a settled trail keeps its rule, in whatever search
-pub record IsRefutation (budget : ℕ) (q : PlainProblem) (t : List Entry) (ls : List Line)
-    (used : List Lit) (steps : List RowStep) : Type 0 where
+pub record IsRefutation (budget : ℕ) (s : SearchState) (used : List Lit)
+    (steps : List RowStep) : Type 0 where
   pub aim : Aim
-  pub search : InSearch aim budget q t ls
-  pub settled : Settled t q.clauses
-  pub in_it : list_all (in_trail t) used ≡ true
-  pub taken : (given : ℕ) → next (standing given q) (Farkas used steps)
-      ≡ Ok (standing given (with_clause q (negations used)))
-  pub uneasy : (a : Aim) → InSearch a budget q t ls → IsEasy a.problem → ⊥
+  pub search : InSearch aim budget s
+  pub settled : Settled s.trail s.grown.clauses
+  pub in_it : list_all (in_trail s.trail) used ≡ true
+  pub taken : (given : ℕ) → next (standing given s.grown) (Farkas used steps)
+      ≡ Ok (standing given (with_clause s.grown (negations used)))
+  pub uneasy : (a : Aim) → InSearch a budget s → IsEasy a.problem → ⊥
 
--- how the learning from rows in conflict ended, whatever search it belongs to
-abbrev pub IsLearned : Analyzed → ℕ → PlainProblem → List Entry → List Line → PlainProblem
-    → List Entry → List Line → Type 0
-IsLearned Empty budget q t ls r u ms =
-    (a : Aim) → InSearch a budget q t ls → IsRefuted a.split a.problem budget ms
-IsLearned Cut budget q t ls r u ms =
-    (a : Aim) → InSearch a budget q t ls → InSearch a budget r u ms × (length ls < length ms)
-    × IsBackjump q.clauses t r.clauses u
-IsLearned ExhaustedThere budget q t ls r u ms =
-    (a : Aim) → InSearch a budget q t ls → IsExhausted a.split a.problem budget ms
-IsLearned NoMemory budget q t ls r u ms = Unit {0}
+-- how the learning from rows in conflict ended, whatever search it belongs to, and in which state
+abbrev pub IsLearned : Analyzed → ℕ → SearchState → SearchState → Type 0
+IsLearned Empty budget s n =
+    (a : Aim) → InSearch a budget s → IsRefuted a.split a.problem budget n.log
+IsLearned Cut budget s n =
+    (a : Aim) → InSearch a budget s → InSearch a budget n × (length s.log < length n.log)
+    × IsBackjump s.grown.clauses s.trail n.grown.clauses n.trail
+IsLearned ExhaustedThere budget s n =
+    (a : Aim) → InSearch a budget s → IsExhausted a.split a.problem budget n.log
+IsLearned NoMemory budget s n = Unit {0}
 
 -- THE SIGN OF A DECISION: an atom's row is decided by its truth where all numbers are 0, and a plain atom to true.
 abbrev pub is_true_at_zero : AtomKind → Bool

@@ -14,9 +14,10 @@ ghost use Rattle.sat_core.specs.Answers.{AreRowsOf};
 ghost use Rattle.sat_core.specs.Searching.{InSearch, IsRefutation, IsLearned, IsRowAssignment, lit_at};
 ghost use Rattle.sat_core.specs.Outcomes.{IsOutcome, outcome_of, IfContinue, IsStay, IsSplitOff};
 
-use crate::analyzing::{Analyzed, analyze, learn};
-use crate::growing::add_row;
+use crate::analyzing::Analyzed;
+use crate::growing::{add_row, int_count};
 use crate::row_assignments::{RowAssignment, pick, row_assignment, truths};
+use crate::state::SearchState;
 use items::Items;
 use line_rows::splitting::at_most;
 use proof_lines::{Interpretation, Line, Lit, Problem, RangeWhat, RowStep};
@@ -63,28 +64,6 @@ impl Analyzed {
     }
 }
 
-/// Learns from rows in conflict: literals of a settled trail, whose rows the steps refute.
-pub fn refute(
-    alloc: Global,
-    grown: &mut Problem,
-    trail: &mut Trail,
-    log: &mut Items<Line>,
-    used: Items<Lit>,
-    steps: Items<RowStep>,
-    budget: u32,
-) -> Analyzed
-    requires { IsRefutation budget grown.old trail.old log.old used steps }
-    ensures { IsLearned result budget grown.old trail.old log.old grown.new trail.new log.new }
-{
-    if log.len() >= budget as usize {
-        return Analyzed::BudgetExhausted;
-    }
-    let Ok(start) = learn(alloc, grown, trail, log, used, steps) else {
-        return Analyzed::Memory;
-    };
-    analyze(alloc, grown, trail, log, start, budget)
-}
-
 // Why whole numbers are to be split.
 #[derive(Drop)]
 struct Cause {
@@ -93,42 +72,6 @@ struct Cause {
     low: u32,
     high: u32,
     values: Items<i128>,
-}
-
-// Writes a Split line and adds its atom.
-fn add_split(
-    alloc: Global,
-    grown: &mut Problem,
-    log: &mut Items<Line>,
-    place: u32,
-    at: &i128,
-    cause: Cause,
-) -> Result<(), AllocError>
-    requires place { place < grown.old.ints }
-    requires fits { in_range at.now ≡ true }
-    ensures { OnOk result ((grown.new ≡ with_row grown.old (at_most place at.now))
-        × (log.new
-        ≡ log.old ++ Split place at.now cause.used cause.steps cause.low cause.high cause.values
-        ∷ []) × (length grown.new.atoms < 2 ^ 32)) }
-{
-    let row = at_most(alloc, place, at)?;
-    let Cause {
-        used,
-        steps,
-        low,
-        high,
-        values,
-    } = cause;
-    log.push(Line::Split {
-        place,
-        at: *at,
-        used,
-        steps,
-        low,
-        high,
-        values,
-    })?;
-    add_row(grown, row)
 }
 
 // The literals with some numbers among those that stand for rows.
@@ -171,29 +114,6 @@ fn cause_of(
     })
 }
 
-// Splits whole numbers, unless the log has as many lines as it may.
-fn split(
-    alloc: Global,
-    grown: &mut Problem,
-    log: &mut Items<Line>,
-    place: u32,
-    at: &i128,
-    cause: Cause,
-    budget: u32,
-) -> Result<Outcome, AllocError>
-    requires place { place < grown.old.ints }
-    requires fits { in_range at.now ≡ true }
-    ensures { IfOk result (λ o. IsSplitOff o budget grown.old log.old (at_most place at.now)
-        (Split place at.now cause.used cause.steps cause.low cause.high cause.values) grown.new log.new) }
-{
-    if log.len() >= budget as usize {
-        drop(cause);
-        return Ok(Outcome::BudgetExhausted);
-    }
-    add_split(alloc, grown, log, place, at, cause)?;
-    Ok(Outcome::Continue)
-}
-
 // The interpretation that the truth values of a trail are with some numbers.
 fn interpretation(
     alloc: Global,
@@ -218,97 +138,172 @@ struct TheoryCheck {
     answer: TheoryAnswer,
 }
 
-// What follows from a check of the rows of a settled trail that assigns all atoms.
-fn follow<T: Theory>(
-    alloc: Global,
-    problem: &Problem,
-    grown: &mut Problem,
-    trail: &mut Trail,
-    log: &mut Items<Line>,
-    check: TheoryCheck,
-    budget: u32,
-) -> Result<Outcome, AllocError>
-    requires search { InSearch (record {
-      problem = problem.now;
-      split = T.MAY_SPLIT;
-    }) budget grown.old trail.old log.old }
-    requires settled { Settled trail.old grown.old.clauses }
-    requires assigned { (a : ℕ) → a < length grown.old.atoms → is_assigned trail.old a ≡ true }
-    requires rows { IsRowAssignment grown.old.atoms trail.old
-        (length grown.old.atoms) check.assignment.lits check.assignment.rows }
-    requires answered { IsTheoryAnswer T.MAY_SPLIT T.MAY_STOP
-        grown.old.ints check.assignment.rows check.answer }
-    ensures outcome { IfOk result
-        (λ o. IsOutcome o T.MAY_SPLIT T.MAY_STOP problem.now budget grown.old trail.old log.old grown.new trail.new log.new) }
-    ensures stays { IfOk result (λ o. IfContinue o
-        (IsStay grown.old.clauses trail.old grown.new.clauses trail.new)) }
-{
-    let TheoryCheck { assignment, answer } = check;
-    match answer {
-        TheoryAnswer::Model(ints) => {
-            problem.law_fits();
-            drop(assignment);
-            let found = interpretation(alloc, problem, trail, ints)?;
-            Ok(Outcome::Found(found))
+impl SearchState {
+    /// Learns from rows in conflict: literals of a settled trail, whose rows the steps refute.
+    pub fn refute(
+        &mut self,
+        alloc: Global,
+        used: Items<Lit>,
+        steps: Items<RowStep>,
+        budget: u32,
+    ) -> Analyzed
+        requires { IsRefutation budget self.old used steps }
+        ensures { IsLearned result budget self.old self.new }
+    {
+        if self.log.len() >= budget as usize {
+            return Analyzed::BudgetExhausted;
         }
-        TheoryAnswer::Conflict { used, steps } => {
-            let used = or_drop!(picked(alloc, assignment, used); steps);
-            Ok(refute(alloc, grown, trail, log, used, steps, budget).outcome())
-        }
-        TheoryAnswer::Split {
-            place,
-            at,
+        let Ok(start) = self.learn(alloc, used, steps) else {
+            return Analyzed::Memory;
+        };
+        self.analyze_conflict(alloc, start, budget)
+    }
+
+    // Writes a Split line and adds its atom.
+    fn add_split(
+        &mut self,
+        alloc: Global,
+        place: u32,
+        at: &i128,
+        cause: Cause,
+    ) -> Result<(), AllocError>
+        requires place { place < self.old.grown.ints }
+        requires fits { in_range at.now ≡ true }
+        ensures { OnOk result ((self.new.grown ≡ with_row self.old.grown (at_most place at.now))
+            × (self.new.trail ≡ self.old.trail)
+            × (self.new.log ≡ self.old.log
+            ++ Split place at.now cause.used cause.steps cause.low cause.high cause.values ∷ [])
+            × (length self.new.grown.atoms < 2 ^ 32)) }
+    {
+        let row = at_most(alloc, place, at)?;
+        let Cause {
             used,
             steps,
             low,
             high,
             values,
-        } => {
-            assignment.law_rows();
-            let cause = cause_of(alloc, assignment, used, steps, low, high, values)?;
-            split(alloc, grown, log, place, &at, cause, budget)
+        } = cause;
+        self.log.push(Line::Split {
+            place,
+            at: *at,
+            used,
+            steps,
+            low,
+            high,
+            values,
+        })?;
+        add_row(&mut self.grown, row)
+    }
+
+    // Splits whole numbers, unless the log has as many lines as it may.
+    fn split(
+        &mut self,
+        alloc: Global,
+        place: u32,
+        at: &i128,
+        cause: Cause,
+        budget: u32,
+    ) -> Result<Outcome, AllocError>
+        requires place { place < self.old.grown.ints }
+        requires fits { in_range at.now ≡ true }
+        ensures { IfOk result (λ o. IsSplitOff o budget self.old (at_most place at.now)
+            (Split place at.now cause.used cause.steps cause.low cause.high cause.values)
+            self.new) }
+    {
+        if self.log.len() >= budget as usize {
+            drop(cause);
+            return Ok(Outcome::BudgetExhausted);
         }
-        TheoryAnswer::Rows { used, steps } => {
-            let used = or_drop!(picked(alloc, assignment, used); steps);
-            Ok(Outcome::Rows { used, steps })
-        }
-        TheoryAnswer::Range { used, steps, what } => {
-            let used = or_drop!(picked(alloc, assignment, used); steps, what);
-            Ok(Outcome::Range { used, steps, what })
-        }
-        TheoryAnswer::Memory => {
-            drop(assignment);
-            Err(AllocError)
+        self.add_split(alloc, place, at, cause)?;
+        Ok(Outcome::Continue)
+    }
+
+    // What follows from a check of the rows of a settled trail that assigns all atoms.
+    fn follow<T: Theory>(
+        &mut self,
+        alloc: Global,
+        problem: &Problem,
+        check: TheoryCheck,
+        budget: u32,
+    ) -> Result<Outcome, AllocError>
+        requires search { InSearch (record { problem = problem.now; split = T.MAY_SPLIT })
+            budget self.old }
+        requires settled { Settled self.old.trail self.old.grown.clauses }
+        requires assigned { (a : ℕ) → a < length self.old.grown.atoms
+            → is_assigned self.old.trail a ≡ true }
+        requires rows { IsRowAssignment self.old.grown.atoms self.old.trail
+            (length self.old.grown.atoms) check.assignment.lits check.assignment.rows }
+        requires answered { IsTheoryAnswer T.MAY_SPLIT T.MAY_STOP
+            self.old.grown.ints check.assignment.rows check.answer }
+        ensures outcome { IfOk result (λ o. IsOutcome o
+            (record { problem = problem.now; split = T.MAY_SPLIT }) T.MAY_STOP
+            budget self.old self.new) }
+        ensures stays { IfOk result (λ o. IfContinue o (IsStay self.old self.new)) }
+    {
+        let TheoryCheck { assignment, answer } = check;
+        match answer {
+            TheoryAnswer::Model(ints) => {
+                problem.law_fits();
+                drop(assignment);
+                let found = interpretation(alloc, problem, &self.trail, ints)?;
+                Ok(Outcome::Found(found))
+            }
+            TheoryAnswer::Conflict { used, steps } => {
+                let used = or_drop!(picked(alloc, assignment, used); steps);
+                Ok(self.refute(alloc, used, steps, budget).outcome())
+            }
+            TheoryAnswer::Split {
+                place,
+                at,
+                used,
+                steps,
+                low,
+                high,
+                values,
+            } => {
+                assignment.law_rows();
+                let cause = cause_of(alloc, assignment, used, steps, low, high, values)?;
+                self.split(alloc, place, &at, cause, budget)
+            }
+            TheoryAnswer::Rows { used, steps } => {
+                let used = or_drop!(picked(alloc, assignment, used); steps);
+                Ok(Outcome::Rows { used, steps })
+            }
+            TheoryAnswer::Range { used, steps, what } => {
+                let used = or_drop!(picked(alloc, assignment, used); steps, what);
+                Ok(Outcome::Range { used, steps, what })
+            }
+            TheoryAnswer::Memory => {
+                drop(assignment);
+                Err(AllocError)
+            }
         }
     }
-}
 
-/// Asks the solver about the rows of a settled trail that assigns all atoms.
-pub fn final_check<T: Theory>(
-    alloc: Global,
-    theory: &mut T,
-    problem: &Problem,
-    grown: &mut Problem,
-    trail: &mut Trail,
-    log: &mut Items<Line>,
-    budget: u32,
-) -> Result<Outcome, AllocError>
-    requires search { InSearch (record {
-      problem = problem.now;
-      split = T.MAY_SPLIT;
-    }) budget grown.old trail.old log.old }
-    requires settled { Settled trail.old grown.old.clauses }
-    requires assigned { (a : ℕ) → a < length grown.old.atoms → is_assigned trail.old a ≡ true }
-    requires taken { T.MAY_SPLIT ≡ false → (lits : List PlainLit) (rows : List PlainRow)
-        → AreRowsOf problem.now.atoms lits rows → T.takes rows problem.now.ints }
-    ensures outcome { IfOk result
-        (λ o. IsOutcome o T.MAY_SPLIT T.MAY_STOP problem.now budget grown.old trail.old log.old grown.new trail.new log.new) }
-    ensures stays { IfOk result (λ o. IfContinue o
-        (IsStay grown.old.clauses trail.old grown.new.clauses trail.new)) }
-{
-    grown.law_fits();
-    let assignment = row_assignment(alloc, grown, trail)?;
-    let answer = theory.check(alloc, assignment.rows.as_slice(), grown.ints);
-    let check = TheoryCheck { assignment, answer };
-    follow::<T>(alloc, problem, grown, trail, log, check, budget)
+    /// Asks the solver about the rows of a settled trail that assigns all atoms.
+    pub fn final_check<T: Theory>(
+        &mut self,
+        alloc: Global,
+        theory: &mut T,
+        problem: &Problem,
+        budget: u32,
+    ) -> Result<Outcome, AllocError>
+        requires search { InSearch (record { problem = problem.now; split = T.MAY_SPLIT })
+            budget self.old }
+        requires settled { Settled self.old.trail self.old.grown.clauses }
+        requires assigned { (a : ℕ) → a < length self.old.grown.atoms
+            → is_assigned self.old.trail a ≡ true }
+        requires taken { T.MAY_SPLIT ≡ false → (lits : List PlainLit) (rows : List PlainRow)
+            → AreRowsOf problem.now.atoms lits rows → T.takes rows problem.now.ints }
+        ensures outcome { IfOk result (λ o. IsOutcome o
+            (record { problem = problem.now; split = T.MAY_SPLIT }) T.MAY_STOP
+            budget self.old self.new) }
+        ensures stays { IfOk result (λ o. IfContinue o (IsStay self.old self.new)) }
+    {
+        self.grown.law_fits();
+        let assignment = row_assignment(alloc, &self.grown, &self.trail)?;
+        let answer = theory.check(alloc, assignment.rows.as_slice(), int_count(&self.grown));
+        let check = TheoryCheck { assignment, answer };
+        self.follow::<T>(alloc, problem, check, budget)
+    }
 }

@@ -39,6 +39,13 @@ pub fn clause_count(problem: &Problem) -> u32
     problem.clauses.len() as u32
 }
 
+/// How many integer names there are.
+pub fn int_count(problem: &Problem) -> u32
+    ensures { result ≡ problem.now.ints }
+{
+    problem.ints
+}
+
 /// How many atoms there are.
 pub fn atom_count(problem: &Problem) -> u32
     requires { length problem.now.atoms < 2 ^ 32 }

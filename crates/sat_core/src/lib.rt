@@ -53,6 +53,8 @@ pub mod finding;
 pub mod growing;
 pub mod plain;
 pub mod row_assignments;
+pub mod state;
 
 pub use answer::Answer;
 pub use plain::solve_plain;
+pub use state::SearchState;

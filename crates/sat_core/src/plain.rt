@@ -8,14 +8,14 @@ ghost use Rattle.sat_core.specs.Answers.{AreRowsOf, IsAnswer, ShowsNone};
 ghost use Rattle.sat_core.specs.Searching.{InSearch};
 ghost use Rattle.sat_core.specs.Outcomes.{IsOutcome, IsPushed};
 
-use crate::analyzing::analyze;
 use crate::answer::Answer;
-use crate::checking::{Outcome, final_check};
+use crate::checking::Outcome;
 use crate::finding::{Found, find, unassigned};
 use crate::growing::{atom_count, sign_of};
+use crate::state::SearchState;
 use items::Items;
 use proof_lines::problem::law_rows;
-use proof_lines::{Line, Lit, Problem, RangeEvidence, RowsEvidence};
+use proof_lines::{Lit, Problem, RangeEvidence, RowsEvidence};
 use search_logs::{Entry, Trail};
 use std::alloc::Global;
 use theory_api::Theory;
@@ -35,32 +35,25 @@ fn advance<T: Theory>(
     alloc: Global,
     theory: &mut T,
     problem: &Problem,
-    grown: &mut Problem,
-    trail: &mut Trail,
-    log: &mut Items<Line>,
+    state: &mut SearchState,
     budget: u32,
 ) -> Outcome
-    requires search { InSearch (record {
-      problem = problem.now;
-      split = T.MAY_SPLIT;
-    }) budget grown.old trail.old log.old }
+    requires search { InSearch (record { problem = problem.now; split = T.MAY_SPLIT })
+        budget state.old }
     requires taken { T.MAY_SPLIT ≡ false → (lits : List PlainLit) (rows : List PlainRow)
         → AreRowsOf problem.now.atoms lits rows → T.takes rows problem.now.ints }
-    ensures { IsOutcome result T.MAY_SPLIT T.MAY_STOP problem.now budget grown.old trail.old log.old grown.new trail.new log.new }
+    ensures { IsOutcome result (record { problem = problem.now; split = T.MAY_SPLIT }) T.MAY_STOP
+        budget state.old state.new }
 {
-    match find(grown, trail) {
-        Found::Conflict(start) => analyze(alloc, grown, trail, log, start, budget).outcome(),
-        Found::Forced(reason, lit) => push(trail, lit, Some(reason)),
-        Found::Nothing => match unassigned(trail, atom_count(grown)) {
-            Some(atom) => push(
-                trail,
-                Lit {
-                    atom,
-                    positive: sign_of(grown, atom),
-                },
-                None,
-            ),
-            None => match final_check(alloc, theory, problem, grown, trail, log, budget) {
+    match find(&state.grown, &state.trail) {
+        Found::Conflict(start) => state.analyze_conflict(alloc, start, budget).outcome(),
+        Found::Forced(reason, lit) => push(&mut state.trail, lit, Some(reason)),
+        Found::Nothing => match unassigned(&state.trail, atom_count(&state.grown)) {
+            Some(atom) => {
+                let positive = sign_of(&state.grown, atom);
+                push(&mut state.trail, Lit { atom, positive }, None)
+            }
+            None => match state.final_check(alloc, theory, problem, budget) {
                 Ok(outcome) => outcome,
                 Err(_) => Outcome::Memory,
             },
@@ -79,30 +72,27 @@ fn search_on<T: Theory>(
     alloc: Global,
     problem: &Problem,
     theory: &mut T,
-    grown: &mut Problem,
-    trail: &mut Trail,
-    log: Items<Line>,
+    state: &mut SearchState,
     budget: u32,
 ) -> Answer
-    requires search { InSearch (record {
-      problem = problem.now;
-      split = T.MAY_SPLIT;
-    }) budget grown.old trail.old log }
+    requires search { InSearch (record { problem = problem.now; split = T.MAY_SPLIT })
+        budget state.old }
     requires taken { T.MAY_SPLIT ≡ false → (lits : List PlainLit) (rows : List PlainRow)
         → AreRowsOf problem.now.atoms lits rows → T.takes rows problem.now.ints }
     ensures { IsAnswer T.MAY_SPLIT T.MAY_STOP problem.now budget result }
 {
-    let mut log = log;
     'search: loop {
-        match advance(alloc, theory, problem, grown, trail, &mut log, budget) {
+        match advance(alloc, theory, problem, state, budget) {
             Outcome::Continue => {}
-            Outcome::Refuted => return Answer::Unsat(log),
+            Outcome::Refuted => return Answer::Unsat(state.take_log(alloc)),
             Outcome::Found(interpretation) => return Answer::Sat(interpretation),
-            Outcome::BudgetExhausted => return Answer::Lines(log),
+            Outcome::BudgetExhausted => return Answer::Lines(state.take_log(alloc)),
             Outcome::Rows { used, steps } => {
+                let log = state.take_log(alloc);
                 return Answer::Rows(RowsEvidence { log, used, steps });
             }
             Outcome::Range { used, steps, what } => {
+                let log = state.take_log(alloc);
                 return Answer::Range(RangeEvidence {
                     log,
                     used,
@@ -124,15 +114,10 @@ fn search<T: Theory>(alloc: Global, problem: &Problem, theory: &mut T, budget: u
     if holds_empty(problem) {
         return Answer::Unsat(Items::new(alloc));
     }
-    let Ok(mut grown) = problem.copy(alloc) else {
+    let Ok(mut state) = SearchState::begin(alloc, problem) else {
         return Answer::Memory;
     };
-    if grown.clauses.len() > u32::MAX as usize || grown.atoms.len() > u32::MAX as usize {
-        return Answer::Memory;
-    }
-    let mut trail = Trail::new(alloc);
-    let log = Items::new(alloc);
-    search_on(alloc, problem, theory, &mut grown, &mut trail, log, budget)
+    search_on(alloc, problem, theory, &mut state, budget)
 }
 
 /// Searches for an interpretation that makes all clauses of a problem true, or for a log of at most `budget` lines that shows

@@ -3,6 +3,7 @@ use Rattle.std.proofs.lemmas.Bool.{and_parts, and_from, or_cases, or_left, or_ri
 use Rattle.proof_lines.specs.declared.clause.Lit.{Lit}
 use Rattle.search_logs.specs.declared.trail.Entry.{Entry}
 use Rattle.search_logs.specs.Trails.{NoneFalse}
+use Rattle.sat_core.specs.declared.state.SearchState.{SearchState}
 use Rattle.sat_core.specs.Searching.{IsBackjump}
 use Rattle.sat_core.specs.Outcomes.{IsStay}
 use Rattle.sat_core.proofs.Backjumps.{before-trans}
@@ -149,15 +150,15 @@ jumped cs t ds u w a b = record {
 }
 
 -- where nothing was cut, all are at rest as they were
-pub stayed : (cs : List (List Lit)) (t : List Entry) (ds : List (List Lit)) (u : List Entry) (w : Watches) → AllKept cs t w → AreAtRest (length cs) t w → NoneFalse t cs → IsStay cs t ds u → IsResumed ds u w
-stayed cs t ds u w a r n (inl e) = subst (λ (z : List Entry). IsResumed ds z w) (sym e.0) (subst (λ (z : List (List Lit)). IsResumed z t w) (sym e.1) (record {
+pub stayed : (s r : SearchState) (w : Watches) → AllKept s.grown.clauses s.trail w → AreAtRest (length s.grown.clauses) s.trail w → NoneFalse s.trail s.grown.clauses → IsStay s r → IsResumed r.grown.clauses r.trail w
+stayed s r w a k n (inl e) = subst (λ (z : List Entry). IsResumed r.grown.clauses z w) (sym e.0) (subst (λ (z : List (List Lit)). IsResumed z s.trail w) (sym e.1) (record {
   kept = record { many = refl; each = λ k l. a.each k (subst (λ (m : ℕ). k < m) a.many l) };
-  rest = λ k l. r k (subst (λ (m : ℕ). k < m) a.many l);
+  rest = λ i l. k i (subst (λ (m : ℕ). i < m) a.many l);
   many = (let e = a.many in omega (arith, e));
   none_false = n;
   wide = λ d k g l. absurd (let e = a.many in omega (arith, e));
 }))
-stayed cs t ds u w a r n (inr b) = jumped cs t ds u w a b
+stayed s r w a k n (inr b) = jumped s.grown.clauses s.trail r.grown.clauses r.trail w a b
 
 -- nothing is watched yet
 pub resumed_first : (cs : List (List Lit)) (w : Watches) → w.pairs.items ≡ [] → NoneFalse [] cs → IsResumed cs [] w

@@ -1,14 +1,12 @@
 use Rattle.std.proofs.Common.{◌≡◌, ℕ, Bool, ◌⊎◌, inl, inr, List, length, sym, subst}
-use Rattle.proof_lines.specs.declared.line.Line.{Line}
-use Rattle.proof_lines.specs.Problems.{PlainProblem}
 use Rattle.proof_lines.specs.declared.clause.Lit.{Lit}
-use Rattle.search_logs.specs.declared.trail.Entry.{Entry}
 use Rattle.search_logs.specs.Trails.{NoneFalse}
 use Rattle.sat_core.specs.declared.checking.Outcome.{Outcome}
 use Rattle.sat_core.specs.declared.checking.Outcome.TheVariants.{Continue, Refuted, Found as OfFound, BudgetExhausted, Rows, Range, Memory}
 use Rattle.sat_core.specs.declared.analyzing.Analyzed.{Analyzed}
 use Rattle.sat_core.specs.declared.analyzing.Analyzed.TheVariants.{Empty, Cut, BudgetExhausted as ExhaustedThere, Memory as NoMemory}
-use Rattle.sat_core.specs.Searching.{IsBackjump, IsAnalyzed}
+use Rattle.sat_core.specs.declared.state.SearchState.{SearchState}
+use Rattle.sat_core.specs.Searching.{Aim, IsBackjump, IsAnalyzed}
 use Rattle.sat_core.specs.Outcomes.{IsOutcome, outcome_of, IfContinue, IsStay}
 use Rattle.watched_search.specs.declared.watches.Watches.{Watches}
 use Rattle.watched_search.specs.Watches.{AllKept, AreAtRest}
@@ -17,26 +15,30 @@ use Rattle.watched_search.proofs.Changing.{jumped, stayed}
 
 -- Where a search continues.
 
-pub analyzed-continue : (e : Analyzed) (budget : ℕ) (q : PlainProblem) (t : List Entry) (ls : List Line) (i : ℕ) (r : PlainProblem) (u : List Entry) (ms : List Line) (w : Watches) → IsMet budget q t ls i → AllKept q.clauses t w → IsAnalyzed e budget q t ls i r u ms → IfContinue (outcome_of e) (MayContinue r.clauses u w)
-analyzed-continue Empty budget q t ls i r u ms w m a h = tt
-analyzed-continue Cut budget q t ls i r u ms w m a h =
+pub analyzed-continue : (e : Analyzed) (budget : ℕ) (s : SearchState) (i : ℕ) (r : SearchState) (w : Watches) → IsMet budget s i → AllKept s.grown.clauses s.trail w → IsAnalyzed e budget s i r → IfContinue (outcome_of e) (MayContinue r.grown.clauses r.trail w)
+analyzed-continue Empty budget s i r w m a h = tt
+analyzed-continue Cut budget s i r w m a h =
     let y = h m.aim m.before m.chain in
-    (y.0.keeps.few_clauses, jumped q.clauses t r.clauses u w a (subst (λ (z : List (List Lit)). IsBackjump z t r.clauses u) m.whole y.2))
-analyzed-continue ExhaustedThere budget q t ls i r u ms w m a h = tt
-analyzed-continue NoMemory budget q t ls i r u ms w m a h = tt
+    (y.0.keeps.few_clauses, jumped s.grown.clauses s.trail r.grown.clauses r.trail w a (subst (λ (z : List (List Lit)). IsBackjump z s.trail r.grown.clauses r.trail) m.whole y.2))
+analyzed-continue ExhaustedThere budget s i r w m a h = tt
+analyzed-continue NoMemory budget s i r w m a h = tt
 
 -- where the solver of rows was asked
-pub checked-continue : (o : Outcome) (split stop : Bool) (p : PlainProblem) (budget : ℕ) (q : PlainProblem) (t : List Entry) (ls : List Line) (r : PlainProblem) (u : List Entry) (ms : List Line) (w : Watches) → IsOutcome o split stop p budget q t ls r u ms → AllKept q.clauses t w → AreAtRest (length q.clauses) t w
-    → NoneFalse t q.clauses → IfContinue o (IsStay q.clauses t r.clauses u) → IfContinue o (MayContinue r.clauses u w)
-checked-continue Continue split stop p budget q t ls r u ms w h a b n s = (h.0.keeps.few_clauses, stayed q.clauses t r.clauses u w a b n s)
-checked-continue Refuted split stop p budget q t ls r u ms w h a b n s = tt
-checked-continue (OfFound i) split stop p budget q t ls r u ms w h a b n s = tt
-checked-continue BudgetExhausted split stop p budget q t ls r u ms w h a b n s = tt
-checked-continue (Rows used steps) split stop p budget q t ls r u ms w h a b n s = tt
-checked-continue (Range used steps what) split stop p budget q t ls r u ms w h a b n s = tt
-checked-continue Memory split stop p budget q t ls r u ms w h a b n s = tt
+pub checked-continue : (o : Outcome) (a : Aim) (stop : Bool) (budget : ℕ) (s r : SearchState) (w : Watches) → IsOutcome o a stop budget s r → AllKept s.grown.clauses s.trail w → AreAtRest (length s.grown.clauses) s.trail w
+    → NoneFalse s.trail s.grown.clauses → IfContinue o (IsStay s r) → IfContinue o (MayContinue r.grown.clauses r.trail w)
+checked-continue Continue a stop budget s r w h k b n y = (h.0.keeps.few_clauses, stayed s r w k b n y)
+checked-continue Refuted a stop budget s r w h k b n y = tt
+checked-continue (OfFound i) a stop budget s r w h k b n y = tt
+checked-continue BudgetExhausted a stop budget s r w h k b n y = tt
+checked-continue (Rows used steps) a stop budget s r w h k b n y = tt
+checked-continue (Range used steps what) a stop budget s r w h k b n y = tt
+checked-continue Memory a stop budget s r w h k b n y = tt
 
 -- the outcome stays, or memory is wanting
-pub outcome_stays : (o n : Outcome) (split stop : Bool) (p : PlainProblem) (budget : ℕ) (q : PlainProblem) (t : List Entry) (ls : List Line) (r : PlainProblem) (u : List Entry) (ms : List Line) → IsOutcome o split stop p budget q t ls r u ms → (n ≡ o) ⊎ (n ≡ Memory) → IsOutcome n split stop p budget q t ls r u ms
-outcome_stays o n split stop p budget q t ls r u ms h (inl e) = subst (λ (z : Outcome). IsOutcome z split stop p budget q t ls r u ms) (sym e) h
-outcome_stays o n split stop p budget q t ls r u ms h (inr e) = subst (λ (z : Outcome). IsOutcome z split stop p budget q t ls r u ms) (sym e) tt
+outcome_or_memory : (o n : Outcome) (a : Aim) (stop : Bool) (budget : ℕ) (s r : SearchState) → IsOutcome o a stop budget s r → (n ≡ o) ⊎ (n ≡ Memory) → IsOutcome n a stop budget s r
+outcome_or_memory o n a stop budget s r h (inl e) = subst (λ (z : Outcome). IsOutcome z a stop budget s r) (sym e) h
+outcome_or_memory o n a stop budget s r h (inr e) = subst (λ (z : Outcome). IsOutcome z a stop budget s r) (sym e) tt
+
+-- and so does the state
+pub outcome_stays : (o n : Outcome) (a : Aim) (stop : Bool) (budget : ℕ) (s r u : SearchState) → IsOutcome o a stop budget s r → (n ≡ o) ⊎ (n ≡ Memory) → u ≡ r → IsOutcome n a stop budget s u
+outcome_stays o n a stop budget s r u h e f = subst (λ (z : SearchState). IsOutcome n a stop budget s z) (sym f) (outcome_or_memory o n a stop budget s r h e)

@@ -9,7 +9,6 @@ use Rattle.proof_lines.specs.declared.clause.Lit.{Lit}
 use Rattle.proof_lines.specs.declared.problem.AtomKind.{AtomKind}
 use Rattle.proof_lines.specs.declared.problem.AtomKind.TheVariants.{Row as OfRow}
 use Rattle.proof_lines.specs.declared.line.RowStep.{RowStep}
-use Rattle.proof_lines.specs.declared.line.Line.{Line}
 use Rattle.proof_lines.specs.Problems.{PlainProblem}
 use Rattle.line_rows.specs.Steps.{row_of_kind, lit_row}
 use Rattle.theory_api.specs.Laws.{all_below, IsConflict}
@@ -22,6 +21,7 @@ use Rattle.search_logs.proofs.Valued.{stand-of}
 use Rattle.sat_core.specs.declared.analyzing.Analyzed.{Analyzed}
 use Rattle.sat_core.specs.declared.analyzing.Analyzed.TheVariants.{Empty, Cut, BudgetExhausted as ExhaustedThere, Memory as NoMemory}
 use Rattle.sat_core.specs.Answers.{AreRowsOf}
+use Rattle.sat_core.specs.declared.state.SearchState.{SearchState}
 use Rattle.sat_core.specs.Searching.{Aim, InSearch, IsRowAssignment, IsLearned, IsRefutation}
 use Rattle.sat_core.specs.Outcomes.{outcome_of, IfContinue}
 use Rattle.sat_core.proofs.Checked.{stand-plain, given-lits, picked-in}
@@ -59,28 +59,28 @@ clash-so q t lits rows used used2 steps h c e =
     })
 
 -- a clash is refuted in a search whose trail is settled
-pub refutation-of : (split : Bool) (p : PlainProblem) (budget : ℕ) (q : PlainProblem) (t : List Entry) (ls : List Line) (used : List Lit) (steps : List RowStep) → InSearch (aim_of p split) budget q t ls → Settled t q.clauses → IsClash q t used steps → IsRefutation budget q t ls used steps
-refutation-of split p budget q t ls used steps x w c = record {
-  aim = aim_of p split;
+pub refutation-of : (a : Aim) (budget : ℕ) (s : SearchState) (used : List Lit) (steps : List RowStep) → InSearch a budget s → Settled s.trail s.grown.clauses → IsClash s.grown s.trail used steps → IsRefutation budget s used steps
+refutation-of a budget s used steps x w c = record {
+  aim = a;
   search = x;
   settled = w;
   in_it = c.in_it;
   taken = c.refuted;
-  uneasy = λ a y e. c.with_rows (subst (λ (z : List AtomKind). are_plain z ≡ true) (sym (y.keeps.plain e.0)) e.0);
+  uneasy = λ b y e. c.with_rows (subst (λ (z : List AtomKind). are_plain z ≡ true) (sym (y.keeps.plain e.0)) e.0);
 }
 
 -- the rows of a search are taken by its solver
-pub takes-grown : (split : Bool) (takes : List Row → ℕ → Type 0) (p : PlainProblem) (budget : ℕ) (q : PlainProblem) (t : List Entry) (ls : List Line)
+pub takes-grown : (split : Bool) (takes : List Row → ℕ → Type 0) (p : PlainProblem) (budget : ℕ) (s : SearchState)
     → (split ≡ true → (rows : List Row) (ints : ℕ) → all_below ints rows ≡ true → takes rows ints) → (split ≡ false → (lits : List Lit) (rows : List Row) → AreRowsOf p.atoms lits rows → takes rows p.ints)
-    → InSearch (aim_of p split) budget q t ls → (lits : List Lit) (rows : List Row) → AreRowsOf q.atoms lits rows → all_below q.ints rows ≡ true → takes rows q.ints
-takes-grown split takes p budget q t ls all some x lits rows o b = by_case split refl
+    → InSearch (aim_of p split) budget s → (lits : List Lit) (rows : List Row) → AreRowsOf s.grown.atoms lits rows → all_below s.grown.ints rows ≡ true → takes rows s.grown.ints
+takes-grown split takes p budget s all some x lits rows o b = by_case split refl
   where
-    by_case : (s : Bool) → split ≡ s → takes rows q.ints
-    by_case true h = all h rows q.ints b
+    by_case : (m : Bool) → split ≡ m → takes rows s.grown.ints
+    by_case true h = all h rows s.grown.ints b
     by_case false h = subst (λ (n : ℕ). takes rows n) (sym x.keeps.ints) (some h lits rows (subst (λ (z : List AtomKind). AreRowsOf z lits rows) (x.keeps.unsplit h) o))
 
-pub learned-continue : (e : Analyzed) (budget : ℕ) (q : PlainProblem) (t : List Entry) (ls : List Line) (r : PlainProblem) (u : List Entry) (ms : List Line) (a : Aim) (w : Watches) → InSearch a budget q t ls → AllKept q.clauses t w → IsLearned e budget q t ls r u ms → IfContinue (outcome_of e) (MayContinue r.clauses u w)
-learned-continue Empty budget q t ls r u ms a w x k h = tt
-learned-continue Cut budget q t ls r u ms a w x k h = let y = h a x in (y.0.keeps.few_clauses, jumped q.clauses t r.clauses u w k y.2)
-learned-continue ExhaustedThere budget q t ls r u ms a w x k h = tt
-learned-continue NoMemory budget q t ls r u ms a w x k h = tt
+pub learned-continue : (e : Analyzed) (budget : ℕ) (s r : SearchState) (a : Aim) (w : Watches) → InSearch a budget s → AllKept s.grown.clauses s.trail w → IsLearned e budget s r → IfContinue (outcome_of e) (MayContinue r.grown.clauses r.trail w)
+learned-continue Empty budget s r a w x k h = tt
+learned-continue Cut budget s r a w x k h = let y = h a x in (y.0.keeps.few_clauses, jumped s.grown.clauses s.trail r.grown.clauses r.trail w k y.2)
+learned-continue ExhaustedThere budget s r a w x k h = tt
+learned-continue NoMemory budget s r a w x k h = tt

@@ -1,12 +1,11 @@
 -- Where the watched literals stand between the steps of a search.
 use Rattle.std.specs.Prelude.{◌≡◌, ℕ, ◌<◌, ◌^◌, true, List, [], length, slice_index_or, Option, Some, None}
 use Rattle.proof_lines.specs.declared.clause.Lit.{Lit}
-use Rattle.proof_lines.specs.declared.line.Line.{Line}
-use Rattle.proof_lines.specs.Problems.{PlainProblem}
 use Rattle.search_logs.specs.declared.trail.Entry.{Entry}
 use Rattle.search_logs.specs.Trails.{is_false}
 use Rattle.sat_core.specs.declared.finding.Found.{Found}
 use Rattle.sat_core.specs.declared.finding.Found.TheVariants.{Conflict, Forced as OfForced, Nothing}
+use Rattle.sat_core.specs.declared.state.SearchState.{SearchState}
 use Rattle.sat_core.specs.Searching.{Aim, InChain}
 use Rattle.watched_search.specs.declared.watches.Watches.{Watches}
 use Rattle.watched_search.specs.declared.propagation.Propagation.{Propagation}
@@ -34,12 +33,11 @@ MayPush None cs t w = AllKept cs t w × AreAtRest (length cs) t w
 MayPush (Some i) cs t w = AllWatched cs t w
 
 -- the chain of a clause that is false, over all clauses of a problem
-pub record IsMet (budget : ℕ) (q : PlainProblem) (t : List Entry) (ls : List Line)
-    (i : ℕ) : Type 0 where
+pub record IsMet (budget : ℕ) (s : SearchState) (i : ℕ) : Type 0 where
   pub aim : Aim
   pub before : ℕ
-  pub chain : InChain aim budget before q t ls i
-  pub whole : chain.start ≡ q.clauses
+  pub chain : InChain aim budget before s i
+  pub whole : chain.start ≡ s.grown.clauses
 
 -- a search may go on
 abbrev pub MayContinue : List (List Lit) → List Entry → Watches → Type 0

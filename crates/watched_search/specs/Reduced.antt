@@ -4,7 +4,7 @@ use Rattle.lin_rows.specs.Rows.{point_of}
 use Rattle.proof_lines.specs.declared.problem.AtomKind.{AtomKind}
 use Rattle.proof_lines.specs.declared.problem.AtomKind.TheVariants.{Plain, Row as OfRow}
 use Rattle.proof_lines.specs.Problems.{PlainProblem, row_true}
-use Rattle.search_logs.specs.declared.trail.Entry.{Entry}
+use Rattle.sat_core.specs.declared.state.SearchState.{SearchState}
 use Rattle.sat_core.specs.Answers.{IsModelOf}
 use Rattle.watched_search.specs.declared.reducing.Reduced.{Reduced}
 use Rattle.watched_search.specs.declared.reducing.Reduced.TheVariants.{Found, Clash, Nothing}
@@ -26,7 +26,7 @@ HaveTruths n atoms numbers truths =
 
 -- what is known of a whole trail from an implicant: an interpretation of the problem, or literals of the trail whose rows are
 -- refuted, or nothing
-abbrev pub IsReduced : Reduced → PlainProblem → PlainProblem → List Entry → Type 0
-IsReduced (Found i) p q t = IsModelOf p i
-IsReduced (Clash c) p q t = IsClash q t c.used c.steps
-IsReduced Nothing p q t = Unit {0}
+abbrev pub IsReduced : Reduced → PlainProblem → SearchState → Type 0
+IsReduced (Found i) p s = IsModelOf p i
+IsReduced (Clash c) p s = IsClash s.grown s.trail c.used c.steps
+IsReduced Nothing p s = Unit {0}

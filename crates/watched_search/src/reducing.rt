@@ -7,6 +7,7 @@
 ghost use Rattle.std.specs.Prelude.{◌≡◌, List, true, IfOk};
 ghost use Rattle.lin_rows.specs.Rows.{Row as PlainRow};
 ghost use Rattle.proof_lines.specs.declared.clause.Lit.{Lit as PlainLit};
+ghost use Rattle.sat_core.specs.declared.state.SearchState.{SearchState as PlainState};
 ghost use Rattle.sat_core.specs.Answers.{AreRowsOf};
 ghost use Rattle.theory_api.specs.Laws.{all_below};
 ghost use Rattle.watched_search.specs.Reduced.{IsReduced};
@@ -16,7 +17,7 @@ use crate::evaluating::evaluated;
 use implicants::{choose, relaxed};
 use items::Items;
 use proof_lines::{Interpretation, Lit, Problem};
-use search_logs::Trail;
+use sat_core::SearchState;
 use std::alloc::{AllocError, Global};
 use theory_api::Theory;
 
@@ -35,12 +36,10 @@ pub enum Reduced {
 fn found_by(
     alloc: Global,
     problem: &Problem,
-    grown: &Problem,
-    trail: &Trail,
     values: &[bool],
     numbers: Items<i128>,
 ) -> Result<Reduced, AllocError>
-    ensures { IfOk result (λ reduced. IsReduced reduced problem.now grown.now trail.now) }
+    ensures { (s : PlainState) → IfOk result (λ reduced. IsReduced reduced problem.now s) }
 {
     match evaluated(alloc, problem, values, numbers)? {
         Some(found) => Ok(Reduced::Found(found)),
@@ -53,22 +52,21 @@ fn ask_about<T: Theory>(
     alloc: Global,
     theory: &mut T,
     problem: &Problem,
-    grown: &Problem,
-    trail: &Trail,
+    state: &SearchState,
     values: &[bool],
     few: &[Lit],
     lits: &[Lit],
 ) -> Result<Reduced, AllocError>
     requires taken { (lits : List PlainLit) (rows : List PlainRow)
-        → AreRowsOf grown.now.atoms lits rows → all_below grown.now.ints rows ≡ true
-        → T.takes rows grown.now.ints }
-    ensures { IfOk result (λ reduced. IsReduced reduced problem.now grown.now trail.now) }
+        → AreRowsOf state.now.grown.atoms lits rows → all_below state.now.grown.ints rows ≡ true
+        → T.takes rows state.now.grown.ints }
+    ensures { IfOk result (λ reduced. IsReduced reduced problem.now state.now) }
 {
     if few.len() >= lits.len() {
         return Ok(Reduced::Nothing);
     }
-    match ask_rows(alloc, theory, grown, trail, few, false)? {
-        Said::Model(numbers) => found_by(alloc, problem, grown, trail, values, numbers),
+    match ask_rows(alloc, theory, &state.grown, &state.trail, few, false)? {
+        Said::Model(numbers) => found_by(alloc, problem, values, numbers),
         Said::Clash(clash) => Ok(Reduced::Clash(clash)),
         Said::Nothing => Ok(Reduced::Nothing),
     }
@@ -80,18 +78,18 @@ pub(crate) fn ask_reduced<T: Theory>(
     alloc: Global,
     theory: &mut T,
     problem: &Problem,
-    grown: &Problem,
-    trail: &Trail,
+    state: &SearchState,
     lits: &[Lit],
 ) -> Result<Reduced, AllocError>
     requires taken { (lits : List PlainLit) (rows : List PlainRow)
-        → AreRowsOf grown.now.atoms lits rows → all_below grown.now.ints rows ≡ true
-        → T.takes rows grown.now.ints }
-    ensures { IfOk result (λ reduced. IsReduced reduced problem.now grown.now trail.now) }
+        → AreRowsOf state.now.grown.atoms lits rows → all_below state.now.grown.ints rows ≡ true
+        → T.takes rows state.now.grown.ints }
+    ensures { IfOk result (λ reduced. IsReduced reduced problem.now state.now) }
 {
     if lits.is_empty() {
         return Ok(Reduced::Nothing);
     }
+    let trail = &state.trail;
     let values = relaxed(alloc, problem, trail)?;
     let chosen = or_drop!(choose(alloc, problem, trail, lits, values.as_slice()); values);
     match chosen {
@@ -100,8 +98,7 @@ pub(crate) fn ask_reduced<T: Theory>(
                 alloc,
                 theory,
                 problem,
-                grown,
-                trail,
+                state,
                 values.as_slice(),
                 few.as_slice(),
                 lits,

@@ -3,7 +3,7 @@ use Rattle.sat_core.proofs.Outcomes.{aim_of}
 use Rattle.sat_core.proofs.plain.search_on.Given as goal
 
 abbrev pub invariant-search : goal.invariant-search
-invariant-search g l = InSearch (aim_of l.problem g.T.Theory.MAY_SPLIT) l.budget l.grown l.trail l.log
+invariant-search g l = InSearch (aim_of l.problem g.T.Theory.MAY_SPLIT) l.budget l.state
 
 abbrev pub decreases-search : goal.decreases-search
-decreases-search g l = work (aim_of l.problem g.T.Theory.MAY_SPLIT) l.budget l.grown l.trail l.log
+decreases-search g l = work (aim_of l.problem g.T.Theory.MAY_SPLIT) l.budget l.state
