@@ -1,3 +1,4 @@
 pub mod Below
 pub mod Reading
-pub mod Straight
+pub mod Plain
+pub mod Written

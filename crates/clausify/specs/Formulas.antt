@@ -4,6 +4,7 @@ use Rattle.proof_lines.specs.Clauses.{same_bool, lit_of}
 use Rattle.ground_numbers.specs.Numbered.{Numbered, known, literal, negation, conjunction, disjunction}
 use Rattle.ground_numbers.specs.Clauses.{Normal, lit, all, any, Folded, settled, unsettled}
 use Rattle.ground_atoms.specs.Formulas.{form_of}
+use Rattle.ground_atoms.specs.declared.formula.GroundFormula.{GroundFormula, Truth, Lit, NotAtom, Implied, Congruent, Not', And', Or'}
 use Rattle.clausify.specs.declared.bare.Folded.{Folded as CodeFolded}
 use Rattle.clausify.specs.declared.bare.Folded.TheVariants as code
 
@@ -30,7 +31,18 @@ abbrev pub folded_of : CodeFolded → Folded
 folded_of (code.Settled b) = settled b
 folded_of (code.Unsettled f) = unsettled (normal true (form_of f))
 
--- Whether a formula that isn't settled is bare.
-abbrev pub is_bare_if_unsettled : CodeFolded → Bool
-is_bare_if_unsettled (code.Settled b) = true
-is_bare_if_unsettled (code.Unsettled f) = is_bare (form_of f)
+-- Whether a formula is plain: it is bare, and each of its parts stands apart in memory.
+abbrev pub is_plain : GroundFormula → Bool
+is_plain (Truth b) = false
+is_plain (Lit n s) = true
+is_plain (NotAtom n) = true
+is_plain (Implied k m n) = false
+is_plain (Congruent p a e f m n) = false
+is_plain (Not' l f) = is_plain f
+is_plain (And' l f g) = is_plain f && is_plain g
+is_plain (Or' l f g) = is_plain f && is_plain g
+
+-- Whether a formula that isn't settled is plain.
+abbrev pub is_plain_if_unsettled : CodeFolded → Bool
+is_plain_if_unsettled (code.Settled b) = true
+is_plain_if_unsettled (code.Unsettled f) = is_plain f

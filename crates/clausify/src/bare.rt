@@ -1,29 +1,30 @@
-// Bare formulas: those without truth values.
+// Plain formulas: those without truth values, each of whose parts stands apart in memory.
 ghost use Rattle.std.specs.Prelude.{◌≡◌};
 ghost use Rattle.proof_lines.specs.Clauses.{same_bool};
-ghost use Rattle.ground_atoms.specs.Formulas.{form_of};
-ghost use Rattle.clausify.specs.Formulas.{is_bare};
+ghost use Rattle.clausify.specs.Formulas.{is_plain};
 
 use ground_atoms::GroundFormula;
 
-/// A formula once its truth values are folded: a truth value, or a bare formula.
+/// A formula once its truth values are folded: a truth value, or a plain formula.
 #[derive(Drop)]
 pub enum Folded {
     Settled(bool),
     Unsettled(GroundFormula),
 }
 
-/// Whether no part of the formula is a truth value.
-pub fn is_bare(form: &GroundFormula) -> bool
-    ensures { result ≡ is_bare (form_of form.now) }
+/// Whether no part of the formula is a truth value, and each stands apart in memory.
+pub fn is_plain(form: &GroundFormula) -> bool
+    ensures { result ≡ is_plain form.now }
 {
     match form {
         GroundFormula::Truth(_) => false,
         GroundFormula::Lit(_, _) => true,
         GroundFormula::NotAtom(_) => true,
-        GroundFormula::Not(inner) => is_bare(inner),
-        GroundFormula::And(parts) => is_bare(&parts.0) && is_bare(&parts.1),
-        GroundFormula::Or(parts) => is_bare(&parts.0) && is_bare(&parts.1),
+        GroundFormula::Implied(_, _, _) => false,
+        GroundFormula::Congruent { .. } => false,
+        GroundFormula::Not(inner) => is_plain(inner),
+        GroundFormula::And(parts) => is_plain(&parts.0) && is_plain(&parts.1),
+        GroundFormula::Or(parts) => is_plain(&parts.0) && is_plain(&parts.1),
     }
 }
 

@@ -3,17 +3,18 @@ ghost use Rattle.std.specs.Prelude.{◌≡◌, ◌+◌, ◌++◌, true, IfOk, On
 ghost use Rattle.ground_numbers.specs.Numbered.{disjunction};
 ghost use Rattle.ground_numbers.specs.Clauses.{unsettled, folded, fold_any, clauses_of, names_of, all_clauses, all_names};
 ghost use Rattle.ground_atoms.specs.Formulas.{form_of};
-ghost use Rattle.clausify.specs.Formulas.{is_bare, is_bare_if_unsettled, normal, folded_of};
+ghost use Rattle.clausify.specs.Formulas.{is_plain, is_plain_if_unsettled, normal, folded_of};
 
-use crate::bare::{Folded, is_bare};
+use crate::bare::{Folded, is_plain};
 use crate::folding::folded;
+use crate::straight::{write_congruent, write_implied};
 use crate::writing::{write_either, write_folded, write_whole};
 use ground_atoms::GroundFormula;
 use items::Items;
 use proof_lines::Clause;
 use std::alloc::{AllocError, Global};
 
-// Appends the clauses of "or" of a folded formula and a bare one.
+// Appends the clauses of "or" of a folded formula and a plain one.
 fn write_beside(
     alloc: Global,
     next: u32,
@@ -21,8 +22,8 @@ fn write_beside(
     right: &GroundFormula,
     out: &mut Items<Clause>,
 ) -> Result<u32, AllocError>
-    requires left { is_bare_if_unsettled left.now ≡ true }
-    requires right { is_bare (form_of right.now) ≡ true }
+    requires left { is_plain_if_unsettled left.now ≡ true }
+    requires right { is_plain right.now ≡ true }
     ensures made { OnOk result
         (out.new
         ≡ out.old
@@ -39,8 +40,8 @@ fn write_beside(
     }
 }
 
-#[tactic(auto, using(crate::proofs::Straight::folded_beside))]
-// Appends the clauses of "or" of a formula and a bare one, which is written as it stands.
+#[tactic(auto, using(crate::proofs::Plain::folded_beside))]
+// Appends the clauses of "or" of a formula and a plain one, which is written as it stands.
 fn write_or(
     alloc: Global,
     next: u32,
@@ -48,7 +49,7 @@ fn write_or(
     right: &GroundFormula,
     out: &mut Items<Clause>,
 ) -> Result<u32, AllocError>
-    requires { is_bare (form_of right.now) ≡ true }
+    requires { is_plain right.now ≡ true }
     ensures made { OnOk result
         (out.new
         ≡ out.old
@@ -60,8 +61,34 @@ fn write_or(
     write_beside(alloc, next, &plain, right, out)
 }
 
-// Appends the clauses of a formula. `next` is the next naming atom. Most formulas are bare, and then nothing is made but their
-// clauses; of most others what follows an "or" is.
+// Appends the clauses of a formula whose parts stand apart in memory. `next` is the next naming atom. Most are plain, and then nothing
+// is made but their clauses; of most others what follows an "or" is.
+fn write_parts_of(
+    alloc: Global,
+    next: u32,
+    form: &GroundFormula,
+    out: &mut Items<Clause>,
+) -> Result<u32, AllocError>
+    ensures made { OnOk result (out.new ≡ out.old
+        ++ clauses_of next (folded true (form_of form.now))) }
+    ensures next { IfOk result (λ n. n ≡ next + names_of (folded true (form_of form.now))) }
+{
+    if is_plain(form) {
+        return write_whole(alloc, true, None, next, form, out);
+    }
+    match form {
+        GroundFormula::Or(parts) if is_plain(&parts.1) => {
+            write_or(alloc, next, &parts.0, &parts.1, out)
+        }
+        _ => {
+            let plain = folded(alloc, true, form)?;
+            write_folded(alloc, next, &plain, out)
+        }
+    }
+}
+
+#[tactic(auto, using(crate::proofs::Written::congruent_clauses, crate::proofs::Written::congruent_names))]
+// Appends the clauses of a formula. `next` is the next naming atom.
 fn write_formula(
     alloc: Global,
     next: u32,
@@ -72,17 +99,24 @@ fn write_formula(
         ++ clauses_of next (folded true (form_of form.now))) }
     ensures next { IfOk result (λ n. n ≡ next + names_of (folded true (form_of form.now))) }
 {
-    if is_bare(form) {
-        return write_whole(alloc, true, None, next, form, out);
-    }
     match form {
-        GroundFormula::Or(parts) if is_bare(&parts.1) => {
-            write_or(alloc, next, &parts.0, &parts.1, out)
+        GroundFormula::Implied(first, second, third) => {
+            write_implied(alloc, *first, *second, *third, out)?;
+            Ok(next)
         }
-        _ => {
-            let plain = folded(alloc, true, form)?;
-            write_folded(alloc, next, &plain, out)
+        GroundFormula::Congruent {
+            places,
+            agreement,
+            equal,
+            also,
+            left,
+            right,
+        } => {
+            write_congruent(
+                alloc, next, *places, *agreement, *equal, *also, *left, *right, out,
+            )
         }
+        _ => write_parts_of(alloc, next, form, out),
     }
 }
 

@@ -1,10 +1,10 @@
-// The clauses of a bare formula: each "and" inside an "or" is named by a new atom. A sign goes with each part: where it is false, the
+// The clauses of a plain formula: each "and" inside an "or" is named by a new atom. A sign goes with each part: where it is false, the
 // negation of that part is written, so that an "and" is an "or" and an "or" is an "and".
 ghost use Rattle.std.specs.Prelude.{◌≡◌, ◌+◌, ◌∷◌, ◌++◌, [], true, None, IfOk, OnOk};
 ghost use Rattle.ground_numbers.specs.Clauses.{any, names, literals, new_names, inner_names, written, whole, parts, in_front, clause_of, clauses_of, names_of};
 ghost use Rattle.proof_lines.specs.Clauses.{join, lit_of};
 ghost use Rattle.ground_atoms.specs.Formulas.{form_of};
-ghost use Rattle.clausify.specs.Formulas.{is_bare, is_bare_if_unsettled, normal, folded_of};
+ghost use Rattle.clausify.specs.Formulas.{is_plain, is_plain_if_unsettled, normal, folded_of};
 
 use crate::bare::{Folded, signed};
 use ground_atoms::GroundFormula;
@@ -31,13 +31,15 @@ fn add_literals(
     form: &GroundFormula,
     clause: &mut Clause,
 ) -> Result<u32, AllocError>
-    requires { is_bare (form_of form.now) ≡ true }
+    requires { is_plain form.now ≡ true }
     ensures made { OnOk result (clause.new ≡ join clause.old
         (literals name (normal sign (form_of form.now)))) }
     ensures next { IfOk result (λ n. n ≡ name + names (normal sign (form_of form.now))) }
 {
     match form {
         GroundFormula::Truth(_) => unreachable!(),
+        GroundFormula::Implied(_, _, _) => unreachable!(),
+        GroundFormula::Congruent { .. } => unreachable!(),
         GroundFormula::Lit(atom, positive) => {
             clause.insert(Lit {
                 atom: *atom,
@@ -97,7 +99,7 @@ fn write_clause(
     form: &GroundFormula,
     out: &mut Items<Clause>,
 ) -> Result<u32, AllocError>
-    requires { is_bare (form_of form.now) ≡ true }
+    requires { is_plain form.now ≡ true }
     ensures made { OnOk result (out.new ≡ out.old
         ++ clause_of front name (normal sign (form_of form.now)) ∷ []) }
     ensures next { IfOk result (λ n. n ≡ name + names (normal sign (form_of form.now))) }
@@ -116,8 +118,8 @@ fn write_clause_of_two(
     right: &GroundFormula,
     out: &mut Items<Clause>,
 ) -> Result<u32, AllocError>
-    requires left { is_bare (form_of left.now) ≡ true }
-    requires right { is_bare (form_of right.now) ≡ true }
+    requires left { is_plain left.now ≡ true }
+    requires right { is_plain right.now ≡ true }
     ensures made { OnOk result
         (out.new
         ≡ out.old
@@ -132,7 +134,7 @@ fn write_clause_of_two(
     Ok(next)
 }
 
-/// Appends the clauses of a bare formula, each after the literal in front, if any. `next` is the next naming atom.
+/// Appends the clauses of a plain formula, each after the literal in front, if any. `next` is the next naming atom.
 #[cycle(writing)]
 pub fn write_whole(
     alloc: Global,
@@ -142,13 +144,15 @@ pub fn write_whole(
     form: &GroundFormula,
     out: &mut Items<Clause>,
 ) -> Result<u32, AllocError>
-    requires { is_bare (form_of form.now) ≡ true }
+    requires { is_plain form.now ≡ true }
     ensures made { OnOk result (out.new ≡ out.old
         ++ written (whole front) next (normal sign (form_of form.now))) }
     ensures next { IfOk result (λ n. n ≡ next + new_names (normal sign (form_of form.now))) }
 {
     match form {
         GroundFormula::Truth(_) => unreachable!(),
+        GroundFormula::Implied(_, _, _) => unreachable!(),
+        GroundFormula::Congruent { .. } => unreachable!(),
         GroundFormula::Lit(_, _) => {
             let _ = write_clause(alloc, sign, front, next, form, out)?;
             Ok(next)
@@ -198,7 +202,7 @@ fn write_parts(
     form: &GroundFormula,
     out: &mut Items<Clause>,
 ) -> Result<Naming, AllocError>
-    requires { is_bare (form_of form.now) ≡ true }
+    requires { is_plain form.now ≡ true }
     ensures made { OnOk result (out.new ≡ out.old
         ++ written (parts at.name) at.next (normal sign (form_of form.now))) }
     ensures name { IfOk result (λ r. r.name ≡ at.name + names (normal sign (form_of form.now))) }
@@ -207,6 +211,8 @@ fn write_parts(
 {
     match form {
         GroundFormula::Truth(_) => unreachable!(),
+        GroundFormula::Implied(_, _, _) => unreachable!(),
+        GroundFormula::Congruent { .. } => unreachable!(),
         GroundFormula::Lit(_, _) => Ok(at),
         GroundFormula::NotAtom(_) => Ok(at),
         GroundFormula::Not(inner) => write_parts(alloc, !sign, at, inner, out),
@@ -241,7 +247,7 @@ fn write_parts(
     }
 }
 
-/// Appends the clauses of "or" of two bare formulas. `next` is the next naming atom.
+/// Appends the clauses of "or" of two plain formulas. `next` is the next naming atom.
 pub fn write_either(
     alloc: Global,
     next: u32,
@@ -249,8 +255,8 @@ pub fn write_either(
     right: &GroundFormula,
     out: &mut Items<Clause>,
 ) -> Result<u32, AllocError>
-    requires left { is_bare (form_of left.now) ≡ true }
-    requires right { is_bare (form_of right.now) ≡ true }
+    requires left { is_plain left.now ≡ true }
+    requires right { is_plain right.now ≡ true }
     ensures made { OnOk result
         (out.new
         ≡ out.old
@@ -275,7 +281,7 @@ pub fn write_folded(
     form: &Folded,
     out: &mut Items<Clause>,
 ) -> Result<u32, AllocError>
-    requires { is_bare_if_unsettled form.now ≡ true }
+    requires { is_plain_if_unsettled form.now ≡ true }
     ensures made { OnOk result (out.new ≡ out.old ++ clauses_of next (folded_of form.now)) }
     ensures next { IfOk result (λ n. n ≡ next + names_of (folded_of form.now)) }
 {

@@ -20,7 +20,7 @@ pub mod tuple;
 pub use atom::{Atom, IntName, NamedReading};
 pub use atoms::Atoms;
 pub use call::{GroundArg, GroundCall};
-pub use formula::GroundFormula;
+pub use formula::{Agreement, GroundFormula, Places};
 pub use keyed_row::KeyedRow;
 pub use laws::law_making_is_numbering;
 pub use part::SumPart;

@@ -4,10 +4,10 @@ ghost use Rattle.std.specs.Prelude.{◌≡◌, Some, map};
 ghost use Rattle.proof_lines.specs.Problems.{atom_true, kind_true, meaning_of, row_true};
 ghost use Rattle.ground_numbers.specs.Numbered.{all_hold, holds};
 ghost use Rattle.ground_numbers.specs.Problem.{kind_of};
-ghost use Rattle.ground_atoms.specs.Formulas.{form_of};
+ghost use Rattle.ground_atoms.specs.Formulas.{form_of, tuples_equal, readings_agree};
 ghost use Rattle.ground_atoms.specs.Symbols.{atom_of};
 
-use ground_atoms::{Atom, Atoms, GroundFormula};
+use ground_atoms::{Agreement, Atom, Atoms, GroundFormula, Places};
 use lin_rows::{Row, truth_at};
 use proof_lines::Interpretation;
 use std::process::Abort;
@@ -50,6 +50,43 @@ fn literal_is_true(rt: &impl Abort, found: &Interpretation, atoms: &Atoms, numbe
     }
 }
 
+fn tuples_equal(
+    rt: &impl Abort,
+    found: &Interpretation,
+    atoms: &Atoms,
+    places: Places,
+    equal: u32,
+    also: u32,
+) -> bool
+    ensures { result ≡ holds (atom_true (meaning_of found.now) (map kind_of atoms.now.table.atoms)) (tuples_equal places equal also) }
+{
+    let first = literal_is_true(rt, found, atoms, equal);
+    match places {
+        Places::Only => first,
+        Places::First => first,
+        Places::Second => first,
+        Places::Both => first && literal_is_true(rt, found, atoms, also),
+    }
+}
+
+fn readings_agree(
+    rt: &impl Abort,
+    found: &Interpretation,
+    atoms: &Atoms,
+    agreement: Agreement,
+    left: u32,
+    right: u32,
+) -> bool
+    ensures { result ≡ holds (atom_true (meaning_of found.now) (map kind_of atoms.now.table.atoms)) (readings_agree agreement left right) }
+{
+    let first = literal_is_true(rt, found, atoms, left);
+    let second = literal_is_true(rt, found, atoms, right);
+    match agreement {
+        Agreement::Relation => (!first || second) && (first || !second),
+        Agreement::Counter => first && second,
+    }
+}
+
 fn holds(rt: &impl Abort, found: &Interpretation, atoms: &Atoms, formula: &GroundFormula) -> bool
     ensures { result ≡ holds (atom_true (meaning_of found.now) (map kind_of atoms.now.table.atoms)) (form_of formula.now) }
 {
@@ -59,6 +96,22 @@ fn holds(rt: &impl Abort, found: &Interpretation, atoms: &Atoms, formula: &Groun
             literal_is_true(rt, found, atoms, *atom) == *positive
         }
         GroundFormula::NotAtom(atom) => !literal_is_true(rt, found, atoms, *atom),
+        GroundFormula::Implied(first, second, third) => {
+            !(literal_is_true(rt, found, atoms, *first)
+                && literal_is_true(rt, found, atoms, *second))
+                || literal_is_true(rt, found, atoms, *third)
+        }
+        GroundFormula::Congruent {
+            places,
+            agreement,
+            equal,
+            also,
+            left,
+            right,
+        } => {
+            !tuples_equal(rt, found, atoms, *places, *equal, *also)
+                || readings_agree(rt, found, atoms, *agreement, *left, *right)
+        }
         GroundFormula::Not(part) => !holds(rt, found, atoms, part),
         GroundFormula::And(parts) => {
             holds(rt, found, atoms, &parts.0) && holds(rt, found, atoms, &parts.1)
