@@ -1,181 +1,23 @@
 // Equal constants have equal readings at the entry.
-ghost use Rattle.std.specs.Prelude.{◌≡◌, ◌+◌, ◌-◌, ◌<◌, ◌≤◌, ◌++◌, ◌∷◌, [], cond, length, map, drop, take, None, Some, IfOk, OnOk};
+ghost use Rattle.std.specs.Prelude.{◌≡◌, ◌+◌, ◌-◌, ◌<◌, ◌≤◌, ◌++◌, ◌∷◌, [], cond, length, map, drop, take, IfOk};
 ghost use Rattle.std.specs.Ordering.{nat_cmp, is_lt};
 ghost use Rattle.std.specs.Cmp.Lexicographic.{slice_cmp};
 ghost use Rattle.std.specs.List.{filter, flat_map};
-ghost use Rattle.std.specs.Option.{option_map};
 ghost use Rattle.effectors.specs.Effect as effect;
-ghost use Rattle.spec_core.specs.declared.update.Thing.TheVariants as thing;
-ghost use Rattle.ground_problem.specs.Symbols as symbols;
 ghost use Rattle.ground_problem.specs.Equality as equality;
-ghost use Rattle.ground_numbers.specs.Numbered.{known};
-ghost use Rattle.ground_numbers.specs.Numbers.{has_atom, number_of};
-ghost use Rattle.ground_atoms.specs.Known.{know_atom};
 ghost use Rattle.ground_atoms.specs.Symbols.{reading_of};
-ghost use Rattle.ground_atoms.specs.Formulas.{form_of};
-ghost use Rattle.stage_defs.specs.Settings.{IsMade};
-ghost use Rattle.stage_defs.specs.Parts as parts;
 ghost use Rattle.ground_problem.specs.Problem.{most_formulas};
 ghost use Rattle.ground_groups.specs.Limited.{Appends, HasRoomFor};
 ghost use Rattle.ground_equality.specs.Pairs.{pair_count};
 
+use crate::congruent::congruent;
 use effectors::is_thing;
-use ground_atoms::{Atom, Atoms, GroundFormula, NamedReading, Tuple};
+use ground_atoms::{Atoms, GroundFormula, NamedReading};
 use ground_groups::GroundRefused;
 use ground_groups::adding::{MOST_FORMULAS, has_room};
-use ground_groups::differing::sum;
-use ground_groups::parts::{all_of, join_lengths, join_same};
 use items::Items;
 use spec_core::{Spec, Thing};
-use stage_defs::{both, either, equal, negated, same_const};
 use std::alloc::{AllocError, Global};
-
-// Two tuples of any lengths are equal, place by place.
-fn places_same(
-    atoms: &mut Atoms,
-    alloc: Global,
-    left: &[u32],
-    right: &[u32],
-) -> Result<GroundFormula, AllocError>
-    ensures { IfOk result (λ f. IsMade atoms.old
-        (symbols.all_parts (equality.tuples_same left.now right.now)) atoms.new f) }
-{
-    let mut done = None;
-    let count = left.len().min(right.len());
-    for place in 0..count {
-        done = join_same(atoms, alloc, true, left[place], right[place], done)?;
-    }
-    let parts = join_lengths(alloc, left.len() == right.len(), done)?;
-    let all = all_of(parts);
-    Ok(all)
-}
-
-// Two tuples are equal, place by place. Those of one or two places, which most are, are joined at once.
-fn tuples_same(
-    atoms: &mut Atoms,
-    alloc: Global,
-    left: &[u32],
-    right: &[u32],
-) -> Result<GroundFormula, AllocError>
-    ensures { IfOk result (λ f. IsMade atoms.old
-        (symbols.all_parts (equality.tuples_same left.now right.now)) atoms.new f) }
-{
-    match left {
-        [a] => match right {
-            [b] => same_const(atoms, *a, *b),
-            _ => places_same(atoms, alloc, left, right),
-        },
-        [a, c] => match right {
-            [b, d] => {
-                let first = same_const(atoms, *a, *b)?;
-                let second = same_const(atoms, *c, *d)?;
-                both(alloc, first, second)
-            }
-            _ => places_same(atoms, alloc, left, right),
-        },
-        _ => places_same(atoms, alloc, left, right),
-    }
-}
-
-// The number of a relation's reading at the entry.
-fn number_at(
-    atoms: &mut Atoms,
-    alloc: Global,
-    relation: u8,
-    tuple: &[u32],
-) -> Result<u32, AllocError>
-    ensures known { OnOk result (atoms.new ≡ know_atom atoms.old (has_atom [] relation tuple.now)) }
-    ensures number { IfOk result (λ n. n ≡ number_of atoms.old.table
-        (has_atom [] relation tuple.now)) }
-{
-    let tuple = Tuple::of(alloc, tuple)?;
-    atoms.number_of(Atom::Has {
-        stage: 0,
-        relation,
-        tuple,
-    })
-}
-
-#[tactic(auto, using(crate::proofs::Twice::read_twice))]
-// A relation holds of both tuples or of neither. Each reading is looked up once, and stands in the formula twice.
-fn relation_same(
-    atoms: &mut Atoms,
-    alloc: Global,
-    relation: u8,
-    left: &[u32],
-    right: &[u32],
-) -> Result<GroundFormula, AllocError>
-    ensures { IfOk result
-        (λ f. IsMade atoms.old (equality.readings_same (thing.Relation relation) left.now right.now)
-        atoms.new f) }
-{
-    let first = number_at(atoms, alloc, relation, left)?;
-    let second = number_at(atoms, alloc, relation, right)?;
-    let to = either(
-        alloc,
-        GroundFormula::NotAtom(first),
-        GroundFormula::Lit(second, true),
-    )?;
-    let fro = either(
-        alloc,
-        GroundFormula::Lit(first, true),
-        GroundFormula::NotAtom(second),
-    )?;
-    both(alloc, to, fro)
-}
-
-fn counter_same(
-    atoms: &mut Atoms,
-    alloc: Global,
-    spec: &Spec,
-    counter: u8,
-    left: &[u32],
-    right: &[u32],
-) -> Result<GroundFormula, AllocError>
-    ensures { IfOk result
-        (λ f. IsMade atoms.old (equality.readings_same (thing.Counter counter) left.now right.now)
-        atoms.new f) }
-{
-    let first = sum(alloc, spec, 0, counter, left)?;
-    let second = sum(alloc, spec, 0, counter, right)?;
-    equal(atoms, alloc, first.as_slice(), second.as_slice())
-}
-
-// A thing reads the same at two tuples at the entry.
-fn readings_same(
-    atoms: &mut Atoms,
-    alloc: Global,
-    spec: &Spec,
-    thing: Thing,
-    left: &[u32],
-    right: &[u32],
-) -> Result<GroundFormula, AllocError>
-    ensures { IfOk result (λ f. IsMade atoms.old
-        (equality.readings_same thing left.now right.now) atoms.new f) }
-{
-    match thing {
-        Thing::Relation(relation) => relation_same(atoms, alloc, relation, left, right),
-        Thing::Counter(counter) => counter_same(atoms, alloc, spec, counter, left, right),
-    }
-}
-
-// Where two tuples are equal, a thing reads the same at them.
-fn congruent(
-    atoms: &mut Atoms,
-    alloc: Global,
-    spec: &Spec,
-    thing: Thing,
-    left: &[u32],
-    right: &[u32],
-) -> Result<GroundFormula, AllocError>
-    ensures { IfOk result (λ f. IsMade atoms.old
-        (equality.congruent thing left.now right.now) atoms.new f) }
-{
-    let equal = tuples_same(atoms, alloc, left, right)?;
-    let premise = negated(alloc, equal)?;
-    let same = readings_same(atoms, alloc, spec, thing, left, right)?;
-    either(alloc, premise, same)
-}
 
 // Appends this for a tuple and each of these.
 fn add_with_each(

@@ -1,9 +1,11 @@
 // Equality goes over each of three constants of one sort to the other two.
-ghost use Rattle.std.specs.Prelude.{◌≡◌, ◌+◌, ◌≤◌, ◌<◌, ◌∷◌, [], length, drop, slice_index, IfOk};
+ghost use Rattle.std.specs.Prelude.{◌≡◌, ◌+◌, ◌≤◌, ◌<◌, ◌∷◌, [], true, length, drop, slice_index, IfOk};
 ghost use Rattle.std.specs.List.{flat_map};
 ghost use Rattle.ground_problem.specs.Constants.{of_sort};
 ghost use Rattle.ground_problem.specs.Symbols as symbols;
 ghost use Rattle.ground_problem.specs.Equality as equality;
+ghost use Rattle.ground_numbers.specs.Numbered.{literal};
+ghost use Rattle.ground_atoms.specs.Making.{make};
 ghost use Rattle.stage_defs.specs.Settings.{IsMade};
 ghost use Rattle.ground_groups.specs.Limited.{Appends};
 
@@ -12,20 +14,20 @@ use ground_constants::assigning::as_number;
 use ground_groups::GroundRefused;
 use ground_groups::adding::has_room;
 use items::Items;
-use stage_defs::{both, either, negated};
 use std::alloc::{AllocError, Global};
 
-// The equality of two constants, the lesser first.
-fn same(atoms: &mut Atoms, lesser: u32, greater: u32) -> Result<GroundFormula, AllocError>
-    ensures { IfOk result (λ f. IsMade atoms.old (symbols.same lesser greater) atoms.new f) }
+// The number of the equality of two constants, the lesser first.
+fn number_of(atoms: &mut Atoms, lesser: u32, greater: u32) -> Result<u32, AllocError>
+    ensures { IfOk result
+        (λ n. make atoms.old (symbols.same lesser greater)
+        ≡ record { known = atoms.new; form = literal n true }) }
 {
-    Ok(GroundFormula::Lit(atoms.number_of(Atom::Same(lesser, greater))?, true))
+    atoms.number_of(Atom::Same(lesser, greater))
 }
 
 // Where a is b and c is d, e is f.
 fn implied(
     atoms: &mut Atoms,
-    alloc: Global,
     a: u32,
     b: u32,
     c: u32,
@@ -39,18 +41,15 @@ fn implied(
         (symbols.same e f))
         atoms.new made) }
 {
-    let first = same(atoms, a, b)?;
-    let second = same(atoms, c, d)?;
-    let all = both(alloc, first, second)?;
-    let left = negated(alloc, all)?;
-    let right = same(atoms, e, f)?;
-    either(alloc, left, right)
+    let first = number_of(atoms, a, b)?;
+    let second = number_of(atoms, c, d)?;
+    let third = number_of(atoms, e, f)?;
+    Ok(GroundFormula::Implied(first, second, third))
 }
 
 // Appends it.
 fn add_implied(
     atoms: &mut Atoms,
-    alloc: Global,
     a: u32,
     b: u32,
     c: u32,
@@ -65,7 +64,7 @@ fn add_implied(
         out.new atoms.new }
 {
     has_room(out)?;
-    let made = implied(atoms, alloc, a, b, c, d, e, f)?;
+    let made = implied(atoms, a, b, c, d, e, f)?;
     out.push(made)?;
     Ok(())
 }
@@ -73,7 +72,6 @@ fn add_implied(
 // Appends that equality goes over the first and over the last of three constants.
 fn add_over_ends(
     atoms: &mut Atoms,
-    alloc: Global,
     a: u32,
     b: u32,
     c: u32,
@@ -86,17 +84,16 @@ fn add_over_ends(
         [])
         out.new atoms.new }
 {
-    match add_implied(atoms, alloc, a, b, a, c, b, c, out) {
+    match add_implied(atoms, a, b, a, c, b, c, out) {
         Ok(()) => {}
         Err(refused) => return Err(refused),
     }
-    add_implied(atoms, alloc, a, c, b, c, a, b, out)
+    add_implied(atoms, a, c, b, c, a, b, out)
 }
 
 // Appends that equality goes over each of three constants.
 fn add_three(
     atoms: &mut Atoms,
-    alloc: Global,
     a: u32,
     b: u32,
     c: u32,
@@ -104,17 +101,16 @@ fn add_three(
 ) -> Result<(), GroundRefused>
     ensures { Appends result out.old atoms.old (equality.three_agree a b c) out.new atoms.new }
 {
-    match add_implied(atoms, alloc, a, b, b, c, a, c, out) {
+    match add_implied(atoms, a, b, b, c, a, c, out) {
         Ok(()) => {}
         Err(refused) => return Err(refused),
     }
-    add_over_ends(atoms, alloc, a, b, c, out)
+    add_over_ends(atoms, a, b, c, out)
 }
 
 // The same for two constants and each of these.
 fn add_triples(
     atoms: &mut Atoms,
-    alloc: Global,
     a: u32,
     b: u32,
     later: &[u32],
@@ -124,7 +120,7 @@ fn add_triples(
         (flat_map (equality.three_agree a b) later.now) out.new atoms.new }
 {
     for place in 0..later.len() {
-        match add_three(atoms, alloc, a, b, later[place], out) {
+        match add_three(atoms, a, b, later[place], out) {
             Ok(()) => {}
             Err(refused) => return Err(refused),
         }
@@ -135,7 +131,6 @@ fn add_triples(
 // The same for a constant, the one at a place and each after it.
 fn add_from(
     atoms: &mut Atoms,
-    alloc: Global,
     a: u32,
     later: &[u32],
     place: usize,
@@ -148,13 +143,12 @@ fn add_from(
         out.new atoms.new }
 {
     let next = place + 1;
-    add_triples(atoms, alloc, a, later[place], &later[next..], out)
+    add_triples(atoms, a, later[place], &later[next..], out)
 }
 
 // The same for a constant and each two of these.
 fn add_pairs(
     atoms: &mut Atoms,
-    alloc: Global,
     a: u32,
     later: &[u32],
     out: &mut Items<GroundFormula>,
@@ -163,7 +157,7 @@ fn add_pairs(
         (equality.agree_with_pairs a later.now) out.new atoms.new }
 {
     for place in 0..later.len() {
-        match add_from(atoms, alloc, a, later, place, out) {
+        match add_from(atoms, a, later, place, out) {
             Ok(()) => {}
             Err(refused) => return Err(refused),
         }
@@ -206,7 +200,7 @@ fn add_of_sort(
 {
     let constant = as_number(place)?;
     let later = of_sort_from(alloc, sorts, place + 1, sorts[place])?;
-    add_pairs(atoms, alloc, constant, later.as_slice(), out)
+    add_pairs(atoms, constant, later.as_slice(), out)
 }
 
 /// Appends this for every three constants of one sort, the triples in rising order.

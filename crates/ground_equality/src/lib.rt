@@ -2,8 +2,9 @@
 // have equal readings.
 //
 // It stands on `ground_groups`, whose lists of formulas up to a limit it appends to. Pairs are counted before their formulas are
-// made. Definitions, in specs/: `Pairs` (how many pairs there are).
+// made. Definitions, in specs/: `Pairs` (how many pairs there are); `Congruent` (what the code has of the two parts of a formula).
 #![tactic(auto)]
 
 pub mod agreeing;
+pub mod congruent;
 pub mod equating;

@@ -5,7 +5,7 @@ use Rattle.ground_atoms.specs.Formulas.{form_of}
 use Rattle.stage_defs.specs.Parts.{made_parts}
 use Rattle.stage_defs.proofs.Joined.{all_parts-is}
 use Rattle.ground_equality.proofs.Tuples.{same_step, same_done}
-use Rattle.ground_equality.proofs.agreeing.places_same.Goals as goal
+use Rattle.ground_equality.proofs.congruent.places_same.Goals as goal
 
 pub loop-place-preserved : goal.loop-place-preserved
 loop-place-preserved c =
