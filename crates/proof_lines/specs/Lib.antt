@@ -1,5 +1,6 @@
 pub mod Numbers
 pub mod Clauses
 pub mod Marks
+pub mod Forms
 pub mod Problems
 pub mod Forced

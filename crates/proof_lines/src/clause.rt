@@ -3,10 +3,13 @@ ghost use Rattle.std.specs.Prelude.{◌≡◌, ◌≤◌, true, not, ◌&&◌, I
 ghost use Rattle.proof_lines.specs.Marks.{HasMarks};
 ghost use Rattle.proof_lines.specs.Clauses.{is_empty, has, resolvent, insert, join, same_lit, sub, distinct, without, flip, negations, holds_both_ways};
 
+use crate::literals::Literals;
 use crate::marks::{SHORT_TABLE, are_few, is_among, mark_all, marks_for};
-use items::Items;
 use std::alloc::{AllocError, Global};
 use std::marker::Model;
+
+// Of clauses that give at most so many literals a scan finds each in less time than a table of marks.
+const SHORT: usize = 5;
 
 /// An atom, or its negation. Atoms are numbered from 0.
 #[derive(Clone, Copy, PartialEq, Eq, Debug)]
@@ -38,7 +41,7 @@ impl Lit {
 /// literals, each once; their order has no meaning.
 #[derive(Drop)]
 pub struct Clause {
-    lits: Items<Lit>,
+    lits: Literals,
 }
 
 impl Model for Clause {
@@ -59,7 +62,7 @@ impl Clause {
         ensures { result ≡ [] }
     {
         Clause {
-            lits: Items::new(alloc),
+            lits: Literals::new(alloc),
         }
     }
 
@@ -90,10 +93,8 @@ impl Clause {
     pub fn of_opposites(alloc: Global, lits: &[Lit]) -> Result<Clause, AllocError>
         ensures { IfOk result (λ c. c ≡ negations lits.now) }
     {
-        let room = Vec::with_capacity(alloc, lits.len())?;
-        let mut clause = Clause {
-            lits: Items::from_vec(room),
-        };
+        let room = Literals::with_room(alloc, lits.len())?;
+        let mut clause = Clause { lits: room };
         for lit in lits {
             clause.insert(lit.opposite())?;
         }
@@ -110,25 +111,81 @@ impl Clause {
     ) -> Result<Clause, AllocError>
         ensures { IfOk result (λ c. c ≡ resolvent atom left.now right.now) }
     {
+        let most = (left.lits().len() + right.lits().len()).saturating_sub(2);
+        if most <= SHORT {
+            return Clause::short_resolvent(alloc, left, right, atom);
+        }
+        Clause::long_resolvent(alloc, left, right, atom, most)
+    }
+
+    // The resolvent of clauses of few literals, which are looked for one by one.
+    fn short_resolvent(
+        alloc: Global,
+        left: &Clause,
+        right: &Clause,
+        atom: u32,
+    ) -> Result<Clause, AllocError>
+        ensures { IfOk result (λ c. c ≡ resolvent atom left.now right.now) }
+    {
+        let up = Lit {
+            atom,
+            positive: true,
+        };
+        let mut clause = left.without(alloc, up)?;
+        clause.insert_others(right.lits(), up.opposite())?;
+        Ok(clause)
+    }
+
+    // The resolvent of clauses of any length, which has at most so many literals.
+    fn long_resolvent(
+        alloc: Global,
+        left: &Clause,
+        right: &Clause,
+        atom: u32,
+        most: usize,
+    ) -> Result<Clause, AllocError>
+        ensures { IfOk result (λ c. c ≡ resolvent atom left.now right.now) }
+    {
         let up = Lit {
             atom,
             positive: true,
         };
         left.law_distinct();
         right.law_distinct();
-        let most = (left.lits().len() + right.lits().len()).saturating_sub(2);
         let mut lits = Vec::with_capacity(alloc, most)?;
         put_resolvent(alloc, &mut lits, left.lits(), right.lits(), up)?;
         Ok(Clause {
-            lits: Items::from_vec(lits),
+            lits: Literals::from_vec(lits),
         })
+    }
+
+    // The clause without one literal.
+    fn without(&self, alloc: Global, lit: Lit) -> Result<Clause, AllocError>
+        ensures { IfOk result (λ c. c ≡ without lit self.now) }
+    {
+        self.law_distinct();
+        let mut lits = Literals::new(alloc);
+        push_others(&mut lits, self.lits(), lit)?;
+        Ok(Clause { lits })
+    }
+
+    // Adds the literals other than one.
+    fn insert_others(&mut self, lits: &[Lit], lit: Lit) -> Result<(), AllocError>
+        ensures { OnOk result (self.new ≡ join self.old (without lit lits.now)) }
+    {
+        for x in lits {
+            if !x.same(lit) {
+                self.insert(*x)?;
+            }
+        }
+        Ok(())
     }
 
     /// A copy of this clause.
     pub fn copy(&self, alloc: Global) -> Result<Clause, AllocError>
         ensures { IfOk result (λ c. c ≡ self.now) }
     {
-        let lits = Items::from_slice(alloc, self.lits.as_slice())?;
+        let lits = self.lits.copy(alloc)?;
         Ok(Clause { lits })
     }
 
@@ -180,6 +237,18 @@ pub fn holds_both_ways(lits: &[Lit]) -> bool
     ensures { result ≡ holds_both_ways lits.now }
 {
     lits.iter().any(|x| holds(lits, x.opposite()))
+}
+
+// Appends the literals other than one, of which there are few.
+fn push_others(out: &mut Literals, lits: &[Lit], lit: Lit) -> Result<(), AllocError>
+    ensures { OnOk result (out.new ≡ out.old ++ without lit lits.now) }
+{
+    for x in lits {
+        if !x.same(lit) {
+            out.push(*x)?;
+        }
+    }
+    Ok(())
 }
 
 // The first place of a literal, or the number of literals where it isn't there.

@@ -24,6 +24,7 @@ macro_rules! or_drop {
 
 pub mod clause;
 pub mod line;
+mod literals;
 pub mod marks;
 pub mod problem;
 

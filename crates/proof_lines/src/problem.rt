@@ -144,7 +144,7 @@ fn are_named(lits: &[Lit], atoms: usize) -> bool
 fn copy_atoms(alloc: Global, atoms: &[AtomKind]) -> Result<Vec<AtomKind>, AllocError>
     ensures { IfOk result (λ out. out.items ≡ atoms.now) }
 {
-    let mut out = Vec::new(alloc);
+    let mut out = Vec::with_capacity(alloc, atoms.len())?;
     for atom in atoms {
         out.push(atom.copy(alloc)?)?;
     }
@@ -154,7 +154,7 @@ fn copy_atoms(alloc: Global, atoms: &[AtomKind]) -> Result<Vec<AtomKind>, AllocE
 fn copy_clauses(alloc: Global, clauses: &[Clause]) -> Result<Vec<Clause>, AllocError>
     ensures { IfOk result (λ out. out.items ≡ clauses.now) }
 {
-    let mut out = Vec::new(alloc);
+    let mut out = Vec::with_capacity(alloc, clauses.len())?;
     for clause in clauses {
         out.push(clause.copy(alloc)?)?;
     }
