@@ -19,7 +19,8 @@ use Rattle.proof_lines.specs.Problems.{Meaning, atom_true, kind_true, atoms_belo
 use Rattle.line_rows.specs.Refusals.{then_, IsTold}
 use Rattle.line_rows.specs.Steps.{line_rows, ends_badly, row_at}
 use Rattle.line_rows.specs.Splits.{split_fits, split_cause, at_most, is_at_most}
-use Rattle.proof_kernel.specs.Rules.{State, StateFits, next, holds, live_of, is_live, clause_at, grown, named, resolved, combined, combined_after, split, split_after, dropped, without_clauses, is_some_number, cleared, start}
+use Rattle.log_freshness.specs.Freshness.{live_of}
+use Rattle.proof_kernel.specs.Rules.{State, StateFits, next, holds, is_live, clause_at, grown, named, resolved, combined, combined_after, split, split_after, dropped, without_clauses, is_some_number, cleared, start}
 use Rattle.proof_lines.specs.Numbers.{are_different}
 use Rattle.std.proofs.lemmas.Bool.{and_parts, and_from}
 use Rattle.proof_lines.proofs.Sets.{resolvent-true}

@@ -22,7 +22,8 @@ use Rattle.line_rows.specs.Splits.{at_most, is_at_most, split_fits, split_cause}
 use Rattle.line_rows.proofs.Names.{all-resolvent, all-weaker, negations-below}
 use Rattle.line_rows.proofs.Sound.{ok_is}
 use Rattle.line_rows.proofs.LineRows.{line-are_rows, row_at-is_row, split-in_range, is_row-at_most}
-use Rattle.proof_kernel.specs.Rules.{State, next, holds, start, live_of, is_live, clause_at, grown, named, resolved, combined, combined_after, split, split_after, dropped, without_clauses, is_some_number, run, run_from}
+use Rattle.log_freshness.specs.Freshness.{live_of}
+use Rattle.proof_kernel.specs.Rules.{State, next, holds, start, is_live, clause_at, grown, named, resolved, combined, combined_after, split, split_after, dropped, without_clauses, is_some_number, run, run_from}
 use Rattle.proof_kernel.proofs.States.{live_of-push, live_of-map, all-live_of, all-cleared}
 use Rattle.proof_kernel.proofs.Lines.{Keeps, Went, then-went, start-holds, next-sound}
 

@@ -1,5 +1,5 @@
 -- The state of a kernel: its live clauses, and what it keeps.
-use Rattle.std.proofs.Common.{◌≡◌, ℕ, zero, suc, ◌+◌, ◌<◌, ◌≤◌, ◌^◌, Bool, true, false, not, cond, ◌&&◌, List, [], ◌∷◌, ◌++◌, length, map, set, get_or, take, refl, sym, ◌∙◌, ap, subst, arith, Option, Some, None, length-append, append-nil, drop, drop-cons}
+use Rattle.std.proofs.Common.{◌≡◌, ℕ, zero, suc, ◌+◌, ◌<◌, ◌≤◌, ◌^◌, Bool, true, false, not, cond, ◌&&◌, List, [], ◌∷◌, ◌++◌, length, map, set, get_or, take, refl, sym, ◌∙◌, ap, subst, arith, Option, Some, None, length-append, drop, drop-cons}
 use Rattle.std.specs.Prelude.{slice_index_or, slice_set, is_some}
 use Rattle.std.specs.List.{list_all}
 use Rattle.std.proofs.lemmas.List.Folds.{list_all-append}
@@ -8,9 +8,9 @@ use Rattle.proof_lines.specs.declared.clause.Lit.{Lit}
 use Rattle.proof_lines.specs.declared.problem.AtomKind.{AtomKind}
 use Rattle.proof_lines.specs.declared.problem.AtomKind.TheVariants.{Row as OfRow}
 use Rattle.proof_lines.specs.Problems.{PlainProblem, atoms_below, names_below, has_good_row, fits}
-use Rattle.proof_kernel.specs.Rules.{State, StateFits, live_of, live_clause, clause_or_empty, cleared}
+use Rattle.log_freshness.specs.Freshness.{live_of, is_new, each_new}
+use Rattle.proof_kernel.specs.Rules.{State, StateFits, live_clause, clause_or_empty, cleared}
 use Rattle.proof_lines.specs.Numbers.{are_different, stands_in}
-use Rattle.proof_kernel.specs.Evidence.{is_new, each_new}
 use Rattle.std.proofs.lemmas.Bool.{and_parts, and_from, and_right}
 use Rattle.line_rows.proofs.Names.{all-weaker}
 
@@ -162,29 +162,3 @@ fits-named s atoms r f is few good below =
       places_named = subst (λ (z : List AtomKind). list_all (names_below s.ints) z ≡ true) (sym is) placed;
       rows_good = subst (λ (z : List AtomKind). list_all has_good_row z ≡ true) (sym is) goods;
     }
-
--- the clauses among some slots and the next one
-pub live_of-next : (slots : List (Option (List Lit))) (i : ℕ) (d : Option (List Lit)) → i < length slots → live_of (take (suc i) slots) ≡ live_of (take i slots) ++ live_of (get_or slots i d ∷ [])
-live_of-next [] i d lt = absurd (omega arith)
-live_of-next (x ∷ slots) zero d lt = refl
-live_of-next (Some c ∷ slots) (suc i) d lt = ap (λ (z : List (List Lit)). c ∷ z) (live_of-next slots i d (omega arith))
-live_of-next (None ∷ slots) (suc i) d lt = live_of-next slots i d (omega arith)
-
-pub each_new-some : (slots : List (Option (List Lit))) (i j : ℕ) (d : Option (List Lit)) (c : List Lit) → j ≡ suc i → i < length slots → get_or slots i d ≡ Some c → is_new (live_of (take i slots)) c ≡ true
-    → each_new (live_of (take i slots)) (live_of (drop i slots)) ≡ each_new (live_of (take j slots)) (live_of (drop j slots))
-each_new-some slots i j d c e lt g n =
-    let before : live_of (take j slots) ≡ live_of (take i slots) ++ c ∷ [] =
-    ap (λ (k : ℕ). live_of (take k slots)) e ∙ live_of-next slots i d lt ∙ ap (λ (z : Option (List Lit)). live_of (take i slots) ++ live_of (z ∷ [])) g in
-    let here : live_of (drop i slots) ≡ c ∷ live_of (drop j slots) =
-    ap live_of (drop-cons slots i d lt) ∙ (λ t. live_of (g t ∷ drop (sym e t) slots)) in
-    ap (each_new (live_of (take i slots))) here ∙ ap (λ (b : Bool). b && each_new (live_of (take i slots) ++ c ∷ []) (live_of (drop j slots))) n
-    ∙ ap (λ (z : List (List Lit)). each_new z (live_of (drop j slots))) (sym before)
-
-pub each_new-none : (slots : List (Option (List Lit))) (i j : ℕ) (d : Option (List Lit)) → j ≡ suc i → i < length slots → get_or slots i d ≡ None
-    → each_new (live_of (take i slots)) (live_of (drop i slots)) ≡ each_new (live_of (take j slots)) (live_of (drop j slots))
-each_new-none slots i j d e lt g =
-    let before : live_of (take j slots) ≡ live_of (take i slots) ++ [] =
-    ap (λ (k : ℕ). live_of (take k slots)) e ∙ live_of-next slots i d lt ∙ ap (λ (z : Option (List Lit)). live_of (take i slots) ++ live_of (z ∷ [])) g in
-    let here : live_of (drop i slots) ≡ live_of (drop j slots) =
-    ap live_of (drop-cons slots i d lt) ∙ (λ t. live_of (g t ∷ drop (sym e t) slots)) in
-    (λ t. each_new ((sym (before ∙ append-nil (live_of (take i slots)))) t) (here t))

@@ -1,25 +1,16 @@
 -- Fresh logs, and the evidence of undecided verdicts over the state after a log.
-use Rattle.std.specs.Prelude.{◌+◌, ◌==◌, Bool, true, not, ◌&&◌, List, [], ◌∷◌, ◌++◌, length, take, drop, is_some}
-use Rattle.std.specs.List.{list_any, list_all}
+use Rattle.std.specs.Prelude.{◌+◌, ◌==◌, Bool, not, ◌&&◌, List, length, take, drop, is_some}
+use Rattle.std.specs.List.{list_all}
 use Rattle.proof_lines.specs.declared.clause.Lit.{Lit}
 use Rattle.proof_lines.specs.declared.line.RowStep.{RowStep}
 use Rattle.proof_lines.specs.declared.line.RangeWhat.{RangeWhat}
-use Rattle.proof_lines.specs.Clauses.{sub, is_empty, holds_both_ways}
+use Rattle.proof_lines.specs.Clauses.{holds_both_ways}
 use Rattle.line_rows.specs.Steps.{line_rows}
-use Rattle.proof_kernel.specs.Rules.{State, live_of}
+use Rattle.log_freshness.specs.Freshness.{live_of, each_new}
+use Rattle.proof_kernel.specs.Rules.{State}
 use Rattle.line_rows.specs.Evidence.{row_limit, rows_shown, range_shown}
 
 -- A FRESH LOG.
-
--- a clause is new among earlier ones: it contains none of them, holds no atom both ways and isn't empty
-abbrev pub is_new : List (List Lit) → List Lit → Bool
-is_new earlier c =
-    not (list_any (λ d. sub d c) earlier) && (not (holds_both_ways c) && not (is_empty c))
-
--- each clause is new among the earlier ones and those before it
-abbrev pub each_new : List (List Lit) → List (List Lit) → Bool
-each_new earlier [] = true
-each_new earlier (c ∷ cs) = is_new earlier c && each_new (earlier ++ c ∷ []) cs
 
 -- no line dropped a clause, and the clause of each line is new among the problem's clauses and those of earlier lines
 abbrev pub is_fresh : State → Bool

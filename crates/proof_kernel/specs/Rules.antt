@@ -16,6 +16,7 @@ use Rattle.line_rows.specs.Refusals.{need, then_}
 use Rattle.line_rows.specs.Steps.{line_rows, ends_badly, row_at}
 use Rattle.line_rows.specs.Splits.{split_fits, split_cause, at_most, is_at_most}
 use Rattle.proof_lines.specs.Numbers.{are_different}
+use Rattle.log_freshness.specs.Freshness.{live_of}
 
 -- What stands after some lines: the atoms, the number of integer names, how many clauses the problem has, the clauses by their
 -- numbers without the dropped ones, and whether an empty clause was ever among them.
@@ -25,12 +26,6 @@ pub record State : Type 0 where
   pub given : ℕ
   pub slots : List (Option (List Lit))
   pub empty : Bool
-
--- the clauses that weren't dropped, in the order of their numbers
-abbrev pub live_of : List (Option (List Lit)) → List (List Lit)
-live_of [] = []
-live_of (Some c ∷ slots) = c ∷ live_of slots
-live_of (None ∷ slots) = live_of slots
 
 -- what a kernel keeps of its state
 pub record StateFits (s : State) : Type 0 where

@@ -2,19 +2,17 @@
 //
 // Nothing is assumed of who made the log. Each line gives a clause that every interpretation of the problem's clauses makes
 // true, or a new atom for a row, or drops clauses; so an accepted log with an empty clause shows that no interpretation makes
-// all clauses of the problem true. The layer stands on `items`, `lin_rows` and `proof_lines`, whose types it passes on, and knows
-// nothing of a search.
+// all clauses of the problem true. The layer stands on `items`, `lin_rows`, `proof_lines`, whose types it passes on, `line_rows` (the
+// rules that speak of rows alone) and `log_freshness` (which lines of a log are new), and knows nothing of a search.
 //
 // Definitions, in the order in which a reader needs them, after those of `proof_lines`: specs/Rules (what stands after a line, or
 // the first rule that it breaks), specs/Evidence (fresh logs, the evidence of undecided verdicts), specs/Answers (the answers to
-// whole logs). Two private indexes make the kernel fast, and no clause of a call names them: src/atoms.rt (the rows among the
-// atoms, specs/Atoms), and src/freshness.rt with src/blocks.rt (the literals of earlier clauses, specs/Index, specs/Blocks, specs/Puts).
+// whole logs). A private index of the rows among the atoms makes Split lines fast, and no clause of a call names it: src/atoms.rt,
+// specs/Atoms.
 #![tactic(auto)]
 
 pub mod answer;
 mod atoms;
-mod blocks;
-mod freshness;
 pub mod kernel;
 pub mod log;
 

@@ -14,8 +14,9 @@ use Rattle.proof_lines.specs.declared.line.RangeEvidence.{RangeEvidence}
 use Rattle.proof_lines.specs.Clauses.{has, sub, flip, negations, is_empty, holds_both_ways, distinct}
 use Rattle.proof_lines.specs.Problems.{PlainProblem, atoms_below}
 use Rattle.line_rows.specs.Steps.{line_rows}
-use Rattle.proof_kernel.specs.Rules.{State, live_of, run}
-use Rattle.proof_kernel.specs.Evidence.{is_new, each_new, is_fresh, rows_hold, range_holds}
+use Rattle.log_freshness.specs.Freshness.{live_of, is_new, each_new}
+use Rattle.proof_kernel.specs.Rules.{State, run}
+use Rattle.proof_kernel.specs.Evidence.{is_fresh, rows_hold, range_holds}
 use Rattle.line_rows.specs.Evidence.{rows_shown, range_shown}
 use Rattle.proof_kernel.specs.Answers.{judged, lines_judged, rows_judged, range_judged}
 use Rattle.std.proofs.lemmas.Bool.{and_parts, and_from, lt-ltb, false_from_ne_true}

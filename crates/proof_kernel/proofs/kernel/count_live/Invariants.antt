@@ -1,5 +1,5 @@
 use Rattle.std.proofs.Common.{◌≡◌, ◌≤◌, take, length}
-use Rattle.proof_kernel.specs.Rules.{live_of}
+use Rattle.log_freshness.specs.Freshness.{live_of}
 use Rattle.proof_kernel.proofs.kernel.count_live.Given as goal
 
 abbrev pub invariant-loop-slot : goal.invariant-loop-slot

@@ -1,0 +1,7 @@
+use Rattle.std.proofs.Common.{◌≡◌, drop}
+use Rattle.std.specs.List.{list_any}
+use Rattle.log_freshness.specs.Index.{marked_within}
+use Rattle.log_freshness.proofs.freshness.any_within.Given as goal
+
+abbrev pub invariant-loop-entry : goal.invariant-loop-entry
+invariant-loop-entry l = list_any (marked_within l.count l.marks l.slots l.lits) l.entries ≡ list_any (marked_within l.count l.marks l.slots l.lits) (drop l.entry-index l.entries)

@@ -1,0 +1,4 @@
+pub mod Freshness
+pub mod Index
+pub mod Blocks
+pub mod Puts

@@ -1,0 +1,689 @@
+// Fresh logs: no line drops a clause, and the clause of each line contains no earlier one, holds no atom both ways and isn't
+// empty.
+//
+// An index finds the earlier clauses that lie within a clause. A literal has a spot, and an earlier clause stands in the list of the
+// spot of one of its literals: the rarest, which fewest of the clauses before it had. A clause that lies within another shares that
+// literal with it, so it stands in a list of the other's spots. Its entry has the spots of the three next rarest literals too, so that a
+// look at some marks passes over nearly all entries, without a look at their clauses. Clauses without literals stand in the list of spot
+// 0, which is always looked through. Where there is no memory for the index, each clause is compared with each earlier one.
+//
+// A clause that was compared with many clauses of the lists stands in a block in place of a list: it has most literals in common with
+// them, and so have those to come. src/blocks.rt says how one look tells of the clauses of a whole block.
+//
+// Which literal is the rarest is told by a count for each spot. To take the shortest list instead would be to fill the lists of the
+// literals that most clauses have, as long as these are empty, and those are looked through for most clauses.
+//
+// The spots of a clause are marked while it is looked at. So whether an earlier clause may lie within it is one pass over the earlier
+// one, from where the last such pass ended to a literal without a mark, and whether it may hold an atom both ways is one pass over its own
+// literals. Where all are marked the lists are compared, once for a log that isn't fresh.
+ghost use Rattle.std.specs.Prelude.{◌≡◌, ◌+◌, ◌*◌, ◌^◌, ◌<◌, ◌≤◌, ◌||◌, ◌++◌, ◌∷◌, true, cond, is_none, IfOk, OnOk, drop, take, length, is_some, map, slice_index_or, slice_set, Some, None, []};
+ghost use Rattle.std.specs.List.{list_all, list_any};
+ghost use Rattle.proof_lines.specs.Clauses.{sub, holds_both_ways};
+ghost use Rattle.log_freshness.specs.Freshness.{live_of, is_new, each_new};
+ghost use Rattle.proof_lines.specs.Numbers.{stands_in};
+ghost use Rattle.log_freshness.specs.Index.{HasNoEntry, HasNoMark, slot_new, PutsOne, finds, finds_marked, marked, all_marked, lits_marked, any_opposite_marked, marked_both_ways, marked_within, marked_slot_within, sign_number, spot, spots, with_marks, MarksAre};
+ghost use Rattle.log_freshness.specs.Blocks.{finds_in_blocks, BlocksFit};
+ghost use Rattle.log_freshness.specs.Puts.{IsIndex, PutsEither};
+
+use crate::blocks::{Blocks, any_in_blocks, is_crowded, is_for_blocks, no_blocks, put_in_blocks};
+use items::Items;
+use proof_lines::clause::{Clause, Lit, holds_both_ways, is_within};
+use std::alloc::{AllocError, Global};
+
+// How many places before the last one a search for a literal without a mark begins.
+const MOST_SHIFT: usize = 2;
+
+/// What shortens looks at clauses and decides nothing.
+#[derive(Drop)]
+pub struct Hints {
+    /// Where the last search for a literal without a mark ended.
+    place: usize,
+    /// How many clauses of the lists were compared with the last clause literal by literal.
+    compared: usize,
+    /// Spots that ruled out clauses of blocks.
+    telling: Vec<usize>,
+}
+
+/// An earlier clause in a list of the index: its number, and the spots of three of its literals, or 0 where it has fewer.
+#[derive(Clone, Copy)]
+pub struct Entry {
+    number: usize,
+    second: usize,
+    third: usize,
+    fourth: usize,
+}
+
+fn sign_number(positive: bool) -> usize
+    ensures is { result ≡ sign_number positive }
+    ensures few { result ≤ 2 }
+{
+    if positive { 2 } else { 1 }
+}
+
+/// The spot of a literal, of so many spots.
+pub fn spot(count: usize, lit: Lit) -> usize
+    requires { 0 < count }
+    ensures is { result ≡ spot count lit }
+    ensures below { result < count }
+{
+    let number = 2 * lit.atom as usize + sign_number(lit.positive);
+    if number < count {
+        number
+    } else {
+        number % count
+    }
+}
+
+/// Whether a spot is marked. The first one counts as marked always.
+pub fn is_marked(marks: &[bool], at: usize) -> bool
+    ensures { result ≡ marked marks.now at }
+{
+    at == 0 || (at < marks.len() && marks[at])
+}
+
+// Whether the spots of an entry are marked.
+fn all_marked(marks: &[bool], entry: Entry) -> bool
+    ensures { result ≡ all_marked marks.now entry }
+{
+    is_marked(marks, entry.second)
+        && (is_marked(marks, entry.third) && is_marked(marks, entry.fourth))
+}
+
+// The place of a literal whose spot isn't marked, the first, if there is one.
+fn first_unmarked(count: usize, marks: &[bool], lits: &[Lit]) -> Option<usize>
+    requires { 0 < count }
+    ensures { lits_marked count marks.now lits.now ≡ is_none result }
+{
+    for (i, lit) in lits.iter().enumerate() {
+        if !is_marked(marks, spot(count, *lit)) {
+            return Some(i);
+        }
+    }
+    None
+}
+
+// The place of a literal whose spot isn't marked, if there is one: the first from a place on, or the first of all.
+fn unmarked_from(count: usize, marks: &[bool], lits: &[Lit], start: usize) -> Option<usize>
+    requires some { 0 < count }
+    requires within { start ≤ length lits.now }
+    ensures { lits_marked count marks.now lits.now ≡ is_none result }
+{
+    match first_unmarked(count, marks, &lits[start..]) {
+        Some(at) => Some(start.saturating_add(at)),
+        None => first_unmarked(count, marks, &lits[..start]),
+    }
+}
+
+// Whether the spots of all literals are marked. Of clauses that have most literals in common many lack the same one, at nearly the same
+// place, so the search begins shortly before the place where the last one was found.
+fn lits_marked(count: usize, marks: &[bool], lits: &[Lit], hint: &mut usize) -> bool
+    requires { 0 < count }
+    ensures { result ≡ lits_marked count marks.now lits.now }
+{
+    let start = (*hint).saturating_sub(MOST_SHIFT).min(lits.len());
+    match unmarked_from(count, marks, lits, start) {
+        Some(at) => {
+            *hint = at;
+            false
+        }
+        None => true,
+    }
+}
+
+// Whether the spot of some literal's opposite is marked.
+fn any_opposite_marked(count: usize, marks: &[bool], lits: &[Lit]) -> bool
+    requires { 0 < count }
+    ensures { result ≡ any_opposite_marked count marks.now lits.now }
+{
+    lits.iter()
+        .any(|lit| is_marked(marks, spot(count, lit.opposite())))
+}
+
+// Whether a clause has a marked opposite and holds an atom both ways.
+fn marked_both_ways(count: usize, marks: &[bool], lits: &[Lit]) -> bool
+    requires { 0 < count }
+    ensures { result ≡ marked_both_ways count marks.now lits.now }
+{
+    any_opposite_marked(count, marks, lits) && holds_both_ways(lits)
+}
+
+/// Whether the clause of a number has marked spots alone and lies within another.
+pub fn marked_slot_within(
+    count: usize,
+    marks: &[bool],
+    slots: &[Option<Clause>],
+    number: usize,
+    lits: &[Lit],
+    hint: &mut usize,
+) -> bool
+    requires { 0 < count }
+    ensures { result ≡ marked_slot_within count marks.now lits.now
+        (slice_index_or slots.now number None) }
+{
+    match slots.get(number) {
+        Some(Some(clause)) => {
+            lits_marked(count, marks, clause.lits(), hint) && is_within(clause.lits(), lits)
+        }
+        _ => false,
+    }
+}
+
+// Sets marks on the spots of literals, or takes them away.
+fn mark(marks: &mut Vec<bool>, count: usize, lits: &[Lit], value: bool)
+    requires some { 0 < count }
+    requires sized { length marks.old.items ≡ count }
+    ensures is { marks.new.items ≡ with_marks count marks.old.items lits.now value }
+    ensures sized { length marks.new.items ≡ count }
+{
+    for lit in lits {
+        marks[spot(count, *lit)] = value;
+    }
+}
+
+fn list_at(lists: &[Items<Entry>], at: usize) -> &[Entry]
+    ensures { result.now ≡ slice_index_or lists.now at [] }
+{
+    match lists.get(at) {
+        Some(list) => list.as_slice(),
+        None => &[],
+    }
+}
+
+// Whether an entry has marked spots alone, and so has its clause, which lies within another.
+fn is_entry_within(
+    count: usize,
+    marks: &[bool],
+    slots: &[Option<Clause>],
+    lits: &[Lit],
+    entry: Entry,
+    hints: &mut Hints,
+) -> bool
+    requires { 0 < count }
+    ensures { result ≡ marked_within count marks.now slots.now lits.now entry }
+{
+    if !all_marked(marks, entry) {
+        return false;
+    }
+    hints.compared = hints.compared.saturating_add(1);
+    marked_slot_within(count, marks, slots, entry.number, lits, &mut hints.place)
+}
+
+fn any_within(
+    count: usize,
+    marks: &[bool],
+    slots: &[Option<Clause>],
+    lits: &[Lit],
+    entries: &[Entry],
+    hints: &mut Hints,
+) -> bool
+    requires { 0 < count }
+    ensures { result ≡ list_any (marked_within count marks.now slots.now lits.now) entries.now }
+{
+    for entry in entries {
+        if is_entry_within(count, marks, slots, lits, *entry, hints) {
+            return true;
+        }
+    }
+    false
+}
+
+// Whether a marked entry of a list of a clause's spots names a clause that lies within it.
+fn finds_marked(
+    count: usize,
+    marks: &[bool],
+    slots: &[Option<Clause>],
+    lists: &[Items<Entry>],
+    lits: &[Lit],
+    hints: &mut Hints,
+) -> bool
+    requires { 0 < count }
+    ensures { result ≡ finds_marked count marks.now slots.now lists.now lits.now }
+{
+    any_within(count, marks, slots, lits, list_at(lists, 0), hints)
+        || finds_at_literals(count, marks, slots, lists, lits, hints)
+}
+
+fn finds_at_literals(
+    count: usize,
+    marks: &[bool],
+    slots: &[Option<Clause>],
+    lists: &[Items<Entry>],
+    lits: &[Lit],
+    hints: &mut Hints,
+) -> bool
+    requires { 0 < count }
+    ensures { result ≡ list_any (λ k. list_any (marked_within count marks.now slots.now lits.now)
+        (slice_index_or lists.now k [])) (map (spot count) lits.now) }
+{
+    for lit in lits {
+        if any_within(
+            count,
+            marks,
+            slots,
+            lits,
+            list_at(lists, spot(count, *lit)),
+            hints,
+        ) {
+            return true;
+        }
+    }
+    false
+}
+
+// Whether one of the earlier clauses, in a list or in a block, lies within a clause whose spots are marked.
+fn finds_either(
+    count: usize,
+    marks: &[bool],
+    slots: &[Option<Clause>],
+    lists: &[Items<Entry>],
+    blocks: &Blocks,
+    lits: &[Lit],
+    hints: &mut Hints,
+) -> bool
+    requires some { 0 < count }
+    requires marks { MarksAre count marks.now lits.now }
+    requires fits { BlocksFit count slots.now blocks.now }
+    ensures { result ≡ (finds count slots.now lists.now lits.now
+        || finds_in_blocks slots.now blocks.now lits.now) }
+{
+    let listed = finds_marked(count, marks, slots, lists, lits, hints);
+    if listed {
+        return true;
+    }
+    any_in_blocks(
+        count,
+        marks,
+        slots,
+        lits,
+        blocks,
+        &mut hints.place,
+        &mut hints.telling,
+    )
+}
+
+// Whether one of the earlier clauses lies within a clause.
+fn finds(
+    count: usize,
+    marks: &mut Vec<bool>,
+    slots: &[Option<Clause>],
+    lists: &[Items<Entry>],
+    blocks: &Blocks,
+    lits: &[Lit],
+    hints: &mut Hints,
+) -> bool
+    requires some { 0 < count }
+    requires sized { length marks.old.items ≡ count }
+    requires clear { HasNoMark marks.old.items }
+    requires fits { BlocksFit count slots.now blocks.now }
+    ensures is { result ≡ (finds count slots.now lists.now lits.now
+        || finds_in_blocks slots.now blocks.now lits.now) }
+    ensures sized { length marks.new.items ≡ count }
+    ensures clear { HasNoMark marks.new.items }
+{
+    hints.compared = 0;
+    mark(marks, count, lits, true);
+    let found = finds_either(count, marks.as_slice(), slots, lists, blocks, lits, hints);
+    mark(marks, count, lits, false);
+    found
+}
+
+// Whether a clause holds an atom both ways.
+fn is_both_ways(count: usize, marks: &mut Vec<bool>, lits: &[Lit]) -> bool
+    requires some { 0 < count }
+    requires sized { length marks.old.items ≡ count }
+    requires clear { HasNoMark marks.old.items }
+    ensures is { result ≡ holds_both_ways lits.now }
+    ensures sized { length marks.new.items ≡ count }
+    ensures clear { HasNoMark marks.new.items }
+{
+    mark(marks, count, lits, true);
+    let both = marked_both_ways(count, marks.as_slice(), lits);
+    mark(marks, count, lits, false);
+    both
+}
+
+// Whether a spot is none of three.
+fn is_other(at: usize, first: usize, second: usize, third: usize) -> bool {
+    at != first && at != second && at != third
+}
+
+// How many of the clauses that were put into the index have a literal of a spot.
+fn seen_at(seen: &[usize], at: usize) -> usize {
+    match seen.get(at) {
+        Some(clauses) => *clauses,
+        None => 0,
+    }
+}
+
+// Counts a clause at the spots of its literals. The counts choose lists and decide nothing, so no clause speaks of them.
+fn count_in(count: usize, seen: &mut Vec<usize>, lits: &[Lit])
+    requires { 0 < count }
+{
+    for lit in lits {
+        if let Some(clauses) = seen.get_mut(spot(count, *lit)) {
+            *clauses = clauses.saturating_add(1);
+        }
+    }
+}
+
+// Of the spots of a clause but three, that which fewest clauses before have; 0 where there is none.
+fn rarest(
+    count: usize,
+    seen: &[usize],
+    lits: &[Lit],
+    first: usize,
+    second: usize,
+    third: usize,
+) -> usize
+    requires { 0 < count }
+    ensures below { result < count }
+    ensures among { stands_in (spots count lits.now) result ≡ true }
+{
+    let mut best = 0;
+    let mut fewest = usize::MAX;
+    for lit in lits {
+        let at = spot(count, *lit);
+        let clauses = seen_at(seen, at);
+        if is_other(at, first, second, third) && clauses < fewest {
+            best = at;
+            fewest = clauses;
+        }
+    }
+    best
+}
+
+fn put_at(lists: &mut Vec<Items<Entry>>, at: usize, entry: Entry) -> Result<(), AllocError>
+    requires { at < length lists.old.items }
+    ensures { OnOk result (lists.new.items ≡ slice_set lists.old.items at
+        (slice_index_or lists.old.items at [] ++ entry ∷ [])) }
+{
+    lists[at].push(entry)?;
+    Ok(())
+}
+
+// Puts a clause into the list of the rarest of its spots.
+fn put(
+    count: usize,
+    seen: &mut Vec<usize>,
+    lists: &mut Vec<Items<Entry>>,
+    number: usize,
+    lits: &[Lit],
+) -> Result<(), AllocError>
+    requires some { 0 < count }
+    requires listed { length lists.old.items ≡ count }
+    ensures { OnOk result (PutsOne count lits.now number lists.old.items lists.new.items) }
+{
+    let first = rarest(count, seen.as_slice(), lits, 0, 0, 0);
+    let second = rarest(count, seen.as_slice(), lits, first, 0, 0);
+    let third = rarest(count, seen.as_slice(), lits, first, second, 0);
+    let fourth = rarest(count, seen.as_slice(), lits, first, second, third);
+    let entry = Entry {
+        number,
+        second,
+        third,
+        fourth,
+    };
+    count_in(count, seen, lits);
+    put_at(lists, first, entry)
+}
+
+// Puts a clause into the index: into a block where it wants one, and else into a list.
+fn put_clause(
+    alloc: Global,
+    count: usize,
+    seen: &mut Vec<usize>,
+    lists: &mut Vec<Items<Entry>>,
+    blocks: &mut Blocks,
+    number: usize,
+    lits: &[Lit],
+    crowded: bool,
+) -> Result<(), AllocError>
+    requires some { 0 < count }
+    requires listed { length lists.old.items ≡ count }
+    requires room { length blocks.old.last.numbers < 128 }
+    requires sized { length blocks.old.last.masks.items ≡ count }
+    ensures listed { OnOk result (length lists.new.items ≡ count) }
+    ensures puts { OnOk result
+        (PutsEither count lits.now number lists.old.items lists.new.items blocks.old blocks.new) }
+{
+    if is_for_blocks(count, lits, crowded) {
+        return put_in_blocks(alloc, count, blocks, number, lits);
+    }
+    put(count, seen, lists, number, lits)
+}
+
+// Puts the clause of a number into the index, unless it was dropped.
+fn put_slot(
+    alloc: Global,
+    count: usize,
+    slots: &[Option<Clause>],
+    seen: &mut Vec<usize>,
+    lists: &mut Vec<Items<Entry>>,
+    blocks: &mut Blocks,
+    number: usize,
+    crowded: bool,
+) -> Result<(), AllocError>
+    requires some { 0 < count }
+    requires listed { length lists.old.items ≡ count }
+    requires fits { BlocksFit count slots.now blocks.old }
+    requires there { number < length slots.now }
+    ensures listed { OnOk result (length lists.new.items ≡ count) }
+    ensures fits { OnOk result (BlocksFit count slots.now blocks.new) }
+    ensures next { OnOk result (IsIndex count slots.now lists.old.items blocks.old
+        (live_of (take number slots.now)) → IsIndex count slots.now lists.new.items blocks.new
+        (live_of (take (number + 1) slots.now))) }
+{
+    match &slots[number] {
+        Some(clause) => put_clause(
+            alloc,
+            count,
+            seen,
+            lists,
+            blocks,
+            number,
+            clause.lits(),
+            crowded,
+        ),
+        None => Ok(()),
+    }
+}
+
+fn empty_lists(alloc: Global, count: usize) -> Result<Vec<Items<Entry>>, AllocError>
+    ensures sized { IfOk result (λ lists. length lists.items ≡ count) }
+    ensures empty { IfOk result (λ lists. HasNoEntry lists.items) }
+{
+    let mut lists = Vec::new(alloc);
+    for i in 0..count {
+        lists.push(Items::new(alloc))?;
+    }
+    Ok(lists)
+}
+
+// Puts the clauses before a number into an empty index.
+fn put_before(
+    alloc: Global,
+    count: usize,
+    slots: &[Option<Clause>],
+    seen: &mut Vec<usize>,
+    lists: &mut Vec<Items<Entry>>,
+    blocks: &mut Blocks,
+    number: usize,
+) -> Result<(), AllocError>
+    requires some { 0 < count }
+    requires there { number ≤ length slots.now }
+    requires listed { length lists.old.items ≡ count }
+    requires fits { BlocksFit count slots.now blocks.old }
+    requires none { IsIndex count slots.now lists.old.items blocks.old [] }
+    ensures listed { OnOk result (length lists.new.items ≡ count) }
+    ensures fits { OnOk result (BlocksFit count slots.now blocks.new) }
+    ensures is { OnOk result (IsIndex count slots.now lists.new.items blocks.new
+        (live_of (take number slots.now))) }
+{
+    for i in 0..number {
+        put_slot(alloc, count, slots, seen, lists, blocks, i, false)?;
+    }
+    Ok(())
+}
+
+// Whether the clause of a number, if it wasn't dropped, is new among those before it.
+fn is_slot_new(
+    count: usize,
+    marks: &mut Vec<bool>,
+    slots: &[Option<Clause>],
+    lists: &[Items<Entry>],
+    blocks: &Blocks,
+    number: usize,
+    hints: &mut Hints,
+) -> bool
+    requires some { 0 < count }
+    requires sized { length marks.old.items ≡ count }
+    requires clear { HasNoMark marks.old.items }
+    requires there { number < length slots.now }
+    requires fits { BlocksFit count slots.now blocks.now }
+    requires before { IsIndex count slots.now lists.now blocks.now
+        (live_of (take number slots.now)) }
+    ensures is { result ≡ slot_new (live_of (take number slots.now))
+        (slice_index_or slots.now number None) }
+    ensures sized { length marks.new.items ≡ count }
+    ensures clear { HasNoMark marks.new.items }
+{
+    match &slots[number] {
+        Some(clause) => {
+            let found = finds(count, marks, slots, lists, blocks, clause.lits(), hints);
+            let both = is_both_ways(count, marks, clause.lits());
+            !found && !both && !clause.is_empty()
+        }
+        None => true,
+    }
+}
+
+// Whether each clause from a number on is new, by an index of those before the number.
+fn each_new_after(
+    alloc: Global,
+    count: usize,
+    slots: &[Option<Clause>],
+    seen: &mut Vec<usize>,
+    lists: &mut Vec<Items<Entry>>,
+    blocks: &mut Blocks,
+    given: usize,
+) -> Result<bool, AllocError>
+    requires some { 0 < count }
+    requires there { given ≤ length slots.now }
+    requires listed { length lists.old.items ≡ count }
+    requires fits { BlocksFit count slots.now blocks.old }
+    requires before { IsIndex count slots.now lists.old.items blocks.old
+        (live_of (take given slots.now)) }
+    ensures { IfOk result (λ b. b ≡ each_new (live_of (take given slots.now))
+        (live_of (drop given slots.now))) }
+{
+    let mut marks = vec![in alloc; false; count]?;
+    let mut hints = Hints {
+        place: 0,
+        compared: 0,
+        telling: Vec::new(alloc),
+    };
+    for i in given..slots.len() {
+        if !is_slot_new(
+            count,
+            &mut marks,
+            slots,
+            lists.as_slice(),
+            blocks,
+            i,
+            &mut hints,
+        ) {
+            return Ok(false);
+        }
+        let crowded = is_crowded(hints.compared, i.saturating_sub(given), blocks);
+        put_slot(alloc, count, slots, seen, lists, blocks, i, crowded)?;
+    }
+    Ok(true)
+}
+
+fn each_new_by_index(
+    alloc: Global,
+    count: usize,
+    slots: &[Option<Clause>],
+    given: usize,
+) -> Result<bool, AllocError>
+    requires some { 0 < count }
+    requires there { given ≤ length slots.now }
+    ensures { IfOk result (λ b. b ≡ each_new (live_of (take given slots.now))
+        (live_of (drop given slots.now))) }
+{
+    let mut seen = vec![in alloc; 0; count]?;
+    let mut lists = empty_lists(alloc, count)?;
+    let mut blocks = no_blocks(alloc, count)?;
+    put_before(
+        alloc,
+        count,
+        slots,
+        &mut seen,
+        &mut lists,
+        &mut blocks,
+        given,
+    )?;
+    each_new_after(
+        alloc,
+        count,
+        slots,
+        &mut seen,
+        &mut lists,
+        &mut blocks,
+        given,
+    )
+}
+
+fn holds_one_within(earlier: &[Option<Clause>], lits: &[Lit]) -> bool
+    ensures { result ≡ list_any (λ d. sub d lits.now) (live_of earlier.now) }
+{
+    for slot in earlier {
+        if let Some(clause) = slot {
+            if is_within(clause.lits(), lits) {
+                return true;
+            }
+        }
+    }
+    false
+}
+
+// Whether a clause contains none of the earlier ones, holds no atom both ways and isn't empty.
+fn is_new(earlier: &[Option<Clause>], lits: &[Lit]) -> bool
+    ensures { result ≡ is_new (live_of earlier.now) lits.now }
+{
+    !holds_one_within(earlier, lits) && !holds_both_ways(lits) && !lits.is_empty()
+}
+
+fn each_new_by_scan(slots: &[Option<Clause>], given: usize) -> bool
+    requires { given ≤ length slots.now }
+    ensures { result ≡ each_new (live_of (take given slots.now)) (live_of (drop given slots.now)) }
+{
+    for i in given..slots.len() {
+        if let Some(clause) = &slots[i] {
+            if !is_new(&slots[..i], clause.lits()) {
+                return false;
+            }
+        }
+    }
+    true
+}
+
+/// Whether each clause from a number on is new among those before it. `atoms` is the number of atoms; with another number the
+/// answer is the same and takes longer.
+pub fn each_new(alloc: Global, atoms: usize, slots: &[Option<Clause>], given: usize) -> bool
+    requires few { atoms < 2 ^ 32 }
+    requires there { given ≤ length slots.now }
+    ensures { result ≡ each_new (live_of (take given slots.now)) (live_of (drop given slots.now)) }
+{
+    match each_new_by_index(alloc, 2 * atoms + 1, slots, given) {
+        Ok(new) => new,
+        Err(_) => each_new_by_scan(slots, given),
+    }
+}
+
+/// Whether no clause was dropped.
+pub fn none_dropped(slots: &[Option<Clause>]) -> bool
+    ensures { result ≡ list_all (λ o. is_some o) slots.now }
+{
+    slots.iter().all(|slot| slot.is_some())
+}

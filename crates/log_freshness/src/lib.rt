@@ -1,0 +1,14 @@
+// Which lines of a log are new: no line drops a clause, and the clause of each line contains no earlier one, holds no atom both ways
+// and isn't empty.
+//
+// A log whose lines are all new can't go on for ever, so evidence of a spent budget has such a log. The layer says it of clauses by
+// their numbers, and knows nothing of the rules of lines. It stands on `items` and `proof_lines`.
+//
+// Definitions: specs/Freshness. Two private indexes make the test fast, and no clause of a call names them: src/freshness.rt (lists of the
+// literals of earlier clauses, specs/Index, specs/Puts) and src/blocks.rt (blocks of clauses with masks, specs/Blocks).
+#![tactic(auto)]
+
+mod blocks;
+mod freshness;
+
+pub use freshness::{each_new, none_dropped};

@@ -1,8 +1,0 @@
-use Rattle.std.proofs.Common.{◌≡◌, drop}
-use Rattle.std.specs.List.{list_any}
-use Rattle.proof_kernel.specs.Blocks.{block_within, AllFit}
-use Rattle.proof_kernel.proofs.blocks.any_in_full.Given as goal
-
-abbrev pub invariant-loop-block : goal.invariant-loop-block
-invariant-loop-block l = (list_any (block_within l.slots l.lits) l.full ≡ list_any (block_within l.slots l.lits) (drop l.block-index l.full))
-    × AllFit l.count l.slots (drop l.block-index l.full)

@@ -1,7 +1,0 @@
-use Rattle.std.proofs.Common.{◌≡◌, drop}
-use Rattle.std.specs.List.{list_any}
-use Rattle.proof_kernel.specs.Blocks.{number_within}
-use Rattle.proof_kernel.proofs.blocks.any_left_within.Given as goal
-
-abbrev pub invariant-loop-i : goal.invariant-loop-i
-invariant-loop-i l = list_any (number_within l.slots l.lits) l.numbers ≡ list_any (number_within l.slots l.lits) (drop l.i l.numbers)

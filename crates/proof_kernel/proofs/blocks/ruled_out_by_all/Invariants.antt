@@ -1,5 +1,0 @@
-use Rattle.proof_kernel.specs.Blocks.{RulesOut}
-use Rattle.proof_kernel.proofs.blocks.ruled_out_by_all.Given as goal
-
-abbrev pub invariant-loop-at : goal.invariant-loop-at
-invariant-loop-at l = RulesOut l.marks l.masks l.out

@@ -1,5 +1,0 @@
-use Rattle.proof_kernel.specs.Blocks.{RulesOut}
-use Rattle.proof_kernel.proofs.blocks.ruled_out_first.Given as goal
-
-abbrev pub invariant-loop-i : goal.invariant-loop-i
-invariant-loop-i l = RulesOut l.marks l.masks l.out

@@ -1,6 +1,0 @@
-use Rattle.std.proofs.Common.{◌≡◌, length}
-use Rattle.proof_kernel.specs.Blocks.{BitsAre}
-use Rattle.proof_kernel.proofs.blocks.set_bits.Given as goal
-
-abbrev pub invariant-loop-lit : goal.invariant-loop-lit
-invariant-loop-lit l = (length l.masks.items ≡ l.count) × BitsAre l.count l.lits l.place l.initial.masks.items l.masks.items

@@ -1,8 +1,0 @@
-use Rattle.std.proofs.Common.{◌≡◌, drop}
-use Rattle.std.specs.List.{list_any}
-use Rattle.proof_lines.specs.Clauses.{sub}
-use Rattle.proof_kernel.specs.Rules.{live_of}
-use Rattle.proof_kernel.proofs.freshness.holds_one_within.Given as goal
-
-abbrev pub invariant-loop-slot : goal.invariant-loop-slot
-invariant-loop-slot l = list_any (λ d. sub d l.lits) (live_of l.earlier) ≡ list_any (λ d. sub d l.lits) (live_of (drop l.slot-index l.earlier))

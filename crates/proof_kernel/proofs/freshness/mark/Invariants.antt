@@ -1,6 +1,0 @@
-use Rattle.std.proofs.Common.{◌≡◌, drop, length}
-use Rattle.proof_kernel.specs.Index.{with_marks}
-use Rattle.proof_kernel.proofs.freshness.mark.Given as goal
-
-abbrev pub invariant-loop-lit : goal.invariant-loop-lit
-invariant-loop-lit l = (length l.marks.items ≡ l.count) × (with_marks l.count l.initial.marks.items l.lits l.value ≡ with_marks l.count l.marks.items (drop l.lit-index l.lits) l.value)
