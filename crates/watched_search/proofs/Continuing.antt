@@ -8,10 +8,11 @@ use Rattle.sat_core.specs.declared.analyzing.Analyzed.TheVariants.{Empty, Cut, B
 use Rattle.sat_core.specs.declared.state.SearchState.{SearchState}
 use Rattle.sat_core.specs.Searching.{Aim, IsBackjump, IsAnalyzed}
 use Rattle.sat_core.specs.Outcomes.{IsOutcome, outcome_of, IfContinue, IsStay}
-use Rattle.watched_search.specs.declared.watches.Watches.{Watches}
-use Rattle.watched_search.specs.Watches.{AllKept, AreAtRest}
-use Rattle.watched_search.specs.Ready.{IsMet, MayContinue}
-use Rattle.watched_search.proofs.Changing.{jumped, stayed}
+use Rattle.unit_propagation.specs.declared.watches.Watches.{Watches}
+use Rattle.unit_propagation.specs.Watches.{AllKept, AreAtRest}
+use Rattle.unit_propagation.specs.Ready.{MayContinue}
+use Rattle.watched_search.specs.Conflicts.{IsMet}
+use Rattle.unit_propagation.proofs.Changing.{jumped, stayed}
 
 -- Where a search continues.
 

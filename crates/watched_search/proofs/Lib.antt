@@ -1,9 +1,3 @@
-mod Among
-mod Resting
-mod Steady
-mod Visiting
-mod Following
-mod Changing
 mod Continuing
 mod Rows
 mod Asking

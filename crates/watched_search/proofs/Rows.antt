@@ -26,10 +26,10 @@ use Rattle.sat_core.specs.Searching.{Aim, InSearch, IsRowAssignment, IsLearned, 
 use Rattle.sat_core.specs.Outcomes.{outcome_of, IfContinue}
 use Rattle.sat_core.proofs.Checked.{stand-plain, given-lits, picked-in}
 use Rattle.sat_core.proofs.Outcomes.{aim_of}
-use Rattle.watched_search.specs.declared.watches.Watches.{Watches}
-use Rattle.watched_search.specs.Watches.{AllKept}
-use Rattle.watched_search.specs.Ready.{MayContinue}
-use Rattle.watched_search.proofs.Changing.{jumped}
+use Rattle.unit_propagation.specs.declared.watches.Watches.{Watches}
+use Rattle.unit_propagation.specs.Watches.{AllKept}
+use Rattle.unit_propagation.specs.Ready.{MayContinue}
+use Rattle.unit_propagation.proofs.Changing.{jumped}
 use Rattle.watched_search.specs.Early.{AreHeld, IsClash}
 
 -- Rows of a trail that assigns some atoms only.

@@ -1,5 +1,4 @@
-pub mod Watches
-pub mod Ready
+pub mod Conflicts
 pub mod Early
 pub mod Reduced
 pub mod Exhausted

@@ -2,28 +2,14 @@
 //
 // The search goes about its work as the plain one does: the same trail, the same chains of resolvents, the same questions to the
 // solver where all atoms have values. What differs is how a false or a unit clause is found, and that the solver is asked sooner.
-// Each clause watches two of its literals, and for each literal there is the list of the clauses that watch it. A clause is at rest
-// where one of the two is true, or where they are two and neither is false; then it is neither false nor unit.
-//
-// Why no unit clause is missed. When a literal is taken to be true, its opposite becomes false, and the clauses that watch that
-// opposite are looked at, each once, before anything else is done. One that doesn't watch it is as much at rest, or as open, as it was:
-// a true literal stays true, and neither of its two literals became false. One that watches it and isn't at rest by its other literal
-// watches another literal that isn't false in place of it. Where there is none, it goes on watching the false one: it is unit and is
-// noted, or it is false and is a conflict, which is met at once. So between steps each clause is at rest, or isn't false and waits among
-// those that may be unit; where none waits, all are at rest, and the trail is settled.
-//
-// Why watches stay when the trail is cut back. A decision is taken only where all clauses are at rest. From then on each clause
-// remains at rest under the trail before that decision, whatever it watches later: a literal is given up only where it isn't true, and
-// for one that isn't false, so the new one wasn't false before the decision either, while the other of the two stays. The trail is cut
-// back to where it stood before a decision. There all clauses are at rest by the literals that they watch now, none is unit, and
-// nothing is to be done for them. Those that the chain gave watch from then on: two literals that aren't false, or where there is one
-// alone, that one and another that was falsified at the last level that is left. A chain leaves two such literals in each of its
-// clauses, as far as a decision is left. So these, too, are at rest under each trail before a decision, and only these may be unit.
+// `unit_propagation` finds such clauses by two watched literals of each clause.
 //
 // Why the log stays fresh. A chain begins only at a false clause, and what a chain asks of the search is what the plain search gives:
-// no clause was false before the newest literal, and none is unit or false before a decision. Both follow from the above. Where a
-// conflict is met while a list is gone through, what is left of the list goes back to its place, since watches have to last. So a
-// conflict costs what its chain and its further clauses take, and the others aren't looked at.
+// no clause was false before the newest literal, and none is unit or false before a decision. Both follow from what
+// `unit_propagation` keeps: between steps each clause is at rest, or isn't false and waits among those that may be unit, and under each
+// trail before a decision all are at rest. The trail is cut back to where it stood before a decision, so nothing is to be done for
+// clauses that watch already. A chain leaves two literals in each of its clauses that aren't false before the last decision that is
+// left; these watch from then on, and only these may be unit.
 //
 // The solver of rows is asked where all atoms have values, as in the plain search, and before that too: where the trail is settled, an
 // atom is to be decided, and rows were added that the solver's last numbers aren't known to satisfy. Rows that contradict each other
@@ -49,9 +35,9 @@
 // most else that by activity. So a budget suffices where it does for one of the two, and a log of all its lines is the evidence where
 // it does for neither.
 //
-// Definitions, in the order in which a reader needs them: specs/Watches (clauses at rest, what is watched), specs/Ready (where the
-// watched literals stand between the steps of a search), specs/Early (what is known of the rows that are asked about early), specs/Reduced (what an implicant says),
-// specs/Exhausted (when another order of decisions is tried).
+// Definitions, in the order in which a reader needs them: `unit_propagation` has clauses at rest and where the watched literals stand;
+// specs/Conflicts (the chain of a conflict), specs/Early (what is known of the rows that are asked about early), specs/Reduced (what an
+// implicant says), specs/Exhausted (when another order of decisions is tried).
 #![tactic(auto)]
 
 /// The value of a call; where it fails, lets go of these values and ends with its error. Values that are let go by name are let go
@@ -71,15 +57,11 @@ macro_rules! or_drop {
 mod early;
 mod evaluating;
 mod hints;
-mod lists;
-mod looking;
-mod propagation;
 mod proposed;
 mod reducing;
 mod row_hints;
 mod searching;
 mod solving;
-mod watches;
 
 pub use searching::search;
 pub use solving::solve;

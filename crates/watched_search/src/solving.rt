@@ -10,14 +10,14 @@ ghost use Rattle.sat_core.specs.Answers.{AreRowsOf, IsAnswer, ShowsNone};
 ghost use Rattle.theory_api.specs.Laws.{all_below};
 ghost use Rattle.sat_core.specs.Searching.{Aim, with_trail, InSearch, InChain, IsRefutation};
 ghost use Rattle.sat_core.specs.Outcomes.{IsOutcome, IsPushed, IfContinue};
-ghost use Rattle.watched_search.specs.Watches.{AllKept, AreAtRest, IsResumed};
-ghost use Rattle.watched_search.specs.Ready.{IsReady, IsMet, MayPush, MayContinue};
+ghost use Rattle.unit_propagation.specs.Watches.{AllKept, AreAtRest, IsResumed};
+ghost use Rattle.unit_propagation.specs.Ready.{IsReady, MayPush, MayContinue};
+ghost use Rattle.watched_search.specs.Conflicts.{IsMet};
 ghost use Rattle.watched_search.specs.Early.{IsClash};
 ghost use Rattle.watched_search.specs.Exhausted.{is_exhausted};
 
 use crate::early::{Clash, Said, ask_rows};
 use crate::hints::Hints;
-use crate::propagation::Propagation;
 use crate::proposed::proposed;
 use crate::reducing::{Reduced, ask_reduced};
 use crate::row_hints::RowHints;
@@ -32,6 +32,7 @@ use sat_core::{Answer, SearchState};
 use search_logs::{Entry, Trail};
 use std::alloc::{AllocError, Global};
 use theory_api::Theory;
+use unit_propagation::Propagation;
 
 // So many lines are tried by number before the most active atoms are decided first.
 const FEW: u32 = 2000;

@@ -5,7 +5,7 @@ use Rattle.sat_core.specs.Searching.{IsFound}
 use Rattle.sat_core.specs.Outcomes.{IsOutcome}
 use Rattle.sat_core.proofs.Resolving.{chain_begins, chain_begins-start}
 use Rattle.sat_core.proofs.Outcomes.{aim_of, pushed-outcome, forced-step}
-use Rattle.watched_search.specs.Ready.{StayWatched}
+use Rattle.unit_propagation.specs.Ready.{StayWatched}
 use Rattle.watched_search.proofs.solving.WatchedSearch.advance.Goals as goal
 
 pub analyze_conflict-requires-clause-chain : goal.analyze_conflict-requires-clause-chain

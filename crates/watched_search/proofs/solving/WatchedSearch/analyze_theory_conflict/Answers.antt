@@ -2,7 +2,7 @@ use Rattle.std.proofs.Common.{sym, subst}
 use Rattle.sat_core.specs.declared.checking.Outcome.{Outcome}
 use Rattle.sat_core.specs.Outcomes.{IsOutcome, IfContinue}
 use Rattle.sat_core.proofs.Outcomes.{learned-outcome}
-use Rattle.watched_search.specs.Ready.{MayContinue}
+use Rattle.unit_propagation.specs.Ready.{MayContinue}
 use Rattle.watched_search.proofs.Continuing.{outcome_stays}
 use Rattle.watched_search.proofs.Rows.{learned-continue}
 use Rattle.watched_search.proofs.solving.WatchedSearch.analyze_theory_conflict.Goals as goal

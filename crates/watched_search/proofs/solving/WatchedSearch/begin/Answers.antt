@@ -4,8 +4,8 @@ use Rattle.search_logs.specs.Trails.{NoneFalse, older}
 use Rattle.sat_core.specs.declared.state.SearchState.{SearchState}
 use Rattle.sat_core.specs.Searching.{InSearch}
 use Rattle.sat_core.proofs.Outcomes.{aim_of}
-use Rattle.watched_search.specs.Watches.{IsResumed}
-use Rattle.watched_search.proofs.Changing.{resumed_first}
+use Rattle.unit_propagation.specs.Watches.{IsResumed}
+use Rattle.unit_propagation.proofs.Changing.{resumed_first}
 use Rattle.watched_search.proofs.solving.WatchedSearch.begin.Goals as goal
 
 pub watch-requires-clause-few : goal.watch-requires-clause-few

@@ -1,7 +1,7 @@
 use Rattle.std.proofs.Common.{subst}
 use Rattle.sat_core.specs.declared.checking.Outcome.{Outcome}
 use Rattle.sat_core.specs.Outcomes.{IfContinue}
-use Rattle.watched_search.specs.Ready.{MayContinue}
+use Rattle.unit_propagation.specs.Ready.{MayContinue}
 use Rattle.watched_search.proofs.solving.WatchedSearch.resume.Goals as goal
 
 pub resume-requires-clause-few : goal.resume-requires-clause-few

@@ -1,6 +1,6 @@
 use Rattle.sat_core.specs.Searching.{InSearch, work}
 use Rattle.sat_core.proofs.Outcomes.{aim_of}
-use Rattle.watched_search.specs.Ready.{IsReady}
+use Rattle.unit_propagation.specs.Ready.{IsReady}
 use Rattle.watched_search.proofs.solving.WatchedSearch.search_on.Given as goal
 
 abbrev pub invariant-search : goal.invariant-search

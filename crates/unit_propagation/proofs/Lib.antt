@@ -1,0 +1,6 @@
+mod Among
+mod Resting
+mod Steady
+mod Visiting
+mod Following
+pub mod Changing

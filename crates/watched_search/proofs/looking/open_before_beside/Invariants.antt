@@ -1,6 +1,0 @@
-use Rattle.std.proofs.Common.{◌≡◌, true, take}
-use Rattle.search_logs.specs.Trails.{others_false, before_last}
-use Rattle.watched_search.proofs.looking.open_before_beside.Given as goal
-
-abbrev pub invariant-loop-lit : goal.invariant-loop-lit
-invariant-loop-lit l = others_false (before_last l.trail) (take l.lit-index l.lits) l.one ≡ true

@@ -1,6 +1,0 @@
-use Rattle.std.proofs.Common.{◌≡◌, ◌≤◌, [], None, length}
-use Rattle.watched_search.specs.Watches.{AreWatched}
-use Rattle.watched_search.proofs.propagation.Propagation.resume.Given as goal
-
-abbrev pub invariant-loop-clause : goal.invariant-loop-clause
-invariant-loop-clause l = (l.self.conflict ≡ None) × AreWatched l.clause l.problem.clauses l.trail 0 [] l.self.watches × (length l.fn.self.watches.pairs.items ≤ l.clause)
