@@ -10,7 +10,8 @@ ghost use Rattle.proof_lines.specs.declared.clause.Lit.{Lit as LitForm};
 ghost use Rattle.line_rows.specs.Evidence.{in_state};
 ghost use Rattle.proof_lines.specs.Problems.{PlainProblem};
 ghost use Rattle.line_rows.specs.Steps.{lit_row};
-ghost use Rattle.diff_bounds.specs.Differences.{is_near, is_taken, are_taken, is_there_taken, row_fits, atom_fits, problem_fits};
+ghost use Rattle.diff_bounds.specs.Differences.{is_near, is_taken, are_taken, is_there_taken};
+ghost use Rattle.diff_bounds.specs.Differences.{row_fits, atom_fits, problem_fits};
 ghost use Rattle.diff_bounds.specs.Fitting.{is_simple};
 
 use lin_rows::number::below_minus;

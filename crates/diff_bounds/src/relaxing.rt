@@ -3,11 +3,13 @@
 // An edge that leads to a lower value than the latest one of its end gives that end a new visit. In a round each edge is looked at
 // once. After k rounds each edge is settled, or its latest start has a depth of k at least; so after one round more than there are
 // integer names all edges are settled, unless a walk became longer than that before. Such a walk comes to some place twice.
-ghost use Rattle.std.specs.Prelude.{◌≡◌, ◌+◌, ◌<◌, length, IfOk, MatchOption, IsTrue, ◌+ℤ◌, ◌≤ℤ◌, neg_ℤ, pos, int_le};
+ghost use Rattle.std.specs.Prelude.{◌≡◌, ◌+◌, ◌<◌, length, IfOk, MatchOption, IsTrue, ◌+ℤ◌, ◌≤ℤ◌};
+ghost use Rattle.std.specs.Prelude.{neg_ℤ, pos, int_le};
 ghost use Rattle.diff_bounds.specs.Differences.{state_limit};
 ghost use Rattle.diff_bounds.specs.Edges.{edge_at, AreNear};
 ghost use Rattle.diff_bounds.specs.Walks.{IsNext};
-ghost use Rattle.diff_bounds.specs.States.{AreKept, AreShortNow, IsSettledNow, AreSettledNow, AreAheadNow, AreRelaxed, IsRound, IsEnd};
+ghost use Rattle.diff_bounds.specs.States.{AreKept, AreShortNow, IsSettledNow, AreSettledNow};
+ghost use Rattle.diff_bounds.specs.States.{AreAheadNow, AreRelaxed, IsRound, IsEnd};
 
 use crate::edges::Edge;
 use crate::walks::{Visit, Walks};

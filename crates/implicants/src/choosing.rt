@@ -1,11 +1,13 @@
 // The literals over atoms with rows by which clauses are true.
-ghost use Rattle.std.specs.Prelude.{◌≡◌, ◌<◌, ◌⊎◌, ℕ, [], true, false, None, length, slice_index_or, OnOk, IfOk, IfSome, MatchOption};
+ghost use Rattle.std.specs.Prelude.{◌≡◌, ◌<◌, ◌⊎◌, ℕ, [], true, false, None, length};
+ghost use Rattle.std.specs.Prelude.{slice_index_or, OnOk, IfOk, IfSome, MatchOption};
 ghost use Rattle.std.specs.List.{list_any, list_all};
 ghost use Rattle.proof_lines.specs.Clauses.{has};
 ghost use Rattle.line_rows.specs.Steps.{has_row};
 ghost use Rattle.search_logs.specs.Trails.{in_trail};
 ghost use Rattle.implicants.specs.Implicants.{plain_value, holds_by, is_met, IsImplicant};
-ghost use Rattle.implicants.specs.Choosing.{is_sign, is_marked, is_candidate, AreChosen, IsAdded, IsCovered, IsUnmet, AreCovered};
+ghost use Rattle.implicants.specs.Choosing.{is_sign, is_marked, is_candidate, AreChosen, IsAdded};
+ghost use Rattle.implicants.specs.Choosing.{IsCovered, IsUnmet, AreCovered};
 
 use items::Items;
 use proof_lines::{AtomKind, Clause, Lit, Problem};
@@ -287,7 +289,8 @@ impl Chosen {
     ) -> Result<bool, AllocError>
         requires { AreChosen trail.now self.old }
         ensures { IfOk result
-            (λ b. AreCovered b problem.now.atoms problem.now.clauses values.now trail.now self.new) }
+            (λ b. AreCovered b problem.now.atoms problem.now.clauses values.now trail.now
+            self.new) }
     {
         let atoms = atoms_of(problem);
         for i in 0..clause_count(problem) {

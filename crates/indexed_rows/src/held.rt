@@ -3,12 +3,14 @@
 // A row has a fingerprint, and the index has the number of a row for each fingerprint of a held row. A row whose fingerprint isn't there
 // isn't held; one whose fingerprint is there is mostly the row of that number. Where two rows have one fingerprint, which is rare,
 // all rows are compared. The other index has for each place the numbers of the rows that name it.
-ghost use Rattle.std.specs.Prelude.{◌≡◌, ℕ, ◌<◌, ◌||◌, ◌==◌, cond, true, length, OnErr, OnOk, Some, is_some, [], ◌∷◌, ◌++◌};
+ghost use Rattle.std.specs.Prelude.{◌≡◌, ℕ, ◌<◌, ◌||◌, ◌==◌, cond, true, length, OnErr, OnOk, Some};
+ghost use Rattle.std.specs.Prelude.{is_some, [], ◌∷◌, ◌++◌};
 ghost use Rattle.std.specs.List.{list_any};
 ghost use Rattle.line_rows.specs.Evidence.{same_row};
 ghost use Rattle.proof_lines.specs.Numbers.{stands_in};
 ghost use Rattle.line_rows.specs.Steps.{row_at};
-ghost use Rattle.indexed_rows.specs.Fingerprints.{fingerprint, fingerprint_limit, found, mixed, number_part};
+ghost use Rattle.indexed_rows.specs.Fingerprints.{fingerprint, fingerprint_limit, found, mixed};
+ghost use Rattle.indexed_rows.specs.Fingerprints.{number_part};
 ghost use Rattle.indexed_rows.specs.Naming.{KeepsLists, lists};
 ghost use Rattle.indexed_rows.specs.Places.{names};
 
@@ -42,7 +44,9 @@ impl Model for Held {
 
     ghost view = { λ a. a.rows };
 
-    ghost invariant = { λ a. ((i : ℕ) → i < length a.rows → is_some (found a.numbers (fingerprint (row_at a.rows i))) ≡ true) × IsNaming a.rows a.by_place.items };
+    ghost invariant = { λ a. ((i : ℕ) → i < length a.rows
+        → is_some (found a.numbers (fingerprint (row_at a.rows i))) ≡ true)
+        × IsNaming a.rows a.by_place.items };
 }
 
 impl Held {

@@ -1,6 +1,7 @@
 // The places that are eliminated, in their order, with a flag for each place, so that it takes no look through the order whether a
 // place is among them.
-ghost use Rattle.std.specs.Prelude.{◌≡◌, ℕ, ◌≤◌, ◌<◌, false, true, length, take, slice_index_or, slice_set, IfOk, OnOk, OnErr, [], ◌∷◌, ◌++◌};
+ghost use Rattle.std.specs.Prelude.{◌≡◌, ℕ, ◌≤◌, ◌<◌, false, true, length, take, slice_index_or};
+ghost use Rattle.std.specs.Prelude.{slice_set, IfOk, OnOk, OnErr, [], ◌∷◌, ◌++◌};
 ghost use Rattle.proof_lines.specs.Numbers.{stands_in};
 
 use items::Items;
@@ -22,7 +23,8 @@ impl Model for Order {
 
     ghost view = { λ a. a.places };
 
-    ghost invariant = { λ a. (q : ℕ) → slice_index_or a.flags.items q false ≡ stands_in a.places q };
+    ghost invariant = { λ a. (q : ℕ)
+        → slice_index_or a.flags.items q false ≡ stands_in a.places q };
 }
 
 impl Order {

@@ -1,5 +1,6 @@
 // Where the literals of a trail stand: by atom, the place of the oldest entry with the atom's literal of one sign.
-ghost use Rattle.std.specs.Prelude.{◌≡◌, ◌<◌, ◌∷◌, ◌++◌, [], ℕ, true, false, None, OnOk, OnErr, length, reverse, slice_index_or};
+ghost use Rattle.std.specs.Prelude.{◌≡◌, ◌<◌, ◌∷◌, ◌++◌, [], ℕ, true, false, None, OnOk, OnErr};
+ghost use Rattle.std.specs.Prelude.{length, reverse, slice_index_or};
 ghost use Rattle.search_logs.specs.Trails.{in_trail};
 ghost use Rattle.search_logs.specs.Places.{lies_before, lies_from, ArePlaces};
 

@@ -1,7 +1,10 @@
 // Trails: the literals that a search takes to be true, in the order in which it came to them.
-ghost use Rattle.std.specs.Prelude.{◌≡◌, ◌<◌, ◌≤◌, ◌+◌, true, OnOk, OnErr, IfSome, IfNone, MatchOption, false, [], ◌∷◌, ◌++◌, reverse};
+ghost use Rattle.std.specs.Prelude.{◌≡◌, ◌<◌, ◌≤◌, ◌+◌, true, OnOk, OnErr, IfSome, IfNone};
+ghost use Rattle.std.specs.Prelude.{MatchOption, false, [], ◌∷◌, ◌++◌, reverse};
 ghost use Rattle.proof_lines.specs.Clauses.{has, flip};
-ghost use Rattle.search_logs.specs.Trails.{in_trail, negated, is_assigned, is_false, is_unit, open_in, before_last, has_decision, is_done, others_false};
+ghost use Rattle.search_logs.specs.Trails.{in_trail, negated, is_assigned, is_false, is_unit};
+ghost use Rattle.search_logs.specs.Trails.{open_in, before_last, has_decision, is_done};
+ghost use Rattle.search_logs.specs.Trails.{others_false};
 ghost use Rattle.search_logs.specs.Places.{place_of, ArePlaces};
 
 use crate::decisions;
@@ -42,7 +45,8 @@ impl Model for Trail {
 
     ghost view = { λ a. reverse a.entries.items };
 
-    ghost invariant = { λ a. IsIndexed a.positive.items a.negative.items a.decisions.items (reverse a.entries.items) };
+    ghost invariant = { λ a. IsIndexed a.positive.items a.negative.items a.decisions.items
+        (reverse a.entries.items) };
 }
 
 // Adds an entry to the entries, and its literal to the places of its sign. A refused one leaves them as they were.

@@ -17,7 +17,8 @@ impl Theory for Constants {
 
     ghost MAY_STOP = { false };
 
-    ghost takes = { λ rows ints. (list_all (λ r. has_no_terms r.terms) rows ≡ true) × (length rows < 1000) × (ints ≡ 0) };
+    ghost takes = { λ rows ints. (list_all (λ r. has_no_terms r.terms) rows ≡ true)
+        × (length rows < 1000) × (ints ≡ 0) };
 
     const MAY_SPLIT: bool = false;
 

@@ -110,7 +110,8 @@ fn of_three(alloc: Global, rows: &[Row], ints: u32) -> Result<TheoryAnswer, Allo
 }
 
 fn gap(alloc: Global) -> Result<TheoryAnswer, AllocError>
-    ensures { IfOk result (λ answer. answer ≡ Split 0 (pos 0) (0 ∷ 1 ∷ 2 ∷ []) [] 1 0 (pos 1 ∷ [])) }
+    ensures { IfOk result (λ answer. answer ≡ Split 0 (pos 0) (0 ∷ 1 ∷ 2 ∷ []) [] 1 0
+        (pos 1 ∷ [])) }
 {
     let mut used = Items::new(alloc);
     used.push(0)?;

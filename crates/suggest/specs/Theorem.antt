@@ -37,8 +37,8 @@ pub record IsBroken (d : Specification) (a b : ℕ) : Type 0 where
 
 -- What answers for the pairs of a specification say.
 pub record IsRight (d : Specification) (answers : List PairAnswer) : Type 0 where
-  -- Each block under `needed` breaks an obligation of its pair in the bare specification. Each block under `notby` does so in the keyed
-  -- one.
+  -- Each block under `needed` breaks an obligation of its pair in the bare specification. Each block
+  -- under `notby` does so in the keyed one.
   pub needed_shown : (x : PairAnswer) (ob : Obligation) (w : Witness) → Contains answers x
       → x.found ≡ found.Refuted ob w
       → IsShownToBreak (bare d) x.pair.first x.pair.second ob w

@@ -205,7 +205,8 @@ fn same_sort(one: Option<u8>, other: Option<u8>) -> bool
 
 /// Whether the first parameters of two operations have one sort.
 fn have_one_sort(spec: &Spec, first: u8, second: u8) -> bool
-    ensures { result ≡ same_sort_of (sort_of_parameter_of spec.now first 0) (sort_of_parameter_of spec.now second 0) }
+    ensures { result ≡ same_sort_of (sort_of_parameter_of spec.now first 0)
+        (sort_of_parameter_of spec.now second 0) }
 {
     same_sort(
         sort_of_parameter(spec, first, 0),

@@ -33,7 +33,8 @@ pub trait Theory {
         ensures { IsAnswer MAY_SPLIT MAY_STOP ints rows.now result };
 
     /// A solver that may split takes every list, since a search that asks it makes rows of its own.
-    ghost takes_all: { MAY_SPLIT ≡ true → (rows : List RowView) (ints : ℕ) → all_below ints rows ≡ true → takes rows ints };
+    ghost takes_all: { MAY_SPLIT ≡ true → (rows : List RowView) (ints : ℕ)
+        → all_below ints rows ≡ true → takes rows ints };
 }
 
 /// The solver of problems without integer names: it takes the empty list of rows alone, and uses no memory.
