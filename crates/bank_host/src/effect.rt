@@ -15,7 +15,8 @@ ghost use Rattle.bank_host.specs.Calls.{FitIn, Fit, account_of, amount_of, chang
 use effectors::ApplyRefused;
 use items::Items;
 use replica_host::Effect;
-use spec_core::{Call, State};
+use spec_core::Call;
+use spec_states::State;
 use std::alloc::{AllocError, Global};
 
 /// The place of the one counter.
@@ -144,7 +145,8 @@ fn change_of(call: &Call) -> i64
 impl Effect for BankCode {
     ghost may_run = { λ f s call. Fit s call };
 
-    ghost gives = { λ f s call answer. (w : WorldValue) → FitIn w s call → IsEffect bank w s call answer };
+    ghost gives = { λ f s call answer. (w : WorldValue) → FitIn w s call
+        → IsEffect bank w s call answer };
 
     fn run(&self, state: &State, call: &Call) -> Result<State, ApplyRefused> {
         state.stays_in_range();

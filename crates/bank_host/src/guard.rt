@@ -10,7 +10,8 @@ ghost use Rattle.bank_host.specs.Calls.{amount_of as amount_of_call, false_line 
 
 use crate::effect::{BALANCE, BankCode, account_of, amount_of};
 use replica_host::Guard;
-use spec_core::{Call, State};
+use spec_core::Call;
+use spec_states::State;
 use std::alloc::AllocError;
 
 /// The place of the second operation, withdraw.
@@ -43,7 +44,8 @@ fn false_line(state: &State, call: &Call) -> Option<u32>
 impl Guard for BankCode {
     ghost may_ask = { λ f s call. Fit s call };
 
-    ghost tells = { λ f s call answer. (w : WorldValue) → FitIn w s call → IsGuard bank w s call answer };
+    ghost tells = { λ f s call answer. (w : WorldValue) → FitIn w s call
+        → IsGuard bank w s call answer };
 
     fn ask(&self, state: &State, call: &Call) -> Result<Option<u32>, AllocError> {
         Ok(false_line(state, call))

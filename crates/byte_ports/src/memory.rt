@@ -27,7 +27,13 @@ impl Model for MemSource {
 
     ghost Value = { MemReader };
 
-    ghost view = { λ s. record { left = drop s.at s.bytes.items; piece = s.piece; fail_at = s.fail_at.items; calls = s.calls; faults = s.faults } };
+    ghost view = { λ s. record {
+      left = drop s.at s.bytes.items;
+      piece = s.piece;
+      fail_at = s.fail_at.items;
+      calls = s.calls;
+      faults = s.faults;
+    } };
 
     ghost invariant = { λ s. (s.at ≤ vec_len s.bytes) × (0 < s.piece) };
 }
@@ -105,9 +111,17 @@ impl Model for MemSink {
 
     ghost Value = { MemWriter };
 
-    ghost view = { λ k. record { held = k.bytes.items; room = k.room; piece = k.piece; fail_at = k.fail_at.items; calls = k.calls; faults = k.faults } };
+    ghost view = { λ k. record {
+      held = k.bytes.items;
+      room = k.room;
+      piece = k.piece;
+      fail_at = k.fail_at.items;
+      calls = k.calls;
+      faults = k.faults;
+    } };
 
-    ghost invariant = { λ k. (vec_len k.bytes ≤ k.room) × (k.room ≤ vec_capacity k.bytes) × (0 < k.piece) };
+    ghost invariant = { λ k. (vec_len k.bytes ≤ k.room) × (k.room ≤ vec_capacity k.bytes)
+        × (0 < k.piece) };
 }
 
 impl MemSink {
@@ -122,7 +136,14 @@ impl MemSink {
         requires { 0 < piece }
         ensures { IfOk result
             (λ k. k
-            ≡ record { held = []; room = room; piece = piece; fail_at = fail_at.items; calls = 0; faults = 0 }) }
+            ≡ record {
+              held = [];
+              room = room;
+              piece = piece;
+              fail_at = fail_at.items;
+              calls = 0;
+              faults = 0;
+            }) }
     {
         Ok(MemSink {
             bytes: Vec::with_capacity(alloc, room)?,

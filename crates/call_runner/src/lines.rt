@@ -8,7 +8,8 @@ ghost use Rattle.spec_core.specs.Meaning.{first_false};
 ghost use Rattle.spec_core.specs.Fits.{world_fits, call_fits};
 
 use partial_truth::{observes_broken_at, requires_broken_at};
-use spec_core::{Call, Spec, State, World};
+use spec_core::{Call, Spec, World};
+use spec_states::State;
 
 /// The first requires line of a call that is false, counted from 1.
 pub fn requires_line(spec: &Spec, world: &World, state: &State, call: &Call) -> Option<u32>

@@ -13,7 +13,8 @@ ghost use Rattle.effectors.specs.Spare.{IsSpare};
 
 use crate::lines::requires_line;
 use effectors::{ApplyRefused, apply, apply_over, caught_up};
-use spec_core::{Call, Spec, State, World};
+use spec_core::{Call, Spec, World};
+use spec_states::State;
 use std::alloc::{AllocError, Global};
 
 /// A specification in a world, with code that evaluates preconditions and applies effects as they say.

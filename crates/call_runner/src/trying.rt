@@ -12,7 +12,8 @@ ghost use Rattle.call_runner.specs.Tried.{IsTried};
 use crate::lines::observes_line;
 use crate::runner::Runner;
 use effectors::ApplyRefused;
-use spec_core::{Call, State};
+use spec_core::Call;
+use spec_states::State;
 use std::alloc::AllocError;
 use token_protocol::WhyVoid;
 

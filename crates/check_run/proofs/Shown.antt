@@ -15,10 +15,10 @@ use Rattle.spec_core.specs.State.{Reads, reads, is_in, count_in, listed_keys}
 use Rattle.spec_core.specs.Truth.{int_eq}
 use Rattle.spec_core.specs.Fits.{fits_places, lists_fit, values_fit, is_state}
 use Rattle.spec_core.proofs.Members.{is_in-tuples}
-use Rattle.spec_core.proofs.Rising.{is_in-filter}
+use Rattle.spec_states.proofs.Rising.{is_in-filter}
 use Rattle.spec_core.proofs.States.{list_all-is_in, list_all-from_is_in, by_key}
 use Rattle.spec_core.specs.World.{tuples}
-use Rattle.spec_core.proofs.Sameness.{unlisted}
+use Rattle.spec_states.proofs.Sameness.{unlisted}
 use Rattle.obligation_list.specs.declared.obligation.Obligation.{Obligation}
 use Rattle.obligation_list.specs.Breaking.{BreaksIn}
 use Rattle.obligation_list.specs.Refuting.{IsRefutation}

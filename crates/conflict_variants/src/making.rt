@@ -4,7 +4,12 @@ ghost use Rattle.std.specs.Prelude.{◌≡◌, [], ◌∷◌, map, get_or, IfOk,
 ghost use Rattle.spec_core.specs.Typed.{is_specification};
 ghost use Rattle.conflict_variants.specs.Takes.{with_takes};
 ghost use Rattle.conflict_variants.specs.Bare.{with_tokens, bare as bare_of};
-ghost use Rattle.conflict_variants.specs.Keyed.{CanBeKeyed, first_name, second_name, keyed_token as token_of, keyed_pattern as pattern_of, keyed_rule as rule_of, keyed_take as take_of, keyed_takes as takes_of, keyed_from, key_sort as key_sort_of, keyed as keyed_of};
+ghost use Rattle.conflict_variants.specs.Keyed.{CanBeKeyed, first_name, second_name};
+ghost use Rattle.conflict_variants.specs.Keyed.{keyed_token as token_of};
+ghost use Rattle.conflict_variants.specs.Keyed.{keyed_pattern as pattern_of, keyed_rule as rule_of};
+ghost use Rattle.conflict_variants.specs.Keyed.{keyed_take as take_of, keyed_takes as takes_of};
+ghost use Rattle.conflict_variants.specs.Keyed.{keyed_from, key_sort as key_sort_of};
+ghost use Rattle.conflict_variants.specs.Keyed.{keyed as keyed_of};
 
 use crate::copies::declarations::{
     copy_consts, copy_counters, copy_invariants, copy_name, copy_names, copy_relations,
@@ -29,12 +34,18 @@ fn made(
     let sorts = or_drop!(copy_names(alloc, spec.sorts.as_slice()); tokens, rules, operations);
     let consts =
         or_drop!(copy_consts(alloc, spec.consts.as_slice()); tokens, rules, operations, sorts);
-    let relations =
-        or_drop!(copy_relations(alloc, spec.relations.as_slice()); tokens, rules, operations, sorts, consts);
-    let counters =
-        or_drop!(copy_counters(alloc, spec.counters.as_slice()); tokens, rules, operations, sorts, consts, relations);
-    let invariants =
-        or_drop!(copy_invariants(alloc, spec.invariants.as_slice()); tokens, rules, operations, sorts, consts, relations, counters);
+    let relations = or_drop!(
+        copy_relations(alloc, spec.relations.as_slice());
+        tokens, rules, operations, sorts, consts
+    );
+    let counters = or_drop!(
+        copy_counters(alloc, spec.counters.as_slice());
+        tokens, rules, operations, sorts, consts, relations
+    );
+    let invariants = or_drop!(
+        copy_invariants(alloc, spec.invariants.as_slice());
+        tokens, rules, operations, sorts, consts, relations, counters
+    );
     Ok(Spec {
         version: spec.version,
         sorts,

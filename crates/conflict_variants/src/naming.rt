@@ -3,7 +3,8 @@
 ghost use Rattle.std.specs.Prelude.{◌≡◌, ◌++◌, [], ◌∷◌, not, OnOk, IfOk};
 ghost use Rattle.std.specs.List.{filter};
 ghost use Rattle.spec_core.specs.State.{is_in};
-ghost use Rattle.conflict_variants.specs.Keyed.{names_in_use, token_name as token_name_of, unused_names as unused_names_of};
+ghost use Rattle.conflict_variants.specs.Keyed.{names_in_use, token_name as token_name_of};
+ghost use Rattle.conflict_variants.specs.Keyed.{unused_names as unused_names_of};
 
 use crate::in_use::is_in_use;
 use items::Items;

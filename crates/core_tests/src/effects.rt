@@ -3,7 +3,7 @@
 use crate::examples::{deposits, lamps, set, swap};
 use crate::setting::{Setting, call, first_setting};
 use effectors::{ApplyRefused, apply, post_count, post_has, post2_count, post2_has};
-use spec_core::State;
+use spec_states::State;
 use std::alloc::Global;
 use std::process::Abort;
 

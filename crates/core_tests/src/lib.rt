@@ -1,6 +1,6 @@
 // One table of worked examples for the specification core.
 //
-// The contracts of `spec_core`, `effectors`, `token_rules`, `obligation_list` and `executions` say that each call is its definition.
+// The contracts of `spec_core`, `spec_states`, `effectors`, `token_rules`, `obligation_list` and `executions` say that each call is its definition.
 // That the definitions say what is meant is shown here, on small specifications with values that were worked out by hand; and that
 // each call which may run out of memory answers where there is enough. It stands above them all, so that no crate below is proved
 // again with tests of its own.

@@ -9,7 +9,8 @@ use crate::setting::{Setting, call, first_setting, items};
 use effectors::ApplyRefused;
 use executions::{Event, is_order, law_closed_sets, may_follow, state_after};
 use items::Items;
-use spec_core::{Spec, State, World};
+use spec_core::{Spec, World};
+use spec_states::State;
 use std::alloc::Global;
 use std::process::Abort;
 

@@ -5,8 +5,9 @@ ghost use Rattle.spec_core.specs.Fits.{world_fits, is_state};
 
 use effectors::apply;
 use items::Items;
-use spec_core::{Call, Spec, State, World, invariant_broken_at, is_in_state_range};
+use spec_core::{Call, Spec, World, invariant_broken_at, is_in_state_range};
 use spec_from_bytes::{Reading, SPECIFICATION_LIMIT, read_bytes};
+use spec_states::State;
 use std::alloc::Global;
 use std::process::Abort;
 

@@ -2,7 +2,7 @@
 
 use crate::examples::{deposits, flag, set, tournaments};
 use crate::setting::{Setting, first_setting};
-use spec_core::write_state;
+use spec_states::write_state;
 use std::alloc::Global;
 use std::process::Abort;
 

@@ -1,6 +1,6 @@
 -- The old state, with what the updates of a call reach taken from the state after it, is the state after it.
 use Rattle.std.proofs.Common.{◌≡◌, ℕ, zero, suc, ◌≤◌, ℤ, pos, Bool, true, false, cond, ◌&&◌, nat_lt, inl, inr, List, [], ◌∷◌, length, get_or, refl, sym, ◌∙◌, ap, arith}
-use Rattle.spec_core.proofs.Sameness.{unlisted}
+use Rattle.spec_states.proofs.Sameness.{unlisted}
 use Rattle.std.proofs.lemmas.Bool.{and_parts, cases_Bool, and_cases, false_from_ne_true, ltb-false, true≢false}
 use Rattle.spec_core.specs.declared.world.World.{World}
 use Rattle.spec_core.specs.declared.world.Call.{Call}

@@ -8,7 +8,8 @@ ghost use Rattle.spec_core.specs.Fits.{world_fits, call_fits, is_state};
 ghost use Rattle.effectors.specs.Effect.{after};
 
 use crate::readings::{count_after_call, has_after_call};
-use spec_core::{Call, Readings, Spec, State, World};
+use spec_core::{Call, Readings, Spec, World};
+use spec_states::State;
 
 /// The state after a call, which is read and not built. What isn't declared, and a tuple or key that doesn't fit, reads false or 0.
 #[derive(Drop)]

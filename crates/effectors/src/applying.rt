@@ -3,7 +3,8 @@
 // A copy of the old state gets the new readings of what the updates reach. Only where a value is out of range are all counters
 // gone through, for the first one that is.
 
-ghost use Rattle.std.specs.Prelude.{◌≡◌, ◌≢◌, ◌+◌, ◌≤◌, ℕ, ℤ, List, ◌∷◌, true, map, length, suc, nat_le, IfOk, OnOk, Err, Some, None};
+ghost use Rattle.std.specs.Prelude.{◌≡◌, ◌≢◌, ◌+◌, ◌≤◌, ℕ, ℤ, List, ◌∷◌, true, map, length, suc};
+ghost use Rattle.std.specs.Prelude.{nat_le, IfOk, OnOk, Err, Some, None};
 ghost use Rattle.std.specs.List.{list_all};
 ghost use Rattle.spec_core.specs.Specification.{op_of};
 ghost use Rattle.spec_core.specs.World.{tuples};
@@ -19,7 +20,8 @@ use crate::outside::Outside;
 use crate::readings::count_updated;
 use crate::writing::in_range;
 use items::Items;
-use spec_core::{Call, Counter, Spec, State, World};
+use spec_core::{Call, Counter, Spec, World};
+use spec_states::State;
 use std::alloc::{AllocError, Global};
 
 /// Why a call isn't applied.

@@ -14,7 +14,8 @@ ghost use Rattle.effectors.specs.Spare.{IsTwin, IsSpare};
 use crate::after::After;
 use crate::applying::{ApplyRefused, why_refused};
 use crate::writing::write_updates;
-use spec_core::{Call, Spec, State, World};
+use spec_core::{Call, Spec, World};
+use spec_states::State;
 use std::alloc::{AllocError, Global};
 
 // A state to write over: the spare one, else a copy.

@@ -1,6 +1,6 @@
 // The effect of a call: the state after it, as a whole and reading by reading.
 //
-// It stands on `spec_core`. The definition is in specs/Effect: for each tuple or key, the updates of its thing in written order,
+// It stands on `spec_core` and `spec_states`. The definition is in specs/Effect: for each tuple or key, the updates of its thing in written order,
 // whose guards and amounts read the old state. specs/Beyond says which value a refusal names. `Places`, `Reaching`, `Outside` and
 // `Refusal` serve the proofs of the code alone. `Spare` is the second state
 // that is kept beside one, over which `apply_over` writes.

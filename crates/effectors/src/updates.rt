@@ -6,7 +6,8 @@ ghost use Rattle.std.specs.Prelude.{◌≡◌, ◌≤◌, ◌+◌, ◌*◌, ◌^
 ghost use Rattle.std.specs.List.{list_all};
 ghost use Rattle.spec_core.specs.Limits.{most_updates};
 ghost use Rattle.spec_core.specs.Fits.{in_state_range, world_fits, change_fits, update_fits};
-ghost use Rattle.effectors.specs.Effect.{spots_match, is_thing, acts, has_changed, count_changed, has_after, count_after};
+ghost use Rattle.effectors.specs.Effect.{spots_match, is_thing, acts, has_changed, count_changed};
+ghost use Rattle.effectors.specs.Effect.{has_after, count_after};
 
 use spec_core::{Change, Readings, Spec, Spot, Thing, Update, World, elem_at, holds, term_value};
 

@@ -7,13 +7,16 @@ ghost use Rattle.std.specs.Prelude.{◌≡◌, ◌<◌, true, length, nat_le, If
 ghost use Rattle.std.specs.List.{list_all};
 ghost use Rattle.spec_core.specs.Specification.{relation_places, counter_keys};
 ghost use Rattle.spec_core.specs.State.{reads, with_has, with_count};
-ghost use Rattle.spec_core.specs.Fits.{in_state_range, fits_places, world_fits, is_state, update_fits};
-ghost use Rattle.effectors.specs.Reaching.{reached, with_tuples, with_keys, with_thing, with_updates, thing_in_range, updates_in_range};
+ghost use Rattle.spec_core.specs.Fits.{in_state_range, fits_places, world_fits, is_state};
+ghost use Rattle.spec_core.specs.Fits.{update_fits};
+ghost use Rattle.effectors.specs.Reaching.{reached, with_tuples, with_keys, with_thing};
+ghost use Rattle.effectors.specs.Reaching.{with_updates, thing_in_range, updates_in_range};
 
 use crate::matching::reached;
 use items::Items;
 use spec_core::limits::GREATEST_VALUE;
-use spec_core::{Call, Readings, Spec, State, Thing, Update, World};
+use spec_core::{Call, Readings, Spec, Thing, Update, World};
+use spec_states::State;
 use std::alloc::{AllocError, Global};
 
 /// Whether a value is in the range of a state.

@@ -1,8 +1,15 @@
 // The lines of an operation, which lines of a tree without a fault are.
 
 ghost use Rattle.std.specs.Prelude.{◌≡◌, IfOk, OnOk};
-ghost use Rattle.spec_trees.specs.Form.{guard_of as guard_form, line_of, sentence_of as sentence_form, requires_form, takes_form, observes_form};
-ghost use Rattle.typing_rules.specs.Lines.{spot_of as spot_of_tree, spots_of as spots_of_tree, relation_target as relation_target_of, counter_target as counter_target_of, update_of as update_of_tree, is_shared as is_shared_mode, take_of as take_of_tree, with_update, with_line};
+ghost use Rattle.spec_trees.specs.Form.{guard_of as guard_form, line_of};
+ghost use Rattle.spec_trees.specs.Form.{sentence_of as sentence_form, requires_form, takes_form};
+ghost use Rattle.spec_trees.specs.Form.{observes_form};
+ghost use Rattle.typing_rules.specs.Lines.{spot_of as spot_of_tree, spots_of as spots_of_tree};
+ghost use Rattle.typing_rules.specs.Lines.{relation_target as relation_target_of};
+ghost use Rattle.typing_rules.specs.Lines.{counter_target as counter_target_of};
+ghost use Rattle.typing_rules.specs.Lines.{update_of as update_of_tree};
+ghost use Rattle.typing_rules.specs.Lines.{is_shared as is_shared_mode, take_of as take_of_tree};
+ghost use Rattle.typing_rules.specs.Lines.{with_update, with_line};
 ghost use Rattle.find_faults.specs.Views.{scope_of};
 
 use crate::formulas::{elems_of, guard_of, sentence_of, term_of};

@@ -11,7 +11,8 @@ ghost use Rattle.executions.specs.Ranges.{StayInRange, IsFirstBeyondIn};
 
 use crate::event::Event;
 use effectors::{ApplyRefused, apply};
-use spec_core::{Spec, State, World};
+use spec_core::{Spec, World};
+use spec_states::State;
 use std::alloc::Global;
 
 /// The state after an order: the effects of its events' calls, one after the other, from the initial state.

@@ -42,11 +42,13 @@ pub data IsWrong : Site → Fault → Type 0 where
   -- A name of the whole specification is of a wrong kind in the place of a rule variable.
   global_in_rule : (k : Known) (m : Mark) → is_some (k.names m.text) ≡ true
       → IsWrong (rule_variable k m) (kind_fault m.text m.word)
-  -- A rule variable is of a wrong kind at a place of another sort than that of its first place in the rule.
+  -- A rule variable is of a wrong kind at a place of another sort than that of its first place
+  -- in the rule.
   at_two_sorts : (k : Known) (p q : Reading) (s : ℕ) (m : Mark)
       → is_sort (first_place_sort k p q m.text) s ≡ false
       → IsWrong (rule_place k p q s m) (kind_fault m.text m.word)
-  -- A relation, counter or token needs as many arguments, spots or pattern names as it has places or keys.
+  -- A relation, counter or token needs as many arguments, spots or pattern names as it has places
+  -- or keys.
   wrong_number : (places n : ℕ) (m : Mark) → (places == n) ≡ false
       → IsWrong (applied places n m) (count_fault m.text m.word)
   -- One thing more is too many where there are as many as there may be.

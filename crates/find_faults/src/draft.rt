@@ -30,7 +30,17 @@ impl Model for Draft {
 
     ghost coded = { Prim.hlevel (codes, coded_form) };
 
-    ghost view = { λ a. record { version = a.version; sorts = a.sorts; consts = a.consts; relations = a.relations; counters = a.counters; tokens = a.tokens; rules = a.rules; invariants = a.invariants; operations = a.operations } };
+    ghost view = { λ a. record {
+      version = a.version;
+      sorts = a.sorts;
+      consts = a.consts;
+      relations = a.relations;
+      counters = a.counters;
+      tokens = a.tokens;
+      rules = a.rules;
+      invariants = a.invariants;
+      operations = a.operations;
+    } };
 }
 
 impl Draft {

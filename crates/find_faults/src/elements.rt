@@ -4,7 +4,12 @@ ghost use Rattle.std.specs.Prelude.{◌≡◌, ◌==◌, length, position};
 ghost use Rattle.std.specs.Str.{bytes_eq};
 ghost use Rattle.spec_core.specs.Typed.{sort_of as sort_of_elem, sort_of_kind, is_sort};
 ghost use Rattle.typing_rules.specs.Scope.{kind_of, params_of, var_sorts};
-ghost use Rattle.typing_rules.specs.Terms.{small as small_of, elem_named as elem_named_of, sort_named as sort_named_of, elem_of as elem_of_mark, elem_fault as elem_fault_of, elems_fault as elems_fault_of, places_fault as places_fault_of, args_fault as args_fault_of};
+ghost use Rattle.typing_rules.specs.Terms.{small as small_of, elem_named as elem_named_of};
+ghost use Rattle.typing_rules.specs.Terms.{sort_named as sort_named_of, elem_of as elem_of_mark};
+ghost use Rattle.typing_rules.specs.Terms.{elem_fault as elem_fault_of};
+ghost use Rattle.typing_rules.specs.Terms.{elems_fault as elems_fault_of};
+ghost use Rattle.typing_rules.specs.Terms.{places_fault as places_fault_of};
+ghost use Rattle.typing_rules.specs.Terms.{args_fault as args_fault_of};
 ghost use Rattle.find_faults.specs.Names.{meaning_in};
 ghost use Rattle.find_faults.specs.Views.{faulted, scope_of};
 

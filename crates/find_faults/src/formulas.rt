@@ -3,7 +3,19 @@
 ghost use Rattle.std.specs.Prelude.{◌≡◌, option_map, nat_le, min};
 ghost use Rattle.spec_core.specs.Specification.{relation_places as places_of};
 ghost use Rattle.spec_trees.specs.Form.{form_of};
-ghost use Rattle.typing_rules.specs.Formulas.{atom_fault as atom_fault_of, lone_name as lone_name_of, element_alone as element_alone_of, is_equality as is_equality_of, side_element as side_element_of, sorts_fault as sorts_fault_of, terms_fault as terms_fault_of, compare_fault as compare_fault_of, parts_fault as parts_fault_of, node_count as node_count_of, first_word as first_word_of, nodes_fault as nodes_fault_of, formula_fault as formula_fault_of};
+ghost use Rattle.typing_rules.specs.Formulas.{atom_fault as atom_fault_of};
+ghost use Rattle.typing_rules.specs.Formulas.{lone_name as lone_name_of};
+ghost use Rattle.typing_rules.specs.Formulas.{element_alone as element_alone_of};
+ghost use Rattle.typing_rules.specs.Formulas.{is_equality as is_equality_of};
+ghost use Rattle.typing_rules.specs.Formulas.{side_element as side_element_of};
+ghost use Rattle.typing_rules.specs.Formulas.{sorts_fault as sorts_fault_of};
+ghost use Rattle.typing_rules.specs.Formulas.{terms_fault as terms_fault_of};
+ghost use Rattle.typing_rules.specs.Formulas.{compare_fault as compare_fault_of};
+ghost use Rattle.typing_rules.specs.Formulas.{parts_fault as parts_fault_of};
+ghost use Rattle.typing_rules.specs.Formulas.{node_count as node_count_of};
+ghost use Rattle.typing_rules.specs.Formulas.{first_word as first_word_of};
+ghost use Rattle.typing_rules.specs.Formulas.{nodes_fault as nodes_fault_of};
+ghost use Rattle.typing_rules.specs.Formulas.{formula_fault as formula_fault_of};
 ghost use Rattle.find_faults.specs.Views.{faulted, marked, scope_of};
 
 use crate::elements::{args_fault, is_of_sort, sort_named};

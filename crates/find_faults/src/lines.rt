@@ -7,7 +7,14 @@ ghost use Rattle.spec_trees.specs.Form.{guard_of, line_of};
 ghost use Rattle.typing_rules.specs.declared.which.Which.TheVariants.{Updates};
 ghost use Rattle.typing_rules.specs.Fault.{◌otherwise◌, limit_at as limit_at_of};
 ghost use Rattle.typing_rules.specs.Terms.{term_fault as term_fault_of};
-ghost use Rattle.typing_rules.specs.Lines.{spot_fault as spot_fault_of, spots_fault as spots_fault_of, target_fault_at, relation_target_fault as relation_target_fault_of, counter_target_fault as counter_target_fault_of, guard_fault as guard_fault_of, taking_fault as taking_fault_of, most_observed as most_observed_of, line_fault as line_fault_of};
+ghost use Rattle.typing_rules.specs.Lines.{spot_fault as spot_fault_of};
+ghost use Rattle.typing_rules.specs.Lines.{spots_fault as spots_fault_of, target_fault_at};
+ghost use Rattle.typing_rules.specs.Lines.{relation_target_fault as relation_target_fault_of};
+ghost use Rattle.typing_rules.specs.Lines.{counter_target_fault as counter_target_fault_of};
+ghost use Rattle.typing_rules.specs.Lines.{guard_fault as guard_fault_of};
+ghost use Rattle.typing_rules.specs.Lines.{taking_fault as taking_fault_of};
+ghost use Rattle.typing_rules.specs.Lines.{most_observed as most_observed_of};
+ghost use Rattle.typing_rules.specs.Lines.{line_fault as line_fault_of};
 ghost use Rattle.find_faults.specs.Views.{faulted, scope_of};
 
 use crate::draft::Draft;

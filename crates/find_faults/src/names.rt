@@ -1,7 +1,8 @@
 // What names mean: an ordered map, so that a name is looked up without going through all.
 
 ghost use Rattle.std.specs.Prelude.{◌≡◌, [], OnOk};
-ghost use Rattle.typing_rules.specs.Scope.{with_name, sort_meant, const_meant, relation_meant, counter_meant, token_meant};
+ghost use Rattle.typing_rules.specs.Scope.{with_name, sort_meant, const_meant, relation_meant};
+ghost use Rattle.typing_rules.specs.Scope.{counter_meant, token_meant};
 ghost use Rattle.find_faults.specs.Names.{meaning_in};
 
 use std::alloc::{AllocError, Global};

@@ -1,7 +1,12 @@
 // What is in scope at a place, and what is wrong with a name there.
 
 ghost use Rattle.std.specs.Prelude.{◌≡◌};
-ghost use Rattle.typing_rules.specs.Scope.{is_param as is_param_of, is_var as is_var_of, in_scope as in_scope_of, stranger_fault as stranger_fault_of, declared_fault as declared_fault_of, sort_fault as sort_fault_of, sort_number as sort_number_of};
+ghost use Rattle.typing_rules.specs.Scope.{is_param as is_param_of, is_var as is_var_of};
+ghost use Rattle.typing_rules.specs.Scope.{in_scope as in_scope_of};
+ghost use Rattle.typing_rules.specs.Scope.{stranger_fault as stranger_fault_of};
+ghost use Rattle.typing_rules.specs.Scope.{declared_fault as declared_fault_of};
+ghost use Rattle.typing_rules.specs.Scope.{sort_fault as sort_fault_of};
+ghost use Rattle.typing_rules.specs.Scope.{sort_number as sort_number_of};
 ghost use Rattle.find_faults.specs.Names.{meaning_in};
 ghost use Rattle.find_faults.specs.Views.{faulted, scope_of};
 

@@ -2,7 +2,11 @@
 
 ghost use Rattle.std.specs.Prelude.{◌≡◌};
 ghost use Rattle.spec_trees.specs.Form.{sentence_of};
-ghost use Rattle.typing_rules.specs.Formulas.{with_vars as with_vars_of, variable_fault as variable_fault_of, variables_fault as variables_fault_of, vars_of as vars_of_prefix, sentence_fault as sentence_fault_of};
+ghost use Rattle.typing_rules.specs.Formulas.{with_vars as with_vars_of};
+ghost use Rattle.typing_rules.specs.Formulas.{variable_fault as variable_fault_of};
+ghost use Rattle.typing_rules.specs.Formulas.{variables_fault as variables_fault_of};
+ghost use Rattle.typing_rules.specs.Formulas.{vars_of as vars_of_prefix};
+ghost use Rattle.typing_rules.specs.Formulas.{sentence_fault as sentence_fault_of};
 ghost use Rattle.find_faults.specs.Views.{faulted, scope_of};
 
 use crate::fault::{Fault, limit_at};

@@ -4,7 +4,15 @@ ghost use Rattle.std.specs.Prelude.{◌≡◌, ◌<◌, ◌-◌, ◌^◌, ◌&&�
 ghost use Rattle.std.specs.Str.{bytes_eq};
 ghost use Rattle.spec_core.specs.Specification.{counter_keys as keys_of};
 ghost use Rattle.typing_rules.specs.Fault.{first_fault};
-ghost use Rattle.typing_rules.specs.Terms.{literal_fault as literal_fault_of, is_whole as is_whole_of, number_named as number_named_of, counter_fault as counter_fault_of, lone_fault as lone_fault_of, amount_fault as amount_fault_of, product_fault as product_fault_of, signed_fault as signed_fault_of, term_fault as term_fault_of};
+ghost use Rattle.typing_rules.specs.Terms.{literal_fault as literal_fault_of};
+ghost use Rattle.typing_rules.specs.Terms.{is_whole as is_whole_of};
+ghost use Rattle.typing_rules.specs.Terms.{number_named as number_named_of};
+ghost use Rattle.typing_rules.specs.Terms.{counter_fault as counter_fault_of};
+ghost use Rattle.typing_rules.specs.Terms.{lone_fault as lone_fault_of};
+ghost use Rattle.typing_rules.specs.Terms.{amount_fault as amount_fault_of};
+ghost use Rattle.typing_rules.specs.Terms.{product_fault as product_fault_of};
+ghost use Rattle.typing_rules.specs.Terms.{signed_fault as signed_fault_of};
+ghost use Rattle.typing_rules.specs.Terms.{term_fault as term_fault_of};
 ghost use Rattle.find_faults.specs.Views.{faulted, scope_of};
 
 use crate::elements::{args_fault, small};

@@ -10,7 +10,8 @@ ghost use Rattle.model_back.specs.Filling.{fill_atom, filled, fill_integer, fill
 use crate::equals::truth_of;
 use ground_atoms::{Atom, Atoms, IntName};
 use proof_lines::Interpretation;
-use spec_core::{Spec, State, World};
+use spec_core::{Spec, World};
+use spec_states::State;
 use std::alloc::{AllocError, Global};
 
 /// The element of a constant; 0 where there is no such constant.

@@ -26,7 +26,8 @@ use instances::Grounded;
 use items::Items;
 use obligation_list::{Obligation, Witness};
 use proof_lines::Interpretation;
-use spec_core::{Spec, State, World};
+use spec_core::{Spec, World};
+use spec_states::State;
 use std::alloc::{AllocError, Global};
 
 // The state of a witness.

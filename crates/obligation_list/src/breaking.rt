@@ -8,8 +8,11 @@ ghost use Rattle.spec_core.specs.Meaning.{invariant_line, inv, pre};
 ghost use Rattle.spec_core.specs.Fits.{fits_places, world_fits, call_fits, is_state};
 ghost use Rattle.effectors.specs.Effect.{after};
 ghost use Rattle.obligation_list.specs.Obligations.{IsObligation};
-ghost use Rattle.obligation_list.specs.Breaking.{requires_line, failing_vars, line_at, reads_same, elements_of};
-ghost use Rattle.obligation_list.specs.Refuting.{IsRefutation, may_run_together, refutes_init, refutes_safety, are_together, refutes_commute, refutes_stable, refutes_in, parts_fit, refutes};
+ghost use Rattle.obligation_list.specs.Breaking.{requires_line, failing_vars, line_at, reads_same};
+ghost use Rattle.obligation_list.specs.Breaking.{elements_of};
+ghost use Rattle.obligation_list.specs.Refuting.{IsRefutation, may_run_together, refutes_init};
+ghost use Rattle.obligation_list.specs.Refuting.{refutes_safety, are_together, refutes_commute};
+ghost use Rattle.obligation_list.specs.Refuting.{refutes_stable, refutes_in, parts_fit, refutes};
 
 use crate::initial::is_initial;
 use crate::lines::{invariant_line, is_ready, line_at, requires_line};
@@ -17,7 +20,8 @@ use crate::obligation::Obligation;
 use crate::witness::Witness;
 use effectors::{After, post2_count, post2_has};
 use partial_truth::invariant_broken_at;
-use spec_core::{Call, Prefix, Prefixed, Spec, State, Thing, World};
+use spec_core::{Call, Prefix, Prefixed, Spec, Thing, World};
+use spec_states::State;
 use token_rules::conflicts;
 
 // The elements are those at which a line may fail.
@@ -361,7 +365,8 @@ fn refutes(spec: &Spec, ob: &Obligation, w: &Witness) -> bool
 /// it; two calls don't conflict; and the conclusion fails at the elements.
 pub fn breaks(spec: &Spec, ob: &Obligation, w: &Witness) -> bool
     requires { IsObligation spec.now ob.now }
-    ensures { IsTrue result ↔ IsRefutation spec.now ob.now w.now.world w.now.state w.now.calls w.now.elements }
+    ensures { IsTrue result ↔ IsRefutation spec.now ob.now w.now.world w.now.state w.now.calls
+        w.now.elements }
 {
     refutes(spec, ob, w)
 }

@@ -8,7 +8,8 @@ ghost use Rattle.obligation_list.specs.Starting.{starts_at, starts_everywhere, s
 ghost use Rattle.spec_core.specs.Specification.{relation_places, counter_keys};
 
 use crate::listing::sizes_of;
-use spec_core::{Spec, State, Thing, World};
+use spec_core::{Spec, Thing, World};
+use spec_states::State;
 
 // The thing has its stated value at a tuple or key.
 fn starts_at(spec: &Spec, state: &State, thing: Thing, tuple: &[u32]) -> bool

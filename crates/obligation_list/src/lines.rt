@@ -5,11 +5,13 @@ ghost use Rattle.std.specs.List.{list_all};
 ghost use Rattle.spec_core.specs.Specification.{op_of};
 ghost use Rattle.spec_core.specs.State.{reads};
 ghost use Rattle.spec_core.specs.Meaning.{invariant_line, pre};
-ghost use Rattle.spec_core.specs.Fits.{in_state_range, fits_places, world_fits, call_fits, line_fits};
+ghost use Rattle.spec_core.specs.Fits.{in_state_range, fits_places, world_fits, call_fits};
+ghost use Rattle.spec_core.specs.Fits.{line_fits};
 ghost use Rattle.obligation_list.specs.Breaking.{requires_line, failing_vars, line_at};
 
 use partial_truth::{line_holds, requires_broken_at};
-use spec_core::{Call, Prefix, Prefixed, Readings, Spec, State, World, holds};
+use spec_core::{Call, Prefix, Prefixed, Readings, Spec, World, holds};
+use spec_states::State;
 
 /// The line of an invariant.
 pub fn invariant_line(spec: &Spec, inv: u8) -> &Prefixed

@@ -3,7 +3,8 @@
 ghost use Rattle.std.specs.Prelude.{◌≡◌, ◌+◌, ◌≤◌, length, true, false, IfOk};
 ghost use Rattle.word_cut.specs.Texts.{is_word, is_long_number};
 ghost use Rattle.word_cut.specs.Words.{IsCut, Stands};
-ghost use Rattle.parser_combinators.specs.Texts.{key_text as text_for, key_from, key_of as key_for, symbol_of as symbol_for};
+ghost use Rattle.parser_combinators.specs.Texts.{key_text as text_for, key_from, key_of as key_for};
+ghost use Rattle.parser_combinators.specs.Texts.{symbol_of as symbol_for};
 ghost use Rattle.parser_combinators.specs.Tokens.{token_of as token_for, tokens_of};
 
 use crate::token::{Key, Symbol, Token};

@@ -8,7 +8,8 @@ ghost use Rattle.spec_core.specs.Form.{form_of};
 ghost use Rattle.spec_core.specs.Truth.{truth};
 ghost use Rattle.spec_core.specs.Fits.{in_state_range, world_fits, form_fits};
 ghost use Rattle.spec_core.specs.Choices.{agrees};
-ghost use Rattle.partial_truth.specs.Forced.{is_bound, body_bound, term_bound, atom_bound, atom_forced, is_forced};
+ghost use Rattle.partial_truth.specs.Forced.{is_bound, body_bound, term_bound, atom_bound};
+ghost use Rattle.partial_truth.specs.Forced.{atom_forced, is_forced};
 
 use spec_core::{Body, Elem, Formula, Readings, Spec, Summand, Term, World, holds};
 

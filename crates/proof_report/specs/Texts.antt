@@ -5,7 +5,7 @@ use Rattle.std.specs.List.{flat_map, list_all}
 use Rattle.spec_core.specs.declared.world.Call.{Call}
 use Rattle.spec_core.specs.Specification.{Specification}
 use Rattle.spec_core.specs.State.{reads}
-use Rattle.spec_core.specs.StateText.{state_text}
+use Rattle.spec_states.specs.StateText.{state_text}
 use Rattle.spec_core.specs.Fits.{is_state, world_fits, call_fits}
 use Rattle.obligation_list.specs.declared.obligation.Obligation.{Obligation}
 use Rattle.obligation_list.specs.declared.witness.Witness.{Witness}

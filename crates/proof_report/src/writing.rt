@@ -2,7 +2,7 @@
 
 ghost use Rattle.std.specs.Prelude.{◌≡◌, ◌++◌, ◌+◌, ◌<◌, ◌^◌, OnOk, IfOk, true, length};
 ghost use Rattle.spec_core.specs.State.{reads};
-ghost use Rattle.spec_core.specs.StateText.{state_text};
+ghost use Rattle.spec_states.specs.StateText.{state_text};
 ghost use Rattle.spec_core.specs.Fits.{is_state};
 ghost use Rattle.obligation_list.specs.Obligations.{IsObligation};
 ghost use Rattle.proof_report.specs.Verdicts.{obligation_count};
@@ -20,7 +20,8 @@ use report_lines::head::{
 use report_lines::log::write_log_line;
 use report_lines::verdict::{VerdictWord, write_obligation, write_verdict_word};
 use report_lines::witness::{write_at, write_call, write_const, write_size};
-use spec_core::{Call, Spec, write_state};
+use spec_core::{Call, Spec};
+use spec_states::write_state;
 use std::alloc::{AllocError, Global};
 
 fn write_log(lines: &[Line], out: &mut Vec<u8>) -> Result<(), AllocError>

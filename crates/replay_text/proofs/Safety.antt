@@ -6,7 +6,7 @@ use Rattle.std.proofs.lemmas.Bool.{and_parts}
 use Rattle.std.specs.Option.{is_none}
 use Rattle.spec_core.specs.declared.world.World.{World}
 use Rattle.spec_core.specs.Specification.{Specification}
-use Rattle.spec_core.specs.StateText.{state_text}
+use Rattle.spec_states.specs.StateText.{state_text}
 use Rattle.spec_core.specs.Meaning.{broken_at}
 use Rattle.spec_core.specs.Fits.{is_world}
 use Rattle.spec_core.specs.Limits.{most_elements}

@@ -3,7 +3,7 @@ use Rattle.std.proofs.Common.{◌≡◌, ℕ, true, List, ◌++◌, Result, Ok, 
 use Rattle.spec_core.specs.declared.world.World.{World}
 use Rattle.spec_core.specs.Specification.{Specification}
 use Rattle.spec_core.specs.State.{Listing, Reads, reads}
-use Rattle.spec_core.specs.StateText.{state_text}
+use Rattle.spec_states.specs.StateText.{state_text}
 use Rattle.spec_core.specs.Fits.{is_state}
 
 -- what was written of a state that fits a world is the text of its readings there

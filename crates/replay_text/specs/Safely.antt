@@ -2,7 +2,7 @@
 use Rattle.std.specs.Prelude.{◌≡◌, ℕ, List, slice_get, Some}
 use Rattle.spec_core.specs.declared.world.World.{World}
 use Rattle.spec_core.specs.Specification.{Specification}
-use Rattle.spec_core.specs.StateText.{state_text}
+use Rattle.spec_states.specs.StateText.{state_text}
 use Rattle.executions.specs.Orders.{AreIn}
 use Rattle.replica_replay.specs.Steps.{state_of}
 use Rattle.replay_text.specs.declared.stop.Stop.TheVariants as stop

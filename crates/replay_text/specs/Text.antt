@@ -3,7 +3,7 @@ use Rattle.std.specs.Prelude.{ℕ, zero, suc, List, [], ◌∷◌, ◌++◌, len
 use Rattle.std.specs.Fmt.{signed_decimal}
 use Rattle.spec_core.specs.declared.world.World.{World}
 use Rattle.spec_core.specs.Specification.{Specification, no_counter, no_invariant}
-use Rattle.spec_core.specs.StateText.{spaced, state_text}
+use Rattle.spec_states.specs.StateText.{spaced, state_text}
 use Rattle.replica_replay.specs.declared.step.Step.{Step}
 use Rattle.replica_replay.specs.declared.step.Step.TheVariants as step
 use Rattle.replica_replay.specs.declared.step.StepRefused.{StepRefused}

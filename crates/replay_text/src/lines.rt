@@ -3,7 +3,7 @@
 ghost use Rattle.std.specs.Prelude.{◌≡◌, ◌++◌, ◌∷◌, [], get_or, OnOk, codes, decimal};
 ghost use Rattle.spec_core.specs.Specification.{no_counter, no_invariant};
 ghost use Rattle.std.specs.Fmt.{signed_decimal};
-ghost use Rattle.spec_core.specs.StateText.{spaced};
+ghost use Rattle.spec_states.specs.StateText.{spaced};
 ghost use Rattle.replay_text.specs.Text.{step_words, step_line, refusal_words, broken_words};
 ghost use Rattle.replay_text.specs.Text.{stop_line};
 

@@ -4,7 +4,7 @@ ghost use Rattle.std.specs.Prelude.{◌≡◌, ◌++◌, [], ◌∷◌, ◌+◌,
 ghost use Rattle.std.specs.Prelude.{get_or, IfOk, OnOk, codes};
 ghost use Rattle.spec_core.specs.Meaning.{broken_at};
 ghost use Rattle.spec_core.specs.Fits.{world_fits};
-ghost use Rattle.spec_core.specs.StateText.{state_text};
+ghost use Rattle.spec_states.specs.StateText.{state_text};
 ghost use Rattle.replay_text.specs.Course.{state_at, replica_of, course_from, course};
 ghost use Rattle.replica_replay.specs.Held.{none_held};
 ghost use Rattle.replay_text.specs.Text.{step_lines, stop_line, replica_text, replica_texts};
@@ -18,7 +18,8 @@ use byte_ports::{ACCEPTED, Answer, REFUSED, REJECTED};
 use invariants_after::invariant_broken_after;
 use partial_truth::invariant_broken_at;
 use replica_replay::{Replay, Step, StepRefused, Steps};
-use spec_core::{Spec, World, write_state};
+use spec_core::{Spec, World};
+use spec_states::write_state;
 use std::alloc::{AllocError, Global};
 
 /// The replica of a step.

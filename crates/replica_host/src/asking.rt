@@ -17,7 +17,8 @@ use call_runner::Runner;
 use effectors::ApplyRefused;
 use partial_truth::observes_broken_at;
 use replica_replay::{Happened, Order, StepRefused, least_unseen, operation_named, taking_asked};
-use spec_core::{Call, Spec, State, World};
+use spec_core::{Call, Spec, World};
+use spec_states::State;
 use std::alloc::{AllocError, Global};
 use token_rules::{Rivalry, rivals_of};
 

@@ -14,7 +14,8 @@ use crate::native::{Effect, Guard, Native};
 use call_runner::Runner;
 use items::Items;
 use replica_replay::{Happened, Replica, Step, StepRefused, Steps, Taken, count, seen_by_event};
-use spec_core::{Call, State, World};
+use spec_core::{Call, World};
+use spec_states::State;
 use std::alloc::{AllocError, Global};
 use std::marker::Model;
 

@@ -11,7 +11,8 @@ use call_runner::Runner;
 use replica_replay::{
     Happened, Replica, StepRefused, Taken, first_replicas, note_call, note_taking,
 };
-use spec_core::{Call, State};
+use spec_core::Call;
+use spec_states::State;
 use std::alloc::{AllocError, Global};
 
 /// A call becomes the next event, and its replica takes it, which leads to this state.

@@ -13,7 +13,8 @@ ghost use Rattle.replica_host.specs.Native.{IsEffect, IsGuard, Meets};
 
 use call_runner::Runner;
 use effectors::ApplyRefused;
-use spec_core::{Call, Spec, State, World};
+use spec_core::{Call, Spec, World};
+use spec_states::State;
 use std::alloc::AllocError;
 use std::marker::Model;
 

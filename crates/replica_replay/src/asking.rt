@@ -27,7 +27,8 @@ use crate::order::Order;
 use crate::step::StepRefused;
 use effectors::{ApplyRefused, apply_over};
 use partial_truth::{observes_broken_at, requires_broken_at};
-use spec_core::{Call, Operation, Spec, State, World};
+use spec_core::{Call, Operation, Spec, World};
+use spec_states::State;
 use std::alloc::Global;
 use token_rules::{Rivalry, conflicts, may_conflict};
 

@@ -14,7 +14,8 @@ ghost use Rattle.replica_replay.specs.Holding.{orders_of, seen_by_event, AreSpar
 use crate::order::Order;
 use crate::step::{StepRefused, Taken};
 use effectors::caught_up;
-use spec_core::{Call, Spec, State, World};
+use spec_core::{Call, Spec, World};
+use spec_states::State;
 use std::alloc::{AllocError, Global};
 use std::mem;
 

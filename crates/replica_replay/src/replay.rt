@@ -15,7 +15,8 @@ use crate::keeping::{
 };
 use crate::step::{Step, StepRefused, Taken};
 use items::Items;
-use spec_core::{Call, Spec, State, World};
+use spec_core::{Call, Spec, World};
+use spec_states::State;
 use std::alloc::{AllocError, Global};
 use std::marker::Model;
 use token_rules::rivals_of;
@@ -43,9 +44,14 @@ impl<'a> Model for Replay<'a> {
 
     ghost use Rattle.replica_replay.specs.Holding.{held_by, IsReplay};
 
-    ghost view = { λ a. record { spec = a.spec.now; world = a.world; held = held_by a.happened.items a.replicas.items } };
+    ghost view = { λ a. record {
+      spec = a.spec.now;
+      world = a.world;
+      held = held_by a.happened.items a.replicas.items;
+    } };
 
-    ghost invariant = { λ a. IsReplay a.spec.now a.world a.happened.items a.replicas.items a.spares.items };
+    ghost invariant = { λ a. IsReplay a.spec.now a.world a.happened.items a.replicas.items
+        a.spares.items };
 }
 
 impl<'a> Replay<'a> {

@@ -10,7 +10,8 @@ ghost use Rattle.replica_replay.specs.Steps.{state_of, outcome, held_after, answ
 
 use crate::replay::Replay;
 use crate::step::{Step, StepRefused, Taken};
-use spec_core::{Call, State, World};
+use spec_core::{Call, World};
+use spec_states::State;
 
 /// What carries steps out, with the answers of a replay. It holds what a replay of its specification in its world would hold.
 pub trait Steps {

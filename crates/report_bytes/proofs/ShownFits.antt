@@ -19,7 +19,7 @@ use Rattle.spec_core.specs.State.{Reads, reads, is_in, is_rising}
 use Rattle.spec_core.specs.World.{size_of, tuples}
 use Rattle.spec_core.specs.Fits.{fits_places, is_world, world_fits, is_argument, are_arguments, is_call, call_fits, in_state_range}
 use Rattle.spec_core.proofs.Members.{is_in-tuples}
-use Rattle.spec_core.proofs.Rising.{before, is_rising-filter, is_in-filter, is_rising-tuples}
+use Rattle.spec_states.proofs.Rising.{before, is_rising-filter, is_in-filter, is_rising-tuples}
 use Rattle.spec_core.proofs.States.{list_all-from_is_in}
 use Rattle.spec_core.proofs.Places.{size_at_most}
 use Rattle.obligation_list.specs.declared.obligation.Obligation.{Obligation}

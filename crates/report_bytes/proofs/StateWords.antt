@@ -13,8 +13,8 @@ use Rattle.spec_core.specs.Specification.{Specification}
 use Rattle.spec_core.specs.State.{Reads}
 use Rattle.spec_core.specs.World.{tuples}
 use Rattle.spec_core.specs.Truth.{int_eq}
-use Rattle.spec_core.specs.StateText
-use Rattle.spec_core.specs.StateText.{true_line, count_line, relation_lines, counter_lines, state_text}
+use Rattle.spec_states.specs.StateText
+use Rattle.spec_states.specs.StateText.{true_line, count_line, relation_lines, counter_lines, state_text}
 use Rattle.report_lines.specs.declared.witness.Fact.{Fact}
 use Rattle.report_lines.specs.declared.witness.Reading.{Reading}
 use Rattle.report_lines.specs.declared.witness.Shown.TheVariants as shown

@@ -12,7 +12,7 @@ use Rattle.spec_core.specs.declared.world.World.{World}
 use Rattle.spec_core.specs.declared.world.Call.{Call}
 use Rattle.spec_core.specs.Specification.{Specification, op_of}
 use Rattle.spec_core.specs.State.{reads}
-use Rattle.spec_core.specs.StateText.{state_text}
+use Rattle.spec_states.specs.StateText.{state_text}
 use Rattle.spec_core.specs.Fits.{is_argument, are_arguments, is_call, call_fits}
 use Rattle.obligation_list.specs.declared.witness.Witness.{Witness}
 use Rattle.proof_lines.specs.declared.line.Line.{Line}

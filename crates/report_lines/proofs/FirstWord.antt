@@ -27,17 +27,17 @@ pub word_last : (bytes : List ℕ) → position_or_len is_space bytes ≡ length
 word_last [] e = refl
 word_last (b ∷ bs) e = last_or_more b bs (is_space b) refl e (word_last bs)
 
-pub next_last : (over : Bool) (bytes : List ℕ) (n : ℕ) → over ≡ false → n ≡ position_or_len is_space bytes → n ≡ length bytes → next_of (cond over [] (parts bytes)) ≡ Some (bytes, [])
-next_last over bytes n o p e = let w = word_last bytes (sym p ∙ e) in rw (o, w) refl
+pub next_last : (bytes : List ℕ) (n : ℕ) → n ≡ position_or_len is_space bytes → n ≡ length bytes → next_of (parts bytes) ≡ Some (bytes, [])
+next_last bytes n p e = let w = word_last bytes (sym p ∙ e) in rw w refl
 
-pub next_more : (over : Bool) (bytes : List ℕ) (n : ℕ) → over ≡ false → n ≡ position_or_len is_space bytes → n ≤ length bytes → (n ≡ length bytes → ⊥)
-    → next_of (cond over [] (parts bytes)) ≡ Some (take n bytes, parts (take (length bytes - (n + 1)) (drop (n + 1) bytes)))
-next_more over bytes n o p le e =
+pub next_more : (bytes : List ℕ) (n : ℕ) → n ≡ position_or_len is_space bytes → n ≤ length bytes → (n ≡ length bytes → ⊥)
+    → next_of (parts bytes) ≡ Some (take n bytes, parts (take (length bytes - (n + 1)) (drop (n + 1) bytes)))
+next_more bytes n p le e =
     let lt : position_or_len is_space bytes < length bytes = omega arith in
     let w = word_more bytes lt in
     let v : parts bytes ≡ take n bytes ∷ parts (drop (n + 1) bytes) = rw p w in
     let all : take (length bytes - (n + 1)) (drop (n + 1) bytes) ≡ drop (n + 1) bytes = take_all _ _ (omega (arith, length-drop (n + 1) bytes)) in
-    rw (o, v, all) refl
+    rw (v, all) refl
 
 some_part : (b : ℕ) (ps : List (List ℕ)) → is_empty (onto_first b ps) ≡ false
 some_part b [] = refl
@@ -51,7 +51,3 @@ part_cases b false ps = some_part b ps
 pub parts_some : (bytes : List ℕ) → is_empty (parts bytes) ≡ false
 parts_some [] = refl
 parts_some (b ∷ bs) = part_cases b (is_space b) (parts bs)
-
-pub end_is : (over : Bool) (bytes : List ℕ) → over ≡ is_empty (cond over [] (parts bytes))
-end_is true bytes = refl
-end_is false bytes = sym (parts_some bytes)

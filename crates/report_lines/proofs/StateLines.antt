@@ -9,8 +9,8 @@ use Rattle.spec_core.specs.Specification.{Specification, relation_places, counte
 use Rattle.spec_core.specs.World.{size_of}
 use Rattle.spec_core.specs.Truth.{int_eq}
 use Rattle.spec_core.specs.Fits.{fits_places}
-use Rattle.spec_core.specs.StateText
-use Rattle.spec_core.specs.StateText.{true_line, count_line}
+use Rattle.spec_states.specs.StateText
+use Rattle.spec_states.specs.StateText.{true_line, count_line}
 use Rattle.report_lines.specs.Words.{joined, line_text, spaced}
 use Rattle.report_lines.specs.Witnesses.{relation_names, counter_names, fact_format, reading_format, tuple_words, is_other}
 use Rattle.report_lines.proofs.Splitting.{joined_spaced, spaced-append}

@@ -1,5 +1,6 @@
 -- The words of a line, and what is left of them.
-use Rattle.std.specs.Prelude.{◌≡◌, ℕ, Bool, not, ◌==◌, ◌||◌, if◌then◌else◌, List, [], ◌∷◌, ◌++◌, Option, Some, None, Result, Ok, Err}
+use Rattle.std.specs.Prelude.{◌≡◌, ℕ, Bool, not, ◌==◌, ◌||◌, List, [], ◌∷◌, ◌++◌, Option, Some, None, Result, Ok, Err}
+use Rattle.std.specs.Borrow.{Bor}
 use Rattle.std.specs.List.{slice_split, join_with_byte, list_all}
 use Rattle.report_lines.specs.declared.words.Words.{Words}
 use Rattle.report_lines.specs.declared.words.ReadError.{ReadError}
@@ -26,9 +27,14 @@ spaced (w ∷ ws) = 32 ∷ w ++ spaced ws
 abbrev pub is_part : List ℕ → Bool
 is_part w = list_all (λ b. not ((b == 32) || (b == 10))) w
 
+-- the words of what is left of a line, and none where it is over
+abbrev pub parts_left : Option (Bor (List ℕ)) → List (List ℕ)
+parts_left None = []
+parts_left (Some rest) = parts rest.now
+
 -- the words of a line that are left
 abbrev pub left : Words → List (List ℕ)
-left w = if w.over then [] else parts w.rest.now
+left w = parts_left w.rest
 
 -- the next word and those behind it
 abbrev pub next_of : List (List ℕ) → Option (List ℕ × List (List ℕ))

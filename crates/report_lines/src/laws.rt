@@ -4,7 +4,7 @@ ghost use Rattle.std.specs.Prelude.{◌≡◌, ◌∷◌, [], ℕ, ℤ, List, Bo
 ghost use Rattle.spec_core.specs.declared.world.World.{World};
 ghost use Rattle.spec_core.specs.Specification.{Specification, relation_places, counter_keys};
 ghost use Rattle.spec_core.specs.Fits.{fits_places};
-ghost use Rattle.spec_core.specs.StateText.{true_line, count_line};
+ghost use Rattle.spec_states.specs.StateText.{true_line, count_line};
 ghost use Rattle.spec_core.specs.Typed.{is_specification};
 ghost use Rattle.obligation_list.specs.declared.obligation.Obligation.{Obligation};
 ghost use Rattle.obligation_list.specs.Obligations.{IsObligation};

@@ -1,6 +1,6 @@
 // The words of a line, without a copy of them.
 
-ghost use Rattle.std.specs.Prelude.{◌≡◌, ◌==◌, ◌≤◌, ℕ, List, length, map, take, false, Some, IfSome};
+ghost use Rattle.std.specs.Prelude.{◌≡◌, ◌==◌, ◌≤◌, ℕ, List, length, map, take, Some, IfSome};
 ghost use Rattle.word_cut.specs.Whole.{size_read};
 ghost use Rattle.std.specs.List.{position_or_len};
 ghost use Rattle.report_lines.specs.Formats.{key_at, these_at, is_empty};
@@ -37,8 +37,7 @@ impl<T: Drop> From<AllocFailed<T>> for ReadError {
 /// The words of a line that are left: those of `rest`, or none where the line is over.
 #[derive(Clone, Copy)]
 pub struct Words<'a> {
-    rest: &'a [u8],
-    over: bool,
+    rest: Option<&'a [u8]>,
 }
 
 impl<'a> Words<'a> {
@@ -46,17 +45,17 @@ impl<'a> Words<'a> {
     pub fn of(line: &'a [u8]) -> Words<'a>
         ensures { left result ≡ parts line.now }
     {
-        Words {
-            rest: line,
-            over: false,
-        }
+        Words { rest: Some(line) }
     }
 
     /// Whether no words are left.
     pub fn is_over(self) -> bool
         ensures { result ≡ is_empty (left self.entry) }
     {
-        self.over
+        match self.rest {
+            Some(_) => false,
+            None => true,
+        }
     }
 }
 
@@ -73,23 +72,18 @@ fn word_len(bytes: &[u8]) -> usize
     bytes.len()
 }
 
-// The words behind the next word, which is so long.
+// The words of a line behind its first word, which is so long.
 #[inline(always)]
-fn behind(words: Words<'_>, len: usize) -> Words<'_>
-    requires open { words.over ≡ false }
-    requires len { len ≡ position_or_len (λ b. b == 32) words.rest.now }
-    requires within { len ≤ length words.rest.now }
-    ensures { next_of (left words.entry) ≡ Some (take len words.entry.rest.now, left result) }
+fn behind(line: &[u8], len: usize) -> Words<'_>
+    requires len { len ≡ position_or_len (λ b. b == 32) line.now }
+    requires within { len ≤ length line.now }
+    ensures { next_of (parts line.now) ≡ Some (take len line.now, left result) }
 {
-    if len == words.rest.len() {
-        return Words {
-            rest: words.rest,
-            over: true,
-        };
+    if len == line.len() {
+        return Words { rest: None };
     }
     Words {
-        rest: &words.rest[len + 1..],
-        over: false,
+        rest: Some(&line[len + 1..]),
     }
 }
 
@@ -98,11 +92,11 @@ fn behind(words: Words<'_>, len: usize) -> Words<'_>
 pub fn next(words: Words<'_>) -> Result<(&[u8], Words<'_>), ReadError>
     ensures { Gives (λ x. (x.0.now, left x.1)) result (next_of (left words.entry)) }
 {
-    if words.over {
+    let Some(line) = words.rest else {
         return Err(ReadError::Form);
-    }
-    let len = word_len(words.rest);
-    Ok((&words.rest[..len], behind(words, len)))
+    };
+    let len = word_len(line);
+    Ok((&line[..len], behind(line, len)))
 }
 
 /// The number that the next word spells, where it is a short one, and the words behind it. None says nothing.
@@ -111,11 +105,9 @@ pub(crate) fn next_number(words: Words<'_>) -> Option<(u64, Words<'_>)>
     ensures { IfSome result (λ x. (w : List ℕ) × (next_of (left words.entry) ≡ Some (w, left x.1))
         × (size_read w ≡ Some x.0)) }
 {
-    if words.over {
-        return None;
-    }
-    let (number, len) = front_number(words.rest)?;
-    Some((number, behind(words, len)))
+    let line = words.rest?;
+    let (number, len) = front_number(line)?;
+    Some((number, behind(line, len)))
 }
 
 /// The words behind a word that must be next.

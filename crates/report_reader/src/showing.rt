@@ -10,7 +10,8 @@ use items::Items;
 use obligation_list::Witness;
 use proof_report::place::PartialWitness;
 use report_lines::witness::{Fact, Reading};
-use spec_core::{Call, Spec, State, World};
+use spec_core::{Call, Spec, World};
+use spec_states::State;
 use std::alloc::{AllocError, Global};
 
 #[tactic(auto, using(crate::proofs::States::fact_within))]

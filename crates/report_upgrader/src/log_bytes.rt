@@ -3,8 +3,9 @@
 // The lines of a report that stands aren't built anew: all that upgrading has to know of a line is
 // which clauses it names, and only lines that resolve two clauses name some. So the bytes of a log are
 // gone through twice. First a list has what each line is, and a table for each clause the last line
-// that names it. Then each line is copied, with a Drop line behind it where it names clauses last. So
-// each line is read once. The list takes 12 bytes for each line, the table four for each clause.
+// that names it. Then each line is copied, with a Drop line behind it where it names clauses last. The
+// list has how long each line is too, so each line is read once. It takes 16 bytes for each line, the
+// table four for each clause.
 ghost use Rattle.std.specs.Prelude.{◌≡◌, ℕ, ◌+◌, ◌==◌, ◌<◌, ◌≤◌, ◌++◌, ◌∷◌, [], List, true, codes};
 ghost use Rattle.std.specs.Prelude.{cond, drop, filter, length, slice_index_or, IfOk, OnOk};
 ghost use Rattle.std.specs.Str.{bytes_eq};
@@ -16,7 +17,7 @@ ghost use Rattle.report_bytes.specs.Bytes.{pieces};
 ghost use Rattle.report_lines.specs.Logs.{line_format};
 ghost use Rattle.report_lines.specs.Words.{left};
 ghost use Rattle.report_upgrader.specs.declared.log_bytes.LogLine.TheVariants.{Resolve};
-ghost use Rattle.report_upgrader.specs.LastLines.{IsKind, AreKinds, last_naming, is_last, with_drops};
+ghost use Rattle.report_upgrader.specs.LastLines.{IsKind, AreKinds, IsLong, AreLong, last_naming, is_last, with_drops};
 ghost use Rattle.report_upgrader.specs.LastLines.{IsWritten};
 ghost use Rattle.report_upgrader.specs.Passing.{proved_text, say_log, IsText};
 
@@ -33,6 +34,13 @@ pub enum LogLine {
     Resolve(u32, u32),
     Drop,
     Other,
+}
+
+/// What is kept of a line of a log: what it is, and how long it is without its line feed.
+#[derive(Clone, Copy)]
+pub struct SeenLine {
+    pub kind: LogLine,
+    pub len: u32,
 }
 
 // The two clauses behind the first word of a line that resolves them.
@@ -105,18 +113,30 @@ fn note_kind(table: &mut Vec<u32>, kind: LogLine, at: u32) -> Result<(), AllocEr
     }
 }
 
-// For each clause the last of so many lines that names it. What each line is stands in a list then.
+// How long a line is. Longer ones than 32 bits can count are answered as want of memory.
+fn short_len(line: &[u8]) -> Result<u32, AllocError>
+    ensures { IfOk result (λ n. n ≡ length line.now) }
+{
+    match u32::try_from(line.len()) {
+        Ok(len) => Ok(len),
+        Err(_) => Err(AllocError),
+    }
+}
+
+// For each clause the last of so many lines that names it. What each line is, and how long, stands in a
+// list then.
 fn last_lines(
     alloc: Global,
     count: u32,
     lines: &[u8],
-    kinds: &mut Vec<LogLine>,
+    seen: &mut Vec<SeenLine>,
 ) -> Result<Vec<u32>, AllocError>
-    requires { kinds.old.items ≡ [] }
+    requires { seen.old.items ≡ [] }
     ensures table { (ls : List Given) → length ls ≡ count → say_log ls (pieces lines.now)
         → IfOk result (λ table. (n : ℕ) → slice_index_or table.items n 0 ≡ last_naming ls n) }
     ensures kinds { (ls : List Given) → length ls ≡ count → say_log ls (pieces lines.now)
-        → OnOk result (AreKinds kinds.new.items ls) }
+        → OnOk result (AreKinds seen.new.items ls) }
+    ensures long { OnOk result ((end : List ℕ) × AreLong seen.new.items lines.now end) }
 {
     let mut table = Vec::new(alloc);
     let mut rest = lines;
@@ -126,7 +146,8 @@ fn last_lines(
         };
         let kind = kind_of(line)?;
         note_kind(&mut table, kind, taken + 1)?;
-        kinds.push(kind)?;
+        let len = short_len(line)?;
+        seen.push(SeenLine { kind, len })?;
         rest = behind;
     }
     Ok(table)
@@ -270,17 +291,27 @@ fn write_line(
     }
 }
 
-// Adds the upgraded log of so many lines of these kinds. Answers how many lines it has, and the bytes
-// behind the log.
+// A line that is so long, and the bytes behind its line feed.
+#[inline(always)]
+fn cut_line(bytes: &[u8], len: usize) -> (&[u8], &[u8])
+    requires { len < length bytes.now }
+    ensures { (h : IsLong len bytes.now) → (result.0.now ≡ h.line) × (result.1.now ≡ h.behind) }
+{
+    (&bytes[..len], &bytes[len + 1..])
+}
+
+// Adds the upgraded log of so many lines, of which it was seen what they are and how long. Answers how
+// many lines it has, and the bytes behind the log.
 fn write_lines<'a>(
     last: &[u32],
-    kinds: &[LogLine],
+    seen: &[SeenLine],
     count: u32,
     lines: &'a [u8],
     out: &mut Vec<u8>,
 ) -> Result<(u32, &'a [u8]), AllocError>
+    requires { (end : List ℕ) × AreLong seen.now lines.now end }
     ensures written { (ls : List Given) → length ls ≡ count → say_log ls (pieces lines.now)
-        → ((n : ℕ) → slice_index_or last.now n 0 ≡ last_naming ls n) → AreKinds kinds.now ls
+        → ((n : ℕ) → slice_index_or last.now n 0 ≡ last_naming ls n) → AreKinds seen.now ls
         → IfOk result (λ x. IsWritten (upgraded ls) out.old.items out.new.items x.0) }
     ensures behind { IfOk result (λ x. drop count (pieces lines.now) ≡ pieces x.1.now) }
     ensures fewer { IfOk result (λ x. length x.1.now ≤ length lines.now) }
@@ -288,13 +319,11 @@ fn write_lines<'a>(
     let mut written: u32 = 0;
     let mut rest = lines;
     'lines: for taken in 0..count {
-        let Some((line, behind)) = next_line(rest) else {
+        let Some(known) = seen.get(taken as usize) else {
             return Err(AllocError);
         };
-        let Some(kind) = kinds.get(taken as usize) else {
-            return Err(AllocError);
-        };
-        let more = write_line(last, taken + 1, *kind, line, out)?;
+        let (line, behind) = cut_line(rest, known.len as usize);
+        let more = write_line(last, taken + 1, known.kind, line, out)?;
         written = sum(written, more)?;
         rest = behind;
     }
@@ -314,10 +343,10 @@ pub fn pass_log<'a>(
     ensures behind { IfOk result (λ behind. drop count (pieces lines.now) ≡ pieces behind.now) }
     ensures fewer { IfOk result (λ behind. length behind.now ≤ length lines.now) }
 {
-    let mut kinds = Vec::new(alloc);
-    let last = last_lines(alloc, count, lines, &mut kinds)?;
+    let mut seen = Vec::new(alloc);
+    let last = last_lines(alloc, count, lines, &mut seen)?;
     let mut log = Vec::new(alloc);
-    let (written, behind) = write_lines(last.as_slice(), kinds.as_slice(), count, lines, &mut log)?;
+    let (written, behind) = write_lines(last.as_slice(), seen.as_slice(), count, lines, &mut log)?;
     write_verdict_word(text, VerdictWord::Proved(written))?;
     text.extend_from_slice(log.as_slice())?;
     Ok(behind)

@@ -4,7 +4,10 @@ ghost use Rattle.std.specs.Prelude.{◌≡◌, ◌≤◌, [], ◌∷◌, IfOk};
 ghost use Rattle.std.specs.List.{flat_map};
 ghost use Rattle.spec_core.specs.Form.{form_of, not_form};
 ghost use Rattle.spec_core.specs.World.{below};
-ghost use Rattle.sample_specs.specs.Sample.{an_item as an_item_of, has_item as has_item_of, requires_line as requires_line_of, update_of, takes_item as takes_item_of, on_item as on_item_of, adding as adding_of, deleting as deleting_of};
+ghost use Rattle.sample_specs.specs.Sample.{an_item as an_item_of, has_item as has_item_of};
+ghost use Rattle.sample_specs.specs.Sample.{requires_line as requires_line_of, update_of};
+ghost use Rattle.sample_specs.specs.Sample.{takes_item as takes_item_of, on_item as on_item_of};
+ghost use Rattle.sample_specs.specs.Sample.{adding as adding_of, deleting as deleting_of};
 
 use crate::parts::{numbered, one, relation_holds};
 use items::Items;

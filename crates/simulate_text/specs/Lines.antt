@@ -2,7 +2,7 @@
 use Rattle.std.specs.Prelude.{ℕ, ℤ, List, [], ◌∷◌, ◌++◌, get_or, codes, decimal}
 use Rattle.std.specs.Fmt.{signed_decimal}
 use Rattle.spec_core.specs.Specification.{Specification, no_counter, no_invariant}
-use Rattle.spec_core.specs.StateText.{spaced}
+use Rattle.spec_states.specs.StateText.{spaced}
 use Rattle.token_protocol.specs.declared.node.WhyVoid.{WhyVoid}
 use Rattle.token_protocol.specs.declared.node.WhyVoid.TheVariants as why
 use Rattle.simulate_text.specs.declared.said.Said.{Said}

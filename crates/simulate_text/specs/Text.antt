@@ -2,7 +2,7 @@
 use Rattle.std.specs.Prelude.{ℕ, suc, List, [], ◌∷◌, ◌++◌, length, codes, decimal}
 use Rattle.spec_core.specs.declared.world.World.{World}
 use Rattle.spec_core.specs.Specification.{Specification}
-use Rattle.spec_core.specs.StateText.{state_text}
+use Rattle.spec_states.specs.StateText.{state_text}
 use Rattle.replica_replay.specs.declared.step.Step.{Step}
 use Rattle.token_protocol.specs.Network.{Replica}
 use Rattle.simulate_text.specs.declared.said.Stop.{Stop}

@@ -21,7 +21,8 @@ use byte_ports::{ACCEPTED, Answer, REFUSED, REJECTED};
 use items::Items;
 use replay_text::{push, push_number};
 use replica_replay::{Step, operation_named};
-use spec_core::{Call, Spec, World, write_state};
+use spec_core::{Call, Spec, World};
+use spec_states::write_state;
 use std::alloc::{AllocError, Global};
 use token_core::{Net, Plain, Runner};
 

@@ -4,11 +4,7 @@ pub mod Parts
 pub mod Places
 pub mod Choosing
 pub mod Fitting
-pub mod Entries
 pub mod States
-pub mod Sameness
 pub mod Members
 pub mod Operations
 pub mod Agreeing
-pub mod Rising
-pub mod Texts

@@ -13,6 +13,3 @@ pub mod Fits
 pub mod Typed
 pub mod Sizes
 pub mod Choices
-pub mod Starting
-pub mod Same
-pub mod StateText

@@ -3,7 +3,8 @@
 ghost use Rattle.std.specs.Prelude.{◌≡◌, map, nat_le};
 ghost use Rattle.std.specs.List.{list_all};
 ghost use Rattle.spec_core.specs.Limits.{most_elements};
-ghost use Rattle.spec_core.specs.Fits.{fits_places, is_argument, are_arguments, in_state_range, world_fits, call_fits};
+ghost use Rattle.spec_core.specs.Fits.{fits_places, is_argument, are_arguments, in_state_range};
+ghost use Rattle.spec_core.specs.Fits.{world_fits, call_fits};
 
 use crate::limits::{GREATEST_VALUE, MOST_ELEMENTS};
 use crate::operation::{Kind, Param};

@@ -6,11 +6,10 @@ ghost use Rattle.spec_core.specs.declared.world.Call.{Call};
 ghost use Rattle.spec_core.specs.Specification.{Specification, op_of};
 ghost use Rattle.spec_core.specs.State.{Reads};
 ghost use Rattle.spec_core.specs.Meaning.{inv, pre, observed};
-ghost use Rattle.spec_core.specs.StateText.{state_text};
 ghost use Rattle.spec_core.specs.Fits.{is_world, is_call, OperationFits, AgreeOn};
 ghost use Rattle.spec_core.specs.Typed.{is_specification};
 
-/// Invariants, preconditions, observations and the text of a state depend on the readings at fitting tuples and keys alone.
+/// Invariants, preconditions and observations depend on the readings at fitting tuples and keys alone.
 pub fn law_readings_that_agree()
     ensures inv { (d : Specification) (w : World) (r s : Reads) → is_specification d ≡ true
         → is_world d w ≡ true → AgreeOn d w r s → inv d w r ≡ inv d w s }
@@ -20,8 +19,6 @@ pub fn law_readings_that_agree()
     ensures observed { (d : Specification) (w : World) (r s : Reads) (c : Call)
         → is_specification d ≡ true → is_world d w ≡ true → AgreeOn d w r s → is_call d w c ≡ true
         → observed d w c r ≡ observed d w c s }
-    ensures text { (d : Specification) (w : World) (r s : Reads) → AgreeOn d w r s
-        → state_text d w r ≡ state_text d w s }
 {}
 
 /// All that the operation of a call asks and does fits at the call's arguments.

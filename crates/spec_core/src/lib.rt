@@ -3,27 +3,23 @@
 // It stands on `items`. The definitions are in specs/, over plain data, in this order: `Form`, `Line` and `UpdateLine` (a
 // formula, a line and an update, wherever they lie in memory), `Specification` (all that is declared), `State` (a state as it
 // is listed and as it is read), `World` (elements and tuples), `Truth`, `Meaning` (invariant, precondition, observation,
-// initial state), `Fits` (which worlds, calls, states and arguments fit), `Typed` (which specifications are well formed) and
-// `StateText` (the lines that show a state); `Limits` and `Name` have the limits of the language and its names. `Code`, `Sizes`, `Choices`, `Starting` and `Same` serve the proofs alone.
+// initial state), `Fits` (which worlds, calls, states and arguments fit) and `Typed` (which specifications are well formed);
+// `Limits` and `Name` have the limits of the language and its names. `Code`, `Sizes` and `Choices` serve the proofs alone.
 //
 // Truth is computed over whatever reads like a state, without memory, by `holds`, `line_holds`, `invariant_broken_at`,
-// `requires_broken_at` and `observes_broken_at`. A `State` holds ordered sets and maps, so that a reading is a look-up.
+// `requires_broken_at` and `observes_broken_at`.
 #![tactic(auto)]
 
 mod broken_lines;
 mod fits;
 mod formula;
-mod initial;
 mod laws;
 pub mod limits;
 mod line;
-mod lines;
-mod listed;
 mod name;
 mod operation;
 mod quantified;
 mod spec;
-mod state;
 mod truth;
 mod tuples;
 mod update;
@@ -38,7 +34,6 @@ pub use name::{Name, is_word_name};
 pub use operation::{Kind, Operation, Param, Take};
 pub use quantified::{invariant_broken_at, line_holds};
 pub use spec::{Const, Counter, Invariant, Pattern, Relation, Rule, Spec, Token};
-pub use state::{State, write_state};
 pub use truth::{Readings, count_at, elem_at, has_at, holds, term_value};
 pub use update::{Change, Spot, Thing, Update};
 pub use world::{Call, World};

@@ -3,7 +3,8 @@
 ghost use Rattle.std.specs.Prelude.{◌≡◌, ◌≤◌, length, IfOk};
 ghost use Rattle.std.specs.List.{list_all};
 ghost use Rattle.spec_core.specs.Limits.{most_name_bytes};
-ghost use Rattle.spec_core.specs.Name.{is_letter as is_letter_of, is_name_byte as is_name_byte_of, is_word as is_word_of, is_word_name as is_word_name_of};
+ghost use Rattle.spec_core.specs.Name.{is_letter as is_letter_of, is_name_byte as is_name_byte_of};
+ghost use Rattle.spec_core.specs.Name.{is_word as is_word_of, is_word_name as is_word_name_of};
 
 use crate::limits::MOST_NAME_BYTES;
 use items::Items;

@@ -1,7 +1,8 @@
 // Specifications, and what their parts refer to.
 
 ghost use Rattle.std.specs.Prelude.{◌≡◌, true};
-ghost use Rattle.spec_core.specs.Specification.{relation_places, counter_keys, token_places, places_of, op_of};
+ghost use Rattle.spec_core.specs.Specification.{relation_places, counter_keys, token_places};
+ghost use Rattle.spec_core.specs.Specification.{places_of, op_of};
 ghost use Rattle.spec_core.specs.Typed.{is_specification};
 
 use crate::line::Prefixed;
@@ -87,9 +88,29 @@ impl Model for Spec {
 
     ghost coded = { Prim.hlevel (codes, coded_form) };
 
-    ghost view = { λ a. record { version = a.version; sorts = a.sorts; consts = a.consts; relations = a.relations; counters = a.counters; tokens = a.tokens; rules = a.rules; invariants = a.invariants; operations = a.operations } };
+    ghost view = { λ a. record {
+      version = a.version;
+      sorts = a.sorts;
+      consts = a.consts;
+      relations = a.relations;
+      counters = a.counters;
+      tokens = a.tokens;
+      rules = a.rules;
+      invariants = a.invariants;
+      operations = a.operations;
+    } };
 
-    ghost invariant = { λ a. is_specification (record { version = a.version; sorts = a.sorts; consts = a.consts; relations = a.relations; counters = a.counters; tokens = a.tokens; rules = a.rules; invariants = a.invariants; operations = a.operations }) ≡ true };
+    ghost invariant = { λ a. is_specification (record {
+      version = a.version;
+      sorts = a.sorts;
+      consts = a.consts;
+      relations = a.relations;
+      counters = a.counters;
+      tokens = a.tokens;
+      rules = a.rules;
+      invariants = a.invariants;
+      operations = a.operations;
+    }) ≡ true };
 }
 
 impl Spec {

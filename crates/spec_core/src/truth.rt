@@ -3,13 +3,16 @@
 // Nothing here takes memory. A term's value stays below 2^127: a reading is at most 3 * 10^26 in size, a coefficient at most
 // 10^9, and a term has at most 16 summands.
 
-ghost use Rattle.std.specs.Prelude.{◌≡◌, ℕ, ◌≤◌, ◌*◌, ◌<◌, ◌^◌, ◌*ℤ◌, unsigned_abs, nat_lt, true, length};
+ghost use Rattle.std.specs.Prelude.{◌≡◌, ℕ, ◌≤◌, ◌*◌, ◌<◌, ◌^◌, ◌*ℤ◌, unsigned_abs, nat_lt, true};
+ghost use Rattle.std.specs.Prelude.{length};
 ghost use Rattle.std.specs.List.{list_all};
 ghost use Rattle.spec_core.specs.Limits.{most_places, most_keys, most_summands, greatest_literal};
 ghost use Rattle.spec_core.specs.Form.{form_of};
 ghost use Rattle.spec_core.specs.State.{Reads};
-ghost use Rattle.spec_core.specs.Truth.{elem_of, elems_of, body_of, sum_of, term_of, compare_of, truth};
-ghost use Rattle.spec_core.specs.Fits.{in_state_range, world_fits, body_fits, summand_fits, term_fits, form_fits};
+ghost use Rattle.spec_core.specs.Truth.{elem_of, elems_of, body_of, sum_of, term_of, compare_of};
+ghost use Rattle.spec_core.specs.Truth.{truth};
+ghost use Rattle.spec_core.specs.Fits.{in_state_range, world_fits, body_fits, summand_fits};
+ghost use Rattle.spec_core.specs.Fits.{term_fits, form_fits};
 ghost use Rattle.spec_core.specs.Sizes.{is_small};
 
 use crate::formula::{Body, Cmp, Elem, Formula, Summand, Term};

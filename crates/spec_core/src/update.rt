@@ -46,5 +46,10 @@ impl Model for Update {
 
     ghost coded = { Prim.hlevel (codes, coded_form) };
 
-    ghost view = { λ a. record { thing = a.thing; at = a.at; change = a.change; guard = form_of a.guard } };
+    ghost view = { λ a. record {
+      thing = a.thing;
+      at = a.at;
+      change = a.change;
+      guard = form_of a.guard;
+    } };
 }

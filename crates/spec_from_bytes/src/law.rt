@@ -8,7 +8,8 @@ ghost use Rattle.spec_trees.specs.Place.{IsRead};
 ghost use Rattle.typing_rules.specs.Fault.{Fault};
 ghost use Rattle.fault_rules.specs.Sites.{specification_of};
 ghost use Rattle.fault_rules.specs.Faults.{IsLeastFault, HasNoFault};
-ghost use Rattle.spec_from_bytes.specs.Refusal.{IsTreeOf, IsReadAs, IsSpecificationOf, Refusal, faulty, IsRefusal};
+ghost use Rattle.spec_from_bytes.specs.Refusal.{IsTreeOf, IsReadAs, IsSpecificationOf, Refusal};
+ghost use Rattle.spec_from_bytes.specs.Refusal.{faulty, IsRefusal};
 
 use fault_rules::{law_least_fault, law_read_is_written};
 

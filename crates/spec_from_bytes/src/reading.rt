@@ -1,5 +1,6 @@
 // From bytes to a specification, or to the text that says why they are none.
-ghost use Rattle.std.specs.Prelude.{◌≡◌, ℕ, ◌++◌, ◌≤◌, ◌<◌, List, length, IfOk, OnOk, IsErrOf, codes, decimal, [], ◌∷◌};
+ghost use Rattle.std.specs.Prelude.{◌≡◌, ℕ, ◌++◌, ◌≤◌, ◌<◌, List, length, IfOk, OnOk, IsErrOf};
+ghost use Rattle.std.specs.Prelude.{codes, decimal, [], ◌∷◌};
 ghost use Rattle.byte_ports.specs.Faults.{IsFault};
 ghost use Rattle.byte_ports.specs.Told.{IsReadWithin};
 ghost use Rattle.word_cut.specs.Words.{IsCut};
@@ -8,7 +9,8 @@ ghost use Rattle.spec_trees.specs.Trees.{IsTree};
 ghost use Rattle.typing_rules.specs.Items.{typing};
 ghost use Rattle.spec_types.specs.Refusals.{IsTypeRefusal};
 ghost use Rattle.spec_from_bytes.specs.Lines.{line};
-ghost use Rattle.spec_from_bytes.specs.Reading.{SaysFault, IsTyped, SaysRefusal, IsReadingOf, IsReadingFrom};
+ghost use Rattle.spec_from_bytes.specs.Reading.{SaysFault, IsTyped, SaysRefusal, IsReadingOf};
+ghost use Rattle.spec_from_bytes.specs.Reading.{IsReadingFrom};
 
 use crate::faults::{limit_text, named_text};
 use crate::texts::{push, push_placed};
@@ -55,7 +57,8 @@ fn placed_text(
 ) -> Result<Vec<u8>, AllocError>
     ensures { IfOk result
         (λ text. text.items
-        ≡ line (codes "refused" ∷ codes "specification" ∷ first.now ∷ second.now ∷ decimal place ∷ [])) }
+        ≡ line (codes "refused" ∷ codes "specification" ∷ first.now ∷ second.now
+        ∷ decimal place ∷ [])) }
 {
     let mut text = Vec::new(alloc);
     push(&mut text, REFUSED)?;

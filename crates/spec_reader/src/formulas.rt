@@ -5,7 +5,10 @@ ghost use Rattle.std.specs.Prelude.{◌≡◌, ◌<◌, ◌-◌, length};
 ghost use Rattle.parser_combinators.specs.Gives.{Gives};
 ghost use Rattle.spec_trees.specs.Form.{form_of};
 ghost use Rattle.spec_reader.specs.Bracket.{bracket_of};
-ghost use Rattle.spec_reader.specs.Reading.{true_at, false_at, has_at, closed_by, compared_with_at, compared_at, connected_with_at, connected_at, behind_at, named_at, negation_at, inside_at, inner_at, plain_at, form_at, starts_term as term_test};
+ghost use Rattle.spec_reader.specs.Reading.{true_at, false_at, has_at, closed_by, compared_with_at};
+ghost use Rattle.spec_reader.specs.Reading.{compared_at, connected_with_at, connected_at};
+ghost use Rattle.spec_reader.specs.Reading.{behind_at, named_at, negation_at, inside_at, inner_at};
+ghost use Rattle.spec_reader.specs.Reading.{plain_at, form_at, starts_term as term_test};
 
 use crate::terms::{atom, more, term};
 use crate::words::{comparison, connective, is_connective};

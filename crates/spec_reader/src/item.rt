@@ -4,7 +4,12 @@ ghost use Rattle.std.specs.Prelude.{◌≡◌, length, map};
 ghost use Rattle.parser_combinators.specs.Gives.{Gives};
 ghost use Rattle.parser_combinators.specs.Read.{one_more, listed_at};
 ghost use Rattle.spec_trees.specs.Form.{item_of};
-ghost use Rattle.spec_reader.specs.Reading.{value_at, param_kind_at, param_at, params_at, places_at, sort_item_at, const_item_at, relation_item_at, counter_item_at, initially_item_at, token_item_at, conflict_item_at, invariant_item_at, operation_item_at, item_at, items_at, starts_item as item_test};
+ghost use Rattle.spec_reader.specs.Reading.{value_at, param_kind_at, param_at, params_at};
+ghost use Rattle.spec_reader.specs.Reading.{places_at, sort_item_at, const_item_at};
+ghost use Rattle.spec_reader.specs.Reading.{relation_item_at, counter_item_at, initially_item_at};
+ghost use Rattle.spec_reader.specs.Reading.{token_item_at, conflict_item_at, invariant_item_at};
+ghost use Rattle.spec_reader.specs.Reading.{operation_item_at, item_at, items_at};
+ghost use Rattle.spec_reader.specs.Reading.{starts_item as item_test};
 
 use crate::lines::lines;
 use crate::sentences::sentence;

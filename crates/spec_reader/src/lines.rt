@@ -4,7 +4,12 @@ ghost use Rattle.std.specs.Prelude.{◌≡◌, length, map};
 ghost use Rattle.parser_combinators.specs.Gives.{Gives};
 ghost use Rattle.parser_combinators.specs.Read.{one_more, listed_at};
 ghost use Rattle.spec_trees.specs.Form.{guard_of, sentence_of, line_of};
-ghost use Rattle.spec_reader.specs.Reading.{spot_at, spots_at, guard_at, mode_at, change_at, amount_at, old_line_at, insert_at, remove_at, add_at, set_at, takes_line_at, requires_line_at, is_observes as observes_test, observes_at, line_at, starts_old_line as old_line_test, starts_line as line_test, lines_at};
+ghost use Rattle.spec_reader.specs.Reading.{spot_at, spots_at, guard_at, mode_at, change_at};
+ghost use Rattle.spec_reader.specs.Reading.{amount_at, old_line_at, insert_at, remove_at, add_at};
+ghost use Rattle.spec_reader.specs.Reading.{set_at, takes_line_at, requires_line_at};
+ghost use Rattle.spec_reader.specs.Reading.{is_observes as observes_test, observes_at, line_at};
+ghost use Rattle.spec_reader.specs.Reading.{starts_old_line as old_line_test};
+ghost use Rattle.spec_reader.specs.Reading.{starts_line as line_test, lines_at};
 
 use crate::formulas::formula;
 use crate::sentences::sentence;

@@ -3,7 +3,8 @@
 ghost use Rattle.std.specs.Prelude.{◌≡◌, length};
 ghost use Rattle.parser_combinators.specs.Gives.{Gives};
 ghost use Rattle.parser_combinators.specs.Read.{mapped, one_more, listed_at, place_of};
-ghost use Rattle.spec_reader.specs.Reading.{name_at, args_at, reading_at, atom_at, product_at, summand_at, signed_at, minus_at, more_at, term_at};
+ghost use Rattle.spec_reader.specs.Reading.{name_at, args_at, reading_at, atom_at, product_at};
+ghost use Rattle.spec_reader.specs.Reading.{summand_at, signed_at, minus_at, more_at, term_at};
 
 use crate::words::{figure, is_sign, name, plus};
 use items::Items;

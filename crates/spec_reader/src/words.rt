@@ -3,7 +3,14 @@
 ghost use Rattle.std.specs.Prelude.{◌≡◌, ◌≤◌, length, Ok};
 ghost use Rattle.parser_combinators.specs.Gives.{Gives};
 ghost use Rattle.parser_combinators.specs.Words.{name_of, value_of};
-ghost use Rattle.spec_reader.specs.Reading.{name_at, figure_at, is_sign as sign_test, sign_of as sign_for, plus_at, is_comparison as comparison_test, comparison_of as comparison_for, comparison_at, is_connective as connective_test, connective_of as connective_for, connective_at, is_quantifier as quantifier_test, quantifier_of as quantifier_for, quantifier_at};
+ghost use Rattle.spec_reader.specs.Reading.{name_at, figure_at, is_sign as sign_test};
+ghost use Rattle.spec_reader.specs.Reading.{sign_of as sign_for, plus_at};
+ghost use Rattle.spec_reader.specs.Reading.{is_comparison as comparison_test};
+ghost use Rattle.spec_reader.specs.Reading.{comparison_of as comparison_for, comparison_at};
+ghost use Rattle.spec_reader.specs.Reading.{is_connective as connective_test};
+ghost use Rattle.spec_reader.specs.Reading.{connective_of as connective_for, connective_at};
+ghost use Rattle.spec_reader.specs.Reading.{is_quantifier as quantifier_test};
+ghost use Rattle.spec_reader.specs.Reading.{quantifier_of as quantifier_for, quantifier_at};
 
 use parser_combinators::{
     Key, Kind, ReadError, Symbol, Token, Version, is_key, is_name, is_number, kind_of_symbol,

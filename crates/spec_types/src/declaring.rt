@@ -1,8 +1,12 @@
 // The items that declare sorts, constants, relations, counters and tokens.
 
 ghost use Rattle.std.specs.Prelude.{◌≡◌, ◌<◌, length, count_by, ◌==◌, OnOk};
-ghost use Rattle.spec_trees.specs.Form.{sort_form, const_form, relation_form, counter_form, token_form};
-ghost use Rattle.typing_rules.specs.Items.{few_consts_fault as few_consts_fault_of, const_fault as const_fault_of, place_number as place_number_of, with_sort, with_const, with_relation, with_counter, with_token, typed_item};
+ghost use Rattle.spec_trees.specs.Form.{sort_form, const_form, relation_form, counter_form};
+ghost use Rattle.spec_trees.specs.Form.{token_form};
+ghost use Rattle.typing_rules.specs.Items.{few_consts_fault as few_consts_fault_of};
+ghost use Rattle.typing_rules.specs.Items.{const_fault as const_fault_of};
+ghost use Rattle.typing_rules.specs.Items.{place_number as place_number_of, with_sort, with_const};
+ghost use Rattle.typing_rules.specs.Items.{with_relation, with_counter, with_token, typed_item};
 ghost use Rattle.spec_types.specs.Refusals.{Makes};
 ghost use Rattle.find_faults.specs.Views.{faulted};
 ghost use Rattle.spec_types.specs.Views.{known_of};

@@ -2,7 +2,12 @@
 
 ghost use Rattle.std.specs.Prelude.{◌≡◌, OnOk};
 ghost use Rattle.spec_trees.specs.Form.{initially_form};
-ghost use Rattle.typing_rules.specs.Items.{value_fault as value_fault_of, initially_fault as initially_fault_of, truth_of as truth_of_value, number_of as number_of_value, initial_truth, initial_number, initial_design, with_initial, typed_item};
+ghost use Rattle.typing_rules.specs.Items.{value_fault as value_fault_of};
+ghost use Rattle.typing_rules.specs.Items.{initially_fault as initially_fault_of};
+ghost use Rattle.typing_rules.specs.Items.{truth_of as truth_of_value};
+ghost use Rattle.typing_rules.specs.Items.{number_of as number_of_value, initial_truth};
+ghost use Rattle.typing_rules.specs.Items.{initial_number, initial_design, with_initial};
+ghost use Rattle.typing_rules.specs.Items.{typed_item};
 ghost use Rattle.find_faults.specs.Names.{meaning_in};
 ghost use Rattle.spec_types.specs.Refusals.{Makes};
 ghost use Rattle.find_faults.specs.Views.{faulted};

@@ -1,7 +1,12 @@
 // What is known behind some items.
 
 ghost use Rattle.std.specs.Prelude.{◌≡◌, ◌<◌, IfOk, IfNone};
-ghost use Rattle.typing_rules.specs.Items.{scope_in as scope_in_known, heading_fault as heading_fault_of, place_fault as place_fault_of, sorts_fault as sorts_fault_of, sort_numbers as sort_numbers_of, nothing_known as nothing_known_of};
+ghost use Rattle.typing_rules.specs.Items.{scope_in as scope_in_known};
+ghost use Rattle.typing_rules.specs.Items.{heading_fault as heading_fault_of};
+ghost use Rattle.typing_rules.specs.Items.{place_fault as place_fault_of};
+ghost use Rattle.typing_rules.specs.Items.{sorts_fault as sorts_fault_of};
+ghost use Rattle.typing_rules.specs.Items.{sort_numbers as sort_numbers_of};
+ghost use Rattle.typing_rules.specs.Items.{nothing_known as nothing_known_of};
 ghost use Rattle.find_faults.specs.Names.{meaning_in};
 ghost use Rattle.find_faults.specs.Views.{faulted, scope_of};
 ghost use Rattle.spec_types.specs.Views.{known_of};

@@ -2,9 +2,18 @@
 
 ghost use Rattle.std.specs.Prelude.{◌≡◌, map, OnOk, IfOk};
 ghost use Rattle.spec_trees.specs.Form.{sentence_of, line_of, invariant_form, operation_form};
-ghost use Rattle.typing_rules.specs.Scope.{kind_of as kind_of_tree, param_of as param_of_tree, params_of as params_of_tree};
+ghost use Rattle.typing_rules.specs.Scope.{kind_of as kind_of_tree, param_of as param_of_tree};
+ghost use Rattle.typing_rules.specs.Scope.{params_of as params_of_tree};
 ghost use Rattle.typing_rules.specs.Lines.{unless, typed_lines};
-ghost use Rattle.typing_rules.specs.Items.{exists_fault as exists_fault_of, claim_fault as claim_fault_of, with_invariant, typed_invariant, scope_in as scope_in_known, with_params as with_params_of, param_kind_fault as param_kind_fault_of, param_fault as param_fault_of, params_fault as params_fault_of, without_lines as without_lines_of, typed_operation, typed_item};
+ghost use Rattle.typing_rules.specs.Items.{exists_fault as exists_fault_of};
+ghost use Rattle.typing_rules.specs.Items.{claim_fault as claim_fault_of, with_invariant};
+ghost use Rattle.typing_rules.specs.Items.{typed_invariant, scope_in as scope_in_known};
+ghost use Rattle.typing_rules.specs.Items.{with_params as with_params_of};
+ghost use Rattle.typing_rules.specs.Items.{param_kind_fault as param_kind_fault_of};
+ghost use Rattle.typing_rules.specs.Items.{param_fault as param_fault_of};
+ghost use Rattle.typing_rules.specs.Items.{params_fault as params_fault_of};
+ghost use Rattle.typing_rules.specs.Items.{without_lines as without_lines_of, typed_operation};
+ghost use Rattle.typing_rules.specs.Items.{typed_item};
 ghost use Rattle.find_faults.specs.Names.{meaning_in};
 ghost use Rattle.spec_types.specs.Refusals.{Gives, Makes};
 ghost use Rattle.find_faults.specs.Views.{faulted, scope_of};

@@ -4,7 +4,15 @@ ghost use Rattle.std.specs.Prelude.{◌≡◌, ◌+◌, ◌++◌, Some, map, pos
 ghost use Rattle.std.specs.Str.{bytes_eq};
 ghost use Rattle.spec_trees.specs.Form.{conflict_form};
 ghost use Rattle.typing_rules.specs.Terms.{small as small_of};
-ghost use Rattle.typing_rules.specs.Items.{first_sort as first_sort_of, pattern_places as pattern_places_of, rule_sort as rule_sort_of, rule_variable_fault as rule_variable_fault_of, rule_variables_fault as rule_variables_fault_of, pattern_fault as pattern_fault_of, conflict_fault as conflict_fault_of, variable_number as variable_number_of, pattern_of as pattern_of_reading, with_rule, typed_item};
+ghost use Rattle.typing_rules.specs.Items.{first_sort as first_sort_of};
+ghost use Rattle.typing_rules.specs.Items.{pattern_places as pattern_places_of};
+ghost use Rattle.typing_rules.specs.Items.{rule_sort as rule_sort_of};
+ghost use Rattle.typing_rules.specs.Items.{rule_variable_fault as rule_variable_fault_of};
+ghost use Rattle.typing_rules.specs.Items.{rule_variables_fault as rule_variables_fault_of};
+ghost use Rattle.typing_rules.specs.Items.{pattern_fault as pattern_fault_of};
+ghost use Rattle.typing_rules.specs.Items.{conflict_fault as conflict_fault_of};
+ghost use Rattle.typing_rules.specs.Items.{variable_number as variable_number_of};
+ghost use Rattle.typing_rules.specs.Items.{pattern_of as pattern_of_reading, with_rule, typed_item};
 ghost use Rattle.spec_types.specs.Refusals.{Makes};
 ghost use Rattle.find_faults.specs.Views.{faulted};
 ghost use Rattle.spec_types.specs.Views.{known_of};

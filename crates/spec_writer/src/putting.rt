@@ -5,9 +5,20 @@
 ghost use Rattle.std.specs.Prelude.{◌≡◌, ◌++◌, [], ◌∷◌, OnOk};
 ghost use Rattle.parser_combinators.specs.declared.token.Symbol.TheVariants as symbol;
 ghost use Rattle.parser_combinators.specs.declared.token.Key.TheVariants as keys;
-ghost use Rattle.parser_combinators.specs.Words.{plain, sign as sign_words, listed, group, each, exclusive_text, observes_text};
+ghost use Rattle.parser_combinators.specs.Words.{plain, sign as sign_words, listed, group, each};
+ghost use Rattle.parser_combinators.specs.Words.{exclusive_text, observes_text};
 ghost use Rattle.spec_trees.specs.Form.{form_of, sentence_of, guard_of, line_of, item_of, tree_of};
-ghost use Rattle.spec_trees.specs.Spelling.{mark as mark_words, one, reading as reading_words, product as product_words, summand as summand_words, signed as signed_words, minus as minus_words, term as term_words, form as form_words, sign_key, comparison_key, connective_key, quantifier_key, variable as variable_words, prefix as prefix_words, sentence as sentence_words, value as value_words, param_kind as kind_words, param as param_words, spot as spot_words, mode as mode_words, guard as guard_words, line as line_words, item as item_words, version_number, tree as tree_words};
+ghost use Rattle.spec_trees.specs.Spelling.{mark as mark_words, one, reading as reading_words};
+ghost use Rattle.spec_trees.specs.Spelling.{product as product_words, summand as summand_words};
+ghost use Rattle.spec_trees.specs.Spelling.{signed as signed_words, minus as minus_words};
+ghost use Rattle.spec_trees.specs.Spelling.{term as term_words, form as form_words, sign_key};
+ghost use Rattle.spec_trees.specs.Spelling.{comparison_key, connective_key, quantifier_key};
+ghost use Rattle.spec_trees.specs.Spelling.{variable as variable_words, prefix as prefix_words};
+ghost use Rattle.spec_trees.specs.Spelling.{sentence as sentence_words, value as value_words};
+ghost use Rattle.spec_trees.specs.Spelling.{param_kind as kind_words, param as param_words};
+ghost use Rattle.spec_trees.specs.Spelling.{spot as spot_words, mode as mode_words};
+ghost use Rattle.spec_trees.specs.Spelling.{guard as guard_words, line as line_words};
+ghost use Rattle.spec_trees.specs.Spelling.{item as item_words, version_number, tree as tree_words};
 
 use items::Items;
 use parser_combinators::{Key, Symbol, Version};

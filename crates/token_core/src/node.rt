@@ -22,7 +22,8 @@ ghost use Rattle.token_core.specs.Ended.{ended_of, begun_of, heard_of, refused_e
 use crate::ids::Ids;
 use call_runner::{Runner, Tried, try_call_over};
 use effectors::ApplyRefused;
-use spec_core::{Call, State};
+use spec_core::Call;
+use spec_states::State;
 use std::alloc::{AllocError, Global};
 use std::marker::Model;
 use std::mem;

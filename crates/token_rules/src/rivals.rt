@@ -4,7 +4,10 @@
 ghost use Rattle.std.specs.Prelude.{◌≡◌, map, get_or, IfOk};
 ghost use Rattle.std.specs.List.{list_any, list_all};
 ghost use Rattle.token_rules.specs.declared.rivals.Rivalry.TheVariants.{Free};
-ghost use Rattle.token_rules.specs.Rivals.{tokens_match, some_rule_may, are_rivals, starts_with, same_first, tied_by, all_tied, are_tied, key_in, key_of, rivalry, rivals_of as rivals_with, element_at, may_conflict as may_conflict_by};
+ghost use Rattle.token_rules.specs.Rivals.{tokens_match, some_rule_may, are_rivals, starts_with};
+ghost use Rattle.token_rules.specs.Rivals.{same_first, tied_by, all_tied, are_tied, key_in, key_of};
+ghost use Rattle.token_rules.specs.Rivals.{rivalry, rivals_of as rivals_with, element_at};
+ghost use Rattle.token_rules.specs.Rivals.{may_conflict as may_conflict_by};
 
 use spec_core::{Call, Elem, Operation, Rule, Spec, Take};
 use std::alloc::{AllocError, Global};

@@ -9,7 +9,8 @@ ghost use Rattle.spec_core.specs.Truth.{truth, line_true};
 ghost use Rattle.spec_core.specs.Fits.{world_fits, form_fits, line_fits};
 ghost use Rattle.effectors.specs.Effect.{after};
 ghost use Rattle.touched_lines.specs.Spans.{all_within};
-ghost use Rattle.touched_lines.specs.Touched.{spans_from, true_where, true_reached, body_true, term_true, form_true};
+ghost use Rattle.touched_lines.specs.Touched.{spans_from, true_where, true_reached, body_true};
+ghost use Rattle.touched_lines.specs.Touched.{term_true, form_true};
 
 use crate::spans::span_of;
 use crate::within::{true_last, true_last_two, true_three};

@@ -10,7 +10,8 @@ ghost use Rattle.witness_shrinking.specs.Refuted.{IsRefutedBy};
 
 use items::Items;
 use obligation_list::{Obligation, Witness, breaks};
-use spec_core::{Call, Kind, Param, Spec, State, Thing, World, is_in_state_range};
+use spec_core::{Call, Kind, Param, Spec, Thing, World, is_in_state_range};
+use spec_states::State;
 use std::alloc::{AllocError, Global};
 use std::mem::replace;
 

@@ -10,7 +10,8 @@ ghost use Rattle.witness_shrinking.specs.Refuted.{IsRefutedBy};
 use crate::narrowing::with_fewer_elements;
 use items::Items;
 use obligation_list::{Obligation, Witness, breaks};
-use spec_core::{Call, Spec, State, is_in_state_range};
+use spec_core::{Call, Spec, is_in_state_range};
+use spec_states::State;
 use std::alloc::{AllocError, Global};
 use std::mem::replace;
 

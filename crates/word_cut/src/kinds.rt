@@ -1,7 +1,10 @@
 // Which kind a word is of.
 
 ghost use Rattle.std.specs.Prelude.{◌≡◌, true};
-ghost use Rattle.word_cut.specs.Texts.{is_word as word_test, is_reserved as reserved_test, kind_of as kind_for, is_long_name as long_name_test, is_long_number as long_number_test, is_among, item_names, line_names, formula_names, other_names};
+ghost use Rattle.word_cut.specs.Texts.{is_word as word_test, is_reserved as reserved_test};
+ghost use Rattle.word_cut.specs.Texts.{kind_of as kind_for, is_long_name as long_name_test};
+ghost use Rattle.word_cut.specs.Texts.{is_long_number as long_number_test, is_among, item_names};
+ghost use Rattle.word_cut.specs.Texts.{line_names, formula_names, other_names};
 
 use crate::lengths::{is_digit, is_letter};
 use crate::word::WordKind;

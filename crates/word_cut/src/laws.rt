@@ -22,7 +22,8 @@ pub fn law_cut_or_refused()
 /// Bytes are refused at one place for one cause.
 pub fn law_one_refusal()
     ensures { (bytes : List ℕ) (why other : CutRefused)
-        → IsRefused bytes why → IsRefused bytes other → why ≢ refusals.Memory → other ≢ refusals.Memory → why ≡ other }
+        → IsRefused bytes why → IsRefused bytes other → why ≢ refusals.Memory
+        → other ≢ refusals.Memory → why ≡ other }
 {}
 
 /// Each word of the bytes stands in them, is of its kind and is short enough.

@@ -1,7 +1,10 @@
 // How many bytes a gap or a word takes at the front of some bytes.
 
 ghost use Rattle.std.specs.Prelude.{◌≡◌, ◌≤◌, ◌∷◌, [], false, take, drop, length};
-ghost use Rattle.word_cut.specs.Texts.{is_letter as letter_test, is_digit as digit_test, is_name_byte as name_byte_test, is_space as space_test, is_single_sign as single_test, is_double_sign as double_test};
+ghost use Rattle.word_cut.specs.Texts.{is_letter as letter_test, is_digit as digit_test};
+ghost use Rattle.word_cut.specs.Texts.{is_name_byte as name_byte_test, is_space as space_test};
+ghost use Rattle.word_cut.specs.Texts.{is_single_sign as single_test};
+ghost use Rattle.word_cut.specs.Texts.{is_double_sign as double_test};
 ghost use Rattle.word_cut.specs.Words.{line_feeds as feeds_of};
 ghost use Rattle.word_cut.specs.Fronts.{IsGapFront, IsWordFront, IsRun, double_at};
 

@@ -79,8 +79,10 @@ pub fn copy_with_takes(
         or_drop!(copy_lines(alloc, operation.requires_.as_slice()); takes, name, params);
     let updates =
         or_drop!(copy_updates(alloc, operation.updates.as_slice()); takes, name, params, requires_);
-    let observes =
-        or_drop!(copy_lines(alloc, operation.observes.as_slice()); takes, name, params, requires_, updates);
+    let observes = or_drop!(
+        copy_lines(alloc, operation.observes.as_slice());
+        takes, name, params, requires_, updates
+    );
     Ok(Operation {
         name,
         params,

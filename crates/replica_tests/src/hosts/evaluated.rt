@@ -10,7 +10,8 @@ ghost use Rattle.replica_host.specs.Native.{IsEffect, IsGuard};
 
 use effectors::{ApplyRefused, apply};
 use replica_host::{Effect, Guard};
-use spec_core::{Call, Spec, State, World, requires_broken_at};
+use spec_core::{Call, Spec, World, requires_broken_at};
+use spec_states::State;
 use std::alloc::{AllocError, Global};
 
 /// Evaluates a specification in a world that fits it.
@@ -23,7 +24,8 @@ pub struct Evaluated<'a> {
 }
 
 impl<'a> Effect for Evaluated<'a> {
-    ghost may_run = { λ f s call. (is_state f.spec.now f.world.now s ≡ true) × (call_fits f.spec.now f.world.now call ≡ true) };
+    ghost may_run = { λ f s call. (is_state f.spec.now f.world.now s ≡ true)
+        × (call_fits f.spec.now f.world.now call ≡ true) };
 
     ghost gives = { λ f s call answer. IsEffect f.spec.now f.world.now s call answer };
 
@@ -36,7 +38,8 @@ impl<'a> Effect for Evaluated<'a> {
 fn false_line(spec: &Spec, world: &World, state: &State, call: &Call) -> Option<u32>
     requires world { world_fits spec.now world.now ≡ true }
     requires call { call_fits spec.now world.now call.now ≡ true }
-    ensures { result ≡ option_map (λ place. place + 1) (first_false world.now (reads state.now) call.now.args (op_of spec.now call.now.op).requires_) }
+    ensures { result ≡ option_map (λ place. place + 1) (first_false world.now (reads state.now)
+        call.now.args (op_of spec.now call.now.op).requires_) }
 {
     spec.well_formed();
     match requires_broken_at(spec, world, state, call) {
@@ -46,7 +49,8 @@ fn false_line(spec: &Spec, world: &World, state: &State, call: &Call) -> Option<
 }
 
 impl<'a> Guard for Evaluated<'a> {
-    ghost may_ask = { λ f s call. (is_state f.spec.now f.world.now s ≡ true) × (call_fits f.spec.now f.world.now call ≡ true) };
+    ghost may_ask = { λ f s call. (is_state f.spec.now f.world.now s ≡ true)
+        × (call_fits f.spec.now f.world.now call ≡ true) };
 
     ghost tells = { λ f s call answer. IsGuard f.spec.now f.world.now s call answer };
 

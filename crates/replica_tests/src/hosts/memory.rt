@@ -5,7 +5,8 @@ ghost use Rattle.effectors.specs.declared.applying.ApplyRefused.TheVariants as r
 
 use effectors::ApplyRefused;
 use replica_host::{Effect, Guard};
-use spec_core::{Call, State};
+use spec_core::Call;
+use spec_states::State;
 use std::alloc::AllocError;
 
 /// Code that always lacks memory.

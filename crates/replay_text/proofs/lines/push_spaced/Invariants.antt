@@ -1,5 +1,5 @@
 use Rattle.std.proofs.Common.{◌≡◌, ◌++◌, drop}
-use Rattle.spec_core.specs.StateText.{spaced}
+use Rattle.spec_states.specs.StateText.{spaced}
 use Rattle.replay_text.proofs.lines.push_spaced.Given as goal
 
 abbrev pub invariant-loop-element : goal.invariant-loop-element

@@ -5,6 +5,9 @@ use Rattle.report_lines.proofs.witness.read_shown.Goals as goal
 pub returns-then-eq : goal.returns-then-eq
 returns-then-eq c = grind (arith, common_steps)
 
+pub returns-then-eq-2 : goal.returns-then-eq-2
+returns-then-eq-2 c = grind (arith, common_steps)
+
 pub returns-then-eq-3 : goal.returns-then-eq-3
 returns-then-eq-3 c = grind (arith, common_steps)
 

@@ -1,4 +1,4 @@
-use Rattle.spec_core.proofs.Agreeing.{inv_agrees, pre_agrees, observed_agrees, text_agrees}
+use Rattle.spec_core.proofs.Agreeing.{inv_agrees, pre_agrees, observed_agrees}
 use Rattle.spec_core.proofs.laws.law_readings_that_agree.Goals as goal
 
 pub returns-clause-inv : goal.returns-clause-inv
@@ -9,6 +9,3 @@ returns-clause-pre c = λ d w r s call well world agree fits. pre_agrees d w r s
 
 pub returns-clause-observed : goal.returns-clause-observed
 returns-clause-observed c = λ d w r s call well world agree fits. observed_agrees d w r s well world agree call fits
-
-pub returns-clause-text : goal.returns-clause-text
-returns-clause-text c = λ d w r s agree. text_agrees d w r s agree

@@ -1,7 +1,0 @@
-use Rattle.std.proofs.Common.{take}
-use Rattle.std.specs.List.{AllZip}
-use Rattle.spec_core.specs.Starting.{StartsAs}
-use Rattle.spec_core.proofs.initial.first_relations.Given as goal
-
-abbrev pub invariant-loop-relation : goal.invariant-loop-relation
-invariant-loop-relation l = AllZip (StartsAs l.world) (take l.relation-index l.relations) l.lists.items
