@@ -15,7 +15,7 @@ use Rattle.token_protocol.specs.declared.node.WhyVoid.{WhyVoid}
 use Rattle.token_protocol.specs.declared.node.NodeRefused.TheVariants as refusal
 use Rattle.token_protocol.specs.Ids.{same_id, is_among, first_outside}
 use Rattle.token_protocol.specs.Node.{Node, Run, ran, run, run_with, why_void, refused, waits, runs, begin, begin_with, takes_none, next_id, with_turn, with_waiting, grants, takes, notes, old, hear, hear_grant, grant_open, first_open, without_waiting, take_after, take_within, with_void}
-use Rattle.token_core.specs.Log.{id_of, event_of, event_for}
+use Rattle.token_core.specs.Left.{id_of, event_of, event_for}
 use Rattle.std.specs.Option.{option_map}
 
 module _ (d : Specification) (w : World) where

@@ -1,8 +1,6 @@
-pub mod Noting
 pub mod Inversion
 pub mod Leaving
 pub mod Running
-pub mod Numbering
 pub mod Taking
 pub mod First
 pub mod Stepping

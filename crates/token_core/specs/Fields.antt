@@ -7,10 +7,10 @@ use Rattle.effectors.specs.Spare.{IsSpare}
 use Rattle.token_protocol.specs.declared.granted.Granted.{Granted}
 use Rattle.token_protocol.specs.Network.{Network, Replica as ReplicaOf, first_replicas}
 use Rattle.token_protocol.specs.Kept.{IsKept}
+use Rattle.call_events.specs.declared.log.Log.{Log}
+use Rattle.call_events.specs.Log.{Lists, lists_of}
 use Rattle.token_core.specs.HeldNet.{HeldReplica, replica_of, HeldNet}
-use Rattle.token_core.specs.declared.log.Log.{Log}
 use Rattle.token_core.specs.declared.replica.Replica.{Replica}
-use Rattle.token_core.specs.Log.{lists_of, network_with}
 
 -- a replica, as contracts see it
 abbrev pub held_replica : Replica → HeldReplica
@@ -23,6 +23,16 @@ replica_at r = replica_of (held_replica r)
 -- the replicas, as the protocol sees them
 abbrev pub replicas_in : List Replica → List ReplicaOf
 replicas_in replicas = map replica_of (map held_replica replicas)
+
+-- the network of these parts
+abbrev pub network_with : List Replica → List Granted → Lists → Network
+network_with replicas granted lists = record {
+  replicas = replicas;
+  granted = granted;
+  requests = lists.requests;
+  messages = lists.messages;
+  happened = lists.happened;
+}
 
 -- the network that the fields hold
 abbrev pub network_in : List Replica → List Granted → Log → Network

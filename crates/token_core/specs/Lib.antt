@@ -1,7 +1,6 @@
-pub mod Members
 pub mod Held
 pub mod Ended
-pub mod Log
+pub mod Left
 pub mod HeldNet
 pub mod Fields
 pub mod Stepped

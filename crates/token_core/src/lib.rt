@@ -2,8 +2,8 @@
 //
 // It stands on `token_protocol`, whose definitions say what a node answers to a call and to a message, what a network holds after each
 // step, and why what its nodes run is an execution; on `token_manager`, which grants calls; and on `call_runner`, whose `Runner` runs
-// them. `Net` keeps that its events form an execution, that what each replica has taken is a delivery order of it, and that the state of
-// each replica is the state after that. The lists of messages and events share their elements, by `shared_lists`.
+// them. `call_events` has the log of a network and the ids that a node has taken. `Net` keeps that its events form an execution, that what
+// each replica has taken is a delivery order of it, and that the state of each replica is the state after that.
 //
 // `specs/Held.antt` and `specs/HeldNet.antt` have a node and a network as a program holds them, `specs/Stepped.antt` what a step of such
 // a network is; the other files of `specs/` mirror the code.
@@ -12,15 +12,12 @@
 // nothing.
 #![tactic(auto)]
 
-mod ids;
-mod log;
 mod net;
 mod node;
 mod replica;
 
+pub use call_events::{CallEvent, Happened, Ids, number_of};
 pub use call_runner::{Plain, Runner, Tried, try_call, try_call_over};
-pub use ids::Ids;
-pub use log::{CallEvent, Happened, number_of};
 pub use net::Net;
 pub use node::Node;
 pub use token_manager::Manager;

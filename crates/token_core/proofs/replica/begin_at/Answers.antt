@@ -2,8 +2,10 @@ use Rattle.std.proofs.Common.{inr, List, ℕ, ◌∙◌, ap}
 use Rattle.token_protocol.specs.declared.node.NodeRefused.TheVariants as refusal
 use Rattle.token_protocol.specs.Node.{begin, begin_answer, node_after_begin}
 use Rattle.token_protocol.specs.Network.{begin_at}
+use Rattle.call_events.specs.Log.{Lists, lists_of}
 use Rattle.token_core.specs.Held.{node_of}
-use Rattle.token_core.specs.Log.{Lists, Left, lists_of, network_with, event_of, after_begun}
+use Rattle.token_core.specs.Left.{Left, event_of, after_begun}
+use Rattle.token_core.specs.Fields.{network_with}
 use Rattle.token_core.proofs.Leaving.{replica, begin_left, told_so, next_network}
 use Rattle.token_core.proofs.replica.begin_at.Goals as goal
 

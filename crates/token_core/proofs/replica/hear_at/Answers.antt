@@ -4,8 +4,10 @@ use Rattle.token_protocol.specs.declared.message.EventId.{EventId}
 use Rattle.token_protocol.specs.declared.node.NodeRefused.TheVariants as refusal
 use Rattle.token_protocol.specs.Node.{hear, hear_answer, node_after_hear}
 use Rattle.token_protocol.specs.Network.{hear_at, hears_message, answer, network_after}
+use Rattle.call_events.specs.Log.{Lists, lists_of}
 use Rattle.token_core.specs.Held.{node_of}
-use Rattle.token_core.specs.Log.{Lists, Left, lists_of, network_with, event_for, id_of, IsAfterHeard}
+use Rattle.token_core.specs.Left.{Left, event_for, id_of, IsAfterHeard}
+use Rattle.token_core.specs.Fields.{network_with}
 use Rattle.token_core.proofs.Fitting.{read_at}
 use Rattle.token_core.proofs.Leaving.{replica, hear_left, is_prepared, told_so, next_network}
 use Rattle.token_core.proofs.replica.hear_at.Goals as goal

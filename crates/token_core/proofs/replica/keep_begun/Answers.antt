@@ -1,5 +1,6 @@
 use Rattle.std.proofs.Common.{sym, ◌∙◌, ap}
-use Rattle.token_core.specs.Log.{lists_of, after_begun}
+use Rattle.call_events.specs.Log.{lists_of}
+use Rattle.token_core.specs.Left.{after_begun}
 use Rattle.token_core.proofs.replica.keep_begun.Goals as goal
 
 pub returns-in-Void : goal.returns-in-Void

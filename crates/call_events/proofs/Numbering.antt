@@ -1,13 +1,13 @@
 -- The number of an event, searched from some place on.
 use Rattle.std.specs.Prelude.{Bool, true, false, cond, List, [], ◌∷◌}
-use Rattle.std.proofs.Common.{◌≡◌, ℕ, suc, ◌+◌, ◌<◌, ◌≤◌, arith, length, get_or, drop, ◌∙◌, ap}
+use Rattle.std.proofs.Common.{◌≡◌, ℕ, suc, ◌+◌, ◌<◌, ◌≤◌, arith, length, get_or, drop, sym, ◌∙◌, ap}
+use Rattle.std.proofs.lemmas.List.{drop_more}
 use Rattle.token_protocol.specs.declared.message.EventId.{EventId}
 use Rattle.token_protocol.specs.Ids.{same_id}
 use Rattle.token_protocol.specs.Network.{Happened, number_of}
-use Rattle.token_manager.proofs.Granting.{drop_more}
 
 number_at : (hs : List Happened) (k : ℕ) (h : Happened) (id : EventId) → k < length hs → h ≡ get_or hs k h → number_of (drop k hs) id ≡ cond (same_id h.id id) 0 (suc (number_of (drop (k + 1) hs) id))
-number_at hs k h id lt is = ap (λ (l : List Happened). number_of l id) (drop_more hs k h lt is)
+number_at hs k h id lt is = ap (λ (l : List Happened). number_of l id) (drop_more hs k h lt ∙ ap (λ (x : Happened). x ∷ drop (k + 1) hs) (sym is))
 
 -- it is here
 pub number_here : (hs : List Happened) (k : ℕ) (h : Happened) (id : EventId) → k < length hs → h ≡ get_or hs k h → same_id h.id id ≡ true → number_of (drop k hs) id ≡ 0

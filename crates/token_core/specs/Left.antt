@@ -1,5 +1,5 @@
--- What was sent in a network and what happened, and how a log grows; this mirrors src/log.rt and src/replica.rt.
-use Rattle.std.specs.Prelude.{◌≡◌, ℕ, ◌<◌, ◌^◌, List, [], ◌∷◌, ◌++◌, Option, None, Some, length, vec_len, vec_capacity}
+-- What is left of a step: what it did, how a log grows, and what its replica has taken; this mirrors src/replica.rt.
+use Rattle.std.specs.Prelude.{◌≡◌, ℕ, List, [], ◌∷◌, ◌++◌, Option, None, Some, length}
 use Rattle.std.specs.Option.{option_map}
 use Rattle.spec_core.specs.declared.world.Call.{Call}
 use Rattle.executions.specs.Orders.{Event}
@@ -7,7 +7,6 @@ use Rattle.token_protocol.specs.declared.message.EventId.{EventId}
 use Rattle.token_protocol.specs.declared.message.Request.{Request}
 use Rattle.token_protocol.specs.declared.message.Message.{Message}
 use Rattle.token_protocol.specs.declared.message.Message.TheVariants as message
-use Rattle.token_protocol.specs.declared.granted.Granted.{Granted}
 use Rattle.token_protocol.specs.declared.node.WhyVoid.{WhyVoid}
 use Rattle.token_protocol.specs.declared.node.Begun.{Begun}
 use Rattle.token_protocol.specs.declared.node.Begun.TheVariants as begun
@@ -15,47 +14,8 @@ use Rattle.token_protocol.specs.declared.node.Heard.{Heard}
 use Rattle.token_protocol.specs.declared.node.Heard.TheVariants as heard
 use Rattle.token_protocol.specs.declared.network.NetDid.{NetDid}
 use Rattle.token_protocol.specs.declared.network.NetDid.TheVariants as did
-use Rattle.token_protocol.specs.Network.{Network, Replica, Happened, number_of}
-use Rattle.token_core.specs.declared.log.Log.{Log}
-
--- requests, messages and the calls that were run, in their orders
-pub record Lists : Type 0 where
-  pub requests : List Request
-  pub messages : List Message
-  pub happened : List Happened
-
--- the lists that a log holds
-abbrev pub lists_of : Log → Lists
-lists_of log = record {
-  requests = log.requests.items;
-  messages = log.messages.items;
-  happened = log.happened.items;
-}
-
--- the lists before the first step
-abbrev pub no_lists : Lists
-no_lists = record { requests = []; messages = []; happened = [] }
-
--- each list has room for one element more, and the element's number has 32 bits
-pub record HasRoom (log : Log) : Type 0 where
-  pub requests : vec_len log.requests < vec_capacity log.requests
-  pub messages : vec_len log.messages < vec_capacity log.messages
-  pub happened : vec_len log.happened < vec_capacity log.happened
-  pub few_requests : length log.requests.items < 2 ^ 32
-  pub few_messages : length log.messages.items < 2 ^ 32
-  pub few_happened : length log.happened.items < 2 ^ 32
-
--- the network of these parts
-abbrev pub network_with : List Replica → List Granted → Lists → Network
-network_with replicas granted lists = record {
-  replicas = replicas;
-  granted = granted;
-  requests = lists.requests;
-  messages = lists.messages;
-  happened = lists.happened;
-}
-
--- ---- what is left of a step
+use Rattle.token_protocol.specs.Network.{Happened, number_of}
+use Rattle.call_events.specs.Log.{Lists}
 
 -- What a step did, what the lists are then, and what its replica has taken then.
 pub record Left : Type 0 where
