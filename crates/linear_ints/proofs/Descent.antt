@@ -20,14 +20,15 @@ use Rattle.linear_ints.specs.Points.{with_value, values_of}
 use Rattle.linear_ints.specs.Splitting.{Meet}
 use Rattle.theory_api.specs.Ends.{after}
 use Rattle.linear_ints.specs.Deciding.{nearest, Says, Lowest, Highest}
-use Rattle.linear_ints.specs.Standing.{place_at, TrueFrom}
-use Rattle.linear_ints.specs.Descent.{Pair, Eliminated, Descended, Within}
+use Rattle.elimination.specs.Pairs.{place_at, Pair, Eliminated}
+use Rattle.linear_ints.specs.Descent.{TrueFrom, Descended, Within}
 use Rattle.linear_ints.proofs.Points.{chosen-unnamed}
 use Rattle.linear_ints.proofs.Chosen.{constant-true}
 use Rattle.theory_api.proofs.Ends.{after-more, are_driven-more}
 use Rattle.linear_ints.proofs.Deciding.{low-satisfied, high-satisfied, nearest-driven, nearest-within, split-apart}
-use Rattle.linear_ints.proofs.Standing.{stage-zero, true-next, combined-true}
-use Rattle.linear_ints.proofs.Filling.{all-named}
+use Rattle.elimination.proofs.Stages.{stage-zero}
+use Rattle.linear_ints.proofs.TrueRows.{true-next, combined-true}
+use Rattle.elimination.proofs.Names.{all-named}
 
 -- THE START: rows behind all stages name nothing
 

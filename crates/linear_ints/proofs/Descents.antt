@@ -21,7 +21,7 @@ use Rattle.line_rows.specs.Evidence.{in_state, range_shown, all_cancel, is_beyon
 use Rattle.theory_api.specs.Chosen.{Choice, chosen_point}
 use Rattle.theory_api.specs.Elimination.{stage, ends_in_order}
 use Rattle.theory_api.specs.Laws.{IsModel, IsBeyond, IsSplit, HasChosen}
-use Rattle.linear_ints.specs.declared.tableau.Tableau.{Tableau}
+use Rattle.elimination.specs.declared.tableau.Tableau.{Tableau}
 use Rattle.linear_ints.specs.declared.bounds.FaultAt.{FaultAt}
 use Rattle.linear_ints.specs.declared.bounds.Fault.{Fault}
 use Rattle.linear_ints.specs.declared.bounds.Fault.TheVariants.{Sum as IsSum, Value as IsValue}
@@ -30,28 +30,29 @@ use Rattle.linear_ints.specs.Points.{values_of, is_filled_but}
 use Rattle.theory_api.specs.Ends.{names_none, after, last_stage}
 use Rattle.linear_ints.specs.Ceilings.{IsBound, is_beyond as is_above_state}
 use Rattle.linear_ints.specs.Deciding.{nearest, Says, Lowest, Highest}
-use Rattle.linear_ints.specs.Standing.{place_at}
-use Rattle.linear_ints.specs.Descent.{Pair, Eliminated, Within, IsHeld}
-use Rattle.linear_ints.specs.Tableaux.{IsElimination, AreTaken}
-use Rattle.linear_ints.specs.Sides.{is_on, IsBoundAt, Attains, IsGreatest}
+use Rattle.elimination.specs.Pairs.{place_at, Pair, Eliminated}
+use Rattle.linear_ints.specs.Descent.{Within, IsHeld}
+use Rattle.elimination.specs.Tableaux.{IsElimination, AreTaken}
+use Rattle.elimination.specs.Sides.{is_on}
+use Rattle.linear_ints.specs.Bounds.{IsBoundAt, Attains, IsGreatest}
 use Rattle.linear_ints.specs.Descending.{IsDescent, AreBounds, IsFault, IsFaultAt}
-use Rattle.linear_ints.proofs.Splitting.{lt_so, le_is, rest_is}
+use Rattle.elimination.proofs.Signs.{lt_so, on-named}
+use Rattle.linear_ints.proofs.Splitting.{le_is, rest_is}
 use Rattle.linear_ints.proofs.Combining.{in_order}
 use Rattle.linear_ints.proofs.Chosen.{chosen-one, chosen-two, point_of-set}
 use Rattle.linear_ints.proofs.Points.{chosen-unnamed}
 use Rattle.theory_api.proofs.Ends.{after-more, eliminate-beyond}
 use Rattle.linear_ints.proofs.Deciding.{gap-apart}
-use Rattle.linear_ints.proofs.Standing.{combined-true}
+use Rattle.linear_ints.proofs.TrueRows.{combined-true}
 use Rattle.linear_ints.proofs.Filling.{filled-at}
 use Rattle.linear_ints.proofs.Descent.{descended-start, descended-value, pair-meets, descended-split}
 use Rattle.linear_ints.proofs.Models.{model}
 use Rattle.linear_ints.proofs.Ranges.{beyond-value, beyond-sum}
-use Rattle.linear_ints.proofs.Runs.{combined-sum}
-use Rattle.linear_ints.proofs.Stopping.{given-some}
+use Rattle.elimination.proofs.Runs.{combined-sum}
+use Rattle.elimination.proofs.Stopping.{given-some}
 use Rattle.linear_ints.proofs.Unsettled.{unsettled-one, none-settles}
 use Rattle.indexed_rows.proofs.Standing.{stands-there}
-use Rattle.linear_ints.proofs.Eliminating.{eliminated}
-use Rattle.linear_ints.proofs.BoundLemmas.{on-named}
+use Rattle.elimination.proofs.Eliminating.{eliminated}
 
 -- THE STAGE of a row on a side
 

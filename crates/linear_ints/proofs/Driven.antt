@@ -15,7 +15,8 @@ use Rattle.linear_ints.specs.Points.{with_value, is_filled_but}
 use Rattle.linear_ints.specs.Driven.{IsCeiling, IsFloor, Raises, Lowers}
 use Rattle.linear_ints.proofs.Fractions.{le_times}
 use Rattle.linear_ints.proofs.Points.{value_at-with_value, chosen-unnamed}
-use Rattle.linear_ints.proofs.Splitting.{lt_so, above-size, below-size, high-allows, low-allows}
+use Rattle.elimination.proofs.Signs.{lt_so}
+use Rattle.linear_ints.proofs.Splitting.{above-size, below-size, high-allows, low-allows}
 
 not_le : (a b : ℤ) → b <ℤ a → int_le a b ≡ false
 not_le a b h = grind (arith, ints)

@@ -1,21 +1,19 @@
-use Rattle.std.proofs.Common.{◌≡◌, ℕ, ◌<◌, length, ℤ, pos, ◌-ℤ◌, ◌<ℤ◌, true, false, not, ◌&&◌, List, [], ◌∷◌, map, refl, ◌∙◌, ap, Some, None, is_none}
+use Rattle.std.proofs.Common.{◌≡◌, ℕ, ◌<◌, length, ℤ, pos, ◌-ℤ◌, true, false, not, ◌&&◌, List, [], ◌∷◌, map, refl, ◌∙◌, ap, Some, None, is_none}
 use Rattle.std.proofs.lemmas.Bool.{and_from, lt-ltb}
 use Rattle.std.specs.Prelude.{◌==◌, nat_lt}
 use Rattle.std.specs.List.{list_all}
 use Rattle.std.proofs.lemmas.List.{length-map}
 use Rattle.lin_rows.specs.Numbers.{is_zero}
 use Rattle.lin_rows.specs.Rows.{Row, coefficient_at}
-use Rattle.lin_rows.specs.Cancelling.{combined}
-use Rattle.proof_lines.specs.declared.line.RangeWhat.TheVariants.{Product, Value, Sum}
+use Rattle.proof_lines.specs.declared.line.RangeWhat.TheVariants.{Value, Sum}
 use Rattle.line_rows.specs.Evidence.{in_state, values_fit, rest_with, leaves_state, is_beyond}
-use Rattle.line_rows.specs.Steps.{row_at, is_positive, is_negative}
+use Rattle.line_rows.specs.Steps.{row_at}
 use Rattle.line_rows.specs.Splits.{rest_at, other_names, point}
 use Rattle.proof_lines.proofs.Sets.{same_nat-refl}
 use Rattle.linear_ints.specs.Fractions.{size}
 use Rattle.linear_ints.specs.Points.{values_of}
 use Rattle.linear_ints.specs.Ceilings.{is_beyond as is_above_state}
 use Rattle.linear_ints.proofs.Points.{sum_from-agree, agree-one}
-use Rattle.linear_ints.proofs.Splitting.{lt_so}
 
 all-in_state : (x : ℕ → ℤ) (ns : List ℕ) → ((q : ℕ) → in_state (x q) ≡ true) → list_all in_state (map x ns) ≡ true
 all-in_state x [] h = refl
@@ -48,14 +46,3 @@ pub beyond-sum : (held : List Row) (x : ℕ → ℤ) (place i : ℕ) → i < len
 beyond-sum held x place i l z o s r =
     and_from (values_fit held i place (values_of x place (row_at held i ∷ []))) (is_none (rest_with (row_at held i) place (values_of x place (row_at held i ∷ []))))
     (fit held x place i l z s) (ap is_none (rest_with-is x place (row_at held i) o ∙ r))
-
--- a combination beyond the range of a row
-pub beyond-product : (held : List Row) (place i j : ℕ) → i < length held → j < length held → pos 0 <ℤ coefficient_at (row_at held i).terms place → coefficient_at (row_at held j).terms place <ℤ pos 0
-    → combined (row_at held i) (row_at held j) place ≡ None → is_beyond held (Product i j place) ≡ true
-beyond-product held place i j l k a b e =
-    and_from (nat_lt i (length held) && nat_lt j (length held)) ((is_positive (coefficient_at (row_at held i).terms place) && is_negative (coefficient_at (row_at held j).terms place)) && is_none (combined (row_at held i) (row_at held j) place))
-    (and_from (nat_lt i (length held)) (nat_lt j (length held)) (lt-ltb i (length held) l) (lt-ltb j (length held) k))
-    (and_from (is_positive (coefficient_at (row_at held i).terms place) && is_negative (coefficient_at (row_at held j).terms place)) (is_none (combined (row_at held i) (row_at held j) place))
-    (and_from (is_positive (coefficient_at (row_at held i).terms place)) (is_negative (coefficient_at (row_at held j).terms place))
-    (lt_so (pos 0) (coefficient_at (row_at held i).terms place) a) (lt_so (coefficient_at (row_at held j).terms place) (pos 0) b))
-    (ap is_none e))

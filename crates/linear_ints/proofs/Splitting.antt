@@ -22,9 +22,7 @@ use Rattle.linear_ints.specs.Splitting.{Meet, highest, WholeOrSplit}
 use Rattle.linear_ints.proofs.Fractions.{between}
 use Rattle.linear_ints.proofs.Combining.{in_order}
 use Rattle.linear_ints.proofs.Points.{sum_from-agree, value_at-with_value, agree-low, agree-high}
-
-pub lt_so : (a b : ℤ) → a <ℤ b → int_lt a b ≡ true
-lt_so a b h = grind (arith, ints)
+use Rattle.elimination.proofs.Signs.{lt_so}
 
 pub le_so : (a b : ℤ) → a ≤ℤ b → int_le a b ≡ true
 le_so a b h = grind (arith, ints)

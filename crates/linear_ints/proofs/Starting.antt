@@ -1,4 +1,4 @@
-use Rattle.std.proofs.Common.{◌≡◌, ℕ, zero, suc, ◌<◌, ◌+◌, length, ℤ, pos, Bool, true, false, cond, ◌||◌, List, [], ◌∷◌, ◌++◌, refl, sym, ◌∙◌, subst, arith}
+use Rattle.std.proofs.Common.{◌≡◌, ℕ, zero, suc, ◌<◌, ◌+◌, length, ℤ, pos, Bool, true, false, ◌||◌, List, [], ◌∷◌, ◌++◌, refl, sym, ◌∙◌, subst, arith}
 use Rattle.std.specs.Prelude.{◌==◌, nat_lt}
 use Rattle.std.specs.List.{list_all, list_any}
 use Rattle.std.proofs.lemmas.List.{length-append}
@@ -11,12 +11,14 @@ use Rattle.line_rows.specs.Steps.{row_at}
 use Rattle.proof_lines.specs.Numbers.{stands_in}
 use Rattle.line_rows.specs.Evidence.{in_state}
 use Rattle.theory_api.specs.Laws.{all_below}
-use Rattle.linear_ints.specs.declared.tableau.Tableau.{Tableau}
-use Rattle.linear_ints.specs.declared.stop.Stop.{Stop}
-use Rattle.linear_ints.specs.declared.stop.Stop.TheVariants.{Contradiction, Full, Gap, Beyond, Memory}
+use Rattle.elimination.specs.declared.tableau.Tableau.{Tableau}
+use Rattle.elimination.specs.declared.stop.Stop.{Stop}
+use Rattle.elimination.specs.declared.stop.Stop.TheVariants.{Contradiction, Full, Gap, Beyond, Memory}
 use Rattle.indexed_rows.specs.Places.{names}
-use Rattle.linear_ints.specs.Stops.{IsStop, IsEarlyStop}
+use Rattle.linear_ints.specs.Stops.{IsStop}
+use Rattle.elimination.specs.Stops.{IsEarlyStop}
 use Rattle.linear_ints.specs.Descending.{AreZeros}
+use Rattle.elimination.proofs.Names.{names-there}
 
 -- ZEROS
 
@@ -41,15 +43,6 @@ one-zero n values z = record {
 
 pub same-count : (m n : ℕ) (values : List ℤ) → AreZeros m values → m ≡ n → AreZeros n values
 same-count m n values z e = subst (λ (k : ℕ). AreZeros k values) e z
-
--- a coefficient that isn't 0 stands in a term
-pub names-there : (q : ℕ) (ts : List RowTerm) → is_zero (coefficient_at ts q) ≡ false → list_any (λ t. t.place == q) ts ≡ true
-names-there q [] z = absurd cc
-names-there q (t ∷ ts) z = by_place (t.place == q) z (names-there q ts)
-  where
-    by_place : (c : Bool) → is_zero (cond c t.coef (coefficient_at ts q)) ≡ false → (is_zero (coefficient_at ts q) ≡ false → list_any (λ u. u.place == q) ts ≡ true) → (c || list_any (λ u. u.place == q) ts) ≡ true
-    by_place true y f = refl
-    by_place false y f = f y
 
 -- a name of rows whose places are below a number is below it
 term-below : (n q : ℕ) (ts : List RowTerm) → list_all (λ t. nat_lt t.place n) ts ≡ true → list_any (λ t. t.place == q) ts ≡ true → q < n

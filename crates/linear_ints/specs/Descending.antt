@@ -6,7 +6,7 @@ use Rattle.line_rows.specs.Steps.{row_at}
 use Rattle.line_rows.specs.Splits.{rest_at}
 use Rattle.line_rows.specs.Evidence.{in_state}
 use Rattle.theory_api.specs.Chosen.{Choice, chosen_point}
-use Rattle.linear_ints.specs.declared.tableau.Tableau.{Tableau}
+use Rattle.elimination.specs.declared.tableau.Tableau.{Tableau}
 use Rattle.linear_ints.specs.declared.bounds.Fault.{Fault}
 use Rattle.linear_ints.specs.declared.bounds.Fault.TheVariants.{Sum, Value}
 use Rattle.linear_ints.specs.declared.bounds.FaultAt.{FaultAt}
@@ -14,8 +14,9 @@ use Rattle.linear_ints.specs.Fractions.{size}
 use Rattle.linear_ints.specs.Ceilings.{is_beyond}
 use Rattle.theory_api.specs.Ends.{after}
 use Rattle.linear_ints.specs.Descent.{Descended}
-use Rattle.linear_ints.specs.Standing.{place_at}
-use Rattle.linear_ints.specs.Sides.{is_on, IsGreatest}
+use Rattle.elimination.specs.Pairs.{place_at}
+use Rattle.elimination.specs.Sides.{is_on}
+use Rattle.linear_ints.specs.Bounds.{IsGreatest}
 
 -- THE DESCENT, as values listed by place: from a stage on, all places of the order have the values that the choices give them.
 pub record IsDescent (t : Tableau) (k : ℕ) (values : List ℤ) : Type 0 where

@@ -1,34 +1,19 @@
--- What elimination leaves behind, and the descent that chooses values: all rows from a stage on are true at them.
+-- The descent that chooses values: all rows from a stage on are true at them.
 use Rattle.std.specs.Prelude.{◌≡◌, ℕ, ◌<◌, ◌≤◌, length, ℤ, pos, neg_ℤ, ◌≤ℤ◌, ◌<ℤ◌, true, false, List, [], ◌∷◌}
-use Rattle.lin_rows.specs.Numbers.{is_zero}
-use Rattle.lin_rows.specs.Rows.{Row, is_row, is_contradiction, coefficient_at}
+use Rattle.lin_rows.specs.Rows.{Row, coefficient_at}
 use Rattle.lin_rows.specs.Divisors.{tightened}
 use Rattle.line_rows.specs.Steps.{row_at}
 use Rattle.theory_api.specs.Chosen.{Choice, is_named, chosen_point, are_driven}
 use Rattle.theory_api.specs.Elimination.{stage}
 use Rattle.theory_api.specs.Ends.{after}
 use Rattle.linear_ints.specs.Deciding.{Says}
-use Rattle.linear_ints.specs.Standing.{place_at, TrueFrom, IsCombined}
+use Rattle.elimination.specs.Pairs.{place_at}
+use Rattle.proof_lines.specs.Problems.{row_true}
 
--- two held rows at a stage, the upper one first
-pub record Pair (order : List ℕ) (held : List Row) (k : ℕ) (high : ℕ) (low : ℕ) : Type 0 where
-  pub high_below : high < length held
-  pub low_below : low < length held
-  pub high_stage : stage order (row_at held high) ≡ k
-  pub low_stage : stage order (row_at held low) ≡ k
-  pub high_sign : pos 0 <ℤ coefficient_at (row_at held high).terms (place_at order k)
-  pub low_sign : coefficient_at (row_at held low).terms (place_at order k) <ℤ pos 0
-
--- all places are eliminated: the order has each place that a held row names, and each pair at a stage is combined
-pub record Eliminated (order : List ℕ) (held : List Row) : Type 0 where
-  pub rows : (i : ℕ) → i < length held → is_row (row_at held i) ≡ true
-  pub consistent : (i : ℕ) → i < length held → is_contradiction (row_at held i) ≡ false
-  pub places : (i : ℕ) → i < length held → (q : ℕ)
-      → is_zero (coefficient_at (row_at held i).terms q) ≡ false
-      → (m : ℕ) × (m < length order) × (place_at order m ≡ q)
-  pub pairs : (k i j : ℕ) → k < length order → Pair order held k i j
-      → IsCombined order held k (row_at held i) (row_at held j)
-  pub different : (m k : ℕ) → m < k → k < length order → place_at order k ≡ place_at order m → ⊥
+-- at a point all held rows from a stage on are true
+abbrev pub TrueFrom : List ℕ → List Row → ℕ → (ℕ → ℤ) → Type 0
+TrueFrom order held k x =
+    (i : ℕ) → i < length held → k ≤ stage order (row_at held i) → row_true x (row_at held i) ≡ true
 
 -- the places from a stage on have values, which the rows drive and which satisfy all rows from that stage on
 pub record Descended (order : List ℕ) (held : List Row) (k : ℕ)
@@ -55,9 +40,3 @@ abbrev pub IsHeld : List Row → List Row → Type 0
 IsHeld held [] = Unit {0}
 IsHeld held (r ∷ rows) =
     ((i : ℕ) × (i < length held) × (row_at held i ≡ tightened r)) × IsHeld held rows
-
--- while places are eliminated: each pair at a stage of the order so far is combined
-abbrev pub Paired : List ℕ → List Row → Type 0
-Paired order held =
-    (k i j : ℕ) → k < length order → Pair order held k i j
-    → IsCombined order held k (row_at held i) (row_at held j)

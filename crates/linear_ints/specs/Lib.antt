@@ -5,11 +5,8 @@ pub mod Splitting
 pub mod Driven
 pub mod Ceilings
 pub mod Deciding
-pub mod Standing
 pub mod Descent
-pub mod Tableaux
 pub mod Stops
-pub mod Sides
-pub mod Needed
+pub mod Bounds
 pub mod Descending
 pub mod Listed

@@ -7,12 +7,11 @@ ghost use Rattle.linear_ints.specs.Ceilings.{IsBound, is_beyond};
 ghost use Rattle.linear_ints.specs.Descending.{IsFault, IsFaultAt};
 ghost use Rattle.linear_ints.specs.Fractions.{size};
 ghost use Rattle.linear_ints.specs.Listed.{listed};
-ghost use Rattle.linear_ints.specs.Sides.{IsBoundAt, IsGreatest, IsGreatestOf};
-ghost use Rattle.linear_ints.specs.Standing.{place_at};
+ghost use Rattle.linear_ints.specs.Bounds.{IsBoundAt, IsGreatest, IsGreatestOf};
+ghost use Rattle.elimination.specs.Pairs.{place_at};
 
 use crate::ceiling::bound;
-use crate::sides::is_on_at;
-use crate::tableau::Tableau;
+use elimination::{Tableau, is_on_at};
 use indexed_rows::Order;
 use lin_rows::{Row, RowTerm, add_product};
 use line_rows::splitting::is_above;

@@ -8,13 +8,12 @@ ghost use Rattle.line_rows.specs.Steps.{row_at};
 ghost use Rattle.theory_api.specs.Laws.{IsModel};
 ghost use Rattle.linear_ints.specs.Deciding.{nearest};
 ghost use Rattle.linear_ints.specs.Descending.{AreBounds, AreZeros, IsDescent, IsFaultAt};
-ghost use Rattle.linear_ints.specs.Standing.{place_at};
+ghost use Rattle.elimination.specs.Pairs.{place_at};
 ghost use Rattle.linear_ints.specs.Stops.{IsStop};
-ghost use Rattle.linear_ints.specs.Tableaux.{IsElimination};
+ghost use Rattle.elimination.specs.Tableaux.{IsElimination};
 
 use crate::bounds::{Bound, Fault, FaultAt, side_bound, value_of};
-use crate::stop::Stop;
-use crate::tableau::Tableau;
+use elimination::{Stop, Tableau};
 use indexed_rows::prefix;
 use items::Items;
 use lin_rows::Row;

@@ -4,15 +4,10 @@ ghost use Rattle.std.specs.List.{list_all};
 ghost use Rattle.lin_rows.specs.Rows.{is_row};
 ghost use Rattle.theory_api.specs.Laws.{IsAnswer, IsBeyond, IsModel, all_below};
 ghost use Rattle.linear_ints.specs.Stops.{IsStop};
-ghost use Rattle.linear_ints.specs.Tableaux.{IsTaking};
+ghost use Rattle.elimination.specs.Tableaux.{IsTaking};
 
 use crate::descend::descend;
-use crate::eliminate::eliminate_all;
-use crate::leaving_out::{Rest, conflict_past};
-use crate::stop::Stop;
-use crate::tableau::Tableau;
-use crate::take::take_all;
-use crate::trim::{Conflict, trimmed};
+use elimination::{Conflict, Rest, Stop, Tableau, conflict_past, eliminate_all, take_all, trimmed};
 use indexed_rows::{Held, Order, named_places};
 use items::Items;
 use lin_rows::Row;

@@ -1,6 +1,6 @@
 use Rattle.std.proofs.Common.{rules, sym, subst, ℤ, FitsSigned, to_z-of_z}
 use mir.Syntax.{w128}
-use Rattle.linear_ints.specs.Sides.{IsBoundAt}
+use Rattle.linear_ints.specs.Bounds.{IsBoundAt}
 use Rattle.linear_ints.proofs.bounds.bound_of.Goals as goal
 
 pub returns-in-Some-bound_with : goal.returns-in-Some-bound_with

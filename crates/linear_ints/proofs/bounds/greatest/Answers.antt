@@ -3,11 +3,13 @@ use mir.Syntax.{w128}
 use Rattle.linear_ints.specs.declared.bounds.Bound.{Bound}
 use Rattle.std.specs.Prelude.{int_lt, cond}
 use Rattle.lin_rows.specs.Rows.{Row}
-use Rattle.linear_ints.specs.Sides.{is_on, IsBoundAt, IsGreatestOf}
+use Rattle.elimination.specs.Sides.{is_on}
+use Rattle.linear_ints.specs.Bounds.{IsBoundAt, IsGreatestOf}
 use Rattle.linear_ints.specs.Descending.{IsFault}
-use Rattle.linear_ints.proofs.SideLemmas.{indexed}
-use Rattle.linear_ints.proofs.BoundLemmas.{on-named}
-use Rattle.linear_ints.proofs.Namings.{on-parts, greatest-none, greatest-skip, greatest-more, greatest-to}
+use Rattle.elimination.proofs.SideLemmas.{indexed}
+use Rattle.elimination.proofs.Signs.{on-named}
+use Rattle.elimination.proofs.SideNumbers.{on-parts}
+use Rattle.linear_ints.proofs.Greatest.{greatest-none, greatest-skip, greatest-more, greatest-to}
 use Rattle.linear_ints.proofs.bounds.greatest.Goals as goal
 use Rattle.linear_ints.proofs.bounds.greatest.Goals.{then-is_on_at+in-Ok, else-is_on_at}
 

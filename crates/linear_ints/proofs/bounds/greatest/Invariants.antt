@@ -1,5 +1,5 @@
 use Rattle.std.proofs.Common.{take}
-use Rattle.linear_ints.specs.Sides.{IsGreatestOf}
+use Rattle.linear_ints.specs.Bounds.{IsGreatestOf}
 use Rattle.linear_ints.proofs.bounds.greatest.Given as goal
 
 abbrev pub invariant-loop-number : goal.invariant-loop-number

@@ -1,6 +1,6 @@
 use Rattle.std.proofs.Common.{ℕ, ◌<◌, length, List, sym, ap, subst}
-use Rattle.linear_ints.specs.Standing.{place_at}
-use Rattle.linear_ints.proofs.Namings.{bound-all}
+use Rattle.elimination.specs.Pairs.{place_at}
+use Rattle.linear_ints.proofs.Greatest.{bound-all}
 use Rattle.linear_ints.proofs.bounds.side_bound.Goals as goal
 
 pub bounds-order-stage : goal.bounds-order-stage

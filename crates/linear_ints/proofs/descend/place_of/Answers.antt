@@ -1,5 +1,5 @@
 use Rattle.std.proofs.Common.{ℕ, ◌<◌, length, List, sym, ap, subst}
-use Rattle.linear_ints.specs.Standing.{place_at}
+use Rattle.elimination.specs.Pairs.{place_at}
 use Rattle.linear_ints.proofs.descend.place_of.Goals as goal
 
 pub bounds-order-stage : goal.bounds-order-stage

@@ -1,6 +1,6 @@
 use Rattle.std.proofs.Common.{rules, true, take, length, pos, ◌-ℤ◌, sym, ◌∙◌, FitsSigned, to_z-of_z}
 use mir.Syntax.{w128}
-use Rattle.linear_ints.specs.Standing.{place_at}
+use Rattle.elimination.specs.Pairs.{place_at}
 use Rattle.linear_ints.proofs.Descents.{bounds-of, bound-in_range, both-attained, crossing, value-chosen}
 use Rattle.linear_ints.proofs.descend.value_at.Goals as goal
 

@@ -2,7 +2,7 @@ use Rattle.std.proofs.Common.{◌≡◌, ℕ, ℤ, ◌<◌, length, map, List, [
 use Rattle.std.specs.Prelude.{IfOk}
 use Rattle.lin_rows.specs.Rows.{Row, point_of}
 use Rattle.line_rows.specs.Splits.{other_names}
-use Rattle.linear_ints.proofs.SideLemmas.{indexed}
+use Rattle.elimination.proofs.SideLemmas.{indexed}
 use Rattle.linear_ints.proofs.descend.values_of_two.Goals as goal
 
 pub bounds-held-low : goal.bounds-held-low

@@ -2,7 +2,7 @@ use Rattle.std.proofs.Common.{ℕ, ◌∙◌, subst}
 use Rattle.theory_api.specs.Laws.{IsModel}
 use Rattle.linear_ints.specs.Stops.{IsStop}
 use Rattle.linear_ints.proofs.Starting.{early}
-use Rattle.linear_ints.proofs.Taking.{taking-end}
+use Rattle.elimination.proofs.Taking.{taking-end}
 use Rattle.linear_ints.proofs.eliminator.solve.Goals as goal
 
 pub take_all-requires : goal.take_all-requires

@@ -1,6 +1,6 @@
-use Rattle.linear_ints.specs.declared.tableau.Tableau.{Tableau}
+use Rattle.elimination.specs.declared.tableau.Tableau.{Tableau}
 use Rattle.linear_ints.proofs.Starting.{left-all, left-below}
-use Rattle.linear_ints.proofs.Taking.{taking-start}
+use Rattle.elimination.proofs.Taking.{taking-start}
 use Rattle.linear_ints.proofs.eliminator.start.Goals as goal
 
 pub returns-clause-taking : goal.returns-clause-taking

@@ -1,0 +1,14 @@
+pub mod Signs
+pub mod Names
+pub mod Stages
+pub mod Pairing
+pub mod Runs
+pub mod Stopping
+pub mod Growing
+pub mod Holding
+pub mod Passes
+pub mod Product
+pub mod SideLemmas
+pub mod SideNumbers
+pub mod Eliminating
+pub mod Taking

@@ -1,0 +1,48 @@
+// The elimination of Fourier and Motzkin: linear rows over whole numbers, and the places taken out of them one after the other.
+//
+// What it does. Each given row is tightened (divided by the greatest common divisor of its coefficients, its bound rounded down) and
+// held, unless an equal row is held. Then the places are eliminated one after the other. A row that names the place with a positive
+// coefficient says that the place is at most something, an upper row; with a negative one it says that the place is at least something,
+// a lower row. For each pair of an upper and a lower row the least multipliers in which the place cancels give a new row without it,
+// tightened and held in its turn. The rows that name the place take no part from then on. At the end no row names a place that is not
+// eliminated, and each combination of a pair is held, or names no place and contradicts nothing.
+//
+// Why that is right. Each new row follows from the two it is made of, and tightening keeps all whole points. So where a row without
+// terms and with a negative bound is made, no whole numbers satisfy the given rows, and the steps so far are a Farkas line: a conflict,
+// which is trimmed to the rows and steps that the contradiction rests on. Where none is made, `linear_ints` looks for values.
+//
+// Where it stops. Ten thousand rows are the most that it holds (Rows), and a combination may leave the range of a row (Product). Each
+// stop has its certificate by construction. After a Product the elimination goes on without that combination, and a contradiction that
+// it still comes to is a conflict; where it comes to none, the Product is the answer, with the steps up to it.
+//
+// What it costs. One place with m upper and n lower rows takes m * n steps, and so the next place with the fewest pairs is taken each
+// time. The rows may grow doubly exponentially in the number of places; the limit of rows bounds this. Whether a new row is held, which
+// rows name a place and how many pairs it has is asked of the indexes of `indexed_rows`; the next place is looked for among all that are
+// left.
+//
+// The layer stands on `theory_api`, which says what the certificates of a solver are, and on `indexed_rows`, which has the rows that are
+// held and the places that are eliminated; both stand on `items`, `lin_rows` and `proof_lines`. It chooses no values.
+//
+// Files, in the order in which a reader needs them: src/tableau and src/stop (the held rows with the eliminated places, and why a solver
+// stops), src/take (the given rows), src/sides and src/steps (the rows of a place, and their pairs), src/eliminate (all places),
+// src/trim (what a conflict rests on), src/leaving_out (going on without a combination).
+// Definitions: specs/Pairs (when a pair is combined, and what holds when all places are eliminated), specs/Tableaux (what a tableau
+// keeps), specs/Stops (the reasons to stop), specs/Sides (the rows of a place), specs/Needed (which combinations are held).
+#![tactic(auto)]
+
+pub mod eliminate;
+pub mod leaving_out;
+pub mod sides;
+pub mod steps;
+pub mod stop;
+pub mod tableau;
+pub mod take;
+pub mod trim;
+
+pub use eliminate::eliminate_all;
+pub use leaving_out::{Rest, conflict_past};
+pub use sides::is_on_at;
+pub use stop::Stop;
+pub use tableau::Tableau;
+pub use take::take_all;
+pub use trim::{Conflict, conflict_in, trimmed};

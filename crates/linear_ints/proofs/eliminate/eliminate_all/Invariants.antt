@@ -1,9 +1,0 @@
-use Rattle.std.proofs.Common.{◌≡◌, length}
-use Rattle.linear_ints.specs.Tableaux.{IsElimination}
-use Rattle.linear_ints.proofs.eliminate.eliminate_all.Given as goal
-
-abbrev pub invariant-places : goal.invariant-places
-invariant-places l = IsElimination l.rows l.tableau × (l.tableau.ints ≡ l.initial.tableau.ints)
-
-abbrev pub decreases-places : goal.decreases-places
-decreases-places l = length l.tableau.left

@@ -1,6 +1,0 @@
-use Rattle.std.proofs.Common.{[], ◌∷◌}
-use Rattle.linear_ints.specs.Tableaux.{IsGrown, AreCombined}
-use Rattle.linear_ints.proofs.steps.combine_one.Given as goal
-
-abbrev pub invariant-loop-lower : goal.invariant-loop-lower
-invariant-loop-lower l = IsGrown l.rows l.initial.tableau l.tableau × AreCombined l.tableau.held l.place (l.upper ∷ []) 1 l.lowers l.lower-index

@@ -1,6 +1,0 @@
-use Rattle.std.proofs.Common.{◌≡◌}
-use Rattle.linear_ints.specs.Tableaux.{IsTaking}
-use Rattle.linear_ints.proofs.take.take_all.Given as goal
-
-abbrev pub invariant-loop-number : goal.invariant-loop-number
-invariant-loop-number l = IsTaking l.rows l.number l.tableau × (l.tableau.ints ≡ l.initial.tableau.ints)
