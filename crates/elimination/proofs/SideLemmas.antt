@@ -1,5 +1,4 @@
-use Rattle.std.proofs.Common.{◌≡◌, ℕ, zero, suc, cond, ◌||◌, ◌<◌, length, ℤ, pos, negsuc, Bool, true, false, not, ◌&&◌, List, [], ◌∷◌, ◌++◌, get_or, refl, sym, ◌∙◌, ap, arith}
-use Rattle.std.proofs.lemmas.Int.{ints}
+use Rattle.std.proofs.Common.{◌≡◌, ℕ, zero, suc, cond, ◌||◌, ◌<◌, length, Bool, true, false, not, List, [], ◌∷◌, ◌++◌, get_or, refl, sym, ◌∙◌, ap, arith}
 use Rattle.std.specs.Prelude.{◌==◌}
 use Rattle.std.specs.List.{list_all}
 use Rattle.std.proofs.lemmas.Bool.{and_parts, and_from, eqb-true, eq-eqb}
@@ -8,19 +7,9 @@ use Rattle.lin_rows.specs.declared.term.RowTerm.{RowTerm}
 use Rattle.lin_rows.specs.Rows.{Row, is_row, coefficient_at}
 use Rattle.lin_rows.proofs.Kept.{rises_of}
 use Rattle.proof_lines.specs.Numbers.{stands_in}
-use Rattle.line_rows.specs.Steps.{row_at, is_negative, is_positive}
+use Rattle.line_rows.specs.Steps.{row_at}
 use Rattle.theory_api.specs.Ends.{names_none}
 use Rattle.elimination.proofs.Names.{all-named}
-use Rattle.elimination.proofs.Signs.{lt_so}
-
-pub no_sign : (a : ℤ) → (not (is_positive a) && not (is_negative a)) ≡ is_zero a
-no_sign (pos zero) = refl
-no_sign (pos (suc n)) = negated (is_positive (pos (suc n))) (not (is_negative (pos (suc n)))) (lt_so (pos 0) (pos (suc n)) (omega (arith, ints)))
-  where
-    negated : (a b : Bool) → a ≡ true → (not a && b) ≡ false
-    negated true b h = refl
-    negated false b h = absurd cc
-no_sign (negsuc n) = refl
 
 pub get_or-last : (xs : List ℕ) (x : ℕ) → get_or (xs ++ x ∷ []) (length xs) 0 ≡ x
 get_or-last [] x = refl

@@ -12,7 +12,6 @@ pub mod Filling
 pub mod Descent
 pub mod Models
 pub mod Ranges
-pub mod BoundLemmas
 pub mod Starting
 pub mod Greatest
 pub mod Descents
