@@ -1,9 +1,10 @@
 -- Lines without line feeds are found again in their bytes, and the lines of bytes make them again.
-use Rattle.std.proofs.Common.{◌≡◌, ℕ, zero, suc, ◌+◌, ◌-◌, ◌<◌, ◌≤◌, Bool, true, false, not, ◌||◌, eqb, List, [], ◌∷◌, ◌++◌, length, take, drop, get_or, refl, sym, ap, ◌∙◌, append_assoc, arith, length-drop, take_all}
+use Rattle.std.proofs.Common.{◌≡◌, ℕ, zero, suc, ◌+◌, ◌-◌, ◌<◌, ◌≤◌, Bool, true, false, not, ◌||◌, eqb, List, [], ◌∷◌, ◌++◌, length, take, drop, refl, sym, ap, ◌∙◌, append_assoc, arith, length-drop, take_all}
 use Rattle.std.specs.List.{list_all, flat_map, onto_first, slice_index_or, join_with_byte, position_or_len}
-use Rattle.std.proofs.lemmas.Bool.{and_parts, eq-eqb, ne_eqb}
+use Rattle.std.proofs.lemmas.Bool.{and_parts}
 use Rattle.std.proofs.lemmas.List.Sums.{position_or_len_is}
 use Rattle.std.proofs.lemmas.List.Splits.{slice_split_none, slice_split_at, slice_split_first, join_with_byte-slice_split}
+use Rattle.memchr.specs.Find.{Passes, NoneBefore, Nowhere, is_byte}
 use Rattle.report_bytes.specs.Bytes.{pieces, before_last, last_of, lines_of, unended}
 
 abbrev pub is_feed : ℕ → Bool
@@ -79,11 +80,15 @@ bytes_again bytes = sym (join_with_byte-slice_split 10 bytes) ∙ joined_ended (
 
 -- ---- the first line of bytes
 
-not_feed : (b : ℕ) → (b ≡ 10 → ⊥) → is_feed b ≡ false
-not_feed b n = ne_eqb b 10 n
+never_true : (b : Bool) → (b ≡ true → ⊥) → b ≡ false
+never_true true n = absurd (n refl)
+never_true false n = refl
 
-pub length_of_line : (bytes : List ℕ) (i : ℕ) → i ≤ length bytes → ((k : ℕ) → k < i → get_or bytes k 0 ≡ 10 → ⊥) → (i < length bytes → get_or bytes i 0 ≡ 10) → position_or_len is_feed bytes ≡ i
-length_of_line bytes i le before here = position_or_len_is is_feed bytes i 0 le (λ k h. not_feed _ (before k h)) (λ h. eq-eqb _ _ (here h))
+pub first_feed : (bytes : List ℕ) (i : ℕ) → NoneBefore (Passes (is_byte 10) bytes) 0 (length bytes) i × Passes (is_byte 10) bytes i → i ≡ position_or_len is_feed bytes
+first_feed bytes i h = sym (position_or_len_is is_feed bytes i 0 (let b = h.0.high in omega (arith, b)) (λ k lt. never_true _ (h.0.before k (omega arith) lt)) (λ _. h.1))
+
+pub no_feeds : (bytes : List ℕ) → Nowhere (Passes (is_byte 10) bytes) 0 (length bytes) → length bytes ≡ position_or_len is_feed bytes
+no_feeds bytes h = sym (position_or_len_is is_feed bytes (length bytes) 0 (omega arith) (λ k lt. never_true _ (h k (omega arith) lt)) (λ lt. absurd (omega (arith, lt))))
 
 last_or_more : (b : ℕ) (bs : List ℕ) (z : Bool) → is_feed b ≡ z → position_or_len is_feed (b ∷ bs) ≡ length (b ∷ bs) → (position_or_len is_feed bs ≡ length bs → pieces bs ≡ bs ∷ []) → pieces (b ∷ bs) ≡ (b ∷ bs) ∷ []
 last_or_more b bs true z e r = let h = rw z at e in absurd (omega (arith, h))

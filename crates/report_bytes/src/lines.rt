@@ -3,17 +3,17 @@ ghost use Rattle.std.specs.Prelude.{◌≡◌, ◌≤◌, ◌<◌, ◌∷◌, []
 ghost use Rattle.std.specs.List.{position_or_len};
 ghost use Rattle.report_bytes.specs.Bytes.{pieces};
 
+use memchr::memchr;
+
 // The number of bytes before the first line feed, or of all bytes.
 fn line_len(bytes: &[u8]) -> usize
     ensures len { result ≡ position_or_len (λ b. b == 10) bytes.now }
     ensures within { result ≤ length bytes.now }
 {
-    for (place, byte) in bytes.iter().enumerate() {
-        if *byte == b'\n' {
-            return place;
-        }
+    match memchr(b'\n', bytes) {
+        Some(place) => place,
+        None => bytes.len(),
     }
-    bytes.len()
 }
 
 /// The first line, and the bytes behind its line feed; none where no line feed ends a line.
