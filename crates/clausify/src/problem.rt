@@ -1,5 +1,5 @@
 // The problem of numbered formulas.
-ghost use Rattle.std.specs.Prelude.{◌≡◌, ◌++◌, true, IfOk, IfSome, length, map, replicate};
+ghost use Rattle.std.specs.Prelude.{◌≡◌, ◌++◌, [], true, IfOk, IfSome, length, map, replicate};
 ghost use Rattle.std.specs.List.{list_all};
 ghost use Rattle.proof_lines.specs.Problems.{names_below};
 ghost use Rattle.ground_numbers.specs.Numbered.{is_below};
@@ -10,7 +10,7 @@ ghost use Rattle.ground_atoms.specs.Formulas.{form_of};
 use crate::listing::write_clauses;
 use ground_atoms::{Atom, Atoms, GroundFormula};
 use items::Items;
-use proof_lines::{AtomKind, Problem};
+use proof_lines::{AtomKind, Clause, Problem};
 use std::alloc::{AllocError, Global};
 
 // What an atom stands for in a problem.
@@ -58,6 +58,14 @@ fn with_names(mut kinds: Items<AtomKind>, count: u32) -> Result<Items<AtomKind>,
     Ok(kinds)
 }
 
+// No clauses yet, and room for so many.
+fn no_clauses(alloc: Global, room: usize) -> Result<Items<Clause>, AllocError>
+    ensures { IfOk result (λ cs. cs ≡ []) }
+{
+    let clauses = Vec::with_capacity(alloc, room)?;
+    Ok(Items::from_vec(clauses))
+}
+
 /// The problem of formulas over numbered atoms: its clauses are true together exactly where the formulas are, but for the atoms that
 /// name parts. Atoms keep their numbers, and those that name parts come after them.
 pub fn problem_of(
@@ -75,7 +83,7 @@ pub fn problem_of(
     let (Some(ints), Ok(first)) = (count_ints(atoms), u32::try_from(kinds.len())) else {
         return Err(AllocError);
     };
-    let mut clauses = Items::new(alloc);
+    let mut clauses = no_clauses(alloc, formulas.len())?;
     let end = write_clauses(alloc, first, formulas, &mut clauses)?;
     let named = with_names(kinds, end - first)?;
     Ok(Problem {
