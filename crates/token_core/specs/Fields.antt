@@ -25,7 +25,7 @@ abbrev pub replicas_in : List Replica → List ReplicaOf
 replicas_in replicas = map replica_of (map held_replica replicas)
 
 -- the network of these parts
-abbrev pub network_with : List Replica → List Granted → Lists → Network
+abbrev pub network_with : List ReplicaOf → List Granted → Lists → Network
 network_with replicas granted lists = record {
   replicas = replicas;
   granted = granted;
