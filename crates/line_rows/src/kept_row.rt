@@ -7,18 +7,20 @@ use std::marker::Model;
 /// A row that is kept under its number, if one is. Contracts see the row.
 #[derive(Drop)]
 pub struct KeptRow<'a> {
-    lent: Option<&'a Row>,
-    made: Option<Row>,
+    // A row of its own, or else one that stands elsewhere, if there is one. Of the two but one takes room.
+    kept: Result<Row, Option<&'a Row>>,
 }
 
 impl<'a> Model for KeptRow<'a> {
-    ghost use Rattle.std.specs.Prelude.{Option, option_copied};
+    ghost use Rattle.std.specs.Prelude.{Option, option_and_then, option_copied};
     ghost use Rattle.std.specs.Option.{option_or};
+    ghost use Rattle.std.specs.Result.{result_ok, result_err};
     ghost use Rattle.lin_rows.specs.Rows.{Row};
 
     ghost Value = { Option Row };
 
-    ghost view = { λ a. option_or a.made (option_copied a.lent) };
+    ghost view = { λ a. option_or (result_ok a.kept)
+        (option_and_then option_copied (result_err a.kept)) };
 }
 
 impl<'a> KeptRow<'a> {
@@ -27,10 +29,7 @@ impl<'a> KeptRow<'a> {
     pub fn none() -> KeptRow<'a>
         ensures { result ≡ None }
     {
-        KeptRow {
-            lent: None,
-            made: None,
-        }
+        KeptRow { kept: Err(None) }
     }
 
     /// A row that stands elsewhere.
@@ -39,8 +38,7 @@ impl<'a> KeptRow<'a> {
         ensures { result ≡ Some row.now }
     {
         KeptRow {
-            lent: Some(row),
-            made: None,
+            kept: Err(Some(row)),
         }
     }
 
@@ -49,10 +47,7 @@ impl<'a> KeptRow<'a> {
     pub fn made(row: Row) -> KeptRow<'a>
         ensures { result ≡ Some row }
     {
-        KeptRow {
-            lent: None,
-            made: Some(row),
-        }
+        KeptRow { kept: Ok(row) }
     }
 
     /// The row, if one is kept.
@@ -60,9 +55,9 @@ impl<'a> KeptRow<'a> {
     pub fn row(&self) -> Option<&Row>
         ensures { option_copied result ≡ self.now }
     {
-        match &self.made {
-            Some(row) => Some(row),
-            None => self.lent,
+        match &self.kept {
+            Ok(row) => Some(row),
+            Err(lent) => *lent,
         }
     }
 }
