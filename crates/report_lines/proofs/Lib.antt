@@ -1,17 +1,7 @@
-pub mod Exact
-pub mod Among
-pub mod Clean
-pub mod NumberFields
 pub mod HeadLines
 pub mod LogLines
 pub mod EvidenceLines
 pub mod SpecNames
 pub mod WitnessLines
 pub mod BlockLines
-pub mod FirstWord
-pub mod Loops
-pub mod Finding
-pub mod Splitting
-pub mod WholeLines
 pub mod StateLines
-mod ShortNumbers

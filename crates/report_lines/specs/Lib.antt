@@ -1,6 +1,3 @@
-pub mod Words
-pub mod Formats
-pub mod Fields
 pub mod Heads
 pub mod Blocks
 pub mod Logs

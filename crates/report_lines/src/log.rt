@@ -1,116 +1,21 @@
 // Reading the lines of a log.
 
-ghost use Rattle.std.specs.Prelude.{◌≡◌, ◌∷◌, ◌++◌, [], true, false, OnOk};
+ghost use Rattle.std.specs.Prelude.{◌≡◌, ◌∷◌, ◌++◌, [], OnOk};
 ghost use Rattle.std.specs.Fmt.{decimal, signed_decimal};
 ghost use Rattle.proof_lines.specs.declared.line.Line.TheVariants.{Resolve, Farkas, Drop};
 ghost use Rattle.std.proofs.Common.{inl, inr};
-ghost use Rattle.word_cut.specs.Whole.{size_read};
-ghost use Rattle.report_lines.specs.Formats.{mapped};
-ghost use Rattle.report_lines.specs.Logs.{with_sign, literal_of, literal_format, small_literal, step_format, used_words, resolve_words, decision_words, split_words, drop_words, to_line, line_format, may_stand, log_format};
-ghost use Rattle.report_lines.specs.Fields.{count_format, integer_format};
-ghost use Rattle.report_lines.specs.Words.{left, spaced, Gives, line_text};
+ghost use Rattle.report_words.specs.Formats.{mapped};
+ghost use Rattle.report_lines.specs.Logs.{used_words, resolve_words, decision_words, split_words, drop_words, to_line, line_format, may_stand, log_format};
+ghost use Rattle.report_words.specs.Words.{left, spaced, Gives, line_text};
 
-use crate::digits::word_number;
 use crate::evidence::RowsLine;
-use crate::fields::{count, integer, pair};
-use crate::list::{Entry, list};
-use crate::words::{ReadError, Words, next};
-use crate::writing::{put_integer, put_list, put_number};
 use items::Items;
-use itoa::Buffer;
 use proof_lines::{Line, Lit, RowStep};
+use report_words::fields::{count, pair};
+use report_words::list::list;
+use report_words::words::{ReadError, Words, next};
+use report_words::writing::{put_integer, put_list, put_number};
 use std::alloc::{AllocError, Global};
-
-fn signed(positive: bool, digits: &[u8]) -> Result<Lit, ReadError>
-    ensures { Gives (λ l. l) result (small_literal (with_sign positive (size_read digits.now))) }
-{
-    let Some(atom) = word_number(digits) else {
-        return Err(ReadError::Form);
-    };
-    if atom > u32::MAX as u128 {
-        return Err(ReadError::Form);
-    }
-    Ok(Lit {
-        atom: atom as u32,
-        positive,
-    })
-}
-
-fn literal(word: &[u8]) -> Result<Lit, ReadError>
-    ensures { Gives (λ l. l) result (small_literal (literal_of word.now)) }
-{
-    match word {
-        [b'+', digits @ ..] => signed(true, digits),
-        [b'-', digits @ ..] => signed(false, digits),
-        _ => Err(ReadError::Form),
-    }
-}
-
-impl Entry for Lit {
-    ghost format = { literal_format };
-
-    fn read(words: Words<'_>) -> Result<(Lit, Words<'_>), ReadError> {
-        let (word, rest) = next(words)?;
-        let literal = literal(word)?;
-        Ok((literal, rest))
-    }
-
-    fn write(&self, out: &mut Vec<u8>) -> Result<(), AllocError> {
-        let mut buffer = Buffer::new();
-        out.push(b' ')?;
-        out.push(if self.positive { b'+' } else { b'-' })?;
-        out.extend_from_slice(buffer.format(self.atom).as_bytes())
-    }
-}
-
-impl Entry for RowStep {
-    ghost format = { step_format };
-
-    fn read(words: Words<'_>) -> Result<(RowStep, Words<'_>), ReadError> {
-        let ((left, first), rest) = pair(words)?;
-        let ((right, second), rest) = pair(rest)?;
-        Ok((
-            RowStep {
-                left,
-                first,
-                right,
-                second,
-            },
-            rest,
-        ))
-    }
-
-    fn write(&self, out: &mut Vec<u8>) -> Result<(), AllocError> {
-        put_number(out, self.left as u64)?;
-        put_integer(out, self.first)?;
-        put_number(out, self.right as u64)?;
-        put_integer(out, self.second)
-    }
-}
-
-impl Entry for i128 {
-    ghost format = { integer_format };
-
-    fn read(words: Words<'_>) -> Result<(i128, Words<'_>), ReadError> {
-        integer(words)
-    }
-
-    fn write(&self, out: &mut Vec<u8>) -> Result<(), AllocError> {
-        put_integer(out, *self)
-    }
-}
-
-impl Entry for u32 {
-    ghost format = { count_format };
-
-    fn read(words: Words<'_>) -> Result<(u32, Words<'_>), ReadError> {
-        count(words)
-    }
-
-    fn write(&self, out: &mut Vec<u8>) -> Result<(), AllocError> {
-        put_number(out, *self as u64)
-    }
-}
 
 /// The used literals and the steps, each list behind its number.
 pub fn used(alloc: Global, words: Words<'_>) -> Result<(RowsLine, Words<'_>), ReadError>

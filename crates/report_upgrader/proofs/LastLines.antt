@@ -7,7 +7,7 @@ use Rattle.std.proofs.lemmas.Bool.Decides.{nat_tests}
 use Rattle.std.proofs.lemmas.Grind.{flat_map-append}
 use Rattle.proof_lines.specs.declared.line.Line.{Line}
 use Rattle.proof_lines.specs.Numbers.{stands_in}
-use Rattle.report_lines.specs.Words.{line_text}
+use Rattle.report_words.specs.Words.{line_text}
 use Rattle.report_lines.specs.Logs.{line_format}
 use Rattle.proof_report.specs.Texts.{log_text}
 use Rattle.log_drops.specs.Upgraded.{rising, named, is_named, last_named, unless_drop, drop_line, upgraded}

@@ -8,9 +8,9 @@ use Rattle.std.proofs.lemmas.Option.{some_pair_parts}
 use Rattle.proof_lines.specs.declared.line.Line.{Line}
 use Rattle.proof_lines.specs.declared.line.Line.TheVariants.{Resolve, Farkas, Split, Drop}
 use Rattle.log_drops.specs.Upgraded.{rising}
-use Rattle.report_lines.specs.Fields.{most_count, count_format}
+use Rattle.report_words.specs.Fields.{most_count, count_format}
 use Rattle.report_lines.specs.Logs.{line_format}
-use Rattle.report_lines.proofs.NumberFields.{count_exact}
+use Rattle.report_words.proofs.NumberFields.{count_exact}
 use Rattle.report_upgrader.specs.declared.log_bytes.LogLine.TheVariants as kinds
 use Rattle.report_upgrader.specs.LastLines.{IsKind}
 

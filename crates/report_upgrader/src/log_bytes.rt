@@ -15,17 +15,17 @@ ghost use Rattle.proof_lines.specs.Numbers.{stands_in};
 ghost use Rattle.log_drops.specs.Upgraded.{named, rising, drop_line, upgraded};
 ghost use Rattle.report_bytes.specs.Bytes.{pieces};
 ghost use Rattle.report_lines.specs.Logs.{line_format};
-ghost use Rattle.report_lines.specs.Words.{left};
+ghost use Rattle.report_words.specs.Words.{left};
 ghost use Rattle.report_upgrader.specs.declared.log_bytes.LogLine.TheVariants.{Resolve};
 ghost use Rattle.report_upgrader.specs.LastLines.{IsKind, AreKinds, IsLong, AreLong, last_naming, is_last, with_drops};
 ghost use Rattle.report_upgrader.specs.LastLines.{IsWritten};
 ghost use Rattle.report_upgrader.specs.Passing.{proved_text, say_log, IsText};
 
 use report_bytes::next_line;
-use report_lines::fields::count;
 use report_lines::verdict::{VerdictWord, write_verdict_word};
-use report_lines::words::{Words, next};
-use report_lines::writing::put_list;
+use report_words::fields::count;
+use report_words::words::{Words, next};
+use report_words::writing::put_list;
 use std::alloc::{AllocError, Global};
 
 /// What upgrading has to know of a line of a log.

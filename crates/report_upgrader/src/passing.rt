@@ -4,12 +4,12 @@ ghost use Rattle.spec_core.specs.Specification.{Specification};
 ghost use Rattle.proof_report.specs.declared.event.Event.{Event};
 ghost use Rattle.proof_report.specs.Events.{words};
 ghost use Rattle.report_bytes.specs.Bytes.{pieces};
-ghost use Rattle.report_lines.specs.Words.{parts};
+ghost use Rattle.report_words.specs.Words.{parts};
 ghost use Rattle.report_upgrader.specs.Passing.{is_followed, IsBegun, IsPassed};
 
 use crate::log_bytes::{copy_line, pass_log};
-use report_lines::fields::count;
-use report_lines::words::{ReadError, Words, keyword};
+use report_words::fields::count;
+use report_words::words::{ReadError, Words, keyword};
 use std::alloc::{AllocError, Global};
 
 // How many lines the log has that a line begins with the word of a proved verdict; nothing where it

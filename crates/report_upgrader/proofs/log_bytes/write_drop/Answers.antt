@@ -1,6 +1,6 @@
 use Rattle.std.proofs.Common.{[], ◌∷◌, ◌++◌, List, ℕ, refl, sym, ap, ◌∙◌, append-nil}
 use Rattle.report_lines.specs.Logs.{drop_words}
-use Rattle.report_lines.proofs.Splitting.{written}
+use Rattle.report_words.proofs.Splitting.{written}
 use Rattle.report_upgrader.proofs.log_bytes.write_drop.Goals as goal
 
 pub returns : goal.returns

@@ -1,0 +1,4 @@
+pub mod Words
+pub mod Formats
+pub mod Fields
+pub mod Entries
