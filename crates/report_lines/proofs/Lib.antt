@@ -5,3 +5,5 @@ pub mod SpecNames
 pub mod WitnessLines
 pub mod BlockLines
 pub mod StateLines
+mod ShownCases
+mod LineCases
