@@ -12,8 +12,8 @@ lines-init c = record {
   long = c.requires;
 }
 
-pub cut_line-requires : goal.cut_line-requires
-cut_line-requires c =
+pub cut_line-line-requires : goal.cut_line-line-requires
+cut_line-line-requires c =
     let known = c.in-Some.known.now in
     let w = long_at c.args.seen.now c.lines.taken known c.lines.rest.now c.lines.invariant.long.0 c.in-Some.ensures.lookup.0 c.in-Some.ensures.lookup.1 c.lines.invariant.long.1 in
     long_within known.len c.lines.rest.now w.0
@@ -22,9 +22,9 @@ pub lines-preserved : goal.lines-preserved
 lines-preserved c =
     let known = c.in-Some.known.now in
     let w = long_at c.args.seen.now c.lines.taken known c.lines.rest.now c.lines.invariant.long.0 c.in-Some.ensures.lookup.0 c.in-Some.ensures.lookup.1 c.lines.invariant.long.1 in
-    let line = c.cut_line.line.now in
-    let behind = c.cut_line.behind.now in
-    let is = c.cut_line.ensures w.0 in
+    let line = c.cut_line-line.result.0.now in
+    let behind = c.cut_line-line.result.1.now in
+    let is = c.cut_line-line.ensures w.0 in
     let cut = long_pieces known.len c.lines.rest.now line behind w.0 is in
     record {
       lines = λ ls long says table are.
