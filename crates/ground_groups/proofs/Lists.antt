@@ -7,12 +7,17 @@ use Rattle.std.proofs.lemmas.Bool.{ltb-true, ltb-false}
 use Rattle.std.proofs.lemmas.Option.{same_Some}
 use Rattle.std.proofs.lemmas.List.{length-map, map-append}
 use Rattle.spec_core.specs.World.{each_before}
+use Rattle.spec_core.specs.declared.spec.Invariant.{Invariant}
+use Rattle.spec_core.specs.Specification.{Specification}
 use Rattle.ground_atoms.specs.Formulas.{form_of}
 use Rattle.ground_atoms.specs.declared.formula.GroundFormula.{GroundFormula}
 use Rattle.ground_problem.specs.Symbols.{Symbolic, negated}
 use Rattle.ground_numbers.specs.Numbered.{Numbered}
 use Rattle.ground_atoms.specs.Known.{Known}
 use Rattle.ground_atoms.specs.Making.{MadeList, make, make_all}
+use Rattle.ground_problem.specs.Formulas.{Caller, Readings, nobody, at_stage, instances, formula}
+use Rattle.ground_problem.specs.Constants.{Constants, assignments}
+use Rattle.ground_problem.specs.Entry.{invariants_hold}
 use Rattle.ground_problem.specs.Problem.{most_formulas}
 use Rattle.ground_groups.specs.Limited.{make_upto, Appends, HasRoomFor, IsWithin}
 use Rattle.ground_groups.specs.Lines.{signed}
@@ -57,7 +62,7 @@ instances_beyond old k f vs h =
 
 -- ---- one group of formulas for each member of a list
 
-next_of : {X : Type 0} (f : X → List Symbolic) (xs : List X) (i : ℕ) (d : X) → i < length xs → flat_map f (drop i xs) ≡ f (get_or xs i d) ++ flat_map f (drop (i + 1) xs)
+next_of : {X Y : Type 0} (f : X → List Y) (xs : List X) (i : ℕ) (d : X) → i < length xs → flat_map f (drop i xs) ≡ f (get_or xs i d) ++ flat_map f (drop (i + 1) xs)
 next_of f xs i d h =
     let e : suc i ≡ i + 1 = omega arith in
     ap (flat_map f) (drop-cons xs i d h) ∙ ap (λ (n : ℕ). f (get_or xs i d) ++ flat_map f (drop n xs)) e
@@ -100,6 +105,35 @@ group_refused_at f xs i d h why out new first k now start e g = group_refused f 
 pub refused_beyond : (why : GroundRefused) (old new : List GroundFormula) (k now : Known) (f : List ℕ → Symbolic) (vs : List (List ℕ)) → HasRoomFor (Err why) (most_formulas - length old) (length vs) → Appends {A = Unit {0}} (Err why) old k (map f vs) new now
 refused_beyond TooMany old new k now f vs h = instances_beyond old k f vs h
 refused_beyond Memory old new k now f vs h = tt
+
+-- ---- how many formulas all invariants give
+
+-- the next member of a loop that counts them
+pub count_next : {X Y : Type 0} (f : X → List Y) (xs : List X) (i : ℕ) (x : X) → i < length xs → x ≡ get_or xs i x → (so_far n more all : ℕ)
+    → so_far + length (flat_map f (drop i xs)) ≤ all → n ≤ length (f x) → more ≤ so_far + n → more + length (flat_map f (drop (i + 1) xs)) ≤ all
+count_next f xs i x h q so_far n more all e g s =
+    let a = ap length (next_of f xs i x h) ∙ length-append (f (get_or xs i x)) (flat_map f (drop (i + 1) xs)) in
+    let b = ap (λ y. length (f y)) q in
+    omega (arith, a, b, e, g, s)
+
+-- as many as they have assignments
+invariants-length : (z : Constants) (r : Readings) (c : Caller) (is : List Invariant)
+    → length (flat_map (λ i. instances z r c i.line.vars i.line.body) is) ≡ length (flat_map (λ i. assignments z i.line.vars) is)
+invariants-length z r c [] = refl
+invariants-length z r c (i ∷ is) =
+    let a = length-append (instances z r c i.line.vars i.line.body) (flat_map (λ i. instances z r c i.line.vars i.line.body) is) in
+    let b = length-append (assignments z i.line.vars) (flat_map (λ i. assignments z i.line.vars) is) in
+    let e : length (instances z r c i.line.vars i.line.body) ≡ length (assignments z i.line.vars) = length-map (assignments z i.line.vars) (λ vs. formula r c vs i.line.body) in
+    let g = invariants-length z r c is in
+    omega (arith, a, b, e, g)
+
+pub invariants_beyond : (why : GroundRefused) (old new : List GroundFormula) (k now : Known) (d : Specification) (z : Constants)
+    → HasRoomFor (Err why) (most_formulas - length old) (length (flat_map (λ i. assignments z i.line.vars) d.invariants)) → Appends {A = Unit {0}} (Err why) old k (invariants_hold d z) new now
+invariants_beyond TooMany old new k now d z h =
+    let e : length (map form_of old) ≡ length old = length-map old form_of in
+    let g = invariants-length z (at_stage []) nobody d.invariants in
+    upto_beyond (map form_of old) k (invariants_hold d z) (omega (arith, e, g, h))
+invariants_beyond Memory old new k now d z h = tt
 
 -- ---- one formula for each choice of constants
 

@@ -1,25 +1,69 @@
 // What is true at the entry: the invariants and the requires lines of the calls.
-ghost use Rattle.std.specs.Prelude.{◌≡◌, [], get_or};
+ghost use Rattle.std.specs.Prelude.{◌≡◌, ◌≤◌, ◌-◌, [], length, get_or, IfOk};
 ghost use Rattle.std.specs.List.{flat_map};
+ghost use Rattle.ground_problem.specs.Constants.{assignments};
 ghost use Rattle.ground_atoms.specs.Formulas.{consts_of_args};
 ghost use Rattle.ground_problem.specs.Formulas.{caller, instances};
 ghost use Rattle.ground_problem.specs.Entry as entry;
+ghost use Rattle.ground_problem.specs.Problem.{most_formulas};
 ghost use Rattle.spec_core.specs.Specification.{op_of};
 ghost use Rattle.stage_defs.specs.Settings.{readings_in, caller_in};
-ghost use Rattle.ground_groups.specs.Limited.{Appends};
+ghost use Rattle.ground_groups.specs.Limited.{Appends, HasRoomFor};
 ghost use Rattle.ground_constants.specs.Calls.{constants_in};
 ghost use Rattle.ground_groups.specs.Lines.{line_at, lines_at};
 
+use crate::adding::MOST_FORMULAS;
 use crate::instancing::{add_instances, add_true};
 use crate::refused::GroundRefused;
 use ground_atoms::{Atoms, GroundArg, GroundFormula};
+use ground_constants::assigning::{count_choices, options_of};
 use ground_constants::constants::Named;
 use items::Items;
 use spec_core::{Invariant, Prefix, Prefixed, Spec};
 use stage_defs::{Setting, Stage};
-use std::alloc::Global;
+use std::alloc::{AllocError, Global};
 
-/// Appends each invariant, once for each assignment.
+// How many assignments of constants to variables of these sorts there are, or fewer where a machine counts no further.
+fn count_assignments(alloc: Global, named: &Named, vars: &[u8]) -> Result<usize, AllocError>
+    ensures { IfOk result (λ n. n ≤ length (assignments (constants_in named.now) vars.now)) }
+{
+    let options = options_of(alloc, named.sorts.as_slice(), vars)?;
+    Ok(count_choices(options.as_slice()))
+}
+
+// How many assignments all these invariants have together, or fewer where a machine counts no further.
+fn count_all(alloc: Global, named: &Named, invariants: &[Invariant]) -> Result<usize, AllocError>
+    ensures { IfOk result
+        (λ n. n ≤ length
+        (flat_map (λ i. assignments (constants_in named.now) i.line.vars) invariants.now)) }
+{
+    let mut count: usize = 0;
+    for invariant in invariants {
+        let more = count_assignments(alloc, named, invariant.line.vars.as_slice())?;
+        count = count.saturating_add(more);
+    }
+    Ok(count)
+}
+
+// Whether there is room for each of these invariants once for each assignment. No formula is made for this.
+fn has_room_for_all(
+    alloc: Global,
+    named: &Named,
+    invariants: &[Invariant],
+    out: &Items<GroundFormula>,
+) -> Result<(), GroundRefused>
+    ensures { HasRoomFor result (most_formulas - length out.now)
+        (length (flat_map (λ i. assignments (constants_in named.now) i.line.vars) invariants.now)) }
+{
+    let count = count_all(alloc, named, invariants)?;
+    if count > MOST_FORMULAS.saturating_sub(out.len()) {
+        return Err(GroundRefused::TooMany);
+    }
+    Ok(())
+}
+
+#[tactic(auto, using(crate::proofs::Lists::invariants_beyond))]
+/// Appends each invariant, once for each assignment, or says that there is no room for so many before one is made.
 pub fn add_invariants(
     atoms: &mut Atoms,
     alloc: Global,
@@ -30,20 +74,17 @@ pub fn add_invariants(
     ensures { Appends result out.old atoms.old
         (entry.invariants_hold spec.now (constants_in named.now)) out.new atoms.new }
 {
+    let invariants = spec.invariants.as_slice();
+    if let Err(refused) = has_room_for_all(alloc, named, invariants, out) {
+        return Err(refused);
+    }
     let setting = Setting {
         spec,
         stage: Stage::Numbered(0),
         call: 0,
         args: &[],
     };
-    add_each(
-        atoms,
-        alloc,
-        &setting,
-        named,
-        spec.invariants.as_slice(),
-        out,
-    )
+    add_each(atoms, alloc, &setting, named, invariants, out)
 }
 
 fn add_each(
