@@ -4,7 +4,7 @@ use Rattle.std.proofs.lemmas.Bool.{and_parts, and_from}
 use Rattle.ground_numbers.specs.Numbered.{Numbered, known, literal, negation, conjunction, disjunction}
 use Rattle.ground_numbers.specs.Clauses.{unsettled, fold_all, fold_any, folded}
 use Rattle.ground_atoms.specs.Formulas.{form_of}
-use Rattle.ground_atoms.specs.declared.formula.GroundFormula.{GroundFormula, Truth, Lit, NotAtom, Implied, Congruent, Not', And', Or'}
+use Rattle.ground_atoms.specs.declared.formula.GroundFormula.{GroundFormula, Truth, Lit, NotAtom, BothAtoms, AtomImplies, Implied, Congruent, Not', And', Or'}
 use Rattle.clausify.specs.Formulas.{is_bare, is_plain, normal}
 
 -- folding keeps a bare formula, but for "not"
@@ -21,6 +21,8 @@ plain-bare : (f : GroundFormula) → is_plain f ≡ true → is_bare (form_of f)
 plain-bare (Truth b) h = absurd cc
 plain-bare (Lit n s) h = refl
 plain-bare (NotAtom n) h = refl
+plain-bare (BothAtoms m n) h = refl
+plain-bare (AtomImplies m n) h = refl
 plain-bare (Implied k m n) h = absurd cc
 plain-bare (Congruent p a e g m n) h = absurd cc
 plain-bare (Not' l f) h = plain-bare f h

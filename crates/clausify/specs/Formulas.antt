@@ -4,7 +4,7 @@ use Rattle.proof_lines.specs.Clauses.{same_bool, lit_of}
 use Rattle.ground_numbers.specs.Numbered.{Numbered, known, literal, negation, conjunction, disjunction}
 use Rattle.ground_numbers.specs.Clauses.{Normal, lit, all, any, Folded, settled, unsettled}
 use Rattle.ground_atoms.specs.Formulas.{form_of}
-use Rattle.ground_atoms.specs.declared.formula.GroundFormula.{GroundFormula, Truth, Lit, NotAtom, Implied, Congruent, Not', And', Or'}
+use Rattle.ground_atoms.specs.declared.formula.GroundFormula.{GroundFormula, Truth, Lit, NotAtom, BothAtoms, AtomImplies, Implied, Congruent, Not', And', Or'}
 use Rattle.clausify.specs.declared.bare.Folded.{Folded as CodeFolded}
 use Rattle.clausify.specs.declared.bare.Folded.TheVariants as code
 
@@ -36,6 +36,8 @@ abbrev pub is_plain : GroundFormula → Bool
 is_plain (Truth b) = false
 is_plain (Lit n s) = true
 is_plain (NotAtom n) = true
+is_plain (BothAtoms m n) = true
+is_plain (AtomImplies m n) = true
 is_plain (Implied k m n) = false
 is_plain (Congruent p a e f m n) = false
 is_plain (Not' l f) = is_plain f

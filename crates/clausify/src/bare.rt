@@ -20,6 +20,8 @@ pub fn is_plain(form: &GroundFormula) -> bool
         GroundFormula::Truth(_) => false,
         GroundFormula::Lit(_, _) => true,
         GroundFormula::NotAtom(_) => true,
+        GroundFormula::BothAtoms(_, _) => true,
+        GroundFormula::AtomImplies(_, _) => true,
         GroundFormula::Implied(_, _, _) => false,
         GroundFormula::Congruent { .. } => false,
         GroundFormula::Not(inner) => is_plain(inner),

@@ -80,6 +80,9 @@ fn both_folded(alloc: Global, sign: bool, first: u32, second: u32) -> Result<Fol
     ensures equal { IfOk result (λ f. folded_of f ≡ folded sign (both_true first second)) }
     ensures plain { IfOk result (λ f. is_plain_if_unsettled f ≡ true) }
 {
+    if sign {
+        return Ok(Folded::Unsettled(GroundFormula::BothAtoms(first, second)));
+    }
     let f = atom_folded(sign, first);
     let g = atom_folded(sign, second);
     fold(alloc, sign, f, g)
@@ -112,6 +115,9 @@ fn to_folded(alloc: Global, sign: bool, left: u32, right: u32) -> Result<Folded,
         ≡ folded sign (disjunction (negation (literal left true)) (literal right true))) }
     ensures plain { IfOk result (λ f. is_plain_if_unsettled f ≡ true) }
 {
+    if sign {
+        return Ok(Folded::Unsettled(GroundFormula::AtomImplies(left, right)));
+    }
     let premise = atom_folded(!sign, left);
     let conclusion = atom_folded(sign, right);
     fold(alloc, !sign, premise, conclusion)
@@ -171,6 +177,8 @@ pub fn folded(alloc: Global, sign: bool, form: &GroundFormula) -> Result<Folded,
         GroundFormula::NotAtom(atom) => {
             Ok(Folded::Unsettled(GroundFormula::Lit(*atom, signed(!sign, true))))
         }
+        GroundFormula::BothAtoms(first, second) => both_folded(alloc, sign, *first, *second),
+        GroundFormula::AtomImplies(left, right) => to_folded(alloc, sign, *left, *right),
         GroundFormula::Implied(first, second, third) => {
             let premise = both_folded(alloc, !sign, *first, *second)?;
             let conclusion = atom_folded(sign, *third);

@@ -1,6 +1,6 @@
 // The clauses of a plain formula: each "and" inside an "or" is named by a new atom. A sign goes with each part: where it is false, the
 // negation of that part is written, so that an "and" is an "or" and an "or" is an "and".
-ghost use Rattle.std.specs.Prelude.{◌≡◌, ◌+◌, ◌∷◌, ◌++◌, [], true, None, IfOk, OnOk};
+ghost use Rattle.std.specs.Prelude.{◌≡◌, ◌+◌, ◌∷◌, ◌++◌, [], true, false, None, IfOk, OnOk};
 ghost use Rattle.ground_numbers.specs.Clauses.{any, names, literals, new_names, inner_names, written, whole, parts, in_front, clause_of, clauses_of, names_of};
 ghost use Rattle.proof_lines.specs.Clauses.{join, lit_of};
 ghost use Rattle.ground_atoms.specs.Formulas.{form_of};
@@ -22,6 +22,21 @@ fn add_name(name: u32, clause: &mut Clause) -> Result<u32, AllocError>
         positive: true,
     })?;
     name.checked_add(1).ok_or(AllocError)
+}
+
+// A literal of an atom.
+fn literal(atom: u32, positive: bool) -> Lit
+    ensures { result ≡ lit_of atom positive }
+{
+    Lit { atom, positive }
+}
+
+// Adds two literals to a clause.
+fn add_two(first: Lit, second: Lit, clause: &mut Clause) -> Result<(), AllocError>
+    ensures { OnOk result (clause.new ≡ join clause.old (first ∷ second ∷ [])) }
+{
+    clause.insert(first)?;
+    clause.insert(second)
 }
 
 // Adds the parts of an "or" to a clause, and answers the naming atom that is next after `name`.
@@ -52,6 +67,20 @@ fn add_literals(
                 atom: *atom,
                 positive: signed(!sign, true),
             })?;
+            Ok(name)
+        }
+        GroundFormula::BothAtoms(first, second) => {
+            if sign {
+                return add_name(name, clause);
+            }
+            add_two(literal(*first, false), literal(*second, false), clause)?;
+            Ok(name)
+        }
+        GroundFormula::AtomImplies(first, second) => {
+            if !sign {
+                return add_name(name, clause);
+            }
+            add_two(literal(*first, false), literal(*second, true), clause)?;
             Ok(name)
         }
         GroundFormula::Not(inner) => add_literals(!sign, name, inner, clause),
@@ -88,6 +117,63 @@ fn clause_after(alloc: Global, front: Option<Lit>) -> Result<Clause, AllocError>
         clause.insert(lit)?;
     }
     Ok(clause)
+}
+
+// Appends the clause of a literal after the literal in front, if any.
+fn write_one(
+    alloc: Global,
+    front: Option<Lit>,
+    part: Lit,
+    out: &mut Items<Clause>,
+) -> Result<(), AllocError>
+    ensures { OnOk result (out.new ≡ out.old ++ join [] (in_front front ++ part ∷ []) ∷ []) }
+{
+    let mut clause = clause_after(alloc, front)?;
+    clause.insert(part)?;
+    out.push(clause)
+}
+
+// Appends the clauses of two literals, each after the literal in front, if any.
+fn write_two(
+    alloc: Global,
+    front: Option<Lit>,
+    first: Lit,
+    second: Lit,
+    out: &mut Items<Clause>,
+) -> Result<(), AllocError>
+    ensures { OnOk result
+        (out.new
+        ≡ out.old
+        ++ join [] (in_front front ++ first ∷ []) ∷ join [] (in_front front ++ second ∷ []) ∷ []) }
+{
+    write_one(alloc, front, first, out)?;
+    write_one(alloc, front, second, out)
+}
+
+// Appends the clauses of two literals that an atom names together.
+fn write_named(
+    alloc: Global,
+    at: Naming,
+    first: Lit,
+    second: Lit,
+    out: &mut Items<Clause>,
+) -> Result<Naming, AllocError>
+    ensures made { OnOk result
+        (out.new
+        ≡ out.old
+        ++ join [] (lit_of at.name false ∷ first ∷ [])
+        ∷ join [] (lit_of at.name false ∷ second ∷ [])
+        ∷ []) }
+    ensures name { IfOk result (λ r. r.name ≡ at.name + 1) }
+    ensures next { IfOk result (λ r. r.next ≡ at.next) }
+{
+    let front = Some(literal(at.name, false));
+    write_two(alloc, front, first, second, out)?;
+    let name = at.name.checked_add(1).ok_or(AllocError)?;
+    Ok(Naming {
+        name,
+        next: at.next,
+    })
 }
 
 // Appends the clause of the parts of an "or", after the literal in front, if any. `name` names its first "and".
@@ -161,6 +247,24 @@ pub fn write_whole(
             let _ = write_clause(alloc, sign, front, next, form, out)?;
             Ok(next)
         }
+        GroundFormula::BothAtoms(first, second) => {
+            if sign {
+                let (left, right) = (literal(*first, true), literal(*second, true));
+                write_two(alloc, front, left, right, out)?;
+                return Ok(next);
+            }
+            let _ = write_clause(alloc, false, front, next, form, out)?;
+            Ok(next)
+        }
+        GroundFormula::AtomImplies(first, second) => {
+            if !sign {
+                let (left, right) = (literal(*first, true), literal(*second, false));
+                write_two(alloc, front, left, right, out)?;
+                return Ok(next);
+            }
+            let _ = write_clause(alloc, true, front, next, form, out)?;
+            Ok(next)
+        }
         GroundFormula::Not(inner) => write_whole(alloc, !sign, front, next, inner, out),
         GroundFormula::And(both) => {
             if sign {
@@ -215,6 +319,20 @@ fn write_parts(
         GroundFormula::Congruent { .. } => unreachable!(),
         GroundFormula::Lit(_, _) => Ok(at),
         GroundFormula::NotAtom(_) => Ok(at),
+        GroundFormula::BothAtoms(first, second) => {
+            if sign {
+                let (left, right) = (literal(*first, true), literal(*second, true));
+                return write_named(alloc, at, left, right, out);
+            }
+            Ok(at)
+        }
+        GroundFormula::AtomImplies(first, second) => {
+            if !sign {
+                let (left, right) = (literal(*first, true), literal(*second, false));
+                return write_named(alloc, at, left, right, out);
+            }
+            Ok(at)
+        }
         GroundFormula::Not(inner) => write_parts(alloc, !sign, at, inner, out),
         GroundFormula::And(both) => {
             if sign {

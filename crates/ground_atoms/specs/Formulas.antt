@@ -5,7 +5,7 @@ use Rattle.ground_atoms.specs.declared.formula.Places.{Places}
 use Rattle.ground_atoms.specs.declared.formula.Places.TheVariants as places
 use Rattle.ground_atoms.specs.declared.formula.Agreement.{Agreement}
 use Rattle.ground_atoms.specs.declared.formula.Agreement.TheVariants as agreement
-use Rattle.ground_atoms.specs.declared.formula.GroundFormula.{GroundFormula, Truth, Lit, NotAtom, Implied, Congruent, Not', And', Or'}
+use Rattle.ground_atoms.specs.declared.formula.GroundFormula.{GroundFormula, Truth, Lit, NotAtom, BothAtoms, AtomImplies, Implied, Congruent, Not', And', Or'}
 use Rattle.ground_atoms.specs.declared.call.GroundArg.{GroundArg}
 use Rattle.ground_atoms.specs.declared.call.GroundArg.TheVariants as arg
 
@@ -32,6 +32,8 @@ abbrev pub form_of : GroundFormula → Numbered
 form_of (Truth b) = known b
 form_of (Lit n s) = literal n s
 form_of (NotAtom n) = negation (literal n true)
+form_of (BothAtoms m n) = both_true m n
+form_of (AtomImplies m n) = disjunction (negation (literal m true)) (literal n true)
 form_of (Implied k m n) = disjunction (negation (both_true k m)) (literal n true)
 form_of (Congruent p a e f m n) =
     disjunction (negation (tuples_equal p e f)) (readings_agree a m n)

@@ -18,14 +18,17 @@ pub enum Agreement {
 }
 
 /// A formula whose atoms are numbers. A literal is an atom, or its negation where it isn't positive. `NotAtom` is "not" of an atom,
-/// as `Not` of that literal would be, and takes no memory of its own. Nor do the two that most formulas on equality are: `Implied`,
-/// which says that the third atom is true where the first two are, and `Congruent`, which says that two readings are one where the
-/// equalities of `places` are true; `also` counts where these are two.
+/// as `Not` of that literal would be, and takes no memory of its own. Nor do those that most lines of a specification and most
+/// formulas on equality are: `BothAtoms`, which says that two atoms are true; `AtomImplies`, which says that the second is true where
+/// the first is; `Implied`, which says that the third atom is true where the first two are; and `Congruent`, which says that two
+/// readings are one where the equalities of `places` are true; `also` counts where these are two.
 #[derive(Drop)]
 pub enum GroundFormula {
     Truth(bool),
     Lit(u32, bool),
     NotAtom(u32),
+    BothAtoms(u32, u32),
+    AtomImplies(u32, u32),
     Implied(u32, u32, u32),
     Congruent {
         places: Places,

@@ -96,6 +96,12 @@ fn holds(rt: &impl Abort, found: &Interpretation, atoms: &Atoms, formula: &Groun
             literal_is_true(rt, found, atoms, *atom) == *positive
         }
         GroundFormula::NotAtom(atom) => !literal_is_true(rt, found, atoms, *atom),
+        GroundFormula::BothAtoms(first, second) => {
+            literal_is_true(rt, found, atoms, *first) && literal_is_true(rt, found, atoms, *second)
+        }
+        GroundFormula::AtomImplies(first, second) => {
+            !literal_is_true(rt, found, atoms, *first) || literal_is_true(rt, found, atoms, *second)
+        }
         GroundFormula::Implied(first, second, third) => {
             !(literal_is_true(rt, found, atoms, *first)
                 && literal_is_true(rt, found, atoms, *second))

@@ -6,7 +6,7 @@ ghost use Rattle.ground_problem.specs.Formulas as formulas;
 ghost use Rattle.stage_defs.specs.Settings.{readings_in, caller_in, IsMade};
 
 use crate::comparing::{comparison, has, same_const};
-use crate::connecting::{both, either, negated};
+use crate::connecting::{both, either, implies, negated};
 use crate::setting::{Setting, const_of, tuple_of};
 use crate::sums::parts_of;
 use ground_atoms::{Atoms, GroundFormula};
@@ -46,9 +46,8 @@ pub fn formula(
         }
         Formula::Implies(f, g) => {
             let premise = formula(atoms, alloc, setting, vars, f)?;
-            let left = negated(alloc, premise)?;
-            let right = formula(atoms, alloc, setting, vars, g)?;
-            either(alloc, left, right)
+            let conclusion = formula(atoms, alloc, setting, vars, g)?;
+            implies(alloc, premise, conclusion)
         }
         Formula::Has(relation, elements) => {
             let tuple = tuple_of(alloc, setting, vars, elements.as_slice())?;
