@@ -8,16 +8,14 @@ use Rattle.std.proofs.lemmas.Option.{same_Some}
 use Rattle.std.proofs.lemmas.List.{length-map, map-append}
 use Rattle.spec_core.specs.World.{each_before}
 use Rattle.spec_core.specs.declared.spec.Invariant.{Invariant}
-use Rattle.spec_core.specs.Specification.{Specification}
 use Rattle.ground_atoms.specs.Formulas.{form_of}
 use Rattle.ground_atoms.specs.declared.formula.GroundFormula.{GroundFormula}
 use Rattle.ground_problem.specs.Symbols.{Symbolic, negated}
 use Rattle.ground_numbers.specs.Numbered.{Numbered}
 use Rattle.ground_atoms.specs.Known.{Known}
 use Rattle.ground_atoms.specs.Making.{MadeList, make, make_all}
-use Rattle.ground_problem.specs.Formulas.{Caller, Readings, nobody, at_stage, instances, formula}
+use Rattle.ground_problem.specs.Formulas.{Caller, Readings, formula, instances}
 use Rattle.ground_problem.specs.Constants.{Constants, assignments}
-use Rattle.ground_problem.specs.Entry.{invariants_hold}
 use Rattle.ground_problem.specs.Problem.{most_formulas}
 use Rattle.ground_groups.specs.Limited.{make_upto, Appends, HasRoomFor, IsWithin}
 use Rattle.ground_groups.specs.Lines.{signed}
@@ -127,13 +125,13 @@ invariants-length z r c (i ∷ is) =
     let g = invariants-length z r c is in
     omega (arith, a, b, e, g)
 
-pub invariants_beyond : (why : GroundRefused) (old new : List GroundFormula) (k now : Known) (d : Specification) (z : Constants)
-    → HasRoomFor (Err why) (most_formulas - length old) (length (flat_map (λ i. assignments z i.line.vars) d.invariants)) → Appends {A = Unit {0}} (Err why) old k (invariants_hold d z) new now
-invariants_beyond TooMany old new k now d z h =
+pub invariants_beyond : (why : GroundRefused) (old new : List GroundFormula) (k now : Known) (z : Constants) (r : Readings) (c : Caller) (is : List Invariant)
+    → HasRoomFor (Err why) (most_formulas - length old) (length (flat_map (λ i. assignments z i.line.vars) is)) → Appends {A = Unit {0}} (Err why) old k (flat_map (λ i. instances z r c i.line.vars i.line.body) is) new now
+invariants_beyond TooMany old new k now z r c is h =
     let e : length (map form_of old) ≡ length old = length-map old form_of in
-    let g = invariants-length z (at_stage []) nobody d.invariants in
-    upto_beyond (map form_of old) k (invariants_hold d z) (omega (arith, e, g, h))
-invariants_beyond Memory old new k now d z h = tt
+    let g = invariants-length z r c is in
+    upto_beyond (map form_of old) k (flat_map (λ i. instances z r c i.line.vars i.line.body) is) (omega (arith, e, g, h))
+invariants_beyond Memory old new k now z r c is h = tt
 
 -- ---- one formula for each choice of constants
 

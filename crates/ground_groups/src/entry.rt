@@ -23,11 +23,11 @@ use spec_core::{Invariant, Prefix, Prefixed, Spec};
 use stage_defs::{Setting, Stage};
 use std::alloc::{AllocError, Global};
 
-// How many assignments of constants to variables of these sorts there are, or fewer where a machine counts no further.
-fn count_assignments(alloc: Global, named: &Named, vars: &[u8]) -> Result<usize, AllocError>
-    ensures { IfOk result (λ n. n ≤ length (assignments (constants_in named.now) vars.now)) }
+// How many assignments of constants to its variables a line has, or fewer where a machine counts no further.
+fn count_assignments(alloc: Global, named: &Named, line: &Prefixed) -> Result<usize, AllocError>
+    ensures { IfOk result (λ n. n ≤ length (assignments (constants_in named.now) line.now.vars)) }
 {
-    let options = options_of(alloc, named.sorts.as_slice(), vars)?;
+    let options = options_of(alloc, named.sorts.as_slice(), line.vars.as_slice())?;
     Ok(count_choices(options.as_slice()))
 }
 
@@ -39,7 +39,7 @@ fn count_all(alloc: Global, named: &Named, invariants: &[Invariant]) -> Result<u
 {
     let mut count: usize = 0;
     for invariant in invariants {
-        let more = count_assignments(alloc, named, invariant.line.vars.as_slice())?;
+        let more = count_assignments(alloc, named, &invariant.line)?;
         count = count.saturating_add(more);
     }
     Ok(count)
@@ -62,8 +62,7 @@ fn has_room_for_all(
     Ok(())
 }
 
-#[tactic(auto, using(crate::proofs::Lists::invariants_beyond))]
-/// Appends each invariant, once for each assignment, or says that there is no room for so many before one is made.
+/// Appends each invariant, once for each assignment.
 pub fn add_invariants(
     atoms: &mut Atoms,
     alloc: Global,
@@ -74,17 +73,42 @@ pub fn add_invariants(
     ensures { Appends result out.old atoms.old
         (entry.invariants_hold spec.now (constants_in named.now)) out.new atoms.new }
 {
-    let invariants = spec.invariants.as_slice();
-    if let Err(refused) = has_room_for_all(alloc, named, invariants, out) {
-        return Err(refused);
-    }
     let setting = Setting {
         spec,
         stage: Stage::Numbered(0),
         call: 0,
         args: &[],
     };
-    add_each(atoms, alloc, &setting, named, invariants, out)
+    add_all(
+        atoms,
+        alloc,
+        &setting,
+        named,
+        spec.invariants.as_slice(),
+        out,
+    )
+}
+
+// Appends each of these invariants, once for each assignment, or says that there is no room for so many.
+fn add_all(
+    atoms: &mut Atoms,
+    alloc: Global,
+    setting: &Setting<'_>,
+    named: &Named,
+    invariants: &[Invariant],
+    out: &mut Items<GroundFormula>,
+) -> Result<(), GroundRefused>
+    ensures { Appends result out.old atoms.old
+        (flat_map
+        (λ i. instances (constants_in named.now) (readings_in setting.now) (caller_in setting.now)
+        i.line.vars i.line.body)
+        invariants.now)
+        out.new atoms.new }
+{
+    if let Err(refused) = has_room_for_all(alloc, named, invariants, out) {
+        return Err(refused);
+    }
+    add_each(atoms, alloc, setting, named, invariants, out)
 }
 
 fn add_each(
