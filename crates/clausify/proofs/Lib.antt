@@ -2,3 +2,4 @@ pub mod Below
 pub mod Reading
 pub mod Plain
 pub mod Written
+mod Implying
