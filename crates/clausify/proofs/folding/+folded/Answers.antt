@@ -11,6 +11,6 @@ pub returns-in_ok-conclusion-in-Congruent-clause-equal : goal.returns-in_ok-conc
 returns-in_ok-conclusion-in-Congruent-clause-equal t c =
     let k = c.in-Congruent in
     let made = implied_folded c.args.sign c.fold-in-Congruent.result c.in_ok-premise-in-Congruent.premise c.in_ok-conclusion-in-Congruent.conclusion
-        (tuples_equal k.places k.equal k.also) (readings_agree k.agreement k.left k.right)
-        c.in_ok-premise-in-Congruent.ensures.equal c.in_ok-conclusion-in-Congruent.ensures.equal c.fold-in-Congruent.ensures.all c.fold-in-Congruent.ensures.any in
+    (tuples_equal k.places k.equal k.also) (readings_agree k.agreement k.left k.right)
+    c.in_ok-premise-in-Congruent.ensures.equal c.in_ok-conclusion-in-Congruent.ensures.equal c.fold-in-Congruent.ensures.all c.fold-in-Congruent.ensures.any in
     subst (λ (g : GroundFormula). IfOk c.fold-in-Congruent.result (λ f. folded_of f ≡ folded c.args.sign (form_of g))) (sym k.is) made
