@@ -1,4 +1,5 @@
-use Rattle.std.proofs.Common.{arith, refl, subst, sym, List, ℕ, drop}
+use Rattle.std.proofs.Common.{◌+◌, ◌<◌, arith, refl, subst, sym, List, ℕ, length, drop}
+use Rattle.std.proofs.lemmas.Bool.{ltb-true}
 use Rattle.report_bytes.specs.Bytes.{pieces}
 use Rattle.report_upgrader.specs.LastLines.{AreLong}
 use Rattle.report_upgrader.proofs.LogBytes.{writing_first, writing_on, behind_on, long_at, long_within, long_pieces, long_fewer}
@@ -12,19 +13,21 @@ lines-init c = record {
   long = c.requires;
 }
 
-pub cut_line-line-requires : goal.cut_line-line-requires
-cut_line-line-requires c =
+pub cut_line-requires : goal.cut_line-requires
+cut_line-requires c =
     let known = c.in-Some.known.now in
-    let w = long_at c.args.seen.now c.lines.taken known c.lines.rest.now c.lines.invariant.long.0 c.in-Some.ensures.lookup.0 c.in-Some.ensures.lookup.1 c.lines.invariant.long.1 in
+    let inside : c.lines.taken < length c.args.seen.now = ltb-true c.lines.taken (length c.args.seen.now) (sym c.in-Some.ensures.lookup.0) in
+    let w = long_at c.args.seen.now c.lines.taken known c.lines.rest.now c.lines.invariant.long.0 inside c.in-Some.ensures.lookup.1 c.lines.invariant.long.1 in
     long_within known.len c.lines.rest.now w.0
 
 pub lines-preserved : goal.lines-preserved
 lines-preserved c =
     let known = c.in-Some.known.now in
-    let w = long_at c.args.seen.now c.lines.taken known c.lines.rest.now c.lines.invariant.long.0 c.in-Some.ensures.lookup.0 c.in-Some.ensures.lookup.1 c.lines.invariant.long.1 in
-    let line = c.cut_line-line.result.0.now in
-    let behind = c.cut_line-line.result.1.now in
-    let is = c.cut_line-line.ensures w.0 in
+    let inside : c.lines.taken < length c.args.seen.now = ltb-true c.lines.taken (length c.args.seen.now) (sym c.in-Some.ensures.lookup.0) in
+    let w = long_at c.args.seen.now c.lines.taken known c.lines.rest.now c.lines.invariant.long.0 inside c.in-Some.ensures.lookup.1 c.lines.invariant.long.1 in
+    let line = c.cut_line.result.0.now in
+    let behind = c.cut_line.result.1.now in
+    let is = c.cut_line.ensures w.0 in
     let cut = long_pieces known.len c.lines.rest.now line behind w.0 is in
     record {
       lines = λ ls long says table are.
