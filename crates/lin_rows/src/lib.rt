@@ -20,10 +20,10 @@ mod terms;
 pub mod tightening;
 pub mod truth;
 
-pub use adding::sum;
+pub use adding::{sum, sum_in};
 pub use combining::{Combined, combine, law_least_multipliers, least_factors};
 pub use making::row_of;
-pub use multiples::{MultiplesRefused, sum_of_multiples};
+pub use multiples::{MultiplesRefused, sum_of_multiples, sum_of_multiples_in};
 pub use negation::negate;
 pub use number::{add_product, plus, times};
 pub use refused::RowRefused;

@@ -70,6 +70,13 @@ impl Row {
         })
     }
 
+    /// The terms of a row that nothing else needs, in rising place.
+    pub fn into_terms(self) -> Vec<RowTerm>
+        ensures { result.items ≡ self.terms }
+    {
+        self.terms.into_vec()
+    }
+
     /// The coefficient at a place, 0 where the row doesn't name it.
     pub fn coefficient(&self, place: u32) -> i128
         ensures coefficient { result ≡ coefficient_at self.now.terms place }

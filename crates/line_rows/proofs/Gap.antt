@@ -4,7 +4,6 @@ use Rattle.std.specs.Prelude.{◌^◌, IsTrue, nat_lt, nat_le, nat_eq, ℤ, pos,
 use Rattle.std.proofs.lemmas.Int.{ints}
 use Rattle.std.proofs.Math.Nat.{div-add-mod', mod-lt, mul-le-mul_left, mul_comm}
 use Rattle.std.proofs.lemmas.Bool.{and_parts, and_from, ltb-true, lt-ltb, le-ltb, eqb-true, eq-eqb, and_right, le-leb, leb-true}
-use Rattle.std.proofs.lemmas.Bool.Decides.{nat_tests}
 use Rattle.lin_rows.specs.Numbers.{in_range}
 use Rattle.line_rows.specs.Splits.{is_in_gap, is_floor}
 

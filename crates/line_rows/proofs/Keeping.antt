@@ -27,12 +27,12 @@ pub kept-later : (rows : List Row) (ends : List ℕ) (s : ℕ) (kept : List (Opt
 kept-later rows ends s kept k = record { whole = k.whole; there = λ i h. k.there i (is_past-later (slice_get ends i) s h) }
 
 -- reads of a longer list
-slice_get-left : {X : Type 0} (xs : List X) (y : X) (i : ℕ) → i < length xs → slice_get (xs ++ y ∷ []) i ≡ slice_get xs i
+pub slice_get-left : {X : Type 0} (xs : List X) (y : X) (i : ℕ) → i < length xs → slice_get (xs ++ y ∷ []) i ≡ slice_get xs i
 slice_get-left [] y i h = absurd (omega arith)
 slice_get-left (x ∷ xs) y zero h = refl
 slice_get-left (x ∷ xs) y (suc i) h = slice_get-left xs y i (omega arith)
 
-slice_get-last : {X : Type 0} (xs : List X) (y : X) → slice_get (xs ++ y ∷ []) (length xs) ≡ Some y
+pub slice_get-last : {X : Type 0} (xs : List X) (y : X) → slice_get (xs ++ y ∷ []) (length xs) ≡ Some y
 slice_get-last [] y = refl
 slice_get-last (x ∷ xs) y = slice_get-last xs y
 
@@ -95,9 +95,9 @@ pub found : (rows : List Row) (kept : Option Row) (i : ℕ) → kept ≡ slice_g
 found rows kept i e (inl lt) = inl (lt, e ∙ slice_get-get_or rows i no_row lt)
 found rows kept i e (inr ge) = inr (ge, e ∙ slice_get_past rows i ge)
 
-pub step-kept : (rows : List Row) (kept : List (Option Row)) (s : RowStep) → kept_at kept s.left ≡ slice_get rows s.left → kept_at kept s.right ≡ slice_get rows s.right
-    → step_row rows s ≡ step_sum (kept_at kept s.left) (kept_at kept s.right) s
-step-kept rows kept s l r = by_case (kept_at kept s.left) (kept_at kept s.right) (found rows (kept_at kept s.left) s.left l (cases_lt s.left (length rows))) (found rows (kept_at kept s.right) s.right r (cases_lt s.right (length rows)))
+pub step-found : (rows : List Row) (left right : Option Row) (s : RowStep) → left ≡ slice_get rows s.left → right ≡ slice_get rows s.right
+    → step_row rows s ≡ step_sum left right s
+step-found rows left right s l r = by_case left right (found rows left s.left l (cases_lt s.left (length rows))) (found rows right s.right r (cases_lt s.right (length rows)))
   where
     by_case : (a b : Option Row) → ((s.left < length rows) × (a ≡ Some (row_at rows s.left))) ⊎ ((length rows ≤ s.left) × (a ≡ None))
         → ((s.right < length rows) × (b ≡ Some (row_at rows s.right))) ⊎ ((length rows ≤ s.right) × (b ≡ None))
@@ -105,6 +105,10 @@ step-kept rows kept s l r = by_case (kept_at kept s.left) (kept_at kept s.right)
     by_case a b (inl p) (inl q) = rw (lt-ltb s.left (length rows) p.0) (rw (lt-ltb s.right (length rows) q.0) (sym (ap (λ (x : Option Row). step_sum x b s) p.1 ∙ ap (λ (x : Option Row). step_sum (Some (row_at rows s.left)) x s) q.1)))
     by_case a b (inl p) (inr q) = rw (lt-ltb s.left (length rows) p.0) (rw (le-ltb s.right (length rows) q.0) (sym (ap (λ (x : Option Row). step_sum x b s) p.1 ∙ ap (λ (x : Option Row). step_sum (Some (row_at rows s.left)) x s) q.1)))
     by_case a b (inr p) q = rw (le-ltb s.left (length rows) p.0) (sym (ap (λ (x : Option Row). step_sum x b s) p.1))
+
+pub step-kept : (rows : List Row) (kept : List (Option Row)) (s : RowStep) → kept_at kept s.left ≡ slice_get rows s.left → kept_at kept s.right ≡ slice_get rows s.right
+    → step_row rows s ≡ step_sum (kept_at kept s.left) (kept_at kept s.right) s
+step-kept rows kept s l r = step-found rows (kept_at kept s.left) (kept_at kept s.right) s l r
 
 drop-at : {X : Type 0} (xs : List X) (i : ℕ) (x : X) → slice_get xs i ≡ Some x → drop i xs ≡ x ∷ drop (suc i) xs
 drop-at [] i x h = absurd cc

@@ -51,7 +51,7 @@ line-length atoms used steps rows h = by_case (is_some_literal used && list_all 
     by_case false o rest h = absurd cc
 
 -- the last row
-ends-kept : (rows : List Row) (kept : Option Row) (last : ℕ) → last ≡ length rows - 1 → kept ≡ slice_get rows last → ends_badly rows ≡ is_bad kept
+pub ends-kept : (rows : List Row) (kept : Option Row) (last : ℕ) → last ≡ length rows - 1 → kept ≡ slice_get rows last → ends_badly rows ≡ is_bad kept
 ends-kept [] kept last e k = sym (ap is_bad k)
 ends-kept (r ∷ rows) kept last e k =
     let lt : length (r ∷ rows) - 1 < length (r ∷ rows) = omega arith in

@@ -7,3 +7,4 @@ pub mod LineRows
 pub mod Keeping
 pub mod KeptLines
 pub mod LentRows
+pub mod Chains

@@ -1,7 +1,7 @@
 -- The rows of a line keep what the type of rows keeps, and so does the row of a Split line.
-use Rattle.std.proofs.Common.{◌≡◌, ℕ, zero, suc, ◌<◌, Bool, true, false, not, cond, ◌&&◌, ◌||◌, List, [], ◌∷◌, ◌++◌, length, map, refl, sym, ◌∙◌, ap, subst, arith, Option, Some, None, Result, Ok, Err, IfSome}
-use Rattle.std.specs.Prelude.{nat_lt, nat_le, ℤ, pos, ◌-ℤ◌, int_lt, unsigned_abs, IsTrue}
-use Rattle.std.specs.List.{list_all, list_any}
+use Rattle.std.proofs.Common.{◌≡◌, ℕ, zero, suc, ◌<◌, Bool, true, false, not, cond, ◌&&◌, ◌||◌, List, [], ◌∷◌, ◌++◌, length, map, refl, sym, subst, arith, Option, Some, None, Result, Ok, Err}
+use Rattle.std.specs.Prelude.{nat_lt, nat_le, ℤ, ◌-ℤ◌, unsigned_abs}
+use Rattle.std.specs.List.{list_all}
 use Rattle.std.specs.Option.{option_map, option_and_then}
 use Rattle.std.proofs.lemmas.Int.{ints}
 use Rattle.std.proofs.lemmas.Bool.{and_parts, and_from, le-leb}
@@ -21,7 +21,7 @@ use Rattle.proof_lines.specs.declared.line.Why.{Why}
 use Rattle.proof_lines.specs.declared.line.Why.TheVariants.{Place, Range, Multiplier, SplitCause}
 use Rattle.proof_lines.specs.Problems.{has_good_row}
 use Rattle.line_rows.specs.Refusals.{then_, or_broken}
-use Rattle.line_rows.specs.Steps.{atom_row, has_row, lit_row, lit_rows, with_row, row_at, no_row, is_negative, is_positive, step_row, with_steps, line_rows, held_rows, is_some_literal}
+use Rattle.line_rows.specs.Steps.{atom_row, has_row, lit_row, lit_rows, with_row, row_at, is_negative, is_positive, step_row, with_steps, line_rows, held_rows, is_some_literal}
 use Rattle.line_rows.specs.Splits.{at_most, rest_at, split_point, split_cause, split_fits, splits, with_rests, in_gap, is_in_gap, size_at}
 use Rattle.line_rows.proofs.Sound.{row-good, ok_is}
 use Rattle.line_rows.proofs.Gap.{gap_told}

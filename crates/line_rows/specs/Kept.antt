@@ -1,5 +1,5 @@
 -- The rows of a line, of which those alone are kept that a later step names, or that what the line says at its end names.
-use Rattle.std.specs.Prelude.{◌≡◌, ℕ, ◌<◌, nat_le, nat_eq, unsigned_abs, Bool, true, false, not, ◌&&◌, ◌||◌, is_none, List, [], ◌∷◌, length, slice_get, slice_index_or, Option, Some, None, Result, Ok, Err}
+use Rattle.std.specs.Prelude.{◌≡◌, ℕ, ◌<◌, ◌+◌, ◌-◌, nat_le, nat_lt, nat_eq, cond, unsigned_abs, Bool, true, false, not, ◌&&◌, ◌||◌, is_none, List, [], ◌∷◌, length, slice_get, slice_index_or, Option, Some, None, Result, Ok, Err}
 use Rattle.lin_rows.specs.declared.term.RowTerm.{RowTerm}
 use Rattle.lin_rows.specs.Rows.{Row, is_contradiction}
 use Rattle.lin_rows.specs.Sums.{row_sum}
@@ -79,6 +79,25 @@ is_bad None = false
 -- a line has rows, and the last one is a contradiction or isn't
 abbrev pub Ends : Bool → Result (List Row) Why → Type 0
 Ends b given = (rows : List Row) × (given ≡ Ok rows) × (ends_badly rows ≡ b)
+
+-- A CHAIN OF STEPS, each of which names rows of used literals and the row of the step before it alone. It mirrors src/chain.
+
+-- the row under a number, where those of the used literals are kept and the last of so many rows
+abbrev pub chain_at : List (Option Row) → Option Row → ℕ → ℕ → Option Row
+chain_at kept last end i =
+    cond (nat_lt i (length kept)) (kept_at kept i) (cond (nat_eq (i + 1) end) last None)
+
+-- of so many rows those of the used literals are kept and the last one
+pub record IsChain (rows : List Row) (kept : List (Option Row)) (last : Option Row)
+    (end : ℕ) : Type 0 where
+  pub whole : length rows ≡ end
+  pub there : (i : ℕ) (r : Row) → chain_at kept last end i ≡ Some r → slice_get rows i ≡ Some r
+  pub ends : (r : Row) → last ≡ Some r → Some r ≡ slice_get rows (length rows - 1)
+
+-- a line has rows, and this is the last one
+abbrev pub HasLast : Result (List Row) Why → Row → Type 0
+HasLast given row =
+    (rows : List Row) × (given ≡ Ok rows) × (Some row ≡ slice_get rows (length rows - 1))
 
 -- EVIDENCE OF A NUMBER BEYOND THE RANGE: besides, each step cancels a place.
 

@@ -9,6 +9,7 @@ ghost use Rattle.proof_lines.specs.declared.line.Why.TheVariants.{Range as TheRa
 ghost use Rattle.line_rows.specs.Refusals.{or_broken, IsTold};
 ghost use Rattle.line_rows.specs.Steps.{has_row, lit_rows, used_rows, with_steps, line_rows};
 
+use crate::chain::{is_chain, refutes_chain};
 use crate::kept_row::KeptRow;
 use crate::steps::{all_have_rows, kept_row, sum_of_step};
 use lin_rows::Row;
@@ -293,8 +294,8 @@ fn is_bad(rows: &[KeptRow<'_>], number: usize) -> bool
     }
 }
 
-/// Whether the last row of a line is a contradiction, or the first rule that its used literals or steps break.
-pub fn refutes_used(
+// The same as below, from the rows that are kept until they are named last.
+fn refutes_kept(
     alloc: Global,
     atoms: &[AtomKind],
     used: &[Lit],
@@ -308,4 +309,24 @@ pub fn refutes_used(
         Ok(rows) => Ok(is_bad(rows.as_slice(), last)),
         Err(refused) => Err(refused),
     }
+}
+
+/// Whether the last row of a line is a contradiction, or the first rule that its used literals or steps break.
+pub fn refutes_used(
+    alloc: Global,
+    atoms: &[AtomKind],
+    used: &[Lit],
+    steps: &[RowStep],
+) -> Result<bool, LineRefused>
+    ensures { MatchResult result (λ b. Ends b (line_rows atoms.now used.now steps.now))
+        (λ e. IsTold e (line_rows atoms.now used.now steps.now)) }
+{
+    if is_chain(used, steps) {
+        match refutes_chain(alloc, atoms, used, steps) {
+            Ok(Some(ends)) => return Ok(ends),
+            Ok(None) => {}
+            Err(refused) => return Err(refused),
+        }
+    }
+    refutes_kept(alloc, atoms, used, steps)
 }

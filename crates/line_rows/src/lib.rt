@@ -9,6 +9,7 @@
 // many rows, and a number beyond the range), specs/Kept (which rows of a line are kept while it is taken).
 #![tactic(auto)]
 
+mod chain;
 pub mod evidence;
 pub mod kept;
 pub mod kept_row;

@@ -10,7 +10,7 @@ ghost use Rattle.line_rows.specs.Refusals.{or_broken, IsTold};
 
 use crate::kept_row::KeptRow;
 use lin_rows::{
-    MultiplesRefused, Row, RowRefused, RowTerm, negate, sum_of_multiples, tighten, tighten_own,
+    MultiplesRefused, Row, RowRefused, RowTerm, negate, sum_of_multiples_in, tighten, tighten_own,
 };
 use proof_lines::clause::Lit;
 use proof_lines::line::{LineRefused, RowStep, Why};
@@ -156,7 +156,23 @@ pub fn sum_of_step(
         (λ row. step_sum (Some left.now) (Some right.now) step.now ≡ Ok row)
         (λ e. IsTold e (step_sum (Some left.now) (Some right.now) step.now)) }
 {
-    match sum_of_multiples(alloc, left, step.first, right, step.second) {
+    sum_of_step_in(alloc, Vec::new(alloc), left, right, step)
+}
+
+/// The row of a step, from its two rows, written over terms that nothing needs any more.
+#[inline(always)]
+pub fn sum_of_step_in(
+    alloc: Global,
+    room: Vec<RowTerm>,
+    left: &Row,
+    right: &Row,
+    step: &RowStep,
+) -> Result<Row, LineRefused>
+    ensures { MatchResult result
+        (λ row. step_sum (Some left.now) (Some right.now) step.now ≡ Ok row)
+        (λ e. IsTold e (step_sum (Some left.now) (Some right.now) step.now)) }
+{
+    match sum_of_multiples_in(alloc, room, left, step.first, right, step.second) {
         Ok(row) => Ok(row),
         Err(MultiplesRefused::Negative) => Err(LineRefused::Bad(Why::Multiplier)),
         Err(MultiplesRefused::Range) => Err(LineRefused::Bad(Why::Range)),

@@ -1,6 +1,6 @@
 use Rattle.std.proofs.Common.{arith}
 use Rattle.std.proofs.lemmas.Grind.{common_steps}
-use Rattle.line_rows.proofs.steps.sum_of_step.Goals as goal
+use Rattle.line_rows.proofs.steps.sum_of_step_in.Goals as goal
 
 pub returns-in-Err-Negative : goal.returns-in-Err-Negative
 returns-in-Err-Negative c = grind (arith, common_steps)

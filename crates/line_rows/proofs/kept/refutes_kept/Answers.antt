@@ -2,7 +2,7 @@ use Rattle.std.proofs.Common.{◌∙◌, ap, List, Option}
 use Rattle.lin_rows.specs.Rows.{Row}
 use Rattle.line_rows.specs.Kept.{kept_at, is_bad}
 use Rattle.line_rows.proofs.KeptLines.{ends-line}
-use Rattle.line_rows.proofs.kept.refutes_used.Goals as goal
+use Rattle.line_rows.proofs.kept.refutes_kept.Goals as goal
 
 pub returns-in-Ok : goal.returns-in-Ok
 returns-in-Ok c =

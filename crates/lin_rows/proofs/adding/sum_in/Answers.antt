@@ -5,7 +5,7 @@ use Rattle.lin_rows.specs.Divisors.{tightened}
 use Rattle.lin_rows.specs.Sums.{times_row, plus_row, row_sum}
 use Rattle.lin_rows.proofs.Sums.{satisfies-sum}
 use Rattle.lin_rows.proofs.Ones.{row_sum-is}
-use Rattle.lin_rows.proofs.adding.sum.Goals as goal
+use Rattle.lin_rows.proofs.adding.sum_in.Goals as goal
 
 pub returns-clause-sum : goal.returns-clause-sum
 returns-clause-sum c =
