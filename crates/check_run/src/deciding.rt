@@ -16,6 +16,7 @@ ghost use Rattle.instances.specs.Ground.{IsGrounded};
 
 use crate::fitting::numbered;
 use clausify::problem_of;
+use ground_atoms::GroundFormula;
 use ground_numbers::{law_clauses_make_formulas_true, law_obligation_fits};
 use instances::{GroundRefused, Grounded, ground};
 use model_back::witness_of;
@@ -25,7 +26,7 @@ use proof_report::{Cause, Verdict};
 use sat_core::Answer;
 use spec_core::Spec;
 use std::alloc::{AllocError, Global};
-use watched_search::search;
+use needed_clauses::search;
 use witness_shrinking::shrink;
 
 // The problem of an obligation.
@@ -110,6 +111,30 @@ fn verdict_of(
     }
 }
 
+// How many clauses a formula on equality gives; none for any other.
+fn clauses_on_equality(form: &GroundFormula) -> usize {
+    match form {
+        GroundFormula::Implied(_, _, _) => 1,
+        GroundFormula::Congruent { .. } => 3,
+        _ => 0,
+    }
+}
+
+// How many clauses stand in front of those on equality, which are the last.
+fn front_of(problem: &Problem, formulas: &[GroundFormula]) -> usize {
+    let mut behind = 0usize;
+    let mut left = formulas.len();
+    while left > 0 {
+        left -= 1;
+        let clauses = clauses_on_equality(&formulas[left]);
+        if clauses == 0 {
+            break;
+        }
+        behind = behind.wrapping_add(clauses);
+    }
+    problem.clauses.len().saturating_sub(behind)
+}
+
 // Decides an obligation whose formulas are there.
 fn decide_grounded(
     alloc: Global,
@@ -127,7 +152,8 @@ fn decide_grounded(
         → IfOk result (λ v. IsDecided (length (problem_of spec.now ob.now).atoms) budget v) }
 {
     let problem = pose(alloc, spec, ob, ground)?;
-    let answer = search(alloc, &problem, budget);
+    let front = front_of(&problem, ground.formulas.as_slice());
+    let answer = search(alloc, &problem, front, budget);
     drop(problem);
     numbered(verdict_of(alloc, spec, ob, budget, ground, answer)?)
 }

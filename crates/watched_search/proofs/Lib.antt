@@ -2,5 +2,6 @@ mod Continuing
 mod Rows
 mod Asking
 mod Solvers
-mod Evaluated
+mod Evaluation
 mod Proposals
+mod Easy

@@ -11,10 +11,7 @@ use Rattle.proof_kernel.specs.declared.answer.Checked.{Checked}
 use Rattle.proof_kernel.specs.Rules.{State, run}
 use Rattle.proof_kernel.specs.Answers.{IsJudged}
 use Rattle.search_logs.specs.SearchLogs.{is_split, splits}
-use Rattle.sat_core.specs.declared.answer.Answer.{Answer}
-use Rattle.sat_core.specs.declared.answer.Answer.TheVariants.{Unsat, Sat, Lines, Rows, Range, Memory}
-use Rattle.sat_core.specs.Answers.{IsAnswer, IsEasy, IsRefuted, IsShort}
-use Rattle.watched_search.specs.Exhausted.{is_exhausted}
+use Rattle.sat_core.specs.Answers.{IsEasy, IsRefuted, IsShort}
 
 -- ---- a log without a Split line
 
@@ -47,13 +44,3 @@ refuted-by split p budget ls c b w m u uneasy j =
     let few = few-many (length p.atoms) (length ls) (omega (arith, b, w)) m in
     let short : IsShort split p ls = record { unsplit = λ x. u; plain = λ x. u; few = subst (λ z. length ls ≤ 3 ^ (length p.atoms + z) + z) (sym u) few } in
     judged-refuted split p budget ls c short w uneasy (run p ls) refl j
-
--- ---- a problem for which a budget was spent isn't easy
-
-pub exhausted-uneasy : (split stop : Bool) (p : PlainProblem) (budget : ℕ) (a : Answer) → IsAnswer split stop p budget a → is_exhausted a ≡ true → IsEasy p → ⊥
-exhausted-uneasy split stop p budget (Unsat log) h e = absurd cc
-exhausted-uneasy split stop p budget (Sat i) h e = absurd cc
-exhausted-uneasy split stop p budget (Lines log) h e = h.uneasy
-exhausted-uneasy split stop p budget (Rows x) h e = absurd cc
-exhausted-uneasy split stop p budget (Range x) h e = absurd cc
-exhausted-uneasy split stop p budget Memory h e = absurd cc

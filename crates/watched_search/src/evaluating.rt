@@ -15,7 +15,7 @@ use proof_lines::{AtomKind, Interpretation, Lit, Problem};
 use std::alloc::{AllocError, Global};
 
 /// Whether numbers satisfy a row, where there are numbers for its names and sums in range.
-pub(crate) fn known_truth(numbers: &[i128], row: &Row) -> Option<bool>
+pub fn known_truth(numbers: &[i128], row: &Row) -> Option<bool>
     ensures { IfSome result (λ truth. row_true (point_of numbers.now) row.now ≡ truth) }
 {
     let Ok(places) = u32::try_from(numbers.len()) else {
@@ -159,7 +159,7 @@ fn truths_by(
 }
 
 /// The interpretation that has these values of the plain atoms and these numbers, where it makes all clauses true.
-pub(crate) fn evaluated(
+pub fn evaluated(
     alloc: Global,
     problem: &Problem,
     values: &[bool],

@@ -2,7 +2,7 @@
 ghost use Rattle.std.specs.Prelude.{◌≡◌, ℕ, Bool, not, length, IsTrue, IfOk, IfSome};
 ghost use Rattle.std.specs.List.{list_all};
 ghost use Rattle.search_logs.specs.SearchLogs.{is_split};
-ghost use Rattle.sat_core.specs.Answers.{IsAnswer, IsEasy, IsRefuted};
+ghost use Rattle.sat_core.specs.Answers.{IsAnswer, IsRefuted};
 
 use crate::evaluating::evaluated;
 use clause_learning::{Proposal, propose};
@@ -37,9 +37,8 @@ fn atoms_in(problem: &Problem) -> usize
     problem.atoms.len()
 }
 
-// Whether a log of no more lines than the budget shows that a problem has no interpretation.
-fn is_refutation(alloc: Global, problem: &Problem, lines: &[Line], budget: u32) -> bool
-    requires uneasy { IsEasy problem.now → ⊥ }
+/// Whether a log of no more lines than the budget shows that a problem has no interpretation.
+pub fn is_refutation(alloc: Global, problem: &Problem, lines: &[Line], budget: u32) -> bool
     ensures { IsTrue result → (split : Bool) → IsRefuted split problem.now budget lines.now }
 {
     if lines.len() > budget as usize {
@@ -89,7 +88,6 @@ pub(crate) fn proposed(
     problem: &Problem,
     budget: u32,
 ) -> Result<Option<Answer>, AllocError>
-    requires uneasy { IsEasy problem.now → ⊥ }
     ensures { (split stop : Bool) → IfOk result
         (λ found. IfSome found (λ answer. IsAnswer split stop problem.now budget answer)) }
 {

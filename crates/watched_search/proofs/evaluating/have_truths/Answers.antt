@@ -1,4 +1,4 @@
-use Rattle.watched_search.proofs.Evaluated.{more-truths}
+use Rattle.watched_search.proofs.Evaluation.{more-truths}
 use Rattle.watched_search.proofs.evaluating.have_truths.Goals as goal
 
 pub loop-place-preserved : goal.loop-place-preserved

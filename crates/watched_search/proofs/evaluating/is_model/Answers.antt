@@ -1,7 +1,7 @@
 use Rattle.std.proofs.Common.{List, length, sym, ◌∙◌, subst}
 use Rattle.proof_lines.specs.declared.problem.AtomKind.{AtomKind}
 use Rattle.watched_search.specs.Reduced.{HaveTruths}
-use Rattle.watched_search.proofs.Evaluated.{model-so}
+use Rattle.watched_search.proofs.Evaluation.{model-so}
 use Rattle.watched_search.proofs.evaluating.is_model.Goals as goal
 
 pub returns : goal.returns

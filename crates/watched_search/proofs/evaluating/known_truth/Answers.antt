@@ -1,5 +1,5 @@
 use Rattle.lin_rows.specs.Rows.{point_of}
-use Rattle.watched_search.proofs.Evaluated.{truth-known}
+use Rattle.watched_search.proofs.Evaluation.{truth-known}
 use Rattle.watched_search.proofs.evaluating.known_truth.Goals as goal
 
 pub returns-then-is_within : goal.returns-then-is_within

@@ -1,4 +1,5 @@
 use Rattle.std.proofs.Common.{◌≤◌, length, sym, ◌∙◌, arith}
+use Rattle.watched_search.proofs.Easy.{none-uneasy}
 use Rattle.watched_search.proofs.Proposals.{unsplit-none, refuted-by}
 use Rattle.watched_search.proofs.proposed.is_refutation.Goals as goal
 
@@ -9,4 +10,4 @@ returns-in-Ok c = λ t split.
     let u = unsplit-none ls (sym c.are_unsplit.ensures ∙ c.if-not-are_unsplit.false) in
     let w : length ls ≤ c.args.budget = omega (arith, c.if-lines-budget.false) in
     let m : 32 ≤ length p.atoms = omega (arith, c.if-atoms_in-lt-MANY_ATOMS.false, c.atoms_in.ensures) in
-    refuted-by split p c.args.budget ls c.in-Ok.field-0 (omega (arith, c.ranges.budget.fits)) w m u c.requires.uneasy c.in-Ok.ensures.exact
+    refuted-by split p c.args.budget ls c.in-Ok.field-0 (omega (arith, c.ranges.budget.fits)) w m u (none-uneasy p (c.in-Ok.ensures.sound cc)) c.in-Ok.ensures.exact

@@ -3,16 +3,10 @@ use Rattle.std.specs.Prelude.{IfSome}
 use Rattle.sat_core.specs.declared.answer.Answer.{Answer}
 use Rattle.sat_core.specs.Answers.{IsAnswer}
 use Rattle.sat_core.proofs.Ends.{at_once}
-use Rattle.watched_search.proofs.Proposals.{exhausted-uneasy}
 use Rattle.watched_search.proofs.solving.search.Goals as goal
 
 pub returns-then-holds_empty : goal.returns-then-holds_empty
 returns-then-holds_empty g c = at_once g.T.Theory.MAY_SPLIT c.args.problem.now c.args.budget c.new.result c.new.ensures (sym c.holds_empty.ensures ∙ c.if-holds_empty.true)
-
-pub proposed-requires : goal.proposed-requires
-proposed-requires g c = record {
-  uneasy = exhausted-uneasy g.T.Theory.MAY_SPLIT g.T.Theory.MAY_STOP c.args.problem.now c.few_of.result c.search_in-answer.result c.search_in-answer.ensures (sym c.is_exhausted.ensures ∙ c.if-not-is_exhausted.false);
-}
 
 pub returns-in-Ok-Some : goal.returns-in-Ok-Some
 returns-in-Ok-Some g c =

@@ -1,0 +1,33 @@
+// The search of a problem of which it needs few clauses.
+//
+// Most clauses of an obligation's problem say what equality is: that it goes over, and that all things read the same at equal tuples. There
+// is one for each two tuples of each relation that any invariant names, and a search looks at few of them. So the clauses in front of them
+// are searched first, as a problem of their own over the atoms that they name (src/parts.rt). Where they have no interpretation, the log is
+// written with the numbers of the whole problem, and the kernel checks it there. Where they have one, it is extended to the other atoms, and
+// the clauses that it makes false join those that are searched (src/judging.rt); where it makes none false, it is an interpretation of
+// the whole problem, which is tested by evaluation. After some rounds, or where a search of a part comes to no end in a few lines, the whole
+// problem is searched.
+//
+// So no trust is put in the choice: what is answered is what `watched_search` answers, or was tested.
+#![tactic(auto)]
+
+/// The value of a call; where it fails, lets go of these values and ends with its error. Values that are let go by name are let go
+/// once in a proof, and not once for each way out.
+macro_rules! or_drop {
+    ($call:expr; $($value:ident),*) => {
+        match $call {
+            Ok(value) => value,
+            Err(error) => {
+                $(drop($value);)*
+                return Err(error);
+            }
+        }
+    };
+}
+
+mod judging;
+mod parts;
+mod renumbering;
+mod searching;
+
+pub use searching::search;

@@ -1,0 +1,134 @@
+// Some clauses of a problem, as a problem of their own over the atoms that they name.
+use items::Items;
+use proof_lines::{AtomKind, Clause, Lit, Problem};
+use std::alloc::{AllocError, Global};
+
+/// The place of an atom that no clause of a part names.
+pub(crate) const NOWHERE: u32 = u32::MAX;
+
+/// A problem of some clauses of a whole one: their numbers in it, the numbers of the atoms, and the place of each atom of the whole problem
+/// among these.
+#[derive(Drop)]
+pub(crate) struct Part {
+    pub clauses: Vec<u32>,
+    pub atoms: Vec<u32>,
+    pub places: Vec<u32>,
+    pub problem: Problem,
+}
+
+/// The place of an atom.
+pub(crate) fn place_of(places: &[u32], atom: u32) -> u32 {
+    match places.get(atom as usize) {
+        Some(place) => *place,
+        None => NOWHERE,
+    }
+}
+
+/// So many places of atoms that nothing names yet.
+fn no_places(alloc: Global, many: usize) -> Result<Vec<u32>, AllocError> {
+    let mut places = Vec::with_capacity(alloc, many)?;
+    for _ in 0..many {
+        places.push(NOWHERE)?;
+    }
+    Ok(places)
+}
+
+// Marks the atoms of a clause with the place 0.
+fn mark(places: &mut [u32], lits: &[Lit]) {
+    for lit in lits {
+        let atom = lit.atom as usize;
+        if atom < places.len() {
+            places[atom] = 0;
+        }
+    }
+}
+
+// Gives the atoms that are marked their places, in the order of their numbers, and lists them.
+fn number_marked(alloc: Global, places: &mut [u32]) -> Result<Vec<u32>, AllocError> {
+    let mut atoms = Vec::new(alloc);
+    for atom in 0..places.len() {
+        if atom < places.len() && places[atom] != NOWHERE {
+            places[atom] = atoms.len() as u32;
+            atoms.push(atom as u32)?;
+        }
+    }
+    Ok(atoms)
+}
+
+fn copy_atom(alloc: Global, atom: Option<&AtomKind>) -> Result<AtomKind, AllocError> {
+    match atom {
+        Some(AtomKind::Row(row)) => Ok(AtomKind::Row(row.copy(alloc)?)),
+        _ => Ok(AtomKind::Plain),
+    }
+}
+
+// The atoms of a whole problem with these numbers.
+fn atoms_of(
+    alloc: Global,
+    problem: &Problem,
+    numbers: &[u32],
+) -> Result<Items<AtomKind>, AllocError> {
+    let mut atoms = Items::new(alloc);
+    for number in numbers {
+        let atom = copy_atom(alloc, problem.atoms.get(*number as usize))?;
+        atoms.push(atom)?;
+    }
+    Ok(atoms)
+}
+
+// A clause over the places of its atoms.
+fn placed(alloc: Global, places: &[u32], lits: &[Lit]) -> Result<Clause, AllocError> {
+    let mut clause = Clause::empty(alloc);
+    for lit in lits {
+        clause.insert(Lit {
+            atom: place_of(places, lit.atom),
+            positive: lit.positive,
+        })?;
+    }
+    Ok(clause)
+}
+
+fn lits_of(problem: &Problem, clause: u32) -> &[Lit] {
+    match problem.clauses.get(clause as usize) {
+        Some(clause) => clause.lits(),
+        None => &[],
+    }
+}
+
+// The clauses of a whole problem with these numbers.
+fn clauses_of(
+    alloc: Global,
+    problem: &Problem,
+    places: &[u32],
+    numbers: &[u32],
+) -> Result<Items<Clause>, AllocError> {
+    let mut clauses = Items::new(alloc);
+    for number in numbers {
+        clauses.push(placed(alloc, places, lits_of(problem, *number))?)?;
+    }
+    Ok(clauses)
+}
+
+/// The part of a problem that has the clauses with these numbers.
+pub(crate) fn part_of(
+    alloc: Global,
+    problem: &Problem,
+    clauses: Vec<u32>,
+) -> Result<Option<Part>, AllocError> {
+    let mut places = no_places(alloc, problem.atoms.len())?;
+    for clause in clauses.iter() {
+        mark(places.as_mut_slice(), lits_of(problem, *clause));
+    }
+    let atoms = number_marked(alloc, places.as_mut_slice())?;
+    let kinds = atoms_of(alloc, problem, atoms.as_slice())?;
+    let own = clauses_of(alloc, problem, places.as_slice(), clauses.as_slice())?;
+    match Problem::new(kinds, problem.ints, own) {
+        Some(problem) => Ok(Some(Part {
+            clauses,
+            atoms,
+            places,
+            problem,
+        })),
+        None => Ok(None),
+    }
+}

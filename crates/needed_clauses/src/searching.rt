@@ -1,0 +1,164 @@
+// The rounds of a search that takes more clauses as it needs them.
+ghost use Rattle.std.specs.Prelude.{◌≡◌, ℕ, true, false, IfOk, IfSome};
+ghost use Rattle.diff_bounds.specs.Differences.{problem_fits};
+ghost use Rattle.sat_core.specs.Answers.{IsAnswer};
+ghost use Rattle.needed_clauses.specs.Rounds.{IsRound, IsAnsweredByAny};
+
+use crate::judging::{Taken, take_each_false, take_false, values_by};
+use crate::parts::{Part, part_of};
+use crate::renumbering::renumbered;
+use items::Items;
+use proof_lines::{Interpretation, Line, Problem};
+use sat_core::Answer;
+use std::alloc::{AllocError, Global};
+use watched_search::{evaluated, is_refutation};
+
+// So many rounds at most.
+const ROUNDS: u32 = 40;
+
+// So many lines of a log at most, for a part.
+const FEW_LINES: u32 = 2000;
+
+// Fewer clauses behind the front aren't worth a round.
+const FEW_CLAUSES: usize = 100;
+
+/// What a round comes to.
+#[derive(Drop)]
+pub enum Round {
+    /// This is the answer.
+    Answered(Answer),
+    /// More clauses are to be searched.
+    More,
+    /// The whole problem is to be searched.
+    Whole,
+}
+
+// The clauses of the front.
+fn front_taken(alloc: Global, problem: &Problem, front: usize) -> Result<Taken, AllocError> {
+    let mut marks = Vec::with_capacity(alloc, problem.clauses.len())?;
+    for clause in 0..problem.clauses.len() {
+        marks.push(clause < front)?;
+    }
+    Ok(Taken { marks, many: 0 })
+}
+
+fn numbers_of(alloc: Global, taken: &Taken) -> Result<Vec<u32>, AllocError> {
+    let mut numbers = Vec::new(alloc);
+    for (clause, is_taken) in taken.marks.iter().enumerate() {
+        if *is_taken {
+            numbers.push(clause as u32)?;
+        }
+    }
+    Ok(numbers)
+}
+
+fn few_of(budget: u32) -> u32 {
+    if budget < FEW_LINES { budget } else { FEW_LINES }
+}
+
+// What a log of a part comes to.
+fn judge_log(
+    alloc: Global,
+    problem: &Problem,
+    part: &Part,
+    log: Items<Line>,
+    budget: u32,
+) -> Result<Round, AllocError>
+    ensures { IfOk result (λ round. IsRound round problem.now budget) }
+{
+    let lines = renumbered(alloc, problem, part, log)?;
+    if is_refutation(alloc, problem, lines.as_slice(), budget) {
+        return Ok(Round::Answered(Answer::Unsat(lines)));
+    }
+    drop(lines);
+    Ok(Round::Whole)
+}
+
+// What an interpretation of a part comes to.
+fn judge_found(
+    alloc: Global,
+    problem: &Problem,
+    part: &Part,
+    taken: &mut Taken,
+    front: usize,
+    found: Interpretation,
+) -> Result<Round, AllocError>
+    ensures { (budget : ℕ) → IfOk result (λ round. IsRound round problem.now budget) }
+{
+    let Interpretation { truths, ints } = found;
+    let places = part.places.as_slice();
+    let mut values = or_drop!(values_by(alloc, problem, places, truths.as_slice(), ints.as_slice()); truths, ints);
+    drop(truths);
+    taken.many = 0;
+    take_false(problem, places, values.as_mut_slice(), taken, front);
+    if taken.many == 0 {
+        take_each_false(problem, values.as_slice(), taken);
+    }
+    if taken.many > 0 {
+        return Ok(Round::More);
+    }
+    match evaluated(alloc, problem, values.as_slice(), ints)? {
+        Some(found) => Ok(Round::Answered(Answer::Sat(found))),
+        None => Ok(Round::Whole),
+    }
+}
+
+fn round(
+    alloc: Global,
+    problem: &Problem,
+    front: usize,
+    taken: &mut Taken,
+    budget: u32,
+) -> Result<Round, AllocError>
+    ensures { IfOk result (λ round. IsRound round problem.now budget) }
+{
+    let numbers = numbers_of(alloc, taken)?;
+    let Some(part) = part_of(alloc, problem, numbers)? else {
+        return Ok(Round::Whole);
+    };
+    match watched_search::search(alloc, &part.problem, few_of(budget)) {
+        Answer::Unsat(log) => judge_log(alloc, problem, &part, log, budget),
+        Answer::Sat(found) => judge_found(alloc, problem, &part, taken, front, found),
+        Answer::Memory => Err(AllocError),
+        other => {
+            drop(other);
+            Ok(Round::Whole)
+        }
+    }
+}
+
+// Rounds until there is an answer; nothing where the whole problem is to be searched.
+fn searched_in_parts(
+    alloc: Global,
+    problem: &Problem,
+    front: usize,
+    budget: u32,
+) -> Result<Option<Answer>, AllocError>
+    ensures { IfOk result (λ found. IfSome found (λ answer. IsAnsweredByAny problem.now budget answer)) }
+{
+    if problem.clauses.len().saturating_sub(front) < FEW_CLAUSES {
+        return Ok(None);
+    }
+    let mut taken = front_taken(alloc, problem, front)?;
+    for _ in 0..ROUNDS {
+        match round(alloc, problem, front, &mut taken, budget)? {
+            Round::Answered(answer) => return Ok(Some(answer)),
+            Round::More => {}
+            Round::Whole => return Ok(None),
+        }
+    }
+    Ok(None)
+}
+
+/// What `watched_search` promises of its search. The clauses up to `front` are searched first, and of those behind them as many as are needed.
+pub fn search(alloc: Global, problem: &Problem, front: usize, budget: u32) -> Answer
+    ensures answer { IsAnswer true true problem.now budget result }
+    ensures fitting { problem_fits problem.now ≡ true
+        → IsAnswer false false problem.now budget result }
+{
+    match searched_in_parts(alloc, problem, front, budget) {
+        Ok(Some(answer)) => answer,
+        Ok(None) => watched_search::search(alloc, problem, budget),
+        Err(_) => Answer::Memory,
+    }
+}
