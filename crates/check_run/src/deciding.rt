@@ -20,13 +20,13 @@ use ground_atoms::GroundFormula;
 use ground_numbers::{law_clauses_make_formulas_true, law_obligation_fits};
 use instances::{GroundRefused, Grounded, ground};
 use model_back::witness_of;
+use needed_clauses::search;
 use obligation_list::{Obligation, Witness, breaks};
 use proof_lines::{Interpretation, Problem};
 use proof_report::{Cause, Verdict};
 use sat_core::Answer;
 use spec_core::Spec;
 use std::alloc::{AllocError, Global};
-use needed_clauses::search;
 use witness_shrinking::shrink;
 
 // The problem of an obligation.
@@ -120,13 +120,11 @@ fn clauses_on_equality(form: &GroundFormula) -> usize {
     }
 }
 
-// How many clauses stand in front of those on equality, which are the last.
+// How many clauses stand in front of those on equality, which are the last. It is a hint: nothing is promised of it.
 fn front_of(problem: &Problem, formulas: &[GroundFormula]) -> usize {
     let mut behind = 0usize;
-    let mut left = formulas.len();
-    while left > 0 {
-        left -= 1;
-        let clauses = clauses_on_equality(&formulas[left]);
+    for back in 0..formulas.len() {
+        let clauses = clauses_on_equality(&formulas[formulas.len() - 1 - back]);
         if clauses == 0 {
             break;
         }

@@ -2,7 +2,7 @@
 //
 // Clauses that stand together and whose last atom is the same, one that the part doesn't name, are those of one name: it is true or false
 // as they need it, and they are false together only where it would have to be both.
-use crate::parts::{NOWHERE, place_of};
+use crate::parts::{NOWHERE, number_of, place_of};
 use proof_lines::{AtomKind, Lit, Problem};
 use std::alloc::{AllocError, Global};
 use watched_search::known_truth;
@@ -35,7 +35,7 @@ pub(crate) fn values_by(
 ) -> Result<Vec<bool>, AllocError> {
     let mut values = Vec::with_capacity(alloc, problem.atoms.len())?;
     for (atom, kind) in problem.atoms.iter().enumerate() {
-        let place = place_of(places, atom as u32);
+        let place = place_of(places, number_of(atom));
         if place == NOWHERE {
             values.push(value_beside(kind, numbers))?;
         } else {
@@ -53,8 +53,7 @@ fn is_true(values: &[bool], lits: &[Lit]) -> bool {
 
 // Whether some literal over another atom than this one is true.
 fn is_true_beside(values: &[bool], lits: &[Lit], atom: u32) -> bool {
-    lits.iter()
-        .any(|lit| lit.atom != atom && value_at(values, lit.atom as usize) == lit.positive)
+    lits.iter().any(|lit| lit.atom != atom && value_at(values, lit.atom as usize) == lit.positive)
 }
 
 fn last_atom(lits: &[Lit]) -> u32 {
@@ -103,20 +102,23 @@ fn is_of(problem: &Problem, clause: usize, name: u32) -> bool {
 
 // The first of the clauses of a name that stand together, from one of them back.
 fn start_of(problem: &Problem, clause: usize, name: u32) -> usize {
-    let mut start = clause;
-    while start > 0 && is_of(problem, start - 1, name) {
-        start -= 1;
+    for back in 0..clause {
+        let before = clause - 1 - back;
+        if !is_of(problem, before, name) {
+            return before + 1;
+        }
     }
-    start
+    0
 }
 
 // The place behind them.
 fn end_of(problem: &Problem, clause: usize, name: u32) -> usize {
-    let mut end = clause;
-    while end < problem.clauses.len() && is_of(problem, end, name) {
-        end += 1;
+    for end in clause..problem.clauses.len() {
+        if !is_of(problem, end, name) {
+            return end;
+        }
     }
-    end
+    problem.clauses.len()
 }
 
 // Whether one of these clauses is true only where its last atom has a value.
@@ -138,13 +140,7 @@ fn wants(
 }
 
 // Judges the clauses of a name that the part doesn't name, one of which is false: gives the name the value that they need, or takes them.
-fn judge_name(
-    problem: &Problem,
-    values: &mut [bool],
-    taken: &mut Taken,
-    clause: usize,
-    name: u32,
-) {
+fn judge_name(problem: &Problem, values: &mut [bool], taken: &mut Taken, clause: usize, name: u32) {
     let start = start_of(problem, clause, name);
     let end = end_of(problem, clause, name);
     let wants_true = wants(problem, values, start, end, name, true);

@@ -16,6 +16,14 @@ pub(crate) struct Part {
     pub problem: Problem,
 }
 
+/// A place as a number; one that no number names is nowhere.
+pub(crate) fn number_of(place: usize) -> u32 {
+    match u32::try_from(place) {
+        Ok(number) => number,
+        Err(_) => NOWHERE,
+    }
+}
+
 /// The place of an atom.
 pub(crate) fn place_of(places: &[u32], atom: u32) -> u32 {
     match places.get(atom as usize) {
@@ -48,8 +56,8 @@ fn number_marked(alloc: Global, places: &mut [u32]) -> Result<Vec<u32>, AllocErr
     let mut atoms = Vec::new(alloc);
     for atom in 0..places.len() {
         if atom < places.len() && places[atom] != NOWHERE {
-            places[atom] = atoms.len() as u32;
-            atoms.push(atom as u32)?;
+            places[atom] = number_of(atoms.len());
+            atoms.push(number_of(atom))?;
         }
     }
     Ok(atoms)

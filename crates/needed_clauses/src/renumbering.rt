@@ -1,5 +1,5 @@
 // A log of a part, with the numbers of the whole problem.
-use crate::parts::Part;
+use crate::parts::{Part, number_of};
 use items::Items;
 use proof_lines::{Line, Lit, Problem};
 use std::alloc::{AllocError, Global};
@@ -8,9 +8,11 @@ use std::alloc::{AllocError, Global};
 fn number_in(numbers: &[u32], whole: usize, number: u32) -> u32 {
     match numbers.get(number as usize) {
         Some(given) => *given,
-        None => (number as usize)
-            .wrapping_sub(numbers.len())
-            .wrapping_add(whole) as u32,
+        None => number_of(
+            (number as usize)
+                .wrapping_sub(numbers.len())
+                .wrapping_add(whole),
+        ),
     }
 }
 
@@ -30,12 +32,7 @@ fn lits_in(
     Ok(whole)
 }
 
-fn line_in(
-    alloc: Global,
-    problem: &Problem,
-    part: &Part,
-    line: Line,
-) -> Result<Line, AllocError> {
+fn line_in(alloc: Global, problem: &Problem, part: &Part, line: Line) -> Result<Line, AllocError> {
     match line {
         Line::Resolve { left, right, pivot } => {
             let many = problem.clauses.len();

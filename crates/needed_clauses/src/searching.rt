@@ -5,7 +5,7 @@ ghost use Rattle.sat_core.specs.Answers.{IsAnswer};
 ghost use Rattle.needed_clauses.specs.Rounds.{IsRound, IsAnsweredByAny};
 
 use crate::judging::{Taken, take_each_false, take_false, values_by};
-use crate::parts::{Part, part_of};
+use crate::parts::{Part, number_of, part_of};
 use crate::renumbering::renumbered;
 use items::Items;
 use proof_lines::{Interpretation, Line, Problem};
@@ -46,14 +46,18 @@ fn numbers_of(alloc: Global, taken: &Taken) -> Result<Vec<u32>, AllocError> {
     let mut numbers = Vec::new(alloc);
     for (clause, is_taken) in taken.marks.iter().enumerate() {
         if *is_taken {
-            numbers.push(clause as u32)?;
+            numbers.push(number_of(clause))?;
         }
     }
     Ok(numbers)
 }
 
 fn few_of(budget: u32) -> u32 {
-    if budget < FEW_LINES { budget } else { FEW_LINES }
+    if budget < FEW_LINES {
+        budget
+    } else {
+        FEW_LINES
+    }
 }
 
 // What a log of a part comes to.
@@ -87,7 +91,8 @@ fn judge_found(
 {
     let Interpretation { truths, ints } = found;
     let places = part.places.as_slice();
-    let mut values = or_drop!(values_by(alloc, problem, places, truths.as_slice(), ints.as_slice()); truths, ints);
+    let mut values =
+        or_drop!(values_by(alloc, problem, places, truths.as_slice(), ints.as_slice()); truths, ints);
     drop(truths);
     taken.many = 0;
     take_false(problem, places, values.as_mut_slice(), taken, front);
@@ -103,7 +108,7 @@ fn judge_found(
     }
 }
 
-fn round(
+fn search_part(
     alloc: Global,
     problem: &Problem,
     front: usize,
@@ -141,7 +146,7 @@ fn searched_in_parts(
     }
     let mut taken = front_taken(alloc, problem, front)?;
     for _ in 0..ROUNDS {
-        match round(alloc, problem, front, &mut taken, budget)? {
+        match search_part(alloc, problem, front, &mut taken, budget)? {
             Round::Answered(answer) => return Ok(Some(answer)),
             Round::More => {}
             Round::Whole => return Ok(None),
