@@ -4,9 +4,9 @@
 // is one for each two tuples of each relation that any invariant names, and a search looks at few of them. So the clauses in front of them
 // are searched first, as a problem of their own over the atoms that they name (src/parts.rt). Where they have no interpretation, the log is
 // written with the numbers of the whole problem, and the kernel checks it there. Where they have one, it is extended to the other atoms, and
-// the clauses that it makes false join those that are searched (src/judging.rt); where it makes none false, it is an interpretation of
-// the whole problem, which is tested by evaluation. After some rounds, or where a search of a part comes to no end in a few lines, the whole
-// problem is searched.
+// the clauses that it makes false join those that are searched (src/judging.rt). Where it makes none false, it is an interpretation of
+// the whole problem, which is tested by evaluation; it is answered where a search of the whole problem finds none in a few lines. After some
+// rounds, or where a search of a part comes to no end in a few lines, the whole problem is searched.
 //
 // So no trust is put in the choice: what is answered is what `watched_search` answers, or was tested.
 #![tactic(auto)]

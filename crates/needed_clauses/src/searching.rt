@@ -1,7 +1,7 @@
 // The rounds of a search that takes more clauses as it needs them.
-ghost use Rattle.std.specs.Prelude.{◌≡◌, ℕ, true, false, IfOk, IfSome};
+ghost use Rattle.std.specs.Prelude.{◌≡◌, true, false, IfOk, IfSome};
 ghost use Rattle.diff_bounds.specs.Differences.{problem_fits};
-ghost use Rattle.sat_core.specs.Answers.{IsAnswer};
+ghost use Rattle.sat_core.specs.Answers.{IsAnswer, IsModelOf};
 ghost use Rattle.needed_clauses.specs.Rounds.{IsRound, IsAnsweredByAny};
 
 use crate::judging::{Taken, take_each_false, take_false, values_by};
@@ -78,6 +78,24 @@ fn judge_log(
     Ok(Round::Whole)
 }
 
+// The interpretation that a search of the whole problem finds in a few lines, and else this one. Where all clauses on equality are at hand,
+// more elements are found to be equal, and the worlds are smaller.
+fn found_in_whole(alloc: Global, problem: &Problem, found: Interpretation, budget: u32) -> Answer
+    requires { IsModelOf problem.now found }
+    ensures { IsAnsweredByAny problem.now budget result }
+{
+    match watched_search::search(alloc, problem, few_of(budget)) {
+        Answer::Sat(whole) => {
+            drop(found);
+            Answer::Sat(whole)
+        }
+        other => {
+            drop(other);
+            Answer::Sat(found)
+        }
+    }
+}
+
 // What an interpretation of a part comes to.
 fn judge_found(
     alloc: Global,
@@ -86,8 +104,9 @@ fn judge_found(
     taken: &mut Taken,
     front: usize,
     found: Interpretation,
+    budget: u32,
 ) -> Result<Round, AllocError>
-    ensures { (budget : ℕ) → IfOk result (λ round. IsRound round problem.now budget) }
+    ensures { IfOk result (λ round. IsRound round problem.now budget) }
 {
     let Interpretation { truths, ints } = found;
     let places = part.places.as_slice();
@@ -103,7 +122,7 @@ fn judge_found(
         return Ok(Round::More);
     }
     match evaluated(alloc, problem, values.as_slice(), ints)? {
-        Some(found) => Ok(Round::Answered(Answer::Sat(found))),
+        Some(found) => Ok(Round::Answered(found_in_whole(alloc, problem, found, budget))),
         None => Ok(Round::Whole),
     }
 }
@@ -123,7 +142,7 @@ fn search_part(
     };
     match watched_search::search(alloc, &part.problem, few_of(budget)) {
         Answer::Unsat(log) => judge_log(alloc, problem, &part, log, budget),
-        Answer::Sat(found) => judge_found(alloc, problem, &part, taken, front, found),
+        Answer::Sat(found) => judge_found(alloc, problem, &part, taken, front, found, budget),
         Answer::Memory => Err(AllocError),
         other => {
             drop(other);
