@@ -1,4 +1,8 @@
 // Some clauses of a problem, as a problem of their own over the atoms that they name.
+ghost use Rattle.std.specs.Prelude.{IfOk, IfSome};
+ghost use Rattle.needed_clauses.specs.Renaming.{IsPart};
+
+use crate::testing::is_part;
 use items::Items;
 use proof_lines::{AtomKind, Clause, Lit, Problem};
 use std::alloc::{AllocError, Global};
@@ -117,12 +121,15 @@ fn clauses_of(
     Ok(clauses)
 }
 
-/// The part of a problem that has the clauses with these numbers.
+/// The part of a problem that has the clauses with these numbers; nothing where one isn't there.
 pub(crate) fn part_of(
     alloc: Global,
     problem: &Problem,
     clauses: Vec<u32>,
-) -> Result<Option<Part>, AllocError> {
+) -> Result<Option<Part>, AllocError>
+    ensures { IfOk result (λ found. IfSome found
+        (λ part. IsPart part.problem problem.now part.clauses.items part.atoms.items)) }
+{
     let mut places = no_places(alloc, problem.atoms.len())?;
     for clause in clauses.iter() {
         mark(places.as_mut_slice(), lits_of(problem, *clause));
@@ -130,13 +137,16 @@ pub(crate) fn part_of(
     let atoms = number_marked(alloc, places.as_mut_slice())?;
     let kinds = atoms_of(alloc, problem, atoms.as_slice())?;
     let own = clauses_of(alloc, problem, places.as_slice(), clauses.as_slice())?;
-    match Problem::new(kinds, problem.ints, own) {
-        Some(problem) => Ok(Some(Part {
-            clauses,
-            atoms,
-            places,
-            problem,
-        })),
-        None => Ok(None),
+    let Some(own) = Problem::new(kinds, problem.ints, own) else {
+        return Ok(None);
+    };
+    if !is_part(&own, problem, clauses.as_slice(), atoms.as_slice()) {
+        return Ok(None);
     }
+    Ok(Some(Part {
+        clauses,
+        atoms,
+        places,
+        problem: own,
+    }))
 }

@@ -1,75 +1,73 @@
 // A log of a part, with the numbers of the whole problem.
-use crate::parts::{Part, number_of};
+ghost use Rattle.std.specs.Prelude.{◌≡◌, length, map, IfOk};
+ghost use Rattle.std.specs.List.{list_all};
+ghost use Rattle.needed_clauses.specs.Renaming.{number_in, lit_by, line_in, is_plain_line};
+
+use crate::parts::Part;
+use crate::testing::{lit_in, number_in};
 use items::Items;
 use proof_lines::{Line, Lit, Problem};
 use std::alloc::{AllocError, Global};
 
-// The number in a list of so many, or one behind them.
-fn number_in(numbers: &[u32], whole: usize, number: u32) -> u32 {
-    match numbers.get(number as usize) {
-        Some(given) => *given,
-        None => number_of(
-            (number as usize)
-                .wrapping_sub(numbers.len())
-                .wrapping_add(whole),
-        ),
-    }
-}
-
+// Literals with the numbers that their atoms have.
 fn lits_in(
     alloc: Global,
-    problem: &Problem,
-    part: &Part,
+    atoms: &[u32],
+    whole: usize,
     lits: &[Lit],
-) -> Result<Items<Lit>, AllocError> {
-    let mut whole = Items::new(alloc);
+) -> Result<Items<Lit>, AllocError>
+    ensures { IfOk result (λ ls. ls ≡ map (lit_by (number_in atoms.now whole)) lits.now) }
+{
+    let mut renamed = Items::new(alloc);
     for lit in lits {
-        whole.push(Lit {
-            atom: number_in(part.atoms.as_slice(), problem.atoms.len(), lit.atom),
-            positive: lit.positive,
-        })?;
+        renamed.push(lit_in(atoms, whole, *lit)?)?;
     }
-    Ok(whole)
+    Ok(renamed)
 }
 
-fn line_in(alloc: Global, problem: &Problem, part: &Part, line: Line) -> Result<Line, AllocError> {
+fn line_in(alloc: Global, problem: &Problem, part: &Part, line: Line) -> Result<Line, AllocError>
+    ensures { IfOk result
+        (λ l. l ≡ line_in problem.now part.now.clauses.items part.now.atoms.items line) }
+{
+    let (clauses, atoms) = (part.clauses.as_slice(), part.atoms.as_slice());
     match line {
         Line::Resolve { left, right, pivot } => {
             let many = problem.clauses.len();
             Ok(Line::Resolve {
-                left: number_in(part.clauses.as_slice(), many, left),
-                right: number_in(part.clauses.as_slice(), many, right),
-                pivot: number_in(part.atoms.as_slice(), problem.atoms.len(), pivot),
+                left: number_in(clauses, many, left)?,
+                right: number_in(clauses, many, right)?,
+                pivot: number_in(atoms, problem.atoms.len(), pivot)?,
             })
         }
         Line::Farkas { used, steps } => {
-            let own = or_drop!(lits_in(alloc, problem, part, used.as_slice()); used, steps);
+            let many = problem.atoms.len();
+            let renamed = or_drop!(lits_in(alloc, atoms, many, used.as_slice()); used, steps);
             drop(used);
-            Ok(Line::Farkas { used: own, steps })
-        }
-        Line::Split {
-            place,
-            at,
-            used,
-            steps,
-            low,
-            high,
-            values,
-        } => {
-            let own = or_drop!(lits_in(alloc, problem, part, used.as_slice()); used, steps, values);
-            drop(used);
-            Ok(Line::Split {
-                place,
-                at,
-                used: own,
+            Ok(Line::Farkas {
+                used: renamed,
                 steps,
-                low,
-                high,
-                values,
             })
         }
         other => Ok(other),
     }
+}
+
+fn is_plain_line(line: &Line) -> bool
+    ensures { result ≡ is_plain_line line.now }
+{
+    match line {
+        Line::Resolve { .. } => true,
+        Line::Farkas { .. } => true,
+        Line::Split { .. } => false,
+        Line::Drop { .. } => false,
+    }
+}
+
+/// Whether all lines resolve or are lines of rows.
+pub(crate) fn are_plain_lines(lines: &[Line]) -> bool
+    ensures { result ≡ list_all is_plain_line lines.now }
+{
+    lines.iter().all(|line| is_plain_line(line))
 }
 
 /// The log of a part, with the numbers of the whole problem. The clauses of its lines come behind those of the problem.
@@ -78,7 +76,10 @@ pub(crate) fn renumbered(
     problem: &Problem,
     part: &Part,
     log: Items<Line>,
-) -> Result<Items<Line>, AllocError> {
+) -> Result<Items<Line>, AllocError>
+    ensures { IfOk result
+        (λ ls. ls ≡ map (line_in problem.now part.now.clauses.items part.now.atoms.items) log) }
+{
     let mut lines = Items::new(alloc);
     for line in log.into_vec() {
         let line = line_in(alloc, problem, part, line)?;

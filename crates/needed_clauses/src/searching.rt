@@ -1,17 +1,21 @@
 // The rounds of a search that takes more clauses as it needs them.
-ghost use Rattle.std.specs.Prelude.{◌≡◌, true, false, IfOk, IfSome};
+ghost use Rattle.std.specs.Prelude.{◌≡◌, ◌≤◌, true, false, length, IsTrue, IfOk, IfSome};
+ghost use Rattle.std.specs.List.{list_all};
+ghost use Rattle.proof_lines.specs.Problems.{fits, has_good_row};
 ghost use Rattle.diff_bounds.specs.Differences.{problem_fits};
-ghost use Rattle.sat_core.specs.Answers.{IsAnswer, IsModelOf};
+ghost use Rattle.sat_core.specs.Answers.{IsAnswer, IsModelOf, IsRefuted};
+ghost use Rattle.needed_clauses.specs.Renaming.{IsPart};
 ghost use Rattle.needed_clauses.specs.Rounds.{IsRound, IsAnsweredByAny};
 
 use crate::judging::{Taken, take_each_false, take_false, values_by};
 use crate::parts::{Part, number_of, part_of};
-use crate::renumbering::renumbered;
+use crate::renumbering::{are_plain_lines, renumbered};
 use items::Items;
+use proof_lines::problem::law_rows;
 use proof_lines::{Interpretation, Line, Problem};
 use sat_core::Answer;
 use std::alloc::{AllocError, Global};
-use watched_search::{evaluated, is_refutation};
+use watched_search::evaluated;
 
 // So many rounds at most.
 const ROUNDS: u32 = 40;
@@ -21,6 +25,9 @@ const FEW_LINES: u32 = 2000;
 
 // Fewer clauses behind the front aren't worth a round.
 const FEW_CLAUSES: usize = 100;
+
+// With so many atoms there are more clauses than a log has lines.
+const MANY_ATOMS: usize = 32;
 
 /// What a round comes to.
 #[derive(Drop)]
@@ -60,22 +67,43 @@ fn few_of(budget: u32) -> u32 {
     }
 }
 
+// Whether a log has no more lines than the budget, and the problem has so many atoms that there are more clauses over them than such a log has lines.
+fn is_short(problem: &Problem, log: &[Line], budget: u32) -> bool
+    ensures few { IsTrue result → length log.now ≤ budget }
+    ensures many { IsTrue result → 32 ≤ length problem.now.atoms }
+{
+    log.len() <= budget as usize && problem.atoms.len() >= MANY_ATOMS
+}
+
+// The facts that the parts of a problem fit together and that its rows keep what the type of rows keeps.
+fn law_good_rows(problem: &Problem)
+    ensures fits { fits problem.now ≡ true }
+    ensures rows { list_all has_good_row problem.now.atoms ≡ true }
+{
+    problem.law_fits();
+    law_rows(problem.atoms.as_slice());
+}
+
 // What a log of a part comes to.
 fn judge_log(
     alloc: Global,
     problem: &Problem,
     part: &Part,
     log: Items<Line>,
+    few: u32,
     budget: u32,
 ) -> Result<Round, AllocError>
+    requires part { IsPart part.now.problem problem.now part.now.clauses.items part.now.atoms.items }
+    requires refuted { IsRefuted true part.now.problem few log }
     ensures { IfOk result (λ round. IsRound round problem.now budget) }
 {
-    let lines = renumbered(alloc, problem, part, log)?;
-    if is_refutation(alloc, problem, lines.as_slice(), budget) {
-        return Ok(Round::Answered(Answer::Unsat(lines)));
+    if !is_short(problem, log.as_slice(), budget) || !are_plain_lines(log.as_slice()) {
+        drop(log);
+        return Ok(Round::Whole);
     }
-    drop(lines);
-    Ok(Round::Whole)
+    law_good_rows(problem);
+    let lines = renumbered(alloc, problem, part, log)?;
+    Ok(Round::Answered(Answer::Unsat(lines)))
 }
 
 // The interpretation that a search of the whole problem finds in a few lines, and else this one. Where all clauses on equality are at hand,
@@ -140,8 +168,9 @@ fn search_part(
     let Some(part) = part_of(alloc, problem, numbers)? else {
         return Ok(Round::Whole);
     };
-    match watched_search::search(alloc, &part.problem, few_of(budget)) {
-        Answer::Unsat(log) => judge_log(alloc, problem, &part, log, budget),
+    let few = few_of(budget);
+    match watched_search::search(alloc, &part.problem, few) {
+        Answer::Unsat(log) => judge_log(alloc, problem, &part, log, few, budget),
         Answer::Sat(found) => judge_found(alloc, problem, &part, taken, front, found, budget),
         Answer::Memory => Err(AllocError),
         other => {

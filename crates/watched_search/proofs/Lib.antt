@@ -3,5 +3,5 @@ mod Rows
 mod Asking
 mod Solvers
 mod Evaluation
-mod Proposals
-mod Easy
+pub mod Proposals
+pub mod Easy

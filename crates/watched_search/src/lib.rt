@@ -64,6 +64,5 @@ mod searching;
 mod solving;
 
 pub use evaluating::{evaluated, known_truth};
-pub use proposed::is_refutation;
 pub use searching::search;
 pub use solving::solve;

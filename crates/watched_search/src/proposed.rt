@@ -37,8 +37,8 @@ fn atoms_in(problem: &Problem) -> usize
     problem.atoms.len()
 }
 
-/// Whether a log of no more lines than the budget shows that a problem has no interpretation.
-pub fn is_refutation(alloc: Global, problem: &Problem, lines: &[Line], budget: u32) -> bool
+// Whether a log of no more lines than the budget shows that a problem has no interpretation.
+fn is_refutation(alloc: Global, problem: &Problem, lines: &[Line], budget: u32) -> bool
     ensures { IsTrue result → (split : Bool) → IsRefuted split problem.now budget lines.now }
 {
     if lines.len() > budget as usize {

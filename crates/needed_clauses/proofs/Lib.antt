@@ -1,0 +1,3 @@
+mod Renaming
+mod Tested
+mod Answered
