@@ -86,6 +86,10 @@ pub(crate) struct Taken {
 }
 
 impl Taken {
+    fn has(&self, clause: usize) -> bool {
+        clause < self.marks.len() && self.marks[clause]
+    }
+
     fn take(&mut self, clause: usize) {
         if clause < self.marks.len() && !self.marks[clause] {
             self.marks[clause] = true;
@@ -166,7 +170,7 @@ pub(crate) fn take_false(
 ) {
     for clause in front..problem.clauses.len() {
         let lits = lits_at(problem, clause);
-        if !is_true(values, lits) {
+        if !taken.has(clause) && !is_true(values, lits) {
             let name = last_atom(lits);
             if place_of(places, name) == NOWHERE {
                 judge_name(problem, values, taken, clause, name);

@@ -17,8 +17,8 @@ use sat_core::Answer;
 use std::alloc::{AllocError, Global};
 use watched_search::evaluated;
 
-// So many rounds at most.
-const ROUNDS: u32 = 40;
+// So many rounds at most: each is a search, and on the examples no problem needs more than three.
+const ROUNDS: u32 = 10;
 
 // So many lines of a log at most, for a part.
 const FEW_LINES: u32 = 2000;
