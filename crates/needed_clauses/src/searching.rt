@@ -17,7 +17,7 @@ use sat_core::Answer;
 use std::alloc::{AllocError, Global};
 use watched_search::evaluated;
 
-// So many rounds at most: each is a search, and on the examples no problem needs more than three.
+// So many rounds at most: each is a search, and most problems of the examples need one.
 const ROUNDS: u32 = 10;
 
 // So many lines of a log at most, for a part.
