@@ -96,14 +96,19 @@ def run(program, words):
             os._exit(128 + number)
         os.kill(started[0], number)
 
-    for it in (signal.SIGINT, signal.SIGTERM, signal.SIGHUP):
+    ending = (signal.SIGINT, signal.SIGTERM, signal.SIGHUP)
+    for it in ending:
         if signal.getsignal(it) != signal.SIG_IGN:
             signal.signal(it, pass_on)
+    # (a signal that comes while the program is started waits until it is known whom to pass it on to)
+    mask = signal.pthread_sigmask(signal.SIG_BLOCK, ending)
     try:
         # (Python has these two ignored, which the program would inherit)
-        started.append(os.posix_spawn(program, [program, *words], os.environ, setsigdef=[signal.SIGPIPE, signal.SIGXFSZ]))
+        started.append(os.posix_spawn(program, [program, *words], os.environ, setsigmask=mask, setsigdef=[signal.SIGPIPE, signal.SIGXFSZ]))
     except OSError as error:
         say(f"{os.path.relpath(program, TOP)} can't be run: {error.strerror}")
         return NO_PROGRAM
+    finally:
+        signal.pthread_sigmask(signal.SIG_SETMASK, mask)
     status = os.waitpid(started[0], 0)[1]
     return status >> 8 if not status & 127 else 128 + (status & 127)
