@@ -97,6 +97,28 @@ impl Atoms {
         as_number(index)
     }
 
+    #[tactic(auto, using(crate::proofs::Same::atom_among))]
+    /// Whether an atom has a number.
+    pub fn is_known(&self, atom: &Atom) -> bool
+        ensures { result ≡ numbers.has_number self.now.table (atom_of atom.now) }
+    {
+        self.atoms.get_index_of(atom).is_some()
+    }
+
+    #[tactic(auto, using(crate::proofs::Same::atom_place, crate::proofs::Same::atom_among))]
+    /// The number of an atom that has one. An atom without a number gets none by this.
+    pub fn known_number(&self, atom: &Atom) -> Option<u32>
+        ensures known { IfSome result
+            (λ n. numbers.has_number self.now.table (atom_of atom.now) ≡ true) }
+        ensures number { IfSome result (λ n. n
+            ≡ numbers.number_of self.now.table (atom_of atom.now)) }
+    {
+        match self.atoms.get_index_of(atom) {
+            Some(index) => small_number(index),
+            None => None,
+        }
+    }
+
     #[tactic(auto, using(crate::proofs::Same::integers_known, crate::proofs::Same::integer_place, crate::proofs::Same::integer_among))]
     /// The number of an integer name: the place of an equal one, else the next number. After a refusal others keep their numbers.
     pub fn int_of(&mut self, name: IntName) -> Result<u32, AllocError>
@@ -133,6 +155,16 @@ impl Atoms {
         ensures { map reading_of result.now ≡ self.now.named }
     {
         self.named.as_slice()
+    }
+}
+
+// A place as a number, where it is one.
+fn small_number(place: usize) -> Option<u32>
+    ensures { IfSome result (λ n. n ≡ place) }
+{
+    match u32::try_from(place) {
+        Ok(number) => Some(number),
+        Err(_) => None,
     }
 }
 

@@ -18,7 +18,7 @@ use Rattle.ground_equality.specs.Pairs.{pair_count}
 pub pairs_more : (n : ℕ) → pair_count (n + 1) ≡ n + pair_count n
 pairs_more n = (let e : n + 1 ≡ suc n = omega arith in ap pair_count e)
 
-pairs_length : (x : Thing) (ts : List (List ℕ)) → length (congruent_pairs x ts) ≡ pair_count (length ts)
+pub pairs_length : (x : Thing) (ts : List (List ℕ)) → length (congruent_pairs x ts) ≡ pair_count (length ts)
 pairs_length x [] = refl
 pairs_length x (t ∷ ts) =
     let e = length-append (map (congruent x t) ts) (congruent_pairs x ts) in

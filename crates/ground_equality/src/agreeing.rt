@@ -153,8 +153,8 @@ fn with_reading(
     Ok(tuples)
 }
 
-// The tuples of the readings of a thing, in rising order.
-fn rising(
+/// The tuples of the readings of a thing, in rising order.
+pub fn rising(
     alloc: Global,
     readings: &[NamedReading],
     thing: Thing,

@@ -37,8 +37,13 @@ pub struct Grounded {
     pub formulas: Items<GroundFormula>,
 }
 
-// The numbering in which the whole numbers among the arguments of these operations' calls have the first numbers.
-fn numbered(alloc: Global, spec: &Spec, ob: &Obligation, ops: &[u8]) -> Result<Atoms, AllocError>
+/// The numbering in which the whole numbers among the arguments of these operations' calls have the first numbers.
+pub fn numbered(
+    alloc: Global,
+    spec: &Spec,
+    ob: &Obligation,
+    ops: &[u8],
+) -> Result<Atoms, AllocError>
     requires { ops.now ≡ breaking.operations_of ob.now }
     ensures { IfOk result (λ atoms. atoms ≡ numbered_arguments spec.now ob.now) }
 {

@@ -21,7 +21,7 @@ macro_rules! or_drop {
 
 mod concluding;
 pub mod grounding;
-mod listing;
+pub mod listing;
 
 pub use ground_groups::GroundRefused;
 pub use grounding::{Grounded, ground};
