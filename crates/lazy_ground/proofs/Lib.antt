@@ -1,0 +1,4 @@
+pub mod Stays
+pub mod Tested
+pub mod Parts
+pub mod Loops

@@ -1,0 +1,212 @@
+-- The whole list in three parts: the formulas in front, those that pairs stand for, and those behind.
+use Rattle.std.proofs.Common.{◌≡◌, ℕ, ◌+◌, ◌≤◌, true, Some, List, [], ◌∷◌, ◌++◌, length, map, length-append, append_assoc, refl, sym, ◌∙◌, ap, subst, arith}
+use Rattle.std.specs.Prelude.{Err, Result}
+use Rattle.std.specs.List.{flat_map}
+use Rattle.std.proofs.lemmas.Grind.{flat_map-append}
+use Rattle.std.proofs.lemmas.List.{map-append, length-map}
+use Rattle.std.proofs.lemmas.Bool.{and_parts}
+use Rattle.spec_core.specs.Specification.{Specification}
+use Rattle.spec_core.specs.declared.update.Thing.{Thing}
+use Rattle.obligation_list.specs.declared.obligation.Obligation.{Obligation}
+use Rattle.obligation_list.specs.Obligations.{things}
+use Rattle.ground_problem.specs.Symbols.{Symbolic}
+use Rattle.ground_problem.specs.Constants.{constants_of}
+use Rattle.ground_problem.specs.Definitions.{Reading}
+use Rattle.ground_problem.specs.Equality.{equality, congruence}
+use Rattle.ground_problem.specs.Problem.{defined, formulas_of, most_formulas}
+use Rattle.ground_numbers.specs.Numbered.{Numbered}
+use Rattle.ground_numbers.specs.Numbers.{Table, has_atom, has_number, number_of, numbered, naming_all}
+use Rattle.ground_numbers.specs.Problem.{table_of}
+use Rattle.ground_numbers.proofs.Growing.{Extends, AllNamesIn, naming_all-extends, naming_all-has}
+use Rattle.ground_atoms.specs.Formulas.{form_of}
+use Rattle.ground_atoms.specs.Symbols.{reading_of}
+use Rattle.ground_atoms.specs.Known.{Known}
+use Rattle.ground_atoms.specs.Making.{MadeList}
+use Rattle.ground_atoms.specs.declared.atom.NamedReading.{NamedReading}
+use Rattle.ground_atoms.specs.declared.formula.GroundFormula.{GroundFormula}
+use Rattle.ground_atoms.proofs.Numbering.{make_all-is}
+use Rattle.ground_constants.specs.Calls.{numbered_arguments}
+use Rattle.ground_groups.specs.Limited.{make_upto, Appends}
+use Rattle.ground_groups.specs.declared.refused.GroundRefused.{GroundRefused}
+use Rattle.ground_groups.specs.declared.refused.GroundRefused.TheVariants.{TooMany, Memory}
+use Rattle.ground_groups.proofs.Lists.{upto_made, upto_length, upto_none, seq}
+use Rattle.instances.proofs.Whole.{many_made}
+use Rattle.lazy_ground.specs.declared.pairs.ReadingPairs.{ReadingPairs}
+use Rattle.lazy_ground.specs.declared.choosing.Chosen.{Chosen}
+use Rattle.lazy_ground.specs.declared.front.Front.{Front}
+use Rattle.lazy_ground.specs.declared.grounding.LazyGround.{LazyGround}
+use Rattle.lazy_ground.specs.Pairs.{pairs_of, pair_forms}
+use Rattle.lazy_ground.specs.Lazy.{IsLazyGround, ArePairs, IsGroundEither}
+use Rattle.lazy_ground.specs.Named.{readings_known, AllNamed}
+use Rattle.lazy_ground.specs.Front.{front_of, entry_readings, IsFront, IsFrontOr, IsChosen, IsMadeWithin}
+use Rattle.lazy_ground.proofs.Stays.{naming_all-append, all_numbered-stay}
+
+-- ---- the list
+
+-- the front, and then the formulas on equal readings
+pub front_then : (d : Specification) (ob : Obligation) → front_of d ob ++ congruence (entry_readings d ob) (things d) ≡ formulas_of d ob
+front_then d ob = append_assoc (defined d ob (constants_of d ob)) (equality 0 (constants_of d ob).sorts) (congruence (entry_readings d ob) (things d))
+
+-- these in two parts
+pub three_parts : (d : Specification) (ob : Obligation) (rs cs : List Thing) → rs ++ cs ≡ things d
+    → front_of d ob ++ (congruence (entry_readings d ob) rs ++ congruence (entry_readings d ob) cs) ≡ formulas_of d ob
+three_parts d ob rs cs e =
+    ap (λ (l : List Symbolic). front_of d ob ++ l) (sym (flat_map-append _ rs cs))
+    ∙ ap (λ (xs : List Thing). front_of d ob ++ congruence (entry_readings d ob) xs) e
+    ∙ front_then d ob
+
+pub front_refused : (A : Type 0) (d : Specification) (ob : Obligation) (why : GroundRefused) (new : List GroundFormula) (now : Known)
+    → Appends {A = A} (Err why) [] (numbered_arguments d ob) (front_of d ob) new now → IsFrontOr d ob (Err why)
+front_refused A d ob TooMany new now e =
+    many_made (numbered_arguments d ob) (formulas_of d ob)
+    (ap (make_upto [] (numbered_arguments d ob)) (sym (front_then d ob)) ∙ upto_none [] (numbered_arguments d ob) (front_of d ob) (congruence (entry_readings d ob) (things d)) e)
+front_refused A d ob Memory new now e = tt
+
+-- a refusal says the same of any result
+pub refused_any : (A : Type 0) (why : GroundRefused) (old new : List GroundFormula) (k now : Known) (fs : List Symbolic) → Appends {A = Unit {0}} (Err why) old k fs new now → Appends {A = A} (Err why) old k fs new now
+refused_any A TooMany old new k now fs h = h
+refused_any A Memory old new k now fs h = tt
+
+-- the front: what is defined, and then equality
+pub front_seq : (d : Specification) (ob : Obligation) (r : Result (Unit {0}) GroundRefused) (mid new : List GroundFormula) (l now : Known) (ss : List ℕ) → ss ≡ (constants_of d ob).sorts
+    → make_upto [] (numbered_arguments d ob) (defined d ob (constants_of d ob)) ≡ Some (record { known = l; forms = map form_of mid })
+    → Appends r mid l (equality 0 ss) new now → Appends r [] (numbered_arguments d ob) (front_of d ob) new now
+front_seq d ob r mid new l now ss e made h =
+    seq r [] mid new (numbered_arguments d ob) l now (defined d ob (constants_of d ob)) (equality 0 (constants_of d ob).sorts) made
+    (subst (λ (xs : List ℕ). Appends r mid l (equality 0 xs) new now) e h)
+
+-- ---- what is made of it
+
+made_table : (k l : Known) (fs : List Symbolic) (gs : List Numbered) → make_upto [] k fs ≡ Some (record { known = l; forms = gs }) → l.table ≡ naming_all k.table fs
+made_table k l fs gs e = ap (λ (m : MadeList). m.known.table) (sym (upto_made [] k fs (record { known = l; forms = gs }) e) ∙ make_all-is [] k fs)
+
+made_forms : (k l : Known) (fs : List Symbolic) (gs : List Numbered) → make_upto [] k fs ≡ Some (record { known = l; forms = gs }) → gs ≡ map (numbered l.table) fs
+made_forms k l fs gs e =
+    ap (λ (m : MadeList). m.forms) (sym (upto_made [] k fs (record { known = l; forms = gs }) e) ∙ make_all-is [] k fs)
+    ∙ ap (λ (o : Table). map (numbered o) fs) (sym (made_table k l fs gs e))
+
+-- Formulas in front, formulas that name nothing new, and formulas behind.
+module _ (k l m : Known) (fs ps bs : List Symbolic) (front behind : List Numbered)
+    (in_front : make_upto [] k fs ≡ Some (record { known = l; forms = front }))
+    (nothing_new : naming_all l.table ps ≡ l.table)
+    (then_behind : make_upto [] l bs ≡ Some (record { known = m; forms = behind })) where
+  pub grown : Extends l.table m.table
+  grown = subst (λ (o : Table). Extends l.table o) (sym (made_table l m bs behind then_behind)) (naming_all-extends l.table bs)
+
+  pub parts_table : m.table ≡ naming_all k.table (fs ++ (ps ++ bs))
+  parts_table =
+      made_table l m bs behind then_behind
+      ∙ ap (λ (o : Table). naming_all o bs) (sym nothing_new)
+      ∙ sym (naming_all-append l.table ps bs)
+      ∙ ap (λ (o : Table). naming_all o (ps ++ bs)) (made_table k l fs front in_front)
+      ∙ sym (naming_all-append k.table fs (ps ++ bs))
+
+  front_forms : front ≡ map (numbered m.table) fs
+  front_forms =
+      made_forms k l fs front in_front
+      ∙ sym (all_numbered-stay l.table m.table grown fs (subst (λ (o : Table). AllNamesIn o fs) (sym (made_table k l fs front in_front)) (naming_all-has k.table fs)))
+
+  pub parts_forms : front ++ (map (numbered m.table) ps ++ behind) ≡ map (numbered m.table) (fs ++ (ps ++ bs))
+  parts_forms =
+      (λ i. front_forms i ++ (map (numbered m.table) ps ++ made_forms l m bs behind then_behind i))
+      ∙ ap (λ (l : List Numbered). map (numbered m.table) fs ++ l) (sym (map-append (numbered m.table) ps bs))
+      ∙ sym (map-append (numbered m.table) fs (ps ++ bs))
+
+  pub parts_length : length (fs ++ (ps ++ bs)) ≡ length front + (length ps + length behind)
+  parts_length =
+      let a = length-append fs (ps ++ bs) in
+      let b = length-append ps bs in
+      let c = upto_length [] k fs (record { known = l; forms = front }) in_front in
+      let e = upto_length [] l bs (record { known = m; forms = behind }) then_behind in
+      omega (arith, a, b, c, e)
+
+-- ---- pairs over a larger table
+
+map_flat_map : (o : Table) (ss : List ReadingPairs) → flat_map (pair_forms o) ss ≡ map (numbered o) (flat_map pairs_of ss)
+map_flat_map o [] = refl
+map_flat_map o (s ∷ ss) = ap (λ (l : List Numbered). pair_forms o s ++ l) (map_flat_map o ss) ∙ sym (map-append (numbered o) (pairs_of s) (flat_map pairs_of ss))
+
+pub all_named_there : (o : Table) (ss : List ReadingPairs) → AllNamed o ss → naming_all o (flat_map pairs_of ss) ≡ o
+all_named_there o [] h = refl
+all_named_there o (s ∷ ss) h =
+    naming_all-append o (pairs_of s) (flat_map pairs_of ss)
+    ∙ ap (λ (t : Table). naming_all t (flat_map pairs_of ss)) h.0.names
+    ∙ all_named_there o ss h.1
+
+numbers_stay : (t o : Table) (r : ℕ) (ts : List (List ℕ)) → Extends t o → readings_known t r ts ≡ true
+    → map (λ u. number_of t (has_atom [] r u)) ts ≡ map (λ u. number_of o (has_atom [] r u)) ts
+numbers_stay t o r [] e h = refl
+numbers_stay t o r (u ∷ us) e h =
+    let p = and_parts (has_number t (has_atom [] r u)) (readings_known t r us) h in
+    let q = sym (e.atoms (has_atom [] r u) p.0).1 in
+    let g = numbers_stay t o r us e p.1 in
+    λ i. q i ∷ g i
+
+pub pairs_stay : (t o : Table) (ss : List ReadingPairs) → Extends t o → AllNamed t ss → ArePairs o ss
+pairs_stay t o [] e h = tt
+pairs_stay t o (s ∷ ss) e h = ((h.0.different, h.0.atoms ∙ numbers_stay t o s.relation s.tuples e h.0.known), pairs_stay t o ss e h.1)
+
+-- ---- the lazy ground problem
+
+pub lazy_made : (d : Specification) (ob : Obligation) (l m : Known) (rs cs : List Thing) (g : LazyGround)
+    → rs ++ cs ≡ things d
+    → make_upto [] (numbered_arguments d ob) (front_of d ob) ≡ Some (record { known = l; forms = map form_of g.front })
+    → flat_map pairs_of g.pairs ≡ congruence (entry_readings d ob) rs
+    → AllNamed l.table g.pairs
+    → make_upto [] l (congruence (entry_readings d ob) cs) ≡ Some (record { known = m; forms = map form_of g.behind })
+    → m ≡ g.atoms
+    → length g.front + (length (flat_map pairs_of g.pairs) + length g.behind) ≤ most_formulas
+    → IsLazyGround d ob g
+lazy_made d ob l m rs cs g all in_front found named then_behind same few =
+    let k = numbered_arguments d ob in
+    let fs = front_of d ob in
+    let ps = flat_map pairs_of g.pairs in
+    let bs = congruence (entry_readings d ob) cs in
+    let there = all_named_there l.table g.pairs named in
+    let whole : fs ++ (ps ++ bs) ≡ formulas_of d ob = ap (λ (x : List Symbolic). fs ++ (x ++ bs)) found ∙ three_parts d ob rs cs all in
+    let table : m.table ≡ table_of d ob = parts_table k l m fs ps bs _ _ in_front there then_behind ∙ ap (naming_all k.table) whole in
+    let tables : g.atoms.table ≡ m.table = ap (λ (z : Known). z.table) (sym same) in
+    let sizes = parts_length k l m fs ps bs _ _ in_front there then_behind in
+    let front_size : length (map form_of g.front) ≡ length g.front = length-map g.front form_of in
+    let behind_size : length (map form_of g.behind) ≡ length g.behind = length-map g.behind form_of in
+    let size : length (formulas_of d ob) ≡ length (fs ++ (ps ++ bs)) = ap length (sym whole) in
+    record {
+      few = omega (arith, few, sizes, front_size, behind_size, size);
+      table = tables ∙ table;
+      forms =
+          ap (λ (o : Table). map form_of g.front ++ (flat_map (pair_forms o) g.pairs ++ map form_of g.behind)) tables
+          ∙ ap (λ (x : List Numbered). map form_of g.front ++ (x ++ map form_of g.behind)) (map_flat_map m.table g.pairs)
+          ∙ parts_forms k l m fs ps bs _ _ in_front there then_behind
+          ∙ (λ i. map (numbered (table i)) (whole i));
+      pairs = subst (λ (o : Table). ArePairs o g.pairs) (sym tables) (pairs_stay l.table m.table g.pairs (grown k l m fs ps bs _ _ in_front there then_behind) named);
+    }
+
+-- ---- the whole ground problem
+
+-- formulas on equal readings of all things, after the front
+pub whole_then : (d : Specification) (ob : Obligation) (r : Result (Unit {0}) GroundRefused) (f : Front) (rs : List NamedReading) (xs : List Thing) (new : List GroundFormula) (now : Known)
+    → IsFront d ob f → rs ≡ f.readings → xs ≡ things d → Appends r f.formulas f.atoms (congruence (map reading_of rs) xs) new now → Appends r [] (numbered_arguments d ob) (formulas_of d ob) new now
+whole_then d ob r f rs xs new now is q e h =
+    subst (λ (list : List Symbolic). Appends r [] (numbered_arguments d ob) list new now) (front_then d ob)
+    (seq r [] f.formulas new (numbered_arguments d ob) f.atoms now (front_of d ob) (congruence (entry_readings d ob) (things d)) is.made
+    (subst (λ (qs : List Reading). Appends r f.formulas f.atoms (congruence qs (things d)) new now) (ap (map reading_of) q ∙ is.readings)
+    (subst (λ (ys : List Thing). Appends r f.formulas f.atoms (congruence (map reading_of rs) ys) new now) e h)))
+
+pub whole_refused : (d : Specification) (ob : Obligation) (why : GroundRefused) (new : List GroundFormula) (now : Known)
+    → Appends {A = Unit {0}} (Err why) [] (numbered_arguments d ob) (formulas_of d ob) new now → IsGroundEither d ob (Err why)
+whole_refused d ob TooMany new now e = many_made (numbered_arguments d ob) (formulas_of d ob) e
+whole_refused d ob Memory new now e = tt
+
+-- ---- the lazy one, of what is chosen
+
+pub lazy_from : (d : Specification) (ob : Obligation) (f : Front) (c : Chosen) (xs ys : List Thing) (rs : List NamedReading) (new : Known) (behind : List GroundFormula)
+    → IsFront d ob f → IsChosen f xs c → xs ++ ys ≡ things d → rs ≡ f.readings → IsMadeWithin f.atoms (congruence (map reading_of rs) ys) new c.room behind
+    → IsLazyGround d ob (record { atoms = new; front = f.formulas; pairs = c.pairs; behind = behind })
+lazy_from d ob f c xs ys rs new behind is chosen all q made =
+    let a = chosen.room in
+    let b = made.few in
+    lazy_made d ob f.atoms new xs ys (record { atoms = new; front = f.formulas; pairs = c.pairs; behind = behind }) all is.made
+    (chosen.found.pairs ∙ ap (λ (qs : List Reading). congruence qs xs) is.readings)
+    chosen.found.named
+    (ap (λ (qs : List Reading). make_upto [] f.atoms (congruence qs ys)) (sym (ap (map reading_of) q ∙ is.readings)) ∙ made.made)
+    refl (omega (arith, a, b))

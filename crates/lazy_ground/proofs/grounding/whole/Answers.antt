@@ -1,0 +1,32 @@
+use Rattle.std.proofs.Common.{◌≡◌, Ok, Err, ap}
+use Rattle.obligation_list.specs.Obligations.{things}
+use Rattle.ground_problem.specs.Constants.{Constants}
+use Rattle.ground_problem.specs.Problem.{formulas_of}
+use Rattle.ground_constants.specs.Calls.{numbered_arguments}
+use Rattle.instances.proofs.Whole.{few_made, table_made, forms_made}
+use Rattle.lazy_ground.specs.Front.{IsFront}
+use Rattle.lazy_ground.proofs.Parts.{whole_then, whole_refused}
+use Rattle.lazy_ground.proofs.grounding.whole.Goals as goal
+
+pub returns-in-Err : goal.returns-in-Err
+returns-in-Err c =
+    let d = c.args.spec.now in let ob = c.args.ob.now in
+    let is : IsFront d ob c.args.front = c.requires.front in
+    let all : c.args.all.now ≡ things d = c.requires.things in
+    whole_refused d ob c.in-Err.error _ _ (whole_then d ob (Err c.in-Err.error) c.args.front c.as_slice.result.now c.args.all.now _ _ is c.as_slice.ensures all c.in-Err.ensures)
+
+pub returns : goal.returns
+returns c =
+    let d = c.args.spec.now in let ob = c.args.ob.now in
+    let is : IsFront d ob c.args.front = c.requires.front in
+    let all : c.args.all.now ≡ things d = c.requires.things in
+    let made = whole_then d ob (Ok tt) c.args.front c.as_slice.result.now c.args.all.now _ _ is c.as_slice.ensures all c.in-Ok.ensures in (
+      few_made (numbered_arguments d ob) (formulas_of d ob) _ made,
+      record {
+        consts = ap (λ (y : Constants). y.sorts) is.constants;
+        calls = is.calls;
+        elements = ap (λ (y : Constants). y.elements) is.constants;
+        table = table_made d ob _ _ made;
+        forms = forms_made d ob _ _ made;
+      },
+    )

@@ -1,0 +1,56 @@
+-- The formulas of an obligation before those on equal readings. It mirrors the code.
+use Rattle.std.specs.Prelude.{◌≡◌, ℕ, ◌+◌, ◌<◌, ◌≤◌, Some, Result, Ok, Err, List, [], ◌++◌, length, map}
+use Rattle.std.specs.List.{flat_map}
+use Rattle.spec_core.specs.Specification.{Specification}
+use Rattle.spec_core.specs.declared.update.Thing.{Thing}
+use Rattle.obligation_list.specs.declared.obligation.Obligation.{Obligation}
+use Rattle.ground_problem.specs.Symbols.{Symbolic}
+use Rattle.ground_problem.specs.Constants.{constants_of}
+use Rattle.ground_problem.specs.Definitions.{Reading, readings_after}
+use Rattle.ground_problem.specs.Equality.{equality}
+use Rattle.ground_problem.specs.Problem.{defined, formulas_of, most_formulas}
+use Rattle.ground_atoms.specs.Calls.{calls_of}
+use Rattle.ground_atoms.specs.Formulas.{form_of}
+use Rattle.ground_atoms.specs.Known.{Known}
+use Rattle.ground_atoms.specs.Symbols.{reading_of}
+use Rattle.ground_atoms.specs.declared.formula.GroundFormula.{GroundFormula}
+use Rattle.ground_constants.specs.Calls.{constants_in, numbered_arguments}
+use Rattle.ground_groups.specs.Limited.{make_upto}
+use Rattle.ground_groups.specs.declared.refused.GroundRefused.{GroundRefused}
+use Rattle.ground_groups.specs.declared.refused.GroundRefused.TheVariants.{TooMany, Memory}
+use Rattle.lazy_ground.specs.declared.front.Front.{Front}
+use Rattle.lazy_ground.specs.declared.choosing.Chosen.{Chosen}
+use Rattle.lazy_ground.specs.Pairs.{pairs_of}
+use Rattle.lazy_ground.specs.Named.{AreFound}
+
+-- what is stated and defined, and that equality goes over constants
+abbrev pub front_of : Specification → Obligation → List Symbolic
+front_of d ob = defined d ob (constants_of d ob) ++ equality 0 (constants_of d ob).sorts
+
+-- the readings at the entry
+abbrev pub entry_readings : Specification → Obligation → List Reading
+entry_readings d ob = readings_after 0 (defined d ob (constants_of d ob))
+
+-- these formulas, made, with the readings that they name
+pub record IsFront (d : Specification) (ob : Obligation) (f : Front) : Type 0 where
+  pub constants : constants_in f.named ≡ constants_of d ob
+  pub calls : f.named.calls ≡ calls_of d ob
+  pub readings : map reading_of f.readings ≡ entry_readings d ob
+  pub made : make_upto [] (numbered_arguments d ob) (front_of d ob)
+      ≡ Some (record { known = f.atoms; forms = map form_of f.formulas })
+
+-- They are made, or the whole list has too many.
+abbrev pub IsFrontOr : Specification → Obligation → Result Front GroundRefused → Type 0
+IsFrontOr d ob (Ok f) = IsFront d ob f
+IsFrontOr d ob (Err TooMany) = most_formulas < length (formulas_of d ob)
+IsFrontOr d ob (Err Memory) = Unit {0}
+
+-- pairs that stand for the formulas on equal readings of these things, and the room that is left beside all these
+pub record IsChosen (f : Front) (xs : List Thing) (c : Chosen) : Type 0 where
+  pub found : AreFound f.atoms.table (map reading_of f.readings) xs c.pairs
+  pub room : length f.formulas + (length (flat_map pairs_of c.pairs) + c.room) ≤ most_formulas
+
+-- these formulas, made from nothing, at most so many
+pub record IsMadeWithin (old : Known) (fs : List Symbolic) (new : Known) (room : ℕ) (forms : List GroundFormula) : Type 0 where
+  pub made : make_upto [] old fs ≡ Some (record { known = new; forms = map form_of forms })
+  pub few : length forms ≤ room

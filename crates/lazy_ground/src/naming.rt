@@ -1,0 +1,164 @@
+// The readings of relations at the entry, where the formulas of their pairs name nothing new.
+ghost use Rattle.std.specs.Prelude.{◌≡◌, [], IfOk, IfSome, true, map};
+ghost use Rattle.ground_numbers.specs.Numbers.{has_atom, has_number, number_of};
+ghost use Rattle.ground_atoms.specs.Symbols.{reading_of};
+ghost use Rattle.lazy_ground.specs.Named.{rise_from, all_rise, AreNumbers, HasKnownEqualities, AreNumbersOfPairs, ArePairsOf, AreFound};
+
+use crate::columns::columns_of;
+use crate::equal::{are_all_known, are_within};
+use crate::pairs::ReadingPairs;
+use ground_atoms::{Atom, Atoms, NamedReading, Tuple};
+use ground_equality::agreeing::rising;
+use items::Items;
+use spec_core::Thing;
+use std::alloc::{AllocError, Global};
+
+// Whether a tuple is before the first of these, and each of these before the next.
+fn is_rising_from(tuple: &[u32], tuples: &[Items<u32>]) -> bool
+    ensures { result ≡ rise_from tuple.now tuples.now }
+{
+    let mut last = tuple;
+    for next in tuples {
+        if !last.cmp(next.as_slice()).is_lt() {
+            return false;
+        }
+        last = next.as_slice();
+    }
+    true
+}
+
+// Whether each of these is before the next.
+fn is_rising(tuples: &[Items<u32>]) -> bool
+    ensures { result ≡ all_rise tuples.now }
+{
+    match tuples {
+        [] => true,
+        [first, rest @ ..] => is_rising_from(first.as_slice(), rest),
+    }
+}
+
+// The number of a relation's reading at the entry.
+fn number_at(
+    atoms: &Atoms,
+    alloc: Global,
+    relation: u8,
+    tuple: &[u32],
+) -> Result<Option<u32>, AllocError>
+    ensures { IfOk result (λ found. IfSome found (λ n.
+        (has_number atoms.now.table (has_atom [] relation tuple.now) ≡ true)
+        × (n ≡ number_of atoms.now.table (has_atom [] relation tuple.now)))) }
+{
+    let tuple = Tuple::of(alloc, tuple)?;
+    let atom = Atom::Has {
+        stage: 0,
+        relation,
+        tuple,
+    };
+    let number = atoms.known_number(&atom);
+    drop(atom);
+    Ok(number)
+}
+
+// The numbers of its readings at these tuples; nothing where one has none.
+fn numbers_at(
+    atoms: &Atoms,
+    alloc: Global,
+    relation: u8,
+    tuples: &[Items<u32>],
+) -> Result<Option<Items<u32>>, AllocError>
+    ensures { IfOk result (λ found. IfSome found
+        (AreNumbers atoms.now.table relation tuples.now)) }
+{
+    let mut numbers = Items::new(alloc);
+    for tuple in tuples {
+        match number_at(atoms, alloc, relation, tuple.as_slice())? {
+            Some(number) => numbers.push(number)?,
+            None => return Ok(None),
+        }
+    }
+    Ok(Some(numbers))
+}
+
+// Whether the formulas of every two of these tuples name no equality that isn't known.
+fn has_known_equalities(
+    atoms: &Atoms,
+    alloc: Global,
+    tuples: &[Items<u32>],
+) -> Result<bool, AllocError>
+    ensures { IfOk result (λ known. known ≡ true → HasKnownEqualities atoms.now.table tuples.now) }
+{
+    let columns = columns_of(alloc, tuples)?;
+    let known = are_all_known(atoms, columns.as_slice()) && are_within(columns.as_slice(), tuples);
+    drop(columns);
+    Ok(known)
+}
+
+// The numbers of a relation's readings at these tuples; nothing where their pairs name something new.
+fn numbers_of_pairs(
+    atoms: &Atoms,
+    alloc: Global,
+    relation: u8,
+    tuples: &[Items<u32>],
+) -> Result<Option<Items<u32>>, AllocError>
+    ensures { IfOk result (λ found. IfSome found
+        (AreNumbersOfPairs atoms.now.table relation tuples.now)) }
+{
+    if !is_rising(tuples) {
+        return Ok(None);
+    }
+    if !has_known_equalities(atoms, alloc, tuples)? {
+        return Ok(None);
+    }
+    numbers_at(atoms, alloc, relation, tuples)
+}
+
+// The pairs of the readings of a thing; nothing where it isn't a relation, or where its pairs name something new.
+fn pairs_of_thing(
+    atoms: &Atoms,
+    alloc: Global,
+    readings: &[NamedReading],
+    thing: Thing,
+) -> Result<Option<ReadingPairs>, AllocError>
+    ensures { IfOk result (λ found. IfSome found
+        (ArePairsOf atoms.now.table (map reading_of readings.now) thing)) }
+{
+    let Thing::Relation(relation) = thing else {
+        return Ok(None);
+    };
+    let tuples = rising(alloc, readings, thing)?;
+    match numbers_of_pairs(atoms, alloc, relation, tuples.as_slice()) {
+        Ok(Some(numbers)) => Ok(Some(ReadingPairs {
+            relation,
+            tuples,
+            atoms: numbers,
+        })),
+        Ok(None) => {
+            drop(tuples);
+            Ok(None)
+        }
+        Err(error) => {
+            drop(tuples);
+            Err(error)
+        }
+    }
+}
+
+/// The pairs of the readings of each of these things; nothing where one isn't a relation, or where a pair names something new.
+pub fn pairs_of_all(
+    atoms: &Atoms,
+    alloc: Global,
+    readings: &[NamedReading],
+    things: &[Thing],
+) -> Result<Option<Items<ReadingPairs>>, AllocError>
+    ensures { IfOk result (λ found. IfSome found
+        (AreFound atoms.now.table (map reading_of readings.now) things.now)) }
+{
+    let mut pairs = Items::new(alloc);
+    for thing in things {
+        match pairs_of_thing(atoms, alloc, readings, *thing)? {
+            Some(more) => pairs.push(more)?,
+            None => return Ok(None),
+        }
+    }
+    Ok(Some(pairs))
+}
