@@ -1,0 +1,6 @@
+pub mod Pieces
+mod Sizes
+mod Ranks
+mod Adding
+mod Standing
+mod Placing
