@@ -1,3 +1,3 @@
-mod Renaming
-mod Tested
+pub mod Renaming
+pub mod Tested
 mod Answered

@@ -29,9 +29,9 @@ macro_rules! or_drop {
 }
 
 mod judging;
-mod parts;
-mod renumbering;
+pub mod parts;
+pub mod renumbering;
 mod searching;
-mod testing;
+pub mod testing;
 
-pub use searching::search;
+pub use searching::{search, search_whole_first};

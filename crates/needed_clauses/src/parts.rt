@@ -8,7 +8,7 @@ use proof_lines::{AtomKind, Clause, Lit, Problem};
 use std::alloc::{AllocError, Global};
 
 /// The place of an atom that no clause of a part names.
-pub(crate) const NOWHERE: u32 = u32::MAX;
+pub const NOWHERE: u32 = u32::MAX;
 
 /// A problem of some clauses of a whole one: their numbers in it, the numbers of the atoms, and the place of each atom of the whole problem
 /// among these.
@@ -21,7 +21,7 @@ pub(crate) struct Part {
 }
 
 /// A place as a number; one that no number names is nowhere.
-pub(crate) fn number_of(place: usize) -> u32 {
+pub fn number_of(place: usize) -> u32 {
     match u32::try_from(place) {
         Ok(number) => number,
         Err(_) => NOWHERE,
@@ -29,7 +29,7 @@ pub(crate) fn number_of(place: usize) -> u32 {
 }
 
 /// The place of an atom.
-pub(crate) fn place_of(places: &[u32], atom: u32) -> u32 {
+pub fn place_of(places: &[u32], atom: u32) -> u32 {
     match places.get(atom as usize) {
         Some(place) => *place,
         None => NOWHERE,
@@ -37,7 +37,7 @@ pub(crate) fn place_of(places: &[u32], atom: u32) -> u32 {
 }
 
 /// So many places of atoms that nothing names yet.
-fn no_places(alloc: Global, many: usize) -> Result<Vec<u32>, AllocError> {
+pub fn no_places(alloc: Global, many: usize) -> Result<Vec<u32>, AllocError> {
     let mut places = Vec::with_capacity(alloc, many)?;
     for _ in 0..many {
         places.push(NOWHERE)?;
@@ -45,8 +45,8 @@ fn no_places(alloc: Global, many: usize) -> Result<Vec<u32>, AllocError> {
     Ok(places)
 }
 
-// Marks the atoms of a clause with the place 0.
-fn mark(places: &mut [u32], lits: &[Lit]) {
+/// Marks the atoms of a clause with the place 0.
+pub fn mark(places: &mut [u32], lits: &[Lit]) {
     for lit in lits {
         let atom = lit.atom as usize;
         if atom < places.len() {
@@ -55,8 +55,8 @@ fn mark(places: &mut [u32], lits: &[Lit]) {
     }
 }
 
-// Gives the atoms that are marked their places, in the order of their numbers, and lists them.
-fn number_marked(alloc: Global, places: &mut [u32]) -> Result<Vec<u32>, AllocError> {
+/// Gives the atoms that are marked their places, in the order of their numbers, and lists them.
+pub fn number_marked(alloc: Global, places: &mut [u32]) -> Result<Vec<u32>, AllocError> {
     let mut atoms = Vec::new(alloc);
     for atom in 0..places.len() {
         if atom < places.len() && places[atom] != NOWHERE {
@@ -88,8 +88,8 @@ fn atoms_of(
     Ok(atoms)
 }
 
-// A clause over the places of its atoms.
-fn placed(alloc: Global, places: &[u32], lits: &[Lit]) -> Result<Clause, AllocError> {
+/// A clause over the places of its atoms.
+pub fn placed(alloc: Global, places: &[u32], lits: &[Lit]) -> Result<Clause, AllocError> {
     let mut clause = Clause::empty(alloc);
     for lit in lits {
         clause.insert(Lit {

@@ -1,12 +1,11 @@
 // A log of a part, with the numbers of the whole problem.
-ghost use Rattle.std.specs.Prelude.{◌≡◌, length, map, IfOk};
+ghost use Rattle.std.specs.Prelude.{◌≡◌, map, IfOk};
 ghost use Rattle.std.specs.List.{list_all};
-ghost use Rattle.needed_clauses.specs.Renaming.{number_in, lit_by, line_in, is_plain_line};
+ghost use Rattle.needed_clauses.specs.Renaming.{number_in, lit_by, line_by, is_plain_line};
 
-use crate::parts::Part;
 use crate::testing::{lit_in, number_in};
 use items::Items;
-use proof_lines::{Line, Lit, Problem};
+use proof_lines::{Line, Lit};
 use std::alloc::{AllocError, Global};
 
 // Literals with the numbers that their atoms have.
@@ -25,23 +24,26 @@ fn lits_in(
     Ok(renamed)
 }
 
-fn line_in(alloc: Global, problem: &Problem, part: &Part, line: Line) -> Result<Line, AllocError>
+// A line with the numbers that clauses and atoms have in the whole, which has so many of them.
+fn line_by(
+    alloc: Global,
+    clauses: &[u32],
+    many: usize,
+    atoms: &[u32],
+    whole: usize,
+    line: Line,
+) -> Result<Line, AllocError>
     ensures { IfOk result
-        (λ l. l ≡ line_in problem.now part.now.clauses.items part.now.atoms.items line) }
+        (λ l. l ≡ line_by (number_in clauses.now many) (number_in atoms.now whole) line) }
 {
-    let (clauses, atoms) = (part.clauses.as_slice(), part.atoms.as_slice());
     match line {
-        Line::Resolve { left, right, pivot } => {
-            let many = problem.clauses.len();
-            Ok(Line::Resolve {
-                left: number_in(clauses, many, left)?,
-                right: number_in(clauses, many, right)?,
-                pivot: number_in(atoms, problem.atoms.len(), pivot)?,
-            })
-        }
+        Line::Resolve { left, right, pivot } => Ok(Line::Resolve {
+            left: number_in(clauses, many, left)?,
+            right: number_in(clauses, many, right)?,
+            pivot: number_in(atoms, whole, pivot)?,
+        }),
         Line::Farkas { used, steps } => {
-            let many = problem.atoms.len();
-            let renamed = or_drop!(lits_in(alloc, atoms, many, used.as_slice()); used, steps);
+            let renamed = or_drop!(lits_in(alloc, atoms, whole, used.as_slice()); used, steps);
             drop(used);
             Ok(Line::Farkas {
                 used: renamed,
@@ -64,25 +66,28 @@ fn is_plain_line(line: &Line) -> bool
 }
 
 /// Whether all lines resolve or are lines of rows.
-pub(crate) fn are_plain_lines(lines: &[Line]) -> bool
+pub fn are_plain_lines(lines: &[Line]) -> bool
     ensures { result ≡ list_all is_plain_line lines.now }
 {
     lines.iter().all(|line| is_plain_line(line))
 }
 
-/// The log of a part, with the numbers of the whole problem. The clauses of its lines come behind those of the problem.
-pub(crate) fn renumbered(
+/// The log of a part, with the numbers that its clauses and its atoms have in the whole problem, which has so many clauses and so many
+/// atoms. The clauses of its lines come behind those of the problem.
+pub fn renumbered(
     alloc: Global,
-    problem: &Problem,
-    part: &Part,
+    clauses: &[u32],
+    many: usize,
+    atoms: &[u32],
+    whole: usize,
     log: Items<Line>,
 ) -> Result<Items<Line>, AllocError>
     ensures { IfOk result
-        (λ ls. ls ≡ map (line_in problem.now part.now.clauses.items part.now.atoms.items) log) }
+        (λ ls. ls ≡ map (line_by (number_in clauses.now many) (number_in atoms.now whole)) log) }
 {
     let mut lines = Items::new(alloc);
     for line in log.into_vec() {
-        let line = line_in(alloc, problem, part, line)?;
+        let line = line_by(alloc, clauses, many, atoms, whole, line)?;
         lines.push(line)?;
     }
     Ok(lines)

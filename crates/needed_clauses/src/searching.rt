@@ -10,6 +10,7 @@ ghost use Rattle.needed_clauses.specs.Rounds.{IsRound, IsAnsweredByAny};
 use crate::judging::{Taken, take_each_false, take_false, values_by};
 use crate::parts::{Part, number_of, part_of};
 use crate::renumbering::{are_plain_lines, renumbered};
+use crate::testing::sizes;
 use items::Items;
 use proof_lines::problem::law_rows;
 use proof_lines::{Interpretation, Line, Problem};
@@ -102,7 +103,9 @@ fn judge_log(
         return Ok(Round::Whole);
     }
     law_good_rows(problem);
-    let lines = renumbered(alloc, problem, part, log)?;
+    let (clauses, atoms) = (part.clauses.as_slice(), part.atoms.as_slice());
+    let (whole, many) = sizes(problem);
+    let lines = renumbered(alloc, clauses, many, atoms, whole, log)?;
     Ok(Round::Answered(Answer::Unsat(lines)))
 }
 
@@ -213,5 +216,20 @@ pub fn search(alloc: Global, problem: &Problem, front: usize, budget: u32) -> An
         Ok(Some(answer)) => answer,
         Ok(None) => watched_search::search(alloc, problem, budget),
         Err(_) => Answer::Memory,
+    }
+}
+
+/// What `search` promises, of a problem that probably has an interpretation: first the whole of it is searched, in a few lines.
+pub fn search_whole_first(alloc: Global, problem: &Problem, front: usize, budget: u32) -> Answer
+    ensures answer { IsAnswer true true problem.now budget result }
+    ensures fitting { problem_fits problem.now ≡ true
+        → IsAnswer false false problem.now budget result }
+{
+    match watched_search::search(alloc, problem, few_of(budget)) {
+        Answer::Sat(found) => Answer::Sat(found),
+        other => {
+            drop(other);
+            search(alloc, problem, front, budget)
+        }
     }
 }

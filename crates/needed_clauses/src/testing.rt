@@ -50,7 +50,8 @@ fn rises_at(numbers: &[u32], place: usize, end: usize) -> bool
     (number as usize) < end
 }
 
-fn rise(numbers: &[u32], end: usize) -> bool
+/// Whether numbers rise, and are below an end.
+pub fn rise(numbers: &[u32], end: usize) -> bool
     ensures { IsTrue result → Rise (length numbers.now) numbers.now end }
 {
     for place in 0..numbers.len() {
@@ -61,8 +62,8 @@ fn rise(numbers: &[u32], end: usize) -> bool
     true
 }
 
-// Whether two atoms stand for the same.
-fn same_kind(small: &AtomKind, large: &AtomKind) -> bool
+/// Whether two atoms stand for the same.
+pub fn same_kind(small: &AtomKind, large: &AtomKind) -> bool
     ensures { IsTrue result → large.now ≡ small.now }
 {
     match small {
@@ -114,7 +115,8 @@ fn has_literal(atoms: &[u32], whole: usize, small: Lit, large: Lit) -> bool
     }
 }
 
-fn have_literals(atoms: &[u32], whole: usize, small: &[Lit], large: &[Lit]) -> bool
+/// Whether literals of a part are these ones, with the numbers that their atoms have in the whole.
+pub fn have_literals(atoms: &[u32], whole: usize, small: &[Lit], large: &[Lit]) -> bool
     ensures { IsTrue result → large.now ≡ map (lit_by (number_in atoms.now whole)) small.now }
 {
     if small.len() != large.len() {
@@ -158,8 +160,8 @@ fn have_clauses(atoms: &[u32], part: &Problem, whole: &Problem, clauses: &[u32])
     true
 }
 
-// How many atoms and clauses a problem has.
-fn sizes(problem: &Problem) -> (usize, usize)
+/// How many atoms and clauses a problem has.
+pub(crate) fn sizes(problem: &Problem) -> (usize, usize)
     ensures { result ≡ (length problem.now.atoms, length problem.now.clauses) }
 {
     (problem.atoms.len(), problem.clauses.len())
