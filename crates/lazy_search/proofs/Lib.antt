@@ -1,0 +1,2 @@
+mod WholeAtoms
+mod Logs

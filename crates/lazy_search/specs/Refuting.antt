@@ -1,0 +1,52 @@
+-- What a log of a lazy ground problem is, and what is known of its sizes and of the chosen clauses.
+use Rattle.std.specs.Prelude.{◌≡◌, ℕ, ◌≤◌, true, Ok, List, ◌++◌, length, map, replicate}
+use Rattle.proof_lines.specs.declared.line.Line.{Line}
+use Rattle.proof_lines.specs.declared.problem.AtomKind.{AtomKind}
+use Rattle.proof_lines.specs.declared.problem.AtomKind.TheVariants.{Plain}
+use Rattle.proof_lines.specs.Problems.{PlainProblem}
+use Rattle.proof_kernel.specs.Rules.{State, run}
+use Rattle.ground_numbers.specs.Numbers.{Table}
+use Rattle.ground_numbers.specs.Problem.{kind_of}
+use Rattle.lazy_ground.specs.declared.grounding.LazyGround.{LazyGround}
+use Rattle.lazy_ground.specs.Lazy.{lazy_problem}
+use Rattle.chosen_clauses.specs.declared.choosing.Chosen.{Chosen}
+use Rattle.chosen_clauses.specs.Chosen.{AreAt}
+use Rattle.lazy_search.specs.declared.counting.Sizes.{Sizes}
+use Rattle.lazy_search.specs.declared.searching.LazyAnswer.{LazyAnswer}
+use Rattle.lazy_search.specs.declared.searching.LazyAnswer.TheVariants.{Refuted, Satisfiable, Unknown}
+use Rattle.lazy_search.specs.declared.searching.Step.{Step}
+use Rattle.lazy_search.specs.declared.searching.Step.TheVariants.{Answered, Picking, Disagreeing}
+
+-- A log of at most so many lines shows that a problem has no interpretation: the kernel accepts its lines, and an empty clause is among
+-- the clauses.
+pub record RefutesWithin (p : PlainProblem) (budget : ℕ) (log : List Line) : Type 0 where
+  pub state : State
+  pub runs : run p log ≡ Ok state
+  pub empty : state.empty ≡ true
+  pub within : length log ≤ budget
+
+-- the atoms of a table, and so many that name parts
+abbrev pub atoms_with : Table → ℕ → List AtomKind
+atoms_with o names = map kind_of o.atoms ++ replicate names Plain
+
+-- so many atoms and clauses the whole problem has, and so many of the atoms name parts
+pub record AreSizes (g : LazyGround) (sizes : Sizes) : Type 0 where
+  pub atoms : sizes.atoms ≡ length (lazy_problem g).atoms
+  pub names : (lazy_problem g).atoms ≡ atoms_with g.atoms.table sizes.names
+  pub clauses : sizes.clauses ≡ length (lazy_problem g).clauses
+
+-- the chosen clauses are those of the whole problem that have these numbers
+abbrev pub AreOf : LazyGround → Chosen → Type 0
+AreOf g c = AreAt (lazy_problem g).clauses c.clauses c.numbers.items
+
+-- a log that is answered is one of the problem
+abbrev pub IsLazyAnswer : PlainProblem → ℕ → LazyAnswer → Type 0
+IsLazyAnswer p budget (Refuted log) = RefutesWithin p budget log
+IsLazyAnswer p budget Satisfiable = Unit {0}
+IsLazyAnswer p budget Unknown = Unit {0}
+
+-- what a round answers is an answer
+abbrev pub IsStep : LazyGround → ℕ → Step → Type 0
+IsStep g budget (Answered answer) = IsLazyAnswer (lazy_problem g) budget answer
+IsStep g budget Picking = Unit {0}
+IsStep g budget (Disagreeing pairs) = Unit {0}

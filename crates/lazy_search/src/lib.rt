@@ -1,0 +1,36 @@
+// The search of a lazy ground problem for a log that shows that it has no interpretation.
+//
+// Some clauses are searched first, as a problem of their own over the atoms that they name (src/picking.rt, src/parts.rt), which is
+// tested to be a part of the whole (src/testing.rt). Where they have no interpretation, the log is written with the numbers of the whole
+// problem, and the kernel takes it there. Where they have one, it says which constants are equal and which readings are true. The pairs
+// of tuples that it makes equal and of which it reads one true and one false (src/agreeing.rt) are those whose clauses are false. These
+// and the other clauses that it makes false join the first ones, and all are searched again (src/searching.rt).
+//
+// So no formula is made for a pair of tuples that no interpretation makes equal, and none is looked at. Nothing is answered where all
+// pairs agree, or where a search comes to no end in a few lines; then the whole problem is to be searched.
+//
+// Definitions: specs/Refuting (what a log of the whole is, and what the tests of a part say).
+#![tactic(auto)]
+
+/// The value of a call; where it fails, lets go of these values and ends with its error. Values that are let go by name are let go
+/// once in a proof, and not once for each way out.
+macro_rules! or_drop {
+    ($call:expr; $($value:ident),*) => {
+        match $call {
+            Ok(value) => value,
+            Err(error) => {
+                $(drop($value);)*
+                return Err(error);
+            }
+        }
+    };
+}
+
+mod agreeing;
+mod counting;
+mod parts;
+mod picking;
+mod searching;
+mod testing;
+
+pub use searching::{LazyAnswer, search_lazily};

@@ -1,0 +1,136 @@
+// Some chosen clauses as a problem of their own, over the atoms that they name.
+ghost use Rattle.std.specs.Prelude.{IfOk, IfSome};
+ghost use Rattle.needed_clauses.specs.Renaming.{IsPart};
+ghost use Rattle.lazy_ground.specs.Lazy.{lazy_problem};
+ghost use Rattle.lazy_search.specs.Refuting.{AreSizes, AreOf};
+
+use crate::counting::{Sizes, count_ints};
+use crate::testing::{Picks, is_part};
+use chosen_clauses::Chosen;
+use ground_atoms::{Atom, Atoms};
+use items::Items;
+use lazy_ground::LazyGround;
+use needed_clauses::parts::{mark, no_places, number_marked, placed};
+use proof_lines::{AtomKind, Clause, Lit, Problem};
+use std::alloc::{AllocError, Global};
+
+/// A problem of some chosen clauses: these, the numbers of its atoms in the whole problem, and the place of each atom of that among these.
+#[derive(Drop)]
+pub(crate) struct Part {
+    pub picks: Picks,
+    pub atoms: Vec<u32>,
+    pub places: Vec<u32>,
+    pub problem: Problem,
+}
+
+fn kind_at(alloc: Global, atoms: &Atoms, number: u32) -> Result<AtomKind, AllocError> {
+    match atoms.atom(number) {
+        Some(Atom::Row(row)) => Ok(AtomKind::Row(row.row().copy(alloc)?)),
+        _ => Ok(AtomKind::Plain),
+    }
+}
+
+// What the atoms with these numbers stand for.
+fn kinds_of(alloc: Global, atoms: &Atoms, numbers: &[u32]) -> Result<Items<AtomKind>, AllocError> {
+    let mut kinds = Items::new(alloc);
+    for number in numbers {
+        kinds.push(kind_at(alloc, atoms, *number)?)?;
+    }
+    Ok(kinds)
+}
+
+fn lits_at(chosen: &Chosen, place: u32) -> &[Lit] {
+    match chosen.clauses.get(place as usize) {
+        Some(clause) => clause.lits(),
+        None => &[],
+    }
+}
+
+// The clauses at these places, over the places of their atoms.
+fn clauses_of(
+    alloc: Global,
+    chosen: &Chosen,
+    picks: &[u32],
+    places: &[u32],
+) -> Result<Items<Clause>, AllocError> {
+    let mut own = Items::from_vec(Vec::with_capacity(alloc, picks.len())?);
+    for pick in picks {
+        own.push(placed(alloc, places, lits_at(chosen, *pick))?)?;
+    }
+    Ok(own)
+}
+
+// The problem of these atoms and clauses; nothing where they don't fit together.
+fn problem_of(
+    alloc: Global,
+    ground: &LazyGround,
+    chosen: &Chosen,
+    picks: &[u32],
+    places: &[u32],
+    atoms: &[u32],
+) -> Result<Option<Problem>, AllocError> {
+    let Some(ints) = count_ints(&ground.atoms) else {
+        return Ok(None);
+    };
+    let kinds = kinds_of(alloc, &ground.atoms, atoms)?;
+    let own = or_drop!(clauses_of(alloc, chosen, picks, places); kinds);
+    Ok(Problem::new(kinds, ints, own))
+}
+
+/// How many atoms there are up to the last that a chosen clause names.
+pub(crate) fn count_named(chosen: &Chosen) -> usize {
+    let mut many = 0;
+    for clause in chosen.clauses.iter() {
+        for lit in clause.lits() {
+            many = many.max((lit.atom as usize).saturating_add(1));
+        }
+    }
+    many
+}
+
+// The places of the atoms that these clauses name, which aren't numbered yet.
+fn marked(alloc: Global, chosen: &Chosen, picks: &[u32]) -> Result<Vec<u32>, AllocError> {
+    let mut places = no_places(alloc, count_named(chosen))?;
+    for pick in picks {
+        mark(places.as_mut_slice(), lits_at(chosen, *pick));
+    }
+    Ok(places)
+}
+
+/// The part of a whole problem that has the clauses that were picked; nothing where they don't make one.
+pub(crate) fn part_of(
+    alloc: Global,
+    ground: &LazyGround,
+    sizes: &Sizes,
+    chosen: &Chosen,
+    picks: Picks,
+) -> Result<Option<Part>, AllocError>
+    requires sizes { AreSizes ground.now sizes.now }
+    requires chosen { AreOf ground.now chosen.now }
+    ensures { IfOk result (λ found. IfSome found (λ part. IsPart part.problem
+        (lazy_problem ground.now) part.picks.numbers.items part.atoms.items)) }
+{
+    let mut places = marked(alloc, chosen, picks.places.as_slice())?;
+    let atoms = number_marked(alloc, places.as_mut_slice())?;
+    let own = problem_of(
+        alloc,
+        ground,
+        chosen,
+        picks.places.as_slice(),
+        places.as_slice(),
+        atoms.as_slice(),
+    )?;
+    let Some(problem) = own else {
+        return Ok(None);
+    };
+    if !is_part(&problem, ground, sizes, chosen, &picks, atoms.as_slice()) {
+        drop(problem);
+        return Ok(None);
+    }
+    Ok(Some(Part {
+        picks,
+        atoms,
+        places,
+        problem,
+    }))
+}

@@ -1,0 +1,254 @@
+// The rounds of a search that takes the clauses of more pairs of readings as it needs them.
+ghost use Rattle.std.specs.Prelude.{◌≡◌, ◌+◌, ℕ, true, length, IfOk, IfSome, OnOk};
+ghost use Rattle.sat_core.specs.Answers.{IsRefuted};
+ghost use Rattle.needed_clauses.specs.Renaming.{IsPart};
+ghost use Rattle.lazy_ground.specs.Lazy.{lazy_problem, ArePairs};
+ghost use Rattle.chosen_clauses.specs.Chosen.{IsLayout};
+ghost use Rattle.lazy_search.specs.Refuting.{AreSizes, AreOf, IsLazyAnswer, IsStep};
+
+use crate::agreeing::{PairAt, disagreeing};
+use crate::counting::{Sizes, count_atoms};
+use crate::parts::{Part, part_of};
+use crate::picking::Picked;
+use chosen_clauses::{Chosen, Layout, chosen_front};
+use items::Items;
+use lazy_ground::LazyGround;
+use needed_clauses::renumbering::{are_plain_lines, renumbered};
+use proof_lines::Line;
+use sat_core::Answer;
+use std::alloc::{AllocError, Global};
+
+// So many rounds at most: each is a search, and most problems of the examples need one or two.
+const ROUNDS: u32 = 12;
+
+// After so many rounds all chosen clauses are searched.
+const PICKY_ROUNDS: u32 = 3;
+
+// So many lines of a log at most, in a round.
+const FEW_LINES: u32 = 2000;
+
+/// What a search of a lazy ground problem comes to.
+#[derive(Drop)]
+pub enum LazyAnswer {
+    /// This log shows that the problem has no interpretation.
+    Refuted(Items<Line>),
+    /// The chosen clauses have an interpretation in which all pairs agree, so the problem probably has one. Nothing is promised of it.
+    Satisfiable,
+    /// Nothing was found in a few lines.
+    Unknown,
+}
+
+/// What a round comes to.
+#[derive(Drop)]
+pub enum Step {
+    /// This is the answer.
+    Answered(LazyAnswer),
+    /// The clauses that were searched have an interpretation that makes other chosen ones false; they are picked now.
+    Picking,
+    /// The chosen clauses have an interpretation that makes clauses of these pairs false.
+    Disagreeing(Vec<PairAt>),
+}
+
+fn few_of(budget: u32) -> u32 {
+    if budget < FEW_LINES {
+        budget
+    } else {
+        FEW_LINES
+    }
+}
+
+// What a log of a part comes to.
+fn judge_log(
+    alloc: Global,
+    ground: &LazyGround,
+    sizes: &Sizes,
+    part: &Part,
+    log: Items<Line>,
+    few: u32,
+    budget: u32,
+) -> Result<Step, AllocError>
+    requires sizes { AreSizes ground.now sizes.now }
+    requires part { IsPart part.now.problem (lazy_problem ground.now) part.now.picks.numbers.items
+        part.now.atoms.items }
+    requires refuted { IsRefuted true part.now.problem few log }
+    ensures { IfOk result (λ step. IsStep ground.now budget step) }
+{
+    let _ground = ground;
+    if log.len() > budget as usize || !are_plain_lines(log.as_slice()) {
+        drop(log);
+        return Ok(Step::Answered(LazyAnswer::Unknown));
+    }
+    let numbers = part.picks.numbers.as_slice();
+    let atoms = part.atoms.as_slice();
+    let lines = renumbered(alloc, numbers, sizes.clauses, atoms, sizes.atoms, log)?;
+    Ok(Step::Answered(LazyAnswer::Refuted(lines)))
+}
+
+// What truth values of a part come to.
+fn judge_found(
+    alloc: Global,
+    ground: &LazyGround,
+    chosen: &Chosen,
+    picked: &mut Picked,
+    part: &Part,
+    truths: &[bool],
+) -> Result<Step, AllocError>
+    ensures { IfOk result (λ step. (budget : ℕ) → IsStep ground.now budget step) }
+{
+    let is_picking = picked.pick_false(chosen, part, truths);
+    let pairs = disagreeing(alloc, ground, part, truths)?;
+    if !pairs.is_empty() {
+        return Ok(Step::Disagreeing(pairs));
+    }
+    if is_picking {
+        return Ok(Step::Picking);
+    }
+    Ok(Step::Answered(LazyAnswer::Satisfiable))
+}
+
+// A search of the chosen clauses that are picked.
+fn search_picked(
+    alloc: Global,
+    ground: &LazyGround,
+    sizes: &Sizes,
+    chosen: &Chosen,
+    picked: &mut Picked,
+    budget: u32,
+) -> Result<Step, AllocError>
+    requires sizes { AreSizes ground.now sizes.now }
+    requires chosen { AreOf ground.now chosen.now }
+    ensures { IfOk result (λ step. IsStep ground.now budget step) }
+{
+    let picks = picked.picks(alloc, chosen.numbers.as_slice())?;
+    let Some(part) = part_of(alloc, ground, sizes, chosen, picks)? else {
+        return Ok(Step::Answered(LazyAnswer::Unknown));
+    };
+    let few = few_of(budget);
+    match watched_search::search(alloc, &part.problem, few) {
+        Answer::Unsat(log) => judge_log(alloc, ground, sizes, &part, log, few, budget),
+        Answer::Sat(found) => {
+            judge_found(
+                alloc,
+                ground,
+                chosen,
+                picked,
+                &part,
+                found.truths.as_slice(),
+            )
+        }
+        Answer::Memory => Err(AllocError),
+        other => {
+            drop(other);
+            Ok(Step::Answered(LazyAnswer::Unknown))
+        }
+    }
+}
+
+// Adds the clauses of these pairs. It says whether it added any.
+fn add_pairs(
+    alloc: Global,
+    ground: &LazyGround,
+    layout: &Layout,
+    chosen: &mut Chosen,
+    pairs: &[PairAt],
+) -> Result<bool, AllocError>
+    requires pairs { ArePairs ground.now.atoms.table ground.now.pairs }
+    requires layout { IsLayout ground.now (length ground.now.atoms.table.atoms) layout.now }
+    requires chosen { AreOf ground.now chosen.now }
+    ensures { OnOk result (AreOf ground.now chosen.new) }
+{
+    let mut some = false;
+    for pair in pairs {
+        if chosen.add_pair(
+            alloc,
+            ground,
+            layout,
+            pair.relation,
+            pair.earlier,
+            pair.later,
+        )? {
+            some = true;
+        }
+    }
+    Ok(some)
+}
+
+// Rounds until there is an answer, or nothing more to be chosen.
+fn rounds(
+    alloc: Global,
+    ground: &LazyGround,
+    sizes: &Sizes,
+    layout: &Layout,
+    chosen: &mut Chosen,
+    picked: &mut Picked,
+    budget: u32,
+) -> Result<LazyAnswer, AllocError>
+    requires pairs { ArePairs ground.now.atoms.table ground.now.pairs }
+    requires sizes { AreSizes ground.now sizes.now }
+    requires layout { IsLayout ground.now (length ground.now.atoms.table.atoms) layout.now }
+    requires chosen { AreOf ground.now chosen.now }
+    ensures { IfOk result (λ answer. IsLazyAnswer (lazy_problem ground.now) budget answer) }
+{
+    for round in 0..ROUNDS {
+        match search_picked(alloc, ground, sizes, chosen, picked, budget)? {
+            Step::Answered(answer) => return Ok(answer),
+            Step::Picking => {}
+            Step::Disagreeing(pairs) => {
+                if !add_pairs(alloc, ground, layout, chosen, pairs.as_slice())? {
+                    return Ok(LazyAnswer::Unknown);
+                }
+            }
+        }
+        if round >= PICKY_ROUNDS {
+            picked.pick_all(chosen.clauses.len())?;
+        } else {
+            picked.pick_new(chosen.clauses.len())?;
+        }
+    }
+    Ok(LazyAnswer::Unknown)
+}
+
+// How many atoms and clauses the whole problem has, where so many of the atoms are those of the table.
+fn sizes_of(first: u32, layout: &Layout) -> Option<Sizes>
+    ensures atoms { IfSome result (λ s. s.atoms ≡ layout.now.behind.name) }
+    ensures names { IfSome result (λ s. layout.now.behind.name ≡ first + s.names) }
+    ensures clauses { IfSome result (λ s. s.clauses ≡ layout.now.behind.clause) }
+{
+    let names = layout.behind.name.checked_sub(first)?;
+    Some(Sizes {
+        atoms: layout.behind.name as usize,
+        names,
+        clauses: layout.behind.clause as usize,
+    })
+}
+
+/// A search of a lazy ground problem, with logs of at most `budget` lines: a log that shows that the problem has no interpretation, or
+/// whether it probably has one. Nothing is found where a few searches of a few lines don't find it.
+pub fn search_lazily(
+    alloc: Global,
+    ground: &LazyGround,
+    budget: u32,
+) -> Result<LazyAnswer, AllocError>
+    requires { ArePairs ground.now.atoms.table ground.now.pairs }
+    ensures { IfOk result (λ answer. IsLazyAnswer (lazy_problem ground.now) budget answer) }
+{
+    let Some(first) = count_atoms(&ground.atoms) else {
+        return Ok(LazyAnswer::Unknown);
+    };
+    let Some((mut chosen, layout)) = chosen_front(alloc, ground, first)? else {
+        return Ok(LazyAnswer::Unknown);
+    };
+    let Some(sizes) = sizes_of(first, &layout) else {
+        return Ok(LazyAnswer::Unknown);
+    };
+    let mut picked = Picked::first(alloc, &ground.atoms, &chosen)?;
+    rounds(
+        alloc,
+        ground,
+        &sizes,
+        &layout,
+        &mut chosen,
+        &mut picked,
+        budget,
+    )
+}
