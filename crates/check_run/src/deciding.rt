@@ -13,14 +13,17 @@ ghost use Rattle.check_run.specs.Decided.{IsDecided};
 ghost use Rattle.diff_bounds.specs.Differences.{problem_fits};
 ghost use Rattle.check_run.specs.Reports.{written_version};
 ghost use Rattle.instances.specs.Ground.{IsGrounded};
+ghost use Rattle.lazy_ground.specs.Lazy.{IsLazyGround};
 
 use crate::fitting::numbered;
 use clausify::problem_of;
 use ground_atoms::GroundFormula;
 use ground_numbers::{law_clauses_make_formulas_true, law_obligation_fits};
 use instances::{GroundRefused, Grounded, ground};
+use lazy_ground::{EitherGround, LazyGround, ground_lazily};
+use lazy_search::{LazyAnswer, search_lazily};
 use model_back::witness_of;
-use needed_clauses::search;
+use needed_clauses::{search, search_whole_first};
 use obligation_list::{Obligation, Witness, breaks};
 use proof_lines::{Interpretation, Problem};
 use proof_report::{Cause, Verdict};
@@ -133,13 +136,33 @@ fn front_of(problem: &Problem, formulas: &[GroundFormula]) -> usize {
     problem.clauses.len().saturating_sub(behind)
 }
 
-// Decides an obligation whose formulas are there.
+// A search of a problem that probably has an interpretation or not.
+fn search_for(
+    alloc: Global,
+    problem: &Problem,
+    front: usize,
+    budget: u32,
+    is_likely: bool,
+) -> Answer
+    ensures answer { IsAnswer true true problem.now budget result }
+    ensures fitting { problem_fits problem.now ≡ true
+        → IsAnswer false false problem.now budget result }
+{
+    if is_likely {
+        search_whole_first(alloc, problem, front, budget)
+    } else {
+        search(alloc, problem, front, budget)
+    }
+}
+
+// Decides an obligation whose formulas are there, and whose problem probably has an interpretation or not.
 fn decide_grounded(
     alloc: Global,
     spec: &Spec,
     ob: &Obligation,
     budget: u32,
     ground: &Grounded,
+    is_likely: bool,
 ) -> Result<Verdict, AllocError>
     requires member { IsObligation spec.now ob.now }
     requires few { HasFew spec.now ob.now }
@@ -151,9 +174,60 @@ fn decide_grounded(
 {
     let problem = pose(alloc, spec, ob, ground)?;
     let front = front_of(&problem, ground.formulas.as_slice());
-    let answer = search(alloc, &problem, front, budget);
+    let answer = search_for(alloc, &problem, front, budget, is_likely);
     drop(problem);
     numbered(verdict_of(alloc, spec, ob, budget, ground, answer)?)
+}
+
+// Decides an obligation by its whole ground problem, which probably has an interpretation or not.
+fn decide_whole(
+    alloc: Global,
+    spec: &Spec,
+    ob: &Obligation,
+    budget: u32,
+    is_likely: bool,
+) -> Result<Verdict, AllocError>
+    requires member { IsObligation spec.now ob.now }
+    requires budget { 1 ≤ budget }
+    ensures good { IfOk result (λ v. IsGood spec.now budget ob.now (shown_verdict spec.now v)) }
+    ensures fit { IfOk result (λ v. IsFit spec.now written_version ob.now v) }
+    ensures decided { HasFew spec.now ob.now → problem_fits (problem_of spec.now ob.now) ≡ true
+        → IfOk result (λ v. IsDecided (length (problem_of spec.now ob.now).atoms) budget v) }
+{
+    match ground(alloc, spec, ob) {
+        Ok(ground) => {
+            let verdict = decide_grounded(alloc, spec, ob, budget, &ground, is_likely);
+            drop(ground);
+            verdict
+        }
+        Err(GroundRefused::TooMany) => Ok(Verdict::Undecided(Cause::Instances)),
+        Err(GroundRefused::Memory) => Err(AllocError),
+    }
+}
+
+// Decides an obligation by its lazy ground problem, and by the whole one where that doesn't prove it.
+fn decide_lazily(
+    alloc: Global,
+    spec: &Spec,
+    ob: &Obligation,
+    budget: u32,
+    ground: LazyGround,
+) -> Result<Verdict, AllocError>
+    requires member { IsObligation spec.now ob.now }
+    requires budget { 1 ≤ budget }
+    requires ground { IsLazyGround spec.now ob.now ground }
+    ensures good { IfOk result (λ v. IsGood spec.now budget ob.now (shown_verdict spec.now v)) }
+    ensures fit { IfOk result (λ v. IsFit spec.now written_version ob.now v) }
+    ensures decided { problem_fits (problem_of spec.now ob.now) ≡ true
+        → IfOk result (λ v. IsDecided (length (problem_of spec.now ob.now).atoms) budget v) }
+{
+    let answer = search_lazily(alloc, &ground, budget);
+    drop(ground);
+    match answer? {
+        LazyAnswer::Refuted(log) => numbered(Verdict::Proved(log)),
+        LazyAnswer::Satisfiable => decide_whole(alloc, spec, ob, budget, true),
+        LazyAnswer::Unknown => decide_whole(alloc, spec, ob, budget, false),
+    }
 }
 
 /// Decides an obligation of the specification, with logs of at most `budget` lines: it is proved, with a log that the kernel accepts
@@ -174,12 +248,13 @@ pub fn decide(
     ensures decided { HasFew spec.now ob.now → problem_fits (problem_of spec.now ob.now) ≡ true
         → IfOk result (λ v. IsDecided (length (problem_of spec.now ob.now).atoms) budget v) }
 {
-    match ground(alloc, spec, ob) {
-        Ok(ground) => {
-            let verdict = decide_grounded(alloc, spec, ob, budget, &ground);
+    match ground_lazily(alloc, spec, ob) {
+        Ok(EitherGround::Whole(ground)) => {
+            let verdict = decide_grounded(alloc, spec, ob, budget, &ground, false);
             drop(ground);
             verdict
         }
+        Ok(EitherGround::Lazy(ground)) => decide_lazily(alloc, spec, ob, budget, ground),
         Err(GroundRefused::TooMany) => Ok(Verdict::Undecided(Cause::Instances)),
         Err(GroundRefused::Memory) => Err(AllocError),
     }
