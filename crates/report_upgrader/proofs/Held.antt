@@ -1,9 +1,8 @@
 -- What is said of bytes that are held, and of those that a source tells.
-use Rattle.std.proofs.Common.{◌≡◌, ℕ, ◌<◌, ◌≤◌, List, length, Option, Some, None, Result, Ok, Err, inl, inr, refl, sym, ap, subst, ◌∙◌, arith}
+use Rattle.std.proofs.Common.{◌≡◌, ℕ, ◌<◌, ◌≤◌, List, length, Option, Some, None, Result, Ok, Err, inl, inr, refl, sym, ap, ◌∙◌}
 use Rattle.std.specs.Prelude.{IfSome, IsErrOf}
 use Rattle.std.specs.Io.KnownBytes.{Appends}
 use Rattle.std.proofs.KnownBytes.{Keeps-refl}
-use Rattle.byte_ports.specs.Faults.{IsFault}
 use Rattle.byte_ports.specs.Written.{IsFrontWritten}
 use Rattle.byte_ports.proofs.Sources.{long_told, some_told}
 use Rattle.spec_core.specs.Specification.{Specification}
@@ -12,19 +11,10 @@ use Rattle.report_bytes.specs.Bytes.{report_bytes}
 use Rattle.report_upgrader.specs.Reports.{upgraded_report}
 use Rattle.report_verifier.specs.declared.refused.VerifyRefused.{VerifyRefused}
 use Rattle.report_verifier.specs.declared.refused.VerifyRefused.TheVariants as verifying
-use Rattle.report_verifier.specs.Verified.{most_report_bytes, IsAccepted, IsVerified, IsVerifiedFrom}
+use Rattle.report_verifier.specs.Verified.{most_report_bytes, IsAccepted, IsVerified}
 use Rattle.report_upgrader.specs.declared.refused.UpgradeRefused.{UpgradeRefused}
 use Rattle.report_upgrader.specs.declared.refused.UpgradeRefused.TheVariants as refused
 use Rattle.report_upgrader.specs.Upgrading.{refused_as, IsFront, IsUpgraded, IsUpgradedFrom}
-
--- ---- bytes that are held
-
-pub told_same : (d : Specification) (bytes : List ℕ) (result : Result Tally VerifyRefused) → IsVerifiedFrom d (Some bytes) result → IsVerified d bytes result
-told_same d bytes result (given, same, verified) = subst (λ (b : List ℕ). IsVerified d b result) (sym same) verified
-
-pub no_fault : IsFault 0 0 → ⊥
-no_fault (inl h) = omega (arith, h)
-no_fault (inr e) = absurd (cc e)
 
 -- ---- what is written of them
 

@@ -5,9 +5,12 @@ use Rattle.std.proofs.lemmas.List.{get_or-set_other}
 use Rattle.std.proofs.lemmas.Grind.{get_or-set_at}
 use Rattle.std.proofs.lemmas.Bool.Decides.{nat_tests}
 use Rattle.std.proofs.lemmas.Grind.{flat_map-append}
+use Rattle.std.specs.Fmt.{digits, decimal}
 use Rattle.proof_lines.specs.declared.line.Line.{Line}
+use Rattle.proof_lines.specs.declared.line.Line.TheVariants.{Drop}
 use Rattle.proof_lines.specs.Numbers.{stands_in}
-use Rattle.report_words.specs.Words.{line_text}
+use Rattle.report_words.specs.Words.{line_text, spaced}
+use Rattle.report_words.proofs.Splitting.{written}
 use Rattle.report_lines.specs.Logs.{line_format}
 use Rattle.proof_report.specs.Texts.{log_text}
 use Rattle.log_drops.specs.Upgraded.{rising, named, is_named, last_named, unless_drop, drop_line, upgraded}
@@ -103,6 +106,19 @@ copied : (l : Line) (ds : List Line) (line old mid new : List ℕ) → IsText l 
 copied l ds line old mid new text is more =
     more ∙ ap (λ (x : List ℕ). x ++ log_text ds) is ∙ append_assoc old (line ++ 10 ∷ []) (log_text ds)
     ∙ ap (λ (x : List ℕ). old ++ (x ++ log_text ds)) (sym (text_same line (line_format.put l) text.0))
+
+one_digit : decimal 1 ≡ 49 ∷ []
+unfolding digits
+one_digit = refl
+
+-- a Drop line of one clause
+pub single_written : (old first body after : List ℕ) (clause : ℕ) → first ≡ old ++ 100 ∷ 32 ∷ 49 ∷ [] → body ≡ first ++ spaced (decimal clause ∷ []) → after ≡ body ++ 10 ∷ [] → after ≡ old ++ log_text (Drop (clause ∷ []) ∷ [])
+single_written old first body after clause e f g =
+    let others : List ℕ = spaced (decimal clause ∷ []) in
+    let same : body ≡ (old ++ 100 ∷ []) ++ spaced (decimal 1 ∷ decimal clause ∷ []) =
+    f ∙ ap (λ (t : List ℕ). t ++ others) e ∙ append_assoc old (100 ∷ 32 ∷ 49 ∷ []) others ∙ sym (append_assoc old (100 ∷ []) (32 ∷ 49 ∷ others))
+    ∙ ap (λ (d : List ℕ). (old ++ 100 ∷ []) ++ (32 ∷ d ++ others)) (sym one_digit) in
+    written old (old ++ 100 ∷ []) body after (100 ∷ []) (decimal 1 ∷ decimal clause ∷ []) refl same g ∙ ap (λ (x : List ℕ). old ++ x) (sym (append-nil _))
 
 -- a line that resolves two clauses, and those that it names last
 pub resolve_written : (last : List ℕ) (at : ℕ) (l : Line) (line old mid new : List ℕ) (a b n sum : ℕ) → IsText l line → IsKind (kinds.Resolve a b) l → mid ≡ old ++ (line ++ 10 ∷ [])

@@ -11,6 +11,9 @@ use Rattle.log_drops.specs.Upgraded.{rising}
 use Rattle.report_words.specs.Fields.{most_count, count_format}
 use Rattle.report_lines.specs.Logs.{line_format}
 use Rattle.report_words.proofs.NumberFields.{count_exact}
+use Rattle.report_verifier.specs.declared.notes.ResolvedPair.{ResolvedPair}
+use Rattle.report_verifier.specs.Notes.{IsPair}
+use Rattle.report_upgrader.specs.Passing.{IsText}
 use Rattle.report_upgrader.specs.declared.log_bytes.LogLine.TheVariants as kinds
 use Rattle.report_upgrader.specs.LastLines.{IsKind}
 
@@ -63,3 +66,10 @@ other_kind (Resolve x y p) words w ws is front r d = absurd (let e : true ≡ fa
 other_kind (Farkas used steps) words w ws is front r d = (refl, refl)
 other_kind (Split place at used steps low high values) words w ws is front r d = (refl, refl)
 other_kind (Drop clauses) words w ws is front r d = absurd (let e : true ≡ false = clash w (codes "d") (codes "d") true false (head_is _ _ _ _ (sym front ∙ is)) refl d in cc)
+
+-- a line of which it was noted that it resolves two clauses
+pub pair_kind : (l : Line) (text : List ℕ) (x : ResolvedPair) → x.left ≤ most_count → x.right ≤ most_count → IsText l text → IsPair (Some x) text → IsKind (kinds.Resolve x.left x.right) l
+pair_kind l text x left right (words, fits) (p, is) =
+    let ws : List (List ℕ) = decimal p ∷ [] in
+    resolve_kind l (codes "r") (decimal x.left ∷ decimal x.right ∷ ws) (decimal x.right ∷ ws) ws x.left x.right (sym is ∙ words) fits refl
+    (count_exact.again x.left (decimal x.right ∷ ws) (le-leb x.left most_count left)) (count_exact.again x.right ws (le-leb x.right most_count right))

@@ -1,16 +1,15 @@
 -- The lines of a log, gone through one by one in their bytes.
 use Rattle.std.proofs.Common.{◌≡◌, ℕ, zero, suc, ◌+◌, ◌-◌, ◌<◌, ◌≤◌, cond, List, [], ◌∷◌, ◌++◌, length, length-append, take, take_all, drop, refl, sym, ap, subst, ◌∙◌, arith, append_assoc, append-nil}
 use Rattle.std.specs.Prelude.{slice_index_or}
-use Rattle.std.specs.List.{join_with_byte}
-use Rattle.std.proofs.lemmas.List.Splits.{join_with_byte-slice_split}
 use Rattle.std.proofs.Math.Seq.{take-append_seam, drop-append-add}
 use Rattle.report_bytes.specs.Bytes.{pieces}
-use Rattle.report_bytes.proofs.Cutting.{IsSome, pieces_some}
 use Rattle.proof_lines.specs.declared.line.Line.{Line}
 use Rattle.proof_lines.specs.Numbers.{stands_in}
 use Rattle.log_drops.specs.Upgraded.{named, upgraded}
-use Rattle.report_upgrader.specs.declared.log_bytes.SeenLine.{SeenLine}
-use Rattle.report_upgrader.specs.LastLines.{IsKind, AreKinds, IsLong, AreLong, last_in, last_naming, with_drops, IsWritten}
+use Rattle.report_verifier.specs.declared.notes.LineNote.{LineNote}
+use Rattle.report_verifier.specs.Notes.{IsLong, IsPair, AreNotedTo}
+use Rattle.report_upgrader.specs.declared.log_bytes.LogLine.{LogLine}
+use Rattle.report_upgrader.specs.LastLines.{IsKind, last_in, last_naming, with_drops, IsWritten}
 use Rattle.report_upgrader.specs.Passing.{IsText, say_log}
 use Rattle.report_upgrader.proofs.LastLines.{last_in-snoc, drops_same, IsLeftOf, one_line, all_lines}
 
@@ -59,47 +58,23 @@ no_more ls done (l ∷ later) at count texts le whole way =
     let long = way.long in
     absurd (omega (arith, le, whole, all, same, long))
 
--- ---- what each line is
-
--- one line more
-kinds_more : (ks : List SeenLine) (ls : List Line) (k : SeenLine) (l : Line) → AreKinds ks ls → IsKind k.kind l → AreKinds (ks ++ k ∷ []) (ls ++ l ∷ [])
-unfolding AreKinds
-kinds_more [] [] k l are is = (is, tt)
-kinds_more [] (x ∷ ls) k l are is = absurd are
-kinds_more (y ∷ ks) [] k l are is = absurd are
-kinds_more (y ∷ ks) (x ∷ ls) k l are is = (are.0, kinds_more ks ls k l are.1 is)
-
-no_kinds : (ks : List SeenLine) → ks ≡ [] → AreKinds ks []
-unfolding AreKinds
-no_kinds [] none = tt
-no_kinds (k ∷ ks) none = absurd cc
-
--- the kind of one line
-kind_at : (ks : List SeenLine) (done later : List Line) (l : Line) (k : SeenLine) → AreKinds ks (done ++ l ∷ later) → k ≡ slice_index_or ks (length done) k → IsKind k.kind l
-unfolding AreKinds
-kind_at [] [] later l k are is = absurd are
-kind_at [] (x ∷ done) later l k are is = absurd are
-kind_at (y ∷ ks) [] later l k are is = subst (λ (z : SeenLine). IsKind z.kind l) (sym is) are.0
-kind_at (y ∷ ks) (x ∷ done) later l k are is = kind_at ks done later l k are.1 is
-
 -- ---- the table
 
--- a table has for each clause the last of the lines so far that names it, and a list what each of these lines is
-pub record IsNoting (ls : List Line) (at : ℕ) (texts : List (List ℕ)) (table : List ℕ) (kinds : List SeenLine) : Type 0 where
+-- a table has for each clause the last of the lines so far that names it
+pub record IsNoting (ls : List Line) (at : ℕ) (texts : List (List ℕ)) (table : List ℕ) : Type 0 where
   pub done : List Line
   pub later : List Line
   pub way : IsAmid ls at texts done later
   pub noted : (n : ℕ) → slice_index_or table n 0 ≡ last_in 0 0 done n
-  pub kinds_are : AreKinds kinds done
 
-pub noting_first : (ls : List Line) (texts : List (List ℕ)) (table : List ℕ) (kinds : List SeenLine) → table ≡ [] → kinds ≡ [] → say_log ls texts → IsNoting ls 0 texts table kinds
-noting_first ls texts table kinds none empty says = record { done = []; later = ls; way = amid_first ls texts says; noted = λ n. ap (λ (t : List ℕ). slice_index_or t n 0) none; kinds_are = no_kinds kinds empty }
+pub noting_first : (ls : List Line) (texts : List (List ℕ)) (table : List ℕ) → table ≡ [] → say_log ls texts → IsNoting ls 0 texts table
+noting_first ls texts table none says = record { done = []; later = ls; way = amid_first ls texts says; noted = λ n. ap (λ (t : List ℕ). slice_index_or t n 0) none }
 
-pub noting_on : (ls : List Line) (at count : ℕ) (line : List ℕ) (cut texts : List (List ℕ)) (old new : List ℕ) (kind : SeenLine) (kinds all : List SeenLine) → at < count → length ls ≡ count → cut ≡ line ∷ texts
-    → ((l : Line) → IsKind kind.kind l → (n : ℕ) → slice_index_or new n 0 ≡ cond (stands_in (named l) n) (at + 1) (slice_index_or old n 0))
-    → ((l : Line) → IsText l line → IsKind kind.kind l) → all ≡ kinds ++ kind ∷ []
-    → IsNoting ls at cut old kinds → IsNoting ls (at + 1) texts new all
-noting_on ls at count line cut texts old new kind kinds all lt whole is step said one_more now =
+pub noting_on : (ls : List Line) (at count : ℕ) (line : List ℕ) (cut texts : List (List ℕ)) (old new : List ℕ) (kind : LogLine) → at < count → length ls ≡ count → cut ≡ line ∷ texts
+    → ((l : Line) → IsKind kind l → (n : ℕ) → slice_index_or new n 0 ≡ cond (stands_in (named l) n) (at + 1) (slice_index_or old n 0))
+    → ((l : Line) → IsText l line → IsKind kind l)
+    → IsNoting ls at cut old → IsNoting ls (at + 1) texts new
+noting_on ls at count line cut texts old new kind lt whole is step said now =
     let m = next_of ls now.done now.later at count line texts lt whole (subst (λ (c : List (List ℕ)). IsAmid ls at c now.done now.later) is now.way) in
     let l = m.line_said in
     let long = now.way.long in
@@ -111,21 +86,13 @@ noting_on ls at count line cut texts old new kind kinds all lt whole is step sai
       noted = λ n. step l (said l m.text) n
           ∙ (λ i. cond (stands_in (named l) n) (number i) (now.noted n i))
           ∙ sym (last_in-snoc 0 0 now.done l n);
-      kinds_are = subst (λ (ks : List SeenLine). AreKinds ks (now.done ++ l ∷ [])) (sym one_more) (kinds_more kinds now.done kind l now.kinds_are (said l m.text));
     }
 
-all_done : (ls : List Line) (at count : ℕ) (texts : List (List ℕ)) (table : List ℕ) (kinds : List SeenLine) → count ≤ at → length ls ≡ count → (now : IsNoting ls at texts table kinds) → ls ≡ now.done
-all_done ls at count texts table kinds le whole now =
+pub all_noted : (ls : List Line) (at count : ℕ) (texts : List (List ℕ)) (table : List ℕ) → count ≤ at → length ls ≡ count → IsNoting ls at texts table → (n : ℕ) → slice_index_or table n 0 ≡ last_naming ls n
+all_noted ls at count texts table le whole now n =
     let none = no_more ls now.done now.later at count texts le whole now.way in
-    now.way.parts_are ∙ ap (λ (x : List Line). now.done ++ x) none ∙ append-nil now.done
-
-pub all_noted : (ls : List Line) (at count : ℕ) (texts : List (List ℕ)) (table : List ℕ) (kinds : List SeenLine) → count ≤ at → length ls ≡ count → IsNoting ls at texts table kinds → (n : ℕ) → slice_index_or table n 0 ≡ last_naming ls n
-all_noted ls at count texts table kinds le whole now n =
-    now.noted n ∙ ap (λ (x : List Line). last_in 0 0 x n) (sym (all_done ls at count texts table kinds le whole now))
-
-pub all_kinds : (ls : List Line) (at count : ℕ) (texts : List (List ℕ)) (table : List ℕ) (kinds : List SeenLine) → count ≤ at → length ls ≡ count → IsNoting ls at texts table kinds → AreKinds kinds ls
-all_kinds ls at count texts table kinds le whole now =
-    subst (λ (x : List Line). AreKinds kinds x) (sym (all_done ls at count texts table kinds le whole now)) now.kinds_are
+    let same : ls ≡ now.done = now.way.parts_are ∙ ap (λ (x : List Line). now.done ++ x) none ∙ append-nil now.done in
+    now.noted n ∙ ap (λ (x : List Line). last_in 0 0 x n) (sym same)
 
 -- ---- what is written
 
@@ -139,25 +106,23 @@ pub record IsWriting (ls : List Line) (at : ℕ) (texts : List (List ℕ)) (old 
 pub writing_first : (ls : List Line) (texts : List (List ℕ)) (old : List ℕ) → say_log ls texts → IsWriting ls 0 texts old old 0
 writing_first ls texts old says = record { done = []; later = ls; way = amid_first ls texts says; left = record { text = refl; lines = omega arith } }
 
-pub writing_on : (ls : List Line) (at many : ℕ) (line : List ℕ) (cut texts : List (List ℕ)) (last old now new : List ℕ) (count more sum : ℕ) (kinds : List SeenLine) (kind : SeenLine) → at < many → length ls ≡ many → cut ≡ line ∷ texts
+pub writing_on : (ls : List Line) (at many : ℕ) (line : List ℕ) (cut texts : List (List ℕ)) (last old now new : List ℕ) (count more sum : ℕ) (kind : LogLine) → at < many → length ls ≡ many → cut ≡ line ∷ texts
     → ((n : ℕ) → slice_index_or last n 0 ≡ last_naming ls n)
-    → AreKinds kinds ls → kind ≡ slice_index_or kinds at kind
-    → ((l : Line) → IsText l line → IsKind kind.kind l → IsWritten (with_drops last (at + 1) l) now new more) → sum ≡ count + more
+    → ((l : Line) → IsText l line → IsKind kind l)
+    → ((l : Line) → IsText l line → IsKind kind l → IsWritten (with_drops last (at + 1) l) now new more) → sum ≡ count + more
     → IsWriting ls at cut old now count → IsWriting ls (at + 1) texts old new sum
-writing_on ls at many line cut texts last old now new count more sum kinds kind lt whole is table are here step add so =
+writing_on ls at many line cut texts last old now new count more sum kind lt whole is table said step add so =
     let m = next_of ls so.done so.later at many line texts lt whole (subst (λ (c : List (List ℕ)). IsAmid ls at c so.done so.later) is so.way) in
     let l = m.line_said in
     let long = so.way.long in
     let number : at + 1 ≡ suc (length so.done) = omega (arith, long) in
     let same : ls ≡ so.done ++ l ∷ m.others = so.way.parts_are ∙ ap (λ (x : List Line). so.done ++ x) m.are in
-    let its : IsKind kind.kind l =
-    kind_at kinds so.done m.others l kind (subst (λ (x : List Line). AreKinds kinds x) same are) (subst (λ (k : ℕ). kind ≡ slice_index_or kinds k kind) (sym long) here) in
     let drops = drops_same last so.done l m.others (at + 1) number (λ n. table n ∙ ap (λ (x : List Line). last_naming x n) same) in
     record {
       done = so.done ++ l ∷ [];
       later = m.others;
       way = m.onward;
-      left = one_line ls l m.others old now new count more sum (with_drops last (at + 1) l) (subst (λ (x : List Line). IsLeftOf ls x old now count) m.are so.left) (step l m.text its) drops add;
+      left = one_line ls l m.others old now new count more sum (with_drops last (at + 1) l) (subst (λ (x : List Line). IsLeftOf ls x old now count) m.are so.left) (step l m.text (said l m.text)) drops add;
     }
 
 pub all_written_lines : (ls : List Line) (at count : ℕ) (texts : List (List ℕ)) (old new : List ℕ) (written : ℕ) → count ≤ at → length ls ≡ count → IsWriting ls at texts old new written → IsWritten (upgraded ls) old new written
@@ -173,38 +138,14 @@ behind_on (x ∷ all) (suc at) line cut texts h is = let k : suc at + 1 ≡ suc 
 
 -- ---- how long the lines are
 
--- a line that is cut off, and its line feed
-feed_behind : (line behind bytes : List ℕ) → pieces bytes ≡ line ∷ pieces behind → bytes ≡ line ++ 10 ∷ behind
-feed_behind line behind bytes h =
-    sym (join_with_byte-slice_split 10 bytes) ∙ ap (λ (ps : List (List ℕ)). join_with_byte 10 ps) h ∙ one_more line (pieces behind) (pieces_some behind)
-    ∙ ap (λ (x : List ℕ). line ++ 10 ∷ x) (join_with_byte-slice_split 10 behind)
-  where
-    one_more : (p : List ℕ) (ps : List (List ℕ)) → IsSome ps → join_with_byte 10 (p ∷ ps) ≡ p ++ 10 ∷ join_with_byte 10 ps
-    one_more p [] s = absurd s
-    one_more p (q ∷ ps) s = refl
-
--- one line more
-pub long_more : (ks : List SeenLine) (k : SeenLine) (bytes rest : List ℕ) → AreLong ks bytes rest → (h : IsLong k.len rest) → AreLong (ks ++ k ∷ []) bytes h.behind
-long_more [] k bytes rest are h = subst (λ (b : List ℕ). (g : IsLong k.len b) × (g.behind ≡ h.behind)) (sym are) (h, refl)
-long_more (x ∷ ks) k bytes rest are h = (are.0, long_more ks k are.0.behind rest are.1 h)
-
-pub long_on : (old all : List SeenLine) (k : SeenLine) (bytes rest line behind : List ℕ) → AreLong old bytes rest → pieces rest ≡ line ∷ pieces behind → k.len ≡ length line → all ≡ old ++ k ∷ [] → AreLong all bytes behind
-long_on old all k bytes rest line behind are cut long is =
-    subst (λ (ks : List SeenLine). AreLong ks bytes behind) (sym is)
-    (long_more old k bytes rest are (record { line = line; behind = behind; are = feed_behind line behind rest cut; long = sym long; cut = cut }))
-
-pub no_long : (ks : List SeenLine) (bytes : List ℕ) → ks ≡ [] → AreLong ks bytes bytes
-no_long [] bytes none = refl
-no_long (k ∷ ks) bytes none = absurd cc
-
 -- the next line
-pub long_at : (ks : List SeenLine) (i : ℕ) (k : SeenLine) (bytes end : List ℕ) → i < length ks → k ≡ slice_index_or ks i k → AreLong (drop i ks) bytes end → (h : IsLong k.len bytes) × AreLong (drop (i + 1) ks) h.behind end
-long_at [] i k bytes end lt is are = absurd (omega arith)
-long_at (x ∷ ks) zero k bytes end lt is are = subst (λ (z : SeenLine). (h : IsLong z.len bytes) × AreLong ks h.behind end) (sym is) are
-long_at (x ∷ ks) (suc i) k bytes end lt is are =
+pub noted_at : (ns : List LineNote) (i : ℕ) (n : LineNote) (bytes end : List ℕ) → i < length ns → n ≡ slice_index_or ns i n → AreNotedTo (drop i ns) bytes end → (h : IsLong n.len bytes) × (IsPair n.pair h.line × AreNotedTo (drop (i + 1) ns) h.behind end)
+noted_at [] i n bytes end lt is are = absurd (omega arith)
+noted_at (x ∷ ns) zero n bytes end lt is are = subst (λ (z : LineNote). (h : IsLong z.len bytes) × (IsPair z.pair h.line × AreNotedTo ns h.behind end)) (sym is) are
+noted_at (x ∷ ns) (suc i) n bytes end lt is are =
     let e : suc i + 1 ≡ suc (i + 1) = omega arith in
-    let w = long_at ks i k bytes end (omega arith) is are in
-    (w.0, subst (λ (n : ℕ). AreLong (drop n (x ∷ ks)) w.0.behind end) (sym e) w.1)
+    let w = noted_at ns i n bytes end (omega arith) is are in
+    (w.0, (w.1.0, subst (λ (k : ℕ). AreNotedTo (drop k (x ∷ ns)) w.0.behind end) (sym e) w.1.1))
 
 -- a line that is so long stands within the bytes
 pub long_within : (len : ℕ) (bytes : List ℕ) → IsLong len bytes → len < length bytes
@@ -226,6 +167,14 @@ long_behind len bytes h =
     let b : drop (len + 1) bytes ≡ h.behind =
     ap (λ (m : ℕ). drop (m + 1) bytes) (sym h.long) ∙ ap (λ (x : List ℕ). drop (length h.line + 1) x) h.are ∙ drop-append-add h.line (10 ∷ h.behind) 1 in
     ap (λ (x : List ℕ). take (length bytes - (len + 1)) x) b ∙ take_all (length bytes - (len + 1)) h.behind (omega (arith, n, l, k))
+
+pub long_ended : (len : ℕ) (bytes : List ℕ) → (h : IsLong len bytes) → take (len + 1) bytes ≡ h.line ++ 10 ∷ []
+long_ended len bytes h =
+    let n = length-append h.line (10 ∷ []) in
+    let k = h.long in
+    let size : len + 1 ≡ length (h.line ++ 10 ∷ []) = omega (arith, n, k) in
+    let parts : bytes ≡ (h.line ++ 10 ∷ []) ++ h.behind = h.are ∙ sym (append_assoc h.line (10 ∷ []) h.behind) in
+    (λ i. take (size i) (parts i)) ∙ take-append_seam (h.line ++ 10 ∷ []) h.behind
 
 -- the pieces of bytes whose next line was cut off by its length
 pub long_pieces : (len : ℕ) (bytes line behind : List ℕ) → (h : IsLong len bytes) → (line ≡ h.line) × (behind ≡ h.behind) → pieces bytes ≡ line ∷ pieces behind

@@ -4,10 +4,8 @@ use Rattle.std.specs.Prelude.{slice_index_or}
 use Rattle.proof_lines.specs.declared.line.Line.{Line}
 use Rattle.proof_lines.specs.Numbers.{stands_in}
 use Rattle.proof_report.specs.Texts.{log_text}
-use Rattle.report_bytes.specs.Bytes.{pieces}
 use Rattle.log_drops.specs.Upgraded.{rising, named, unless_drop, drop_line}
 use Rattle.report_upgrader.specs.declared.log_bytes.LogLine.{LogLine}
-use Rattle.report_upgrader.specs.declared.log_bytes.SeenLine.{SeenLine}
 use Rattle.report_upgrader.specs.declared.log_bytes.LogLine.TheVariants as kinds
 
 -- what is said of a line: the clauses that it names, or whether it drops clauses
@@ -15,26 +13,6 @@ abbrev pub IsKind : LogLine → Line → Type 0
 IsKind (kinds.Resolve left right) l = (named l ≡ rising left right) × (unless_drop l ≡ l ∷ [])
 IsKind kinds.Drop l = (named l ≡ []) × (unless_drop l ≡ [])
 IsKind kinds.Other l = (named l ≡ []) × (unless_drop l ≡ l ∷ [])
-
--- the same of each of some lines
-unfoldable pub AreKinds : List SeenLine → List Line → Type 0
-AreKinds [] [] = Unit {0}
-AreKinds [] (l ∷ ls) = ⊥
-AreKinds (k ∷ ks) [] = ⊥
-AreKinds (k ∷ ks) (l ∷ ls) = IsKind k.kind l × AreKinds ks ls
-
--- Bytes begin with a line that is so long, and its line feed.
-pub record IsLong (len : ℕ) (bytes : List ℕ) : Type 0 where
-  pub line : List ℕ
-  pub behind : List ℕ
-  pub are : bytes ≡ line ++ 10 ∷ behind
-  pub long : length line ≡ len
-  pub cut : pieces bytes ≡ line ∷ pieces behind
-
--- bytes begin with lines that are so long as was seen, and these come behind
-abbrev pub AreLong : List SeenLine → List ℕ → List ℕ → Type 0
-AreLong [] bytes end = bytes ≡ end
-AreLong (k ∷ ks) bytes end = (h : IsLong k.len bytes) × AreLong ks h.behind end
 
 -- which of these lines names a clause last, where they are counted from a number on; else the number
 -- that was found before

@@ -3,9 +3,10 @@
 //
 // It stands on `report_verifier`, which says whether a report stands, and on `log_drops`, which says what is left of a log. A source is
 // read once, and nothing may be written of a report that is refused; so the bytes are held, of which there are at most 64 MiB, and gone
-// through twice: they are verified, and then written line by line. A report that stands needs no second reader: the first word of a line
-// tells a proved verdict, and those of its log what upgrading has to know of them. Each line is passed on as it is but for the first one and
-// those of proved verdicts, whose logs are gone through twice more, since what a later line names isn't known before.
+// through twice: they are verified, with a note of each line, and then written line by line. A report that stands needs no second reader:
+// the first word of a line tells a proved verdict, and the notes of its log what upgrading has to know of most lines. Each line is passed on
+// as it is but for the first one and those of proved verdicts, whose logs are gone through twice more, since what a later line names isn't
+// known before.
 //
 // Definitions, in the order in which a reader needs them: specs/Reports (the upgraded report), specs/Upgrading (what is answered, and what
 // is written). specs/LastLines and specs/Passing mirror the code.
@@ -17,7 +18,6 @@ mod passing;
 mod refused;
 mod report_laws;
 mod rewriting;
-mod source;
 mod upgrading;
 
 pub use laws::{

@@ -4,10 +4,11 @@ ghost use Rattle.spec_core.specs.Specification.{Specification};
 ghost use Rattle.proof_report.specs.declared.event.Event.{Event};
 ghost use Rattle.proof_report.specs.Events.{words};
 ghost use Rattle.report_bytes.specs.Bytes.{pieces};
+ghost use Rattle.report_verifier.specs.Notes.{AreNoted};
 ghost use Rattle.report_words.specs.Words.{parts};
 ghost use Rattle.report_upgrader.specs.Passing.{is_followed, IsBegun, IsPassed};
 
-use crate::log_bytes::{copy_line, pass_log};
+use crate::log_bytes::{LeftLines, copy_line, pass_log};
 use report_words::fields::count;
 use report_words::words::{ReadError, Words, keyword};
 use std::alloc::{AllocError, Global};
@@ -29,18 +30,20 @@ fn log_begun(line: &[u8]) -> Result<Option<u32>, AllocError>
     }
 }
 
-/// Adds what is written for a line to a text, and answers the bytes that are left to pass on. A proved
+/// Adds what is written for a line to a text, and answers the lines that are left to pass on. A proved
 /// verdict is passed on with its log.
 pub fn pass_line<'a>(
     alloc: Global,
     line: &[u8],
-    behind: &'a [u8],
+    behind: LeftLines<'a>,
     text: &mut Vec<u8>,
-) -> Result<&'a [u8], AllocError>
-    ensures passed { (rest : List ℕ) → pieces rest ≡ line.now ∷ pieces behind.now
+) -> Result<LeftLines<'a>, AllocError>
+    requires { AreNoted behind.notes.now behind.bytes.now }
+    ensures passed { (rest : List ℕ) → pieces rest ≡ line.now ∷ pieces behind.entry.bytes.now
         → IfOk result (λ left. IsPassed (record { rest = rest; text = text.old.items })
-        (record { rest = left.now; text = text.new.items })) }
-    ensures fewer { IfOk result (λ left. length left.now ≤ length behind.now) }
+        (record { rest = left.bytes.now; text = text.new.items })) }
+    ensures fewer { IfOk result (λ left. length left.bytes.now ≤ length behind.entry.bytes.now) }
+    ensures noted { IfOk result (λ left. AreNoted left.notes.now left.bytes.now) }
 {
     match log_begun(line)? {
         Some(count) => {

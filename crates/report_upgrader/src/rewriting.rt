@@ -1,18 +1,19 @@
 // A report that stands, written line by line in version 2.
 ghost use Rattle.std.specs.Prelude.{◌≡◌, true, ℕ, ◌≤◌, ◌∷◌, [], List, take, length};
-ghost use Rattle.std.specs.Prelude.{IfOk, IfErr, OnOk, OnErr};
+ghost use Rattle.std.specs.Prelude.{IfOk, IfErr, OnOk, OnErr, IfSome, IfNone, ◌<◌};
 ghost use Rattle.std.specs.Io.KnownBytes.{Appends};
 ghost use Rattle.byte_ports.specs.Faults.{IsFault};
 ghost use Rattle.byte_ports.specs.Written.{IsFrontWritten};
 ghost use Rattle.byte_ports.specs.declared.text.WriteOut.TheVariants.{Fault};
 ghost use Rattle.proof_report.specs.Verdicts.{ReportForm, is_report};
+ghost use Rattle.report_verifier.specs.Notes.{AreNoted};
 ghost use Rattle.report_bytes.specs.Bytes.{pieces, report_bytes};
 ghost use Rattle.report_upgrader.specs.Reports.{upgraded_report};
 ghost use Rattle.report_upgrader.specs.Passing.{Task, IsUnderway};
 
+use crate::log_bytes::{LeftLines, behind, cut_line};
 use crate::passing::pass_line;
 use byte_ports::{Sink, WriteOut, write_text};
-use report_bytes::next_line;
 use report_lines::head::write_title;
 use spec_core::Spec;
 use std::alloc::Global;
@@ -33,24 +34,43 @@ fn write_out<K: Sink>(text: &mut Vec<u8>, out: &mut K) -> Result<(), WriteOut>
     Ok(())
 }
 
-// Passes a line on, and writes what is gathered where it is much. Answers the bytes that are left.
+// The next line, and the lines behind it; none where no line feed ends a line.
+fn next_line(lines: LeftLines<'_>) -> Option<(&[u8], LeftLines<'_>)>
+    requires { AreNoted lines.notes.now lines.bytes.now }
+    ensures some { IfSome result
+        (λ x. pieces lines.entry.bytes.now ≡ x.0.now ∷ pieces x.1.bytes.now) }
+    ensures fewer { IfSome result (λ x. length x.1.bytes.now < length lines.entry.bytes.now) }
+    ensures noted { IfSome result (λ x. AreNoted x.1.notes.now x.1.bytes.now) }
+    ensures none { IfNone result (pieces lines.entry.bytes.now ≡ lines.entry.bytes.now ∷ []) }
+{
+    let Some(note) = lines.notes.get(0) else {
+        return None;
+    };
+    let (line, bytes) = cut_line(lines.bytes, note.len as usize);
+    let notes = behind(lines.notes, 1);
+    Some((line, LeftLines { bytes, notes }))
+}
+
+// Passes a line on, and writes what is gathered where it is much. Answers the lines that are left.
 fn take_line<'a, K: Sink>(
     alloc: Global,
     line: &[u8],
-    behind: &'a [u8],
+    behind: LeftLines<'a>,
     text: &mut Vec<u8>,
     out: &mut K,
-) -> Result<&'a [u8], WriteOut>
-    ensures ok { (task : Task) (rest : List ℕ) → pieces rest ≡ line.now ∷ pieces behind.now
+) -> Result<LeftLines<'a>, WriteOut>
+    requires { AreNoted behind.notes.now behind.bytes.now }
+    ensures ok { (task : Task) (rest : List ℕ) → pieces rest ≡ line.now ∷ pieces behind.entry.bytes.now
         → IsUnderway task (record { rest = rest; text = text.old.items }) (K.held out.old)
-        → IfOk result (λ left. IsUnderway task (record { rest = left.now; text = text.new.items })
+        → IfOk result (λ left. IsUnderway task (record { rest = left.bytes.now; text = text.new.items })
         (K.held out.new)) }
-    ensures front { (task : Task) (rest : List ℕ) → pieces rest ≡ line.now ∷ pieces behind.now
+    ensures front { (task : Task) (rest : List ℕ) → pieces rest ≡ line.now ∷ pieces behind.entry.bytes.now
         → IsUnderway task (record { rest = rest; text = text.old.items }) (K.held out.old)
         → OnErr result (IsFrontWritten task.whole task.before (K.held out.new)) }
     ensures fault { IfErr result
         (λ why. why ≡ Fault → IsFault (K.faults out.old) (K.faults out.new)) }
-    ensures fewer { IfOk result (λ left. length left.now ≤ length behind.now) }
+    ensures fewer { IfOk result (λ left. length left.bytes.now ≤ length behind.entry.bytes.now) }
+    ensures noted { IfOk result (λ left. AreNoted left.notes.now left.bytes.now) }
     ensures never_falls { K.faults out.old ≤ K.faults out.new }
 {
     let left = match pass_line(alloc, line, behind, text) {
@@ -69,22 +89,24 @@ fn take_line<'a, K: Sink>(
 // Passes all lines on.
 fn take_lines<K: Sink>(
     alloc: Global,
-    bytes: &[u8],
+    lines: LeftLines<'_>,
     text: &mut Vec<u8>,
     out: &mut K,
 ) -> Result<(), WriteOut>
+    requires { AreNoted lines.notes.now lines.bytes.now }
     ensures ok { (task : Task)
-        → IsUnderway task (record { rest = bytes.now; text = text.old.items }) (K.held out.old)
-        → OnOk result (Appends task.before (K.held out.new) task.whole) }
+        → IsUnderway task (record { rest = lines.entry.bytes.now; text = text.old.items })
+        (K.held out.old) → OnOk result (Appends task.before (K.held out.new) task.whole) }
     ensures front { (task : Task)
-        → IsUnderway task (record { rest = bytes.now; text = text.old.items }) (K.held out.old)
+        → IsUnderway task (record { rest = lines.entry.bytes.now; text = text.old.items })
+        (K.held out.old)
         → OnErr result (IsFrontWritten task.whole task.before (K.held out.new)) }
     ensures fault { IfErr result
         (λ why. why ≡ Fault → IsFault (K.faults out.old) (K.faults out.new)) }
     ensures never_falls { K.faults out.old ≤ K.faults out.new }
 {
-    let mut rest = bytes;
-    'lines: for taken in 0..bytes.len() {
+    let mut rest = lines;
+    'lines: for taken in 0..lines.bytes.len() {
         match next_line(rest) {
             None => return write_out(text, out),
             Some((line, behind)) => match take_line(alloc, line, behind, text, out) {
@@ -96,20 +118,21 @@ fn take_lines<K: Sink>(
     write_out(text, out)
 }
 
-/// Writes the upgraded report of bytes that are those of a report. Whether its verdicts rest on what they
-/// say isn't asked. What is written for other bytes isn't promised.
+/// Writes the upgraded report of lines that are those of a report. Whether its verdicts rest on what they
+/// say isn't asked. What is written for other lines isn't promised.
 pub fn write_upgraded<K: Sink>(
     alloc: Global,
     spec: &Spec,
-    bytes: &[u8],
+    lines: LeftLines<'_>,
     out: &mut K,
 ) -> Result<(), WriteOut>
+    requires { AreNoted lines.notes.now lines.bytes.now }
     ensures ok { (r : ReportForm) → is_report spec.now r ≡ true
-        → bytes.now ≡ report_bytes spec.now r
+        → lines.entry.bytes.now ≡ report_bytes spec.now r
         → OnOk result (Appends (K.held out.old) (K.held out.new)
         (report_bytes spec.now (upgraded_report r))) }
     ensures front { (r : ReportForm) → is_report spec.now r ≡ true
-        → bytes.now ≡ report_bytes spec.now r
+        → lines.entry.bytes.now ≡ report_bytes spec.now r
         → OnErr result (IsFrontWritten (report_bytes spec.now (upgraded_report r))
         (K.held out.old) (K.held out.new)) }
     ensures fault { IfErr result
@@ -118,7 +141,7 @@ pub fn write_upgraded<K: Sink>(
 {
     spec.well_formed();
     let mut text = Vec::new(alloc);
-    let Some((_, behind)) = next_line(bytes) else {
+    let Some((_, behind)) = next_line(lines) else {
         return Err(WriteOut::Memory);
     };
     match write_title(&mut text, 2) {

@@ -1,30 +1,21 @@
 // The report that a source gives, upgraded.
-ghost use Rattle.std.specs.Prelude.{◌≡◌, ℕ, ◌+◌, ◌≤◌, List, length, IsErrOf};
+ghost use Rattle.std.specs.Prelude.{◌≡◌, ℕ, ◌+◌, ◌≤◌, [], List, length, IsErrOf};
 ghost use Rattle.std.specs.Io.KnownBytes.{IsAtEnd, Consumes};
 ghost use Rattle.byte_ports.specs.Faults.{IsFault};
 ghost use Rattle.report_verifier.specs.Verified.{most_report_bytes, IsVerified};
 ghost use Rattle.report_upgrader.specs.Upgrading.{refused_as, IsUpgraded, IsUpgradedFrom, IsOnAll, IsUnwritten};
 
+use crate::log_bytes::LeftLines;
 use crate::refused::UpgradeRefused;
 use crate::rewriting::write_upgraded;
-use crate::source::HeldBytes;
 use byte_ports::{ReadRefused, Sink, Source, WriteOut, read_up_to};
 use report_lines::head::Tally;
-use report_verifier::{VerifyRefused, verify_all};
+use report_verifier::{LineNote, VerifyRefused, verify_held};
 use spec_core::Spec;
 use std::alloc::Global;
 
 /// The most bytes of a report: 64 MiB.
 const MOST_REPORT_BYTES: usize = 67_108_864;
-
-// Verifies a report, from bytes that are held.
-fn verify_held(alloc: Global, spec: &Spec, bytes: &[u8]) -> Result<Tally, VerifyRefused>
-    requires { length bytes.now ≤ most_report_bytes }
-    ensures verified { IsVerified spec.now bytes.now result }
-    ensures no_read { IsErrOf result VerifyRefused.Fault → ⊥ }
-{
-    verify_all(alloc, spec, &mut HeldBytes { left: bytes })
-}
 
 // A report that doesn't stand is refused as it is verified.
 fn refused(why: VerifyRefused) -> UpgradeRefused
@@ -35,6 +26,35 @@ fn refused(why: VerifyRefused) -> UpgradeRefused
         VerifyRefused::Line { number, kind } => UpgradeRefused::Line { number, kind },
         VerifyRefused::Fault => UpgradeRefused::Fault,
         VerifyRefused::Memory => UpgradeRefused::Memory,
+    }
+}
+
+// Upgrades a report, from bytes that are held, by notes of its lines, of which there are none yet.
+fn upgrade_noted<K: Sink>(
+    alloc: Global,
+    spec: &Spec,
+    bytes: &[u8],
+    notes: &mut Vec<LineNote>,
+    out: &mut K,
+) -> Result<Tally, UpgradeRefused>
+    requires few { length bytes.now ≤ most_report_bytes }
+    requires none { notes.old.items ≡ [] }
+    ensures upgraded { IsUpgraded spec.now bytes.now (K.held out.old) (K.held out.new) result }
+    ensures unwritten { IsUnwritten result → out.new ≡ out.old }
+    ensures no_read { IsErrOf result UpgradeRefused.Fault → ⊥ }
+    ensures write_fault { IsErrOf result UpgradeRefused.WriteFault
+        → IsFault (K.faults out.old) (K.faults out.new) }
+    ensures never_falls { K.faults out.old ≤ K.faults out.new }
+{
+    let tally = match verify_held(alloc, spec, bytes, notes) {
+        Ok(tally) => tally,
+        Err(why) => return Err(refused(why)),
+    };
+    let notes = notes.as_slice();
+    match write_upgraded(alloc, spec, LeftLines { bytes, notes }, out) {
+        Ok(()) => Ok(tally),
+        Err(WriteOut::Fault) => Err(UpgradeRefused::WriteFault),
+        Err(WriteOut::Memory) => Err(UpgradeRefused::Memory),
     }
 }
 
@@ -53,15 +73,10 @@ fn upgrade_held<K: Sink>(
         → IsFault (K.faults out.old) (K.faults out.new) }
     ensures never_falls { K.faults out.old ≤ K.faults out.new }
 {
-    let tally = match verify_held(alloc, spec, bytes) {
-        Ok(tally) => tally,
-        Err(why) => return Err(refused(why)),
-    };
-    match write_upgraded(alloc, spec, bytes, out) {
-        Ok(()) => Ok(tally),
-        Err(WriteOut::Fault) => Err(UpgradeRefused::WriteFault),
-        Err(WriteOut::Memory) => Err(UpgradeRefused::Memory),
-    }
+    let mut notes = Vec::new(alloc);
+    let answer = upgrade_noted(alloc, spec, bytes, &mut notes, out);
+    drop(notes);
+    answer
 }
 
 /// Upgrades the report that a source gives, where it stands: the text of the upgraded report is written, and answered is how many verdicts

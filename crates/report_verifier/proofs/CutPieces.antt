@@ -1,5 +1,5 @@
 -- The lines of bytes that come in pieces.
-use Rattle.std.proofs.Common.{◌≡◌, ℕ, Bool, true, false, not, cond, List, [], ◌∷◌, ◌++◌, refl, sym, ap, ◌∙◌, append_assoc}
+use Rattle.std.proofs.Common.{◌≡◌, ℕ, Bool, true, false, not, cond, List, [], ◌∷◌, ◌++◌, refl, ap, ◌∙◌, append_assoc}
 use Rattle.std.specs.List.{list_all, flat_map, onto_first}
 use Rattle.std.proofs.lemmas.Bool.{and_parts, and_from}
 use Rattle.report_bytes.specs.Bytes.{pieces, before_last, last_of, lines_of, unended}

@@ -1,6 +1,6 @@
 -- A verifier that is fed the lines of bytes.
-use Rattle.std.proofs.Common.{◌≡◌, ℕ, ◌+◌, ◌<◌, ◌≤◌, true, List, [], ◌∷◌, ◌++◌, length, take, Option, Some, None, Result, Ok, Err, refl, sym, ap, subst, ◌∙◌, arith, append-nil}
-use Rattle.std.specs.Prelude.{IfSome, OnOk, is_ok, if◌then◌else◌}
+use Rattle.std.proofs.Common.{◌≡◌, ℕ, ◌+◌, ◌<◌, ◌≤◌, Bool, true, List, [], ◌∷◌, ◌++◌, length, take, Option, Some, None, Result, Ok, Err, refl, sym, ap, subst, ◌∙◌, arith, append-nil}
+use Rattle.std.specs.Prelude.{IfSome, IfOk, OnOk, is_ok, if◌then◌else◌}
 use Rattle.std.specs.Io.KnownBytes.{Consumes, IsAtEnd}
 use Rattle.std.proofs.KnownBytes.{Consumes-nil, Consumes-trans, Consumes-whole}
 use Rattle.std.proofs.lemmas.List.{length-append, nil_from_length}
@@ -8,14 +8,20 @@ use Rattle.byte_ports.proofs.Sources.{long_told, some_told}
 use Rattle.spec_core.specs.Specification.{Specification}
 use Rattle.spec_core.specs.Typed.{is_specification}
 use Rattle.report_lines.specs.declared.head.Tally.{Tally}
+use Rattle.proof_report.specs.declared.kind.Fault.{Fault}
+use Rattle.proof_report.specs.Feeding.{is_over}
+use Rattle.report_reader.specs.Reader.{ReaderForm, end_fault}
+use Rattle.report_verifier.specs.Rules.{or_else}
 use Rattle.report_bytes.specs.Bytes.{pieces, before_last, last_of, lines_of, unended}
 use Rattle.report_bytes.proofs.Cutting.{front_more, pieces_some, no_bytes}
 use Rattle.report_verifier.specs.declared.refused.VerifyRefused.{VerifyRefused}
 use Rattle.report_verifier.specs.declared.refused.VerifyRefused.TheVariants as refused
 use Rattle.report_verifier.specs.Verified.{most_report_bytes, IsVerified, IsVerifiedFrom}
 use Rattle.report_verifier.specs.Pieces.{IsUnended, AreTaken}
+use Rattle.report_verifier.specs.declared.notes.LineNote.{LineNote}
+use Rattle.report_verifier.specs.Notes.{AreNotedTo, AreNoted}
 use Rattle.report_verifier.specs.Verifier.{VerifierForm, first_verifier, next_verifier, verifier_after, IsFinished, IsCutOff, IsEnded, AreFed}
-use Rattle.report_verifier.proofs.Lines.{finished, cut_off}
+use Rattle.report_verifier.proofs.Lines.{finished, cut_off, uncounted}
 use Rattle.report_verifier.proofs.CutPieces.{begun_cut, cut_append, unended_free}
 
 -- behind some of the lines
@@ -32,6 +38,17 @@ onward_more v bytes w rest line behind u o cut e =
 pub onward_end : (v : VerifierForm) (bytes : List ℕ) (w : VerifierForm) (rest : List ℕ) → IsOnward v bytes w rest → pieces rest ≡ rest ∷ [] → AreFed v bytes w rest
 unfolding verifier_after
 onward_end v bytes w rest o cut = (o.0 ∙ ap (verifier_after w) (ap before_last cut), o.1 ∙ ap last_of cut)
+
+-- the lines that were left are fed
+pub onward_fed : {T E : Type 0} (result : Result T E) (now : T → List ℕ) (v : VerifierForm) (bytes : List ℕ) (w : VerifierForm) (rest : List ℕ) (u : VerifierForm) → IsOnward v bytes w rest → IfOk result (λ x. AreFed w rest u (now x)) → IfOk result (λ x. AreFed v bytes u (now x))
+onward_fed (Ok x) now v bytes w rest u o f = (o.0 ∙ f.0, o.1 ∙ f.1)
+onward_fed (Err error) now v bytes w rest u o f = tt
+
+-- nothing need be noted where a line wasn't counted
+pub unnoted : {T E : Type 0} (result : Result T E) (now : T → List ℕ) (notes : List LineNote) (bytes : List ℕ) (v : VerifierForm) (line : List ℕ) (u : VerifierForm) (behind : List ℕ) (w : VerifierForm)
+    → u ≡ next_verifier v line → u.reader.number ≡ v.reader.number → IfOk result (λ x. AreFed u behind w (now x)) → IfOk result (λ x. w.reader.fault ≡ None → AreNotedTo notes bytes (now x))
+unnoted (Ok x) now notes bytes v line u behind w e same f = λ none. absurd (uncounted v line u (lines_of behind) w e same f.0 none)
+unnoted (Err error) now notes bytes v line u behind w e same f = tt
 
 -- a line that was begun is ended by a piece, or isn't
 pub onward_line : (v : VerifierForm) (bytes : List ℕ) (w : VerifierForm) (line rest front behind begun : List ℕ) (u : VerifierForm) → IsOnward v bytes w (line ++ rest) → IsUnended line → pieces rest ≡ front ∷ pieces behind
@@ -77,7 +94,7 @@ fed_unended v bytes w line f = subst (λ (x : List ℕ). IsUnended x) f.1 (unend
 
 -- ---- what is answered
 
-bytes_ended : (d : Specification) (bytes : List ℕ) (w : VerifierForm) (rest : List ℕ) (result : Result Tally VerifyRefused) → is_specification d ≡ true → length bytes ≤ most_report_bytes → AreFed (first_verifier d) bytes w rest → IsEnded w rest result → IsVerified d bytes result
+pub bytes_ended : (d : Specification) (bytes : List ℕ) (w : VerifierForm) (rest : List ℕ) (result : Result Tally VerifyRefused) → is_specification d ≡ true → length bytes ≤ most_report_bytes → AreFed (first_verifier d) bytes w rest → IsEnded w rest result → IsVerified d bytes result
 bytes_ended d bytes w rest result ok few f e = by_rest rest f.1 e
   where
     by_rest : (rest : List ℕ) → unended bytes ≡ rest → IsEnded w rest result → IsVerified d bytes result
@@ -91,6 +108,17 @@ not_read v rest result h e = by_rest rest (subst (λ (r : Result Tally VerifyRef
     by_rest : (rest : List ℕ) → IsEnded v rest (Err refused.Fault) → ⊥
     by_rest [] h = h
     by_rest (b ∷ bs) h = h
+
+-- where no fault is answered, the reader has none
+no_fault_met : (r : ReaderForm) (over : Bool) (o p : Option Fault) → or_else (end_fault r over o) p ≡ None → o ≡ None
+no_fault_met r over None p h = refl
+no_fault_met r over (Some f) p h = absurd cc
+
+-- where a report stands, this was noted of its lines
+pub ended_noted : (w : VerifierForm) (rest : List ℕ) (result : Result Tally VerifyRefused) (notes : List LineNote) (bytes : List ℕ) → IsEnded w rest result → (w.reader.fault ≡ None → AreNotedTo notes bytes rest) → pieces rest ≡ rest ∷ [] → OnOk result (AreNoted notes bytes)
+ended_noted w [] (Ok tally) notes bytes e noted over = ([], (noted (no_fault_met w.reader (is_over w.reader.state.place) w.reader.fault w.judgement.fault e.1), over))
+ended_noted w (b ∷ bs) (Ok tally) notes bytes e noted over = absurd e
+ended_noted w rest (Err why) notes bytes e noted over = tt
 
 -- ---- the bytes of a source
 

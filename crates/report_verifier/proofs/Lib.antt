@@ -9,3 +9,4 @@ mod Lines
 mod Within
 mod CutPieces
 mod FedLines
+mod NotedLines

@@ -1,5 +1,5 @@
 -- What a verifier answers behind the lines of bytes.
-use Rattle.std.proofs.Common.{◌≡◌, ℕ, suc, Bool, true, false, ◌≤◌, List, [], ◌∷◌, map, length, Option, Some, None, Result, Ok, Err, inl, inr, refl, sym, ap, subst, ◌∙◌}
+use Rattle.std.proofs.Common.{◌≡◌, ℕ, suc, Bool, true, false, ◌≤◌, List, [], ◌∷◌, map, length, Option, Some, None, Result, Ok, Err, inl, inr, refl, sym, ap, subst, ◌∙◌, arith}
 use Rattle.spec_core.specs.Specification.{Specification}
 use Rattle.spec_core.specs.Typed.{is_specification}
 use Rattle.report_lines.specs.declared.head.Tally.{Tally}
@@ -18,7 +18,16 @@ use Rattle.proof_report.specs.Feeding.{line_at, says, judged, after, fed, fed_al
 use Rattle.proof_report.specs.Gathering.{report_of}
 use Rattle.report_verifier.specs.Taking.{taken_as, IsTold}
 use Rattle.report_verifier.proofs.Taken.{taken_same}
-use Rattle.report_reader.specs.Reader.{Tells, IsAnswered, budget_of, stated, ReaderForm, read_on, read_behind, read_line, first_reader, fault_at_end, end_fault}
+use Rattle.report_reader.specs.Reader.{Tells, IsAnswered, log_of_event, budget_of, stated, ReaderForm, read_on, read_behind, read_line, first_reader, fault_at_end, end_fault}
+use Rattle.std.proofs.lemmas.Option.{none-some, same_Some}
+use Rattle.proof_lines.specs.declared.line.Line.{Line}
+use Rattle.proof_lines.specs.declared.line.Line.TheVariants.{Resolve}
+use Rattle.report_lines.specs.Logs.{line_format}
+use Rattle.proof_report.specs.declared.event.Event.TheVariants as events
+use Rattle.proof_report.specs.Events.{words}
+use Rattle.proof_report.proofs.Lines.{line_ok}
+use Rattle.report_reader.specs.declared.resolving.ResolveLine.{ResolveLine}
+use Rattle.report_reader.specs.Resolving.{resolve_told}
 use Rattle.proof_report.proofs.Whole.{all_ok}
 use Rattle.proof_report.proofs.Sound.{admitted_is_report}
 use Rattle.report_bytes.specs.Bytes.{lines_of, unended}
@@ -82,6 +91,24 @@ moved_behind r line (Some f) x h = absurd (not_ok f x h)
 
 moved : (r : ReaderForm) (line : List ℕ) (x : Event × ReaderForm) → read_line r line ≡ Ok x → Moved r line x.0 x.1
 moved r line x h = moved_behind r line r.fault x h
+
+-- the words of a line are those of what it says
+words_read : (d : Specification) (s : State) (ws : List (List ℕ)) (x : Event × State) → is_specification d ≡ true → (z : Option Event) → read (line_at d s) ws ≡ z → judged d s z ≡ Ok x → ws ≡ words d x.0
+words_read d s ws x ok None r h = absurd (not_fed _ x h)
+words_read d s ws x ok (Some e) r h = elim (chosen (says d s e) _ _ _ h) [
+  | inl k ↦ (line_ok d s ws e ok r).0 ∙ ap (λ (y : Event × State). words d y.0) (good_is (e, after d s e) x k.1)
+  | inr k ↦ absurd (not_fed _ x k.1)
+]
+
+log_words : (d : Specification) (e : Event) (l : Line) → log_of_event e ≡ Some l → words d e ≡ line_format.put l
+log_words d (events.Log k) l h = ap line_format.put (same_Some _ _ h)
+log_words d _ l h = absurd (none-some _ h)
+
+-- a line that resolves two clauses, of which a reader tells
+pub resolve_words : (r : ReaderForm) (text : List ℕ) (q : ReaderForm) (l : ResolveLine) → is_specification r.spec ≡ true → IsAnswered r text q (Ok (resolve_told l)) → parts text ≡ line_format.put (Resolve l.left l.right l.pivot)
+resolve_words r text q l ok (e, h, t) =
+    let m = moved r text (e, q) h in
+    words_read r.spec r.state (parts text) (e, q.state) ok (read (line_at r.spec r.state) (parts text)) refl m.fed ∙ log_words r.spec e (Resolve l.left l.right l.pivot) (sym t.log)
 
 -- the specification stays
 pub spec_stays : (v : VerifierForm) (line : List ℕ) → (next_verifier v line).reader.spec ≡ v.reader.spec
@@ -199,6 +226,18 @@ none_some f e = cc
 
 some_none : (f : Fault) → ◌≡◌ {A = Option Fault} (Some f) None → ⊥
 some_none f e = cc
+
+-- a line that isn't counted has a fault, and so has the text behind any more
+pub uncounted : (v : VerifierForm) (line : List ℕ) (u : VerifierForm) (lines : List (List ℕ)) (w : VerifierForm) → u ≡ next_verifier v line → u.reader.number ≡ v.reader.number → verifier_after u lines ≡ w → w.reader.fault ≡ None → ⊥
+uncounted v line u lines w e same after none =
+    by_answer (read_line v.reader line) refl (ap (λ (x : VerifierForm). x.reader.number) (sym e) ∙ same)
+    (ap (λ (x : VerifierForm). (verifier_after x lines).reader.fault) (sym e) ∙ ap (λ (x : VerifierForm). x.reader.fault) after ∙ none)
+  where
+    by_answer : (z : Result (Event × ReaderForm) Fault) → read_line v.reader line ≡ z → (behind v z).reader.number ≡ v.reader.number → (verifier_after (behind v z) lines).reader.fault ≡ None → ⊥
+    by_answer (Ok x) h same none =
+        let one = (moved v.reader line x h).number in
+        absurd (omega (arith, one, same))
+    by_answer (Err f) h same none = some_none f ((sym (faulty lines (behind v (Err f)) f refl refl).0) ∙ none)
 
 module _ (d : Specification) (bytes : List ℕ) (ok : is_specification d ≡ true) where
   abbrev pub last : VerifierForm

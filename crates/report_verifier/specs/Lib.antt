@@ -4,3 +4,4 @@ pub mod Verified
 pub mod Verifier
 pub mod Taking
 pub mod Pieces
+pub mod Notes

@@ -6,23 +6,27 @@
 //
 // Definitions, in the order in which a reader needs them: specs/Valid (when a verdict is valid), specs/Rules (the same as a function:
 // the fault of a verdict and its line, and the first one of a report), specs/Verified (what is answered to bytes), specs/Verifier
-// (what is kept of a report line by line). specs/Taking mirrors the code.
+// (what is kept of a report line by line), specs/Notes (what is noted of the lines of a report that is held). specs/Taking mirrors the code.
 #![tactic(auto)]
 
 mod ending;
+mod held;
 mod judgement;
 mod laws;
 mod logs;
+mod notes;
 mod pieces;
 mod posing;
 mod refused;
 mod verifier;
 mod verifying;
 
+pub use held::verify_held;
 pub use laws::{
     law_accepted_is_safe, law_lines_are_verified, law_one_answer, law_proved_holds,
     law_refuted_breaks, law_valid_verdicts,
 };
+pub use notes::{LineNote, ResolvedPair};
 pub use refused::VerifyRefused;
 pub use verifier::Verifier;
 pub use verifying::verify_all;

@@ -1,12 +1,15 @@
 // A verifier of a report, line by line.
-ghost use Rattle.std.specs.Prelude.{◌≡◌, ◌≤◌, IfOk, IsErr, true, false};
+ghost use Rattle.std.specs.Prelude.{◌≡◌, ◌≤◌, IfOk, OnErr, IsErr, true, false};
 ghost use Rattle.report_reader.specs.Resolving.{resolve_told};
 ghost use Rattle.report_bytes.specs.Collecting.{budget_in};
+ghost use Rattle.report_verifier.specs.Notes.{IsPair};
 ghost use Rattle.report_verifier.specs.Taking.{IsTold};
-ghost use Rattle.report_verifier.specs.Verifier.{first_verifier, IsTaken, IsFinished, IsCutOff};
+ghost use Rattle.report_verifier.specs.Verifier.{first_verifier, next_verifier, IsTaken, IsFinished};
+ghost use Rattle.report_verifier.specs.Verifier.{IsCutOff};
 ghost use Rattle.report_verifier.specs.Verifier.{IsJudgement, IsMissing, clauses_in, most_kept};
 
 use crate::judgement::{Judgement, log_line, no_judgement, take};
+use crate::notes::ResolvedPair;
 use crate::refused::VerifyRefused;
 use items::Items;
 use obligation_list::{Obligation, list};
@@ -133,15 +136,39 @@ impl<'a> Verifier<'a> {
 
     /// Takes the next line, without its line feed. What is wrong with it is answered at the end. After a refusal, which is for want of
     /// memory, each later line is refused too.
+    #[inline(always)]
     pub fn feed(&mut self, text: &[u8]) -> Result<(), AllocError>
         ensures { IsTaken self.old text.now self.new result }
+    {
+        match self.feed_noted(text) {
+            Ok(_) => Ok(()),
+            Err(error) => Err(error),
+        }
+    }
+
+    /// Takes the next line as `feed` does. Where it resolves two clauses and isn't the last one of its log, it answers them.
+    pub fn feed_noted(&mut self, text: &[u8]) -> Result<Option<ResolvedPair>, AllocError>
+        ensures taken { IfOk result (λ pair. (self.old.failed ≡ false)
+            × (self.new ≡ next_verifier self.old text.now)) }
+        ensures is { IfOk result (λ pair. IsPair pair text.now) }
+        ensures failed { OnErr result (self.new.failed ≡ true) }
     {
         if self.failed {
             return Err(AllocError);
         }
+        self.spec.well_formed();
         match self.reader.feed_resolve(text) {
-            Some(line) => self.take_resolve(line),
-            None => self.feed_any(text),
+            Some(line) => match self.take_resolve(line) {
+                Ok(()) => Ok(Some(ResolvedPair {
+                    left: line.left,
+                    right: line.right,
+                })),
+                Err(error) => Err(error),
+            },
+            None => match self.feed_any(text) {
+                Ok(()) => Ok(None),
+                Err(error) => Err(error),
+            },
         }
     }
 
@@ -161,6 +188,13 @@ impl<'a> Verifier<'a> {
             Err(ReportRefused::Line { .. }) => Ok(()),
             Err(ReportRefused::Memory) => self.fail(),
         }
+    }
+
+    // How many lines were read. A line that has a fault isn't, and none behind it.
+    pub(crate) fn taken(&self) -> u32
+        ensures { result ≡ self.now.reader.number }
+    {
+        self.reader.taken()
     }
 
     /// How many clauses the kernel has had, dropped or not: none outside a log; in a log at most those of the problem of its obligation,

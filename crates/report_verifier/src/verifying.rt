@@ -17,7 +17,7 @@ use spec_core::Spec;
 use std::alloc::Global;
 
 // What is answered behind the last line and the bytes that no line feed ends.
-fn finish(verifier: &Verifier<'_>, rest: &[u8]) -> Result<Tally, VerifyRefused>
+pub(crate) fn finish(verifier: &Verifier<'_>, rest: &[u8]) -> Result<Tally, VerifyRefused>
     ensures { IsEnded verifier.now rest.now result }
 {
     if rest.is_empty() {

@@ -1,30 +1,45 @@
-use Rattle.std.proofs.Common.{arith}
+use Rattle.std.proofs.Common.{◌+◌, ◌<◌, arith, subst, sym, List, ℕ, length, drop}
+use Rattle.std.proofs.lemmas.Bool.{ltb-true}
 use Rattle.report_bytes.specs.Bytes.{pieces}
-use Rattle.report_upgrader.specs.declared.log_bytes.SeenLine.{SeenLine}
-use Rattle.report_upgrader.proofs.LogBytes.{noting_first, noting_on, all_noted, all_kinds, no_long, long_on}
+use Rattle.report_verifier.specs.Notes.{IsPair, AreNotedTo}
+use Rattle.report_upgrader.proofs.LogBytes.{noting_first, noting_on, all_noted, noted_at, long_within, long_pieces}
 use Rattle.report_upgrader.proofs.log_bytes.last_lines.Goals as goal
 
 pub lines-init : goal.lines-init
 lines-init c = record {
-  noting = λ ls long says. noting_first ls (pieces c.args.lines.now) c.new-table.result.items c.args.seen.now.items c.new-table.ensures.items c.requires says;
-  long = no_long c.args.seen.now.items c.args.lines.now c.requires;
+  noting = λ ls long says. noting_first ls (pieces c.args.lines.now) c.new-table.result.items c.new-table.ensures.items says;
+  noted = c.requires;
 }
+
+pub cut_line-requires : goal.cut_line-requires
+cut_line-requires c =
+    let note = c.in-Some.note.now in
+    let inside : c.lines.taken < length c.args.notes.now = ltb-true c.lines.taken (length c.args.notes.now) (sym c.in-Some.ensures.lookup.0) in
+    let w = noted_at c.args.notes.now c.lines.taken note c.lines.rest.now c.lines.invariant.noted.0 inside c.in-Some.ensures.lookup.1 c.lines.invariant.noted.1 in
+    long_within note.len c.lines.rest.now w.0
+
+pub kind_noted-requires : goal.kind_noted-requires
+kind_noted-requires c =
+    let note = c.in-Some.note.now in
+    let inside : c.lines.taken < length c.args.notes.now = ltb-true c.lines.taken (length c.args.notes.now) (sym c.in-Some.ensures.lookup.0) in
+    let w = noted_at c.args.notes.now c.lines.taken note c.lines.rest.now c.lines.invariant.noted.0 inside c.in-Some.ensures.lookup.1 c.lines.invariant.noted.1 in
+    subst (λ (x : List ℕ). IsPair note.pair x) (sym (c.cut_line.ensures w.0).0) w.1.0
 
 pub lines-preserved : goal.lines-preserved
 lines-preserved c =
-    let line : SeenLine = record { kind = c.in_ok-kind.kind; len = c.in_ok-len.len } in
+    let note = c.in-Some.note.now in
+    let inside : c.lines.taken < length c.args.notes.now = ltb-true c.lines.taken (length c.args.notes.now) (sym c.in-Some.ensures.lookup.0) in
+    let w = noted_at c.args.notes.now c.lines.taken note c.lines.rest.now c.lines.invariant.noted.0 inside c.in-Some.ensures.lookup.1 c.lines.invariant.noted.1 in
+    let line = c.cut_line.result.0.now in
+    let behind = c.cut_line.result.1.now in
+    let is = c.cut_line.ensures w.0 in
+    let cut = long_pieces note.len c.lines.rest.now line behind w.0 is in
     record {
       noting = λ ls long says.
-          noting_on ls c.lines.taken c.args.count c.in-Some.line.now (pieces c.lines.rest.now) (pieces c.in-Some.behind.now) c.lines.table.items c.note_kind.new.table.items line c.lines.seen.items c.push.new.self.items c.lines-test.true long c.in-Some.ensures.some
-          (λ l kind. c.in_ok-note_kind.ensures l kind) (λ l text. c.in_ok-kind.ensures l text) c.in_ok-push.ensures.items (c.lines.invariant.noting ls long says);
-      long = long_on c.lines.seen.items c.push.new.self.items line c.args.lines.now c.lines.rest.now c.in-Some.line.now c.in-Some.behind.now c.lines.invariant.long c.in-Some.ensures.some c.in_ok-len.ensures c.in_ok-push.ensures.items;
+          noting_on ls c.lines.taken c.args.count line (pieces c.lines.rest.now) (pieces behind) c.lines.table.items c.note_kind.new.table.items c.in_ok-kind.kind c.lines-test.true long cut
+          (λ l kind. c.in_ok-note_kind.ensures l kind) (λ l text. c.in_ok-kind.ensures l text) (c.lines.invariant.noting ls long says);
+      noted = (c.lines.invariant.noted.0, subst (λ (x : List ℕ). AreNotedTo (drop (c.lines.taken + 1) c.args.notes.now) x c.lines.invariant.noted.0) (sym is.1) w.1.1);
     }
 
-pub returns-clause-table : goal.returns-clause-table
-returns-clause-table c = λ ls long says. all_noted ls c.lines.taken c.args.count (pieces c.lines.rest.now) c.lines.table.items c.lines.seen.items (omega arith) long (c.lines.invariant.noting ls long says)
-
-pub returns-clause-kinds : goal.returns-clause-kinds
-returns-clause-kinds c = λ ls long says. all_kinds ls c.lines.taken c.args.count (pieces c.lines.rest.now) c.lines.table.items c.lines.seen.items (omega arith) long (c.lines.invariant.noting ls long says)
-
-pub returns-clause-long : goal.returns-clause-long
-returns-clause-long c = (c.lines.rest.now, c.lines.invariant.long)
+pub returns : goal.returns
+returns c = λ ls long says. all_noted ls c.lines.taken c.args.count (pieces c.lines.rest.now) c.lines.table.items (omega arith) long (c.lines.invariant.noting ls long says)

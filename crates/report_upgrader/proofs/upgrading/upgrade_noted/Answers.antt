@@ -2,10 +2,10 @@ use Rattle.std.proofs.Common.{Err, refl, sym, subst, arith}
 use Rattle.report_upgrader.specs.declared.refused.UpgradeRefused.{UpgradeRefused}
 use Rattle.report_upgrader.specs.Upgrading.{IsUpgraded}
 use Rattle.report_upgrader.proofs.Held.{refused_so, written_so, stopped_so, no_read, no_write}
-use Rattle.report_upgrader.proofs.upgrading.upgrade_held.Goals as goal
+use Rattle.report_upgrader.proofs.upgrading.upgrade_noted.Goals as goal
 
 pub verify_held-requires : goal.verify_held-requires
-verify_held-requires g c = c.requires
+verify_held-requires g c = record { few = c.requires.few; none = c.requires.none }
 
 -- ---- a report that is refused
 
@@ -32,7 +32,7 @@ returns-in-Err-clause-never_falls g c = omega arith
 pub returns-in-Ok-write_upgraded-clause-upgraded : goal.returns-in-Ok-write_upgraded-clause-upgraded
 returns-in-Ok-write_upgraded-clause-upgraded g c =
     let accepted = c.in-Ok.ensures.verified.1 in
-    written_so c.args.spec.now c.args.bytes.now c.in-Ok.tally (g.K.Sink.held c.args.out.now) (g.K.Sink.held c.write_upgraded.new.out) accepted c.requires
+    written_so c.args.spec.now c.args.bytes.now c.in-Ok.tally (g.K.Sink.held c.args.out.now) (g.K.Sink.held c.write_upgraded.new.out) accepted c.requires.few
     (c.in-Ok-write_upgraded.ensures.ok accepted.report accepted.bytes_of.can_stand accepted.bytes_of.same)
 
 pub returns-in-Ok-write_upgraded-clause-unwritten : goal.returns-in-Ok-write_upgraded-clause-unwritten
@@ -52,7 +52,7 @@ returns-in-Ok-write_upgraded-clause-never_falls g c = c.write_upgraded.ensures.n
 pub returns-in-Err-Fault-clause-upgraded : goal.returns-in-Err-Fault-clause-upgraded
 returns-in-Err-Fault-clause-upgraded g c =
     let accepted = c.in-Ok.ensures.verified.1 in
-    stopped_so c.args.spec.now c.args.bytes.now c.in-Ok.tally (g.K.Sink.held c.args.out.now) (g.K.Sink.held c.write_upgraded.new.out) accepted c.requires
+    stopped_so c.args.spec.now c.args.bytes.now c.in-Ok.tally (g.K.Sink.held c.args.out.now) (g.K.Sink.held c.write_upgraded.new.out) accepted c.requires.few
     (c.in-Err-Fault.ensures.front accepted.report accepted.bytes_of.can_stand accepted.bytes_of.same)
 
 pub returns-in-Err-Fault-clause-unwritten : goal.returns-in-Err-Fault-clause-unwritten
@@ -70,7 +70,7 @@ returns-in-Err-Fault-clause-never_falls g c = c.write_upgraded.ensures.never_fal
 pub returns-in-Err-Memory-clause-upgraded : goal.returns-in-Err-Memory-clause-upgraded
 returns-in-Err-Memory-clause-upgraded g c =
     let accepted = c.in-Ok.ensures.verified.1 in
-    stopped_so c.args.spec.now c.args.bytes.now c.in-Ok.tally (g.K.Sink.held c.args.out.now) (g.K.Sink.held c.write_upgraded.new.out) accepted c.requires
+    stopped_so c.args.spec.now c.args.bytes.now c.in-Ok.tally (g.K.Sink.held c.args.out.now) (g.K.Sink.held c.write_upgraded.new.out) accepted c.requires.few
     (c.in-Err-Memory.ensures.front accepted.report accepted.bytes_of.can_stand accepted.bytes_of.same)
 
 pub returns-in-Err-Memory-clause-unwritten : goal.returns-in-Err-Memory-clause-unwritten
