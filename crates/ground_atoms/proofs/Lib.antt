@@ -2,3 +2,4 @@ pub mod Same
 pub mod Sums
 pub mod Numbering
 pub mod Guessing
+pub mod Cutting

@@ -1,5 +1,5 @@
 // Atoms, integer names and readings, as a program numbers them.
-ghost use Rattle.std.specs.Prelude.{◌≡◌, IfOk};
+ghost use Rattle.std.specs.Prelude.{◌≡◌, IfOk, IsTrue, length, take};
 ghost use Rattle.ground_atoms.specs.Symbols.{atom_of, integer_of, reading_of};
 
 use crate::keyed_row::KeyedRow;
@@ -59,6 +59,34 @@ impl IntName {
             }),
         }
     }
+}
+
+// Whether two names name one parameter of a call.
+fn is_same_argument(one: &IntName, other: &IntName) -> bool
+    ensures { IsTrue result → other.now ≡ one.now }
+{
+    match one {
+        IntName::Arg { call, param } => match other {
+            IntName::Arg {
+                call: another,
+                param: place,
+            } => *call == *another && *param == *place,
+            IntName::Count { .. } => false,
+        },
+        IntName::Count { .. } => false,
+    }
+}
+
+/// Whether some names, all of which name parameters of calls, are the first of others.
+pub(crate) fn same_arguments(few: &[IntName], names: &[IntName]) -> bool
+    ensures { IsTrue result → take (length few.now) names.now ≡ few.now }
+{
+    for place in 0..few.len() {
+        if place >= names.len() || !is_same_argument(&few[place], &names[place]) {
+            return false;
+        }
+    }
+    true
 }
 
 /// A reading of a relation or a counter at a stage and a tuple of constants.

@@ -1,12 +1,13 @@
 // The numbering: which atoms and integer names have numbers, and which readings they name.
-ghost use Rattle.std.specs.Prelude.{◌≡◌, ◌++◌, true, IfOk, IfSome, OnOk, slice_get, option_copied, map};
+ghost use Rattle.std.specs.Prelude.{◌≡◌, ◌++◌, true, IfOk, IfSome, IsTrue, OnOk, length, take, slice_get, option_copied, map};
 ghost use Rattle.std.specs.Option.{option_map};
 ghost use Rattle.ground_numbers.specs.Numbers as numbers;
 ghost use Rattle.ground_atoms.specs.Symbols.{atom_of, integer_of, reading_of};
 ghost use Rattle.ground_atoms.specs.Known.{Known, nothing, know_atom, know_integer, reading_of_atom};
+ghost use Rattle.ground_atoms.specs.Sizes.{size_of, cut_back};
 ghost use Rattle.ground_problem.specs.Definitions.{reading_of_integer};
 
-use crate::atom::{Atom, IntName, NamedReading};
+use crate::atom::{Atom, IntName, NamedReading, same_arguments};
 use crate::guesses::{Guesses, slot_of};
 use indexmap::IndexSet;
 use items::Items;
@@ -35,6 +36,14 @@ impl Model for Atoms {
     ghost use Rattle.ground_atoms.specs.Symbols.{atom_of, integer_of, reading_of};
 
     ghost view = { λ a. record { table = record { atoms = map atom_of a.atoms.keys; ints = map integer_of a.ints.keys }; named = map reading_of a.named } };
+}
+
+/// How many atoms and integer names have numbers, and how many readings they name.
+#[derive(Clone, Copy)]
+pub struct KnownSize {
+    pub atoms: usize,
+    pub ints: usize,
+    pub named: usize,
 }
 
 impl Atoms {
@@ -148,6 +157,65 @@ impl Atoms {
         ensures { option_map integer_of (option_copied result) ≡ slice_get self.now.table.ints n }
     {
         self.ints.get_index(n as usize)
+    }
+
+    /// Whether an atom has this number, by a look at the one that has it. A table is not searched for this.
+    pub fn is_number_of(&self, number: u32, atom: &Atom) -> bool
+        ensures known { IsTrue result
+            → numbers.has_number self.now.table (atom_of atom.now) ≡ true }
+        ensures number { IsTrue result
+            → number ≡ numbers.number_of self.now.table (atom_of atom.now) }
+    {
+        if number as usize >= self.atoms.len() {
+            return false;
+        }
+        match self.atoms.get_index(number as usize) {
+            Some(other) if *atom == *other => true,
+            _ => false,
+        }
+    }
+
+    /// How much is known.
+    pub fn size(&self) -> KnownSize
+        ensures { result ≡ size_of self.now }
+    {
+        KnownSize {
+            atoms: self.atoms.len(),
+            ints: self.ints.len(),
+            named: self.named.len(),
+        }
+    }
+
+    /// The numbering cut back to an earlier size: the first of each stay, and keep their numbers.
+    pub fn cut_back(self, size: KnownSize) -> Atoms
+        ensures { result ≡ cut_back size self }
+    {
+        let Atoms {
+            mut atoms,
+            mut ints,
+            named,
+            guesses,
+            alloc,
+        } = self;
+        atoms.truncate(size.atoms);
+        ints.truncate(size.ints);
+        let mut readings = named.into_vec();
+        readings.truncate(size.named);
+        Atoms {
+            atoms,
+            ints,
+            named: Items::from_vec(readings),
+            guesses,
+            alloc,
+        }
+    }
+
+    /// Whether the first integer names are those of the other numbering, all of which name parameters of calls.
+    pub fn begins_with_arguments(&self, other: &Atoms) -> bool
+        ensures { IsTrue result → take (length other.now.table.ints) self.now.table.ints
+            ≡ other.now.table.ints }
+    {
+        same_arguments(other.ints.as_slice(), self.ints.as_slice())
     }
 
     /// The readings that atoms and integer names name, in the order in which they were first named.
