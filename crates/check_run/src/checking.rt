@@ -10,12 +10,14 @@ ghost use Rattle.std.specs.List.{Contains};
 ghost use Rattle.proof_report.specs.Verdicts.{obligation_count};
 ghost use Rattle.proof_report.specs.Texts.{head_text, end_text};
 ghost use Rattle.proof_report.specs.Events.{told};
+ghost use Rattle.lazy_ground.specs.Kept.{IsKept};
 ghost use Rattle.check_run.specs.Reports.{written_version};
 ghost use Rattle.check_run.specs.Checking.{progress, IsBlock, AreBlocks, IsReport};
 
 use crate::counting::counted;
-use crate::deciding::decide;
+use crate::deciding::decide_next;
 use byte_ports::{Sink, WriteOut, write_text};
+use lazy_ground::Kept;
 use obligation_list::{Obligation, list};
 use proof_report::{write_end, write_head, write_verdict};
 use report_lines::head::Tally;
@@ -28,19 +30,22 @@ fn check_one<K: Sink>(
     spec: &Spec,
     budget: u32,
     ob: &Obligation,
+    kept: &mut Kept,
     tally: &mut Tally,
     out: &mut K,
 ) -> Result<(), WriteOut>
     requires member { IsObligation spec.now ob.now }
     requires budget { 1 ≤ budget }
+    requires kept { IsKept spec.now kept.old }
     requires few { told tally.old < 2 ^ 31 }
     ensures block { IsBlock spec.now budget ob.now (progress tally.old (K.held out.old))
         (progress tally.new (K.held out.new)) result }
     ensures fault { IfErr result
         (λ why. why ≡ Fault → IsFault (K.faults out.old) (K.faults out.new)) }
     ensures never_falls { K.faults out.old ≤ K.faults out.new }
+    ensures kept { IsKept spec.now kept.new }
 {
-    let Ok(verdict) = decide(alloc, spec, ob, budget) else {
+    let Ok(verdict) = decide_next(alloc, spec, ob, budget, kept) else {
         return Err(WriteOut::Memory);
     };
     let mut text = Vec::new(alloc);
@@ -84,8 +89,9 @@ fn check_each<K: Sink>(
         refuted: 0,
         undecided: 0,
     };
+    let mut kept = Kept::none();
     for ob in obligations {
-        match check_one(alloc, spec, budget, ob, &mut tally, out) {
+        match check_one(alloc, spec, budget, ob, &mut kept, &mut tally, out) {
             Ok(()) => {}
             Err(why) => return Err(why),
         }
@@ -161,7 +167,7 @@ fn check_listed<K: Sink>(
 }
 
 /// Checks a specification, with logs of at most `budget` lines: decides each of its obligations, and writes the report, block by
-/// block. Answers how many verdicts of each kind there are. One obligation's problem is kept at a time.
+/// block. Answers how many verdicts of each kind there are. One obligation's problem is kept at a time, and what it shares with the next.
 pub fn check_all<K: Sink>(
     alloc: Global,
     spec: &Spec,

@@ -8,8 +8,10 @@ ghost use Rattle.proof_report.specs.Events.{told, with_verdict};
 ghost use Rattle.report_bytes.specs.Showing.{shown_verdict};
 ghost use Rattle.check_run.specs.Reports.{AreDecided, IsDecided};
 ghost use Rattle.check_run.specs.Checking.{IsCounted};
+ghost use Rattle.lazy_ground.specs.Kept.{IsKept};
 
-use crate::deciding::decide;
+use crate::deciding::decide_next;
+use lazy_ground::Kept;
 use obligation_list::{Obligation, list};
 use proof_report::Verdict;
 use report_lines::head::Tally;
@@ -36,14 +38,17 @@ fn decide_one(
     spec: &Spec,
     budget: u32,
     ob: &Obligation,
+    kept: &mut Kept,
     tally: Tally,
 ) -> Result<Tally, AllocError>
     requires member { IsObligation spec.now ob.now }
     requires budget { 1 ≤ budget }
+    requires kept { IsKept spec.now kept.old }
     requires few { told tally < 2 ^ 31 }
-    ensures { IfOk result (λ counted. IsCounted spec.now budget ob.now tally counted) }
+    ensures kept { IsKept spec.now kept.new }
+    ensures counted { IfOk result (λ counted. IsCounted spec.now budget ob.now tally counted) }
 {
-    let verdict = decide(alloc, spec, ob, budget)?;
+    let verdict = decide_next(alloc, spec, ob, budget, kept)?;
     let counted = counted(tally, &verdict);
     drop(verdict);
     Ok(counted)
@@ -66,8 +71,9 @@ fn decide_each(
         refuted: 0,
         undecided: 0,
     };
+    let mut kept = Kept::none();
     for ob in obligations {
-        tally = decide_one(alloc, spec, budget, ob, tally)?;
+        tally = decide_one(alloc, spec, budget, ob, &mut kept, tally)?;
     }
     Ok(tally)
 }

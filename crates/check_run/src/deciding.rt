@@ -14,13 +14,14 @@ ghost use Rattle.diff_bounds.specs.Differences.{problem_fits};
 ghost use Rattle.check_run.specs.Reports.{written_version};
 ghost use Rattle.instances.specs.Ground.{IsGrounded};
 ghost use Rattle.lazy_ground.specs.Lazy.{IsLazyGround};
+ghost use Rattle.lazy_ground.specs.Kept.{IsKept, HasClauses, HasLazyKept};
 
 use crate::fitting::numbered;
 use clausify::problem_of;
 use ground_atoms::GroundFormula;
 use ground_numbers::{law_clauses_make_formulas_true, law_obligation_fits};
-use instances::{GroundRefused, Grounded, ground};
-use lazy_ground::{EitherGround, LazyGround, ground_lazily};
+use instances::{GroundRefused, Grounded, ground_from};
+use lazy_ground::{EitherGround, Kept, LazyGround, ground_lazily_from};
 use lazy_search::{LazyAnswer, search_lazily};
 use model_back::witness_of;
 use needed_clauses::{search, search_whole_first};
@@ -30,6 +31,7 @@ use proof_report::{Cause, Verdict};
 use sat_core::Answer;
 use spec_core::Spec;
 use std::alloc::{AllocError, Global};
+use std::mem;
 use witness_shrinking::shrink;
 
 // The problem of an obligation.
@@ -179,25 +181,29 @@ fn decide_grounded(
     numbered(verdict_of(alloc, spec, ob, budget, ground, answer)?)
 }
 
-// Decides an obligation by its whole ground problem, which probably has an interpretation or not.
+// Decides an obligation by its whole ground problem, which probably has an interpretation or not, from the entry that is kept.
 fn decide_whole(
     alloc: Global,
     spec: &Spec,
     ob: &Obligation,
     budget: u32,
     is_likely: bool,
+    kept: &mut Kept,
 ) -> Result<Verdict, AllocError>
     requires member { IsObligation spec.now ob.now }
     requires budget { 1 ≤ budget }
+    requires kept { IsKept spec.now kept.old }
     ensures good { IfOk result (λ v. IsGood spec.now budget ob.now (shown_verdict spec.now v)) }
     ensures fit { IfOk result (λ v. IsFit spec.now written_version ob.now v) }
     ensures decided { HasFew spec.now ob.now → problem_fits (problem_of spec.now ob.now) ≡ true
         → IfOk result (λ v. IsDecided (length (problem_of spec.now ob.now).atoms) budget v) }
+    ensures kept { IsKept spec.now kept.new }
 {
-    match ground(alloc, spec, ob) {
+    let entry = mem::replace(&mut kept.entry, None);
+    match ground_from(alloc, spec, ob, entry) {
         Ok(ground) => {
             let verdict = decide_grounded(alloc, spec, ob, budget, &ground, is_likely);
-            drop(ground);
+            kept.entry = ground.into_entry();
             verdict
         }
         Err(GroundRefused::TooMany) => Ok(Verdict::Undecided(Cause::Instances)),
@@ -212,21 +218,56 @@ fn decide_lazily(
     ob: &Obligation,
     budget: u32,
     ground: LazyGround,
+    kept: &mut Kept,
 ) -> Result<Verdict, AllocError>
     requires member { IsObligation spec.now ob.now }
     requires budget { 1 ≤ budget }
     requires ground { IsLazyGround spec.now ob.now ground }
+    requires clauses { HasClauses ground }
+    requires taken { HasLazyKept spec.now ground }
     ensures good { IfOk result (λ v. IsGood spec.now budget ob.now (shown_verdict spec.now v)) }
     ensures fit { IfOk result (λ v. IsFit spec.now written_version ob.now v) }
     ensures decided { problem_fits (problem_of spec.now ob.now) ≡ true
         → IfOk result (λ v. IsDecided (length (problem_of spec.now ob.now).atoms) budget v) }
+    ensures kept { IsKept spec.now kept.new }
 {
     let answer = search_lazily(alloc, &ground, budget);
-    drop(ground);
+    *kept = ground.into_kept();
     match answer? {
         LazyAnswer::Refuted(log) => numbered(Verdict::Proved(log)),
-        LazyAnswer::Satisfiable => decide_whole(alloc, spec, ob, budget, true),
-        LazyAnswer::Unknown => decide_whole(alloc, spec, ob, budget, false),
+        LazyAnswer::Satisfiable => decide_whole(alloc, spec, ob, budget, true, kept),
+        LazyAnswer::Unknown => decide_whole(alloc, spec, ob, budget, false, kept),
+    }
+}
+
+/// Decides an obligation as `decide` does. What other obligations of the specification share with it is kept, for the next of them.
+pub fn decide_next(
+    alloc: Global,
+    spec: &Spec,
+    ob: &Obligation,
+    budget: u32,
+    kept: &mut Kept,
+) -> Result<Verdict, AllocError>
+    requires member { IsObligation spec.now ob.now }
+    requires budget { 1 ≤ budget }
+    requires kept { IsKept spec.now kept.old }
+    ensures good { IfOk result (λ v. IsGood spec.now budget ob.now (shown_verdict spec.now v)) }
+    ensures fit { IfOk result (λ v. IsFit spec.now written_version ob.now v) }
+    ensures many { HasMany spec.now ob.now → IfOk result (λ v. v ≡ Undecided Instances) }
+    ensures decided { HasFew spec.now ob.now → problem_fits (problem_of spec.now ob.now) ≡ true
+        → IfOk result (λ v. IsDecided (length (problem_of spec.now ob.now).atoms) budget v) }
+    ensures kept { IsKept spec.now kept.new }
+{
+    let taken = mem::replace(kept, Kept::none());
+    match ground_lazily_from(alloc, spec, ob, taken) {
+        Ok(EitherGround::Whole(ground)) => {
+            let verdict = decide_grounded(alloc, spec, ob, budget, &ground, false);
+            *kept = EitherGround::Whole(ground).into_kept();
+            verdict
+        }
+        Ok(EitherGround::Lazy(ground)) => decide_lazily(alloc, spec, ob, budget, ground, kept),
+        Err(GroundRefused::TooMany) => Ok(Verdict::Undecided(Cause::Instances)),
+        Err(GroundRefused::Memory) => Err(AllocError),
     }
 }
 
@@ -248,14 +289,8 @@ pub fn decide(
     ensures decided { HasFew spec.now ob.now → problem_fits (problem_of spec.now ob.now) ≡ true
         → IfOk result (λ v. IsDecided (length (problem_of spec.now ob.now).atoms) budget v) }
 {
-    match ground_lazily(alloc, spec, ob) {
-        Ok(EitherGround::Whole(ground)) => {
-            let verdict = decide_grounded(alloc, spec, ob, budget, &ground, false);
-            drop(ground);
-            verdict
-        }
-        Ok(EitherGround::Lazy(ground)) => decide_lazily(alloc, spec, ob, budget, ground),
-        Err(GroundRefused::TooMany) => Ok(Verdict::Undecided(Cause::Instances)),
-        Err(GroundRefused::Memory) => Err(AllocError),
-    }
+    let mut kept = Kept::none();
+    let verdict = decide_next(alloc, spec, ob, budget, &mut kept);
+    drop(kept);
+    verdict
 }

@@ -1,11 +1,13 @@
 // Some clauses of a lazy ground problem, with the numbers that they have among all.
-ghost use Rattle.std.specs.Prelude.{◌≡◌, ◌+◌, ◌++◌, ℕ, List, length, map, OnOk, IfOk, IfSome};
+ghost use Rattle.std.specs.Prelude.{◌≡◌, ◌+◌, ◌++◌, ℕ, List, length, map, take, drop, OnOk, IfOk, IfSome};
 ghost use Rattle.std.specs.List.{range_with_len};
 ghost use Rattle.proof_lines.specs.declared.clause.Lit.{Lit as PlainLit};
 ghost use Rattle.ground_numbers.specs.Clauses.{all_clauses, all_names};
 ghost use Rattle.ground_atoms.specs.Formulas.{form_of};
 ghost use Rattle.lazy_ground.specs.Lazy.{lazy_forms, ArePairs};
-ghost use Rattle.chosen_clauses.specs.Chosen.{AreAt, StandFrom, IsLayout};
+ghost use Rattle.instances.specs.Entry.{AreClausesOf};
+ghost use Rattle.lazy_ground.specs.Kept.{HasClauses};
+ghost use Rattle.chosen_clauses.specs.Chosen.{AreAt, StandFrom, IsBehind, IsLayout};
 
 use crate::places::{Layout, Place, firsts_of, place_of_pair};
 use clausify::write_clauses;
@@ -34,6 +36,41 @@ fn add_numbers(numbers: &mut Vec<u32>, from: u32, many: usize) -> Result<(), All
             return Err(AllocError);
         };
         numbers.push(number)?;
+    }
+    Ok(())
+}
+
+// The clauses of the entry that are at hand, and of how many of the formulas in front they are.
+fn clauses_at_hand(ground: &LazyGround) -> Option<(&[Clause], usize)>
+    requires { HasClauses ground.now }
+    ensures { IfSome result
+        (λ found. AreClausesOf (take found.1 (map form_of ground.now.front)) found.0.now) }
+{
+    match &ground.part {
+        Some(part) => match &part.clauses {
+            Some(clauses) => Some((clauses.as_slice(), part.size.formulas)),
+            None => None,
+        },
+        None => None,
+    }
+}
+
+// The formulas behind so many.
+fn forms_behind(front: &[GroundFormula], count: usize) -> &[GroundFormula]
+    ensures { map form_of result.now ≡ drop count (map form_of front.now) }
+{
+    if count > front.len() {
+        return &[];
+    }
+    &front[count..]
+}
+
+// Appends copies of clauses.
+fn copy_all(alloc: Global, clauses: &[Clause], out: &mut Items<Clause>) -> Result<(), AllocError>
+    ensures { OnOk result (out.new ≡ out.old ++ clauses.now) }
+{
+    for clause in clauses {
+        out.push(clause.copy(alloc)?)?;
     }
     Ok(())
 }
@@ -68,6 +105,64 @@ impl Chosen {
         Ok(Place { clause, name })
     }
 
+    // Adds clauses that are at hand, which stand from the first on.
+    fn add_copies(&mut self, alloc: Global, clauses: &[Clause]) -> Result<u32, AllocError>
+        ensures count { IfOk result (λ n. n ≡ length clauses.now) }
+        ensures chosen { OnOk result ((all : List (List PlainLit)) → StandFrom all 0 clauses.now
+            → AreAt all self.old.clauses self.old.numbers.items
+            → AreAt all self.new.clauses self.new.numbers.items) }
+    {
+        let Ok(count) = u32::try_from(clauses.len()) else {
+            return Err(AllocError);
+        };
+        copy_all(alloc, clauses, &mut self.clauses)?;
+        add_numbers(&mut self.numbers, 0, clauses.len())?;
+        Ok(count)
+    }
+
+    // Adds the clauses of the formulas in front of the pairs, of which those of so many are at hand, and answers the place
+    // behind them.
+    fn add_behind_copies(
+        &mut self,
+        alloc: Global,
+        front: &[GroundFormula],
+        name: u32,
+        clauses: &[Clause],
+        count: usize,
+    ) -> Result<Place, AllocError>
+        requires { AreClausesOf (take count (map form_of front.now)) clauses.now }
+        ensures chosen { OnOk result ((all : List (List PlainLit))
+            → StandFrom all 0 (all_clauses name (map form_of front.now))
+            → AreAt all self.old.clauses self.old.numbers.items
+            → AreAt all self.new.clauses self.new.numbers.items) }
+        ensures behind { IfOk result (IsBehind name (map form_of front.now)) }
+    {
+        let clause = self.add_copies(alloc, clauses)?;
+        let next = self.add(alloc, Place { clause, name }, forms_behind(front, count))?;
+        Ok(next)
+    }
+
+    // Adds the clauses of the formulas in front of the pairs, and answers the place behind them.
+    fn add_front(
+        &mut self,
+        alloc: Global,
+        ground: &LazyGround,
+        name: u32,
+    ) -> Result<Place, AllocError>
+        requires { HasClauses ground.now }
+        ensures chosen { OnOk result ((all : List (List PlainLit))
+            → StandFrom all 0 (all_clauses name (map form_of ground.now.front))
+            → AreAt all self.old.clauses self.old.numbers.items
+            → AreAt all self.new.clauses self.new.numbers.items) }
+        ensures behind { IfOk result (IsBehind name (map form_of ground.now.front)) }
+    {
+        let front = ground.front.as_slice();
+        match clauses_at_hand(ground) {
+            Some((clauses, count)) => self.add_behind_copies(alloc, front, name, clauses, count),
+            None => self.add(alloc, Place { clause: 0, name }, front),
+        }
+    }
+
     // Adds the clauses of the formulas in front of the pairs and of those behind them, and answers where all
     // stand.
     fn add_around(
@@ -76,7 +171,8 @@ impl Chosen {
         ground: &LazyGround,
         name: u32,
     ) -> Result<Option<Layout>, AllocError>
-        requires { ArePairs ground.now.atoms.table ground.now.pairs }
+        requires pairs { ArePairs ground.now.atoms.table ground.now.pairs }
+        requires clauses { HasClauses ground.now }
         ensures chosen { IfOk result (λ found. IfSome found (λ layout.
             AreAt (all_clauses name (lazy_forms ground.now))
             self.old.clauses self.old.numbers.items
@@ -85,8 +181,7 @@ impl Chosen {
         ensures layout { IfOk result (λ found. IfSome found
             (λ layout. IsLayout ground.now name layout)) }
     {
-        let start = Place { clause: 0, name };
-        let first = self.add(alloc, start, ground.front.as_slice())?;
+        let first = self.add_front(alloc, ground, name)?;
         let Some((firsts, pairs_end)) = firsts_of(alloc, first, ground.pairs.as_slice())? else {
             return Ok(None);
         };
@@ -142,13 +237,14 @@ impl Chosen {
 }
 
 /// All clauses of the formulas in front of the pairs and of those behind them, and where the pairs' clauses stand; nothing where numbers
-/// don't reach. `name` is the number of the first atom that names a part.
+/// don't reach. `name` is the number of the first atom that names a part. Clauses of the entry that are at hand are copied.
 pub fn chosen_front(
     alloc: Global,
     ground: &LazyGround,
     name: u32,
 ) -> Result<Option<(Chosen, Layout)>, AllocError>
-    requires { ArePairs ground.now.atoms.table ground.now.pairs }
+    requires pairs { ArePairs ground.now.atoms.table ground.now.pairs }
+    requires clauses { HasClauses ground.now }
     ensures chosen { IfOk result (λ answer. IfSome answer (λ found.
         AreAt (all_clauses name (lazy_forms ground.now)) found.0.clauses found.0.numbers.items)) }
     ensures layout { IfOk result (λ answer. IfSome answer

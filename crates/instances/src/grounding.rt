@@ -1,16 +1,21 @@
 // The ground problem of an obligation.
-ghost use Rattle.std.specs.Prelude.{◌≡◌, ◌++◌, [], map, IfOk};
+ghost use Rattle.std.specs.Prelude.{◌≡◌, ◌++◌, [], map, Some, IfOk, IfSome};
 ghost use Rattle.obligation_list.specs.Breaking as breaking;
 ghost use Rattle.obligation_list.specs.Obligations.{IsObligation};
 ghost use Rattle.ground_problem.specs.Constants.{constants_of};
 ghost use Rattle.ground_problem.specs.Equality as equality;
 ghost use Rattle.ground_problem.specs.Problem.{formulas_of};
 ghost use Rattle.ground_atoms.specs.Symbols.{reading_of};
-ghost use Rattle.ground_groups.specs.Limited.{Appends};
+ghost use Rattle.ground_groups.specs.Limited.{Appends, make_upto};
+ghost use Rattle.ground_problem.specs.Entry.{entry};
+ghost use Rattle.ground_atoms.specs.Formulas.{form_of};
+ghost use Rattle.spec_core.specs.Specification.{Specification};
 ghost use Rattle.ground_atoms.specs.Calls.{calls_of};
 ghost use Rattle.ground_constants.specs.Calls.{constants_in, numbered_arguments};
 ghost use Rattle.instances.specs.Ground.{IsGround};
+ghost use Rattle.instances.specs.Entry.{IsEntry, IsBegun, HasEntry};
 
+use crate::entry::{Begun, Entry, EntryPart, begin};
 use crate::listing::add_all_defined;
 use ground_atoms::{Atoms, GroundCall, GroundFormula, NamedReading};
 use ground_constants::constants::{Named, constants, operations_of};
@@ -27,7 +32,7 @@ use spec_core::{Spec, Thing};
 use std::alloc::{AllocError, Global};
 
 /// The ground problem of an obligation: the sort of each constant, the calls at constants, the elements of the conclusion, the
-/// atoms and the integer names by their numbers, and the formulas over these numbers.
+/// atoms and the integer names by their numbers, the formulas over these numbers, and how many of all that are those of the entry.
 #[derive(Drop)]
 pub struct Grounded {
     pub consts: Items<u8>,
@@ -35,6 +40,39 @@ pub struct Grounded {
     pub elements: Items<u32>,
     pub atoms: Atoms,
     pub formulas: Items<GroundFormula>,
+    pub part: Option<EntryPart>,
+}
+
+impl Grounded {
+    /// The entry of the problem, for other obligations that share it; nothing where there is none.
+    pub fn into_entry(self) -> Option<Entry>
+        ensures { (d : Specification) → HasEntry d self → IfSome result (IsEntry d) }
+    {
+        let Grounded {
+            consts,
+            calls,
+            elements,
+            atoms,
+            formulas,
+            part,
+        } = self;
+        drop(calls);
+        drop(elements);
+        match part {
+            Some(part) => Some(Entry {
+                sorts: consts,
+                atoms,
+                formulas,
+                part,
+            }),
+            None => {
+                drop(consts);
+                drop(atoms);
+                drop(formulas);
+                None
+            }
+        }
+    }
 }
 
 /// The numbering in which the whole numbers among the arguments of these operations' calls have the first numbers.
@@ -76,7 +114,7 @@ fn add_equal(
     add_congruence(atoms, alloc, spec, readings, things, out)
 }
 
-// Appends all formulas of an obligation.
+// Appends to what is true at the entry all other formulas of an obligation.
 fn add_all(
     atoms: &mut Atoms,
     alloc: Global,
@@ -90,8 +128,9 @@ fn add_all(
     requires ops { ops.now ≡ breaking.operations_of ob.now }
     requires calls { named.now.calls ≡ calls_of spec.now ob.now }
     requires constants { constants_in named.now ≡ constants_of spec.now ob.now }
-    requires out { out.now ≡ [] }
-    requires atoms { atoms.now ≡ numbered_arguments spec.now ob.now }
+    requires begun { make_upto [] (numbered_arguments spec.now ob.now)
+        (entry spec.now ob.now (constants_of spec.now ob.now))
+        ≡ Some (record { known = atoms.now; forms = map form_of out.now }) }
     ensures { Appends result [] (numbered_arguments spec.now ob.now)
         (formulas_of spec.now ob.now) out.new atoms.new }
 {
@@ -112,33 +151,30 @@ fn add_all(
     )
 }
 
-/// The ground problem of an obligation of the specification. It has too many formulas exactly where the list has more than 20,000.
-pub fn ground(alloc: Global, spec: &Spec, ob: &Obligation) -> Result<Grounded, GroundRefused>
-    requires { IsObligation spec.now ob.now }
-    ensures { IsGround spec.now ob.now result }
+// The ground problem of which the entry is made.
+fn finish(
+    alloc: Global,
+    spec: &Spec,
+    ob: &Obligation,
+    ops: &[u8],
+    named: Named,
+    begun: Begun,
+) -> Result<Grounded, GroundRefused>
+    requires member { IsObligation spec.now ob.now }
+    requires ops { ops.now ≡ breaking.operations_of ob.now }
+    requires calls { named.calls ≡ calls_of spec.now ob.now }
+    requires constants { constants_in named ≡ constants_of spec.now ob.now }
+    requires begun { IsBegun spec.now ob.now begun }
+    ensures ground { IsGround spec.now ob.now result }
+    ensures entry { IfOk result (HasEntry spec.now) }
 {
-    let ops = operations_of(alloc, ob)?;
-    let Ok(mut atoms) = numbered(alloc, spec, ob, ops.as_slice()) else {
-        drop(ops);
-        return Err(GroundRefused::Memory);
-    };
-    let Ok(named) = constants(alloc, spec, ob) else {
-        drop(ops);
-        drop(atoms);
-        return Err(GroundRefused::Memory);
-    };
-    let mut formulas = Items::new(alloc);
-    let added = add_all(
-        &mut atoms,
-        alloc,
-        spec,
-        ob,
-        ops.as_slice(),
-        &named,
-        &mut formulas,
-    );
-    drop(ops);
-    or_drop!(added; formulas, named, atoms);
+    let Begun {
+        mut atoms,
+        mut formulas,
+        part,
+    } = begun;
+    let added = add_all(&mut atoms, alloc, spec, ob, ops, &named, &mut formulas);
+    or_drop!(added; part, formulas, named, atoms);
     let Named {
         sorts,
         calls,
@@ -152,5 +188,68 @@ pub fn ground(alloc: Global, spec: &Spec, ob: &Obligation) -> Result<Grounded, G
         elements,
         atoms,
         formulas,
+        part,
     })
+}
+
+/// The ground problem of an obligation of the specification, as `ground` makes it. It goes on from an entry that was kept, where this
+/// obligation has the same.
+pub fn ground_from(
+    alloc: Global,
+    spec: &Spec,
+    ob: &Obligation,
+    kept: Option<Entry>,
+) -> Result<Grounded, GroundRefused>
+    requires member { IsObligation spec.now ob.now }
+    requires kept { IfSome kept (IsEntry spec.now) }
+    ensures ground { IsGround spec.now ob.now result }
+    ensures entry { IfOk result (HasEntry spec.now) }
+{
+    let Ok(ops) = operations_of(alloc, ob) else {
+        drop(kept);
+        return Err(GroundRefused::Memory);
+    };
+    let result = ground_ops(alloc, spec, ob, ops.as_slice(), kept);
+    drop(ops);
+    result
+}
+
+// The same, where these are the operations that are called.
+fn ground_ops(
+    alloc: Global,
+    spec: &Spec,
+    ob: &Obligation,
+    ops: &[u8],
+    kept: Option<Entry>,
+) -> Result<Grounded, GroundRefused>
+    requires member { IsObligation spec.now ob.now }
+    requires ops { ops.now ≡ breaking.operations_of ob.now }
+    requires kept { IfSome kept (IsEntry spec.now) }
+    ensures ground { IsGround spec.now ob.now result }
+    ensures entry { IfOk result (HasEntry spec.now) }
+{
+    let Ok(arguments) = numbered(alloc, spec, ob, ops) else {
+        drop(kept);
+        return Err(GroundRefused::Memory);
+    };
+    let Ok(named) = constants(alloc, spec, ob) else {
+        drop(kept);
+        drop(arguments);
+        return Err(GroundRefused::Memory);
+    };
+    match begin(alloc, spec, ob, &named, arguments, kept) {
+        Ok(begun) => finish(alloc, spec, ob, ops, named, begun),
+        Err(refused) => {
+            drop(named);
+            Err(refused)
+        }
+    }
+}
+
+/// The ground problem of an obligation of the specification. It has too many formulas exactly where the list has more than 20,000.
+pub fn ground(alloc: Global, spec: &Spec, ob: &Obligation) -> Result<Grounded, GroundRefused>
+    requires { IsObligation spec.now ob.now }
+    ensures { IsGround spec.now ob.now result }
+{
+    ground_from(alloc, spec, ob, None)
 }

@@ -1,8 +1,8 @@
 // The ground problem of an obligation: its formulas over numbered atoms.
 //
 // It stands on `ground_groups`, which makes each group of the list. Here the groups stand one after another: what is true at the entry,
-// that the conclusion fails, the definitions of later readings, and equality. Definitions: specs/Ground (what the ground problem is, as
-// a program holds it).
+// that the conclusion fails, the definitions of later readings, and equality. What obligations share at the entry is
+// made once (src/entry.rt). Definitions: specs/Ground (what the ground problem is, as a program holds it), specs/Entry (what is shared).
 #![tactic(auto)]
 
 /// The value of a call; where it fails, lets go of these values and ends with its error. Values that are let go by name are let go
@@ -20,8 +20,10 @@ macro_rules! or_drop {
 }
 
 mod concluding;
+pub mod entry;
 pub mod grounding;
 pub mod listing;
 
+pub use entry::{Entry, EntryPart, EntrySize};
 pub use ground_groups::GroundRefused;
-pub use grounding::{Grounded, ground};
+pub use grounding::{Grounded, ground, ground_from};

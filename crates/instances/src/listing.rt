@@ -1,12 +1,13 @@
 // The groups of an obligation's list, one after another.
-ghost use Rattle.std.specs.Prelude.{◌≡◌, ◌++◌, []};
+ghost use Rattle.std.specs.Prelude.{◌≡◌, ◌++◌, [], map, Some};
 ghost use Rattle.obligation_list.specs.Breaking as breaking;
 ghost use Rattle.obligation_list.specs.Obligations.{IsObligation};
 ghost use Rattle.ground_problem.specs.Entry as entry;
 ghost use Rattle.ground_problem.specs.Problem.{stated, defined};
 ghost use Rattle.ground_problem.specs.Definitions.{with_definitions};
 ghost use Rattle.ground_problem.specs.Constants.{constants_of};
-ghost use Rattle.ground_groups.specs.Limited.{Appends};
+ghost use Rattle.ground_groups.specs.Limited.{Appends, make_upto};
+ghost use Rattle.ground_atoms.specs.Formulas.{form_of};
 ghost use Rattle.ground_atoms.specs.Calls.{calls_of};
 ghost use Rattle.ground_constants.specs.Calls.{constants_in, numbered_arguments};
 
@@ -16,32 +17,11 @@ use ground_constants::constants::Named;
 use ground_groups::GroundRefused;
 use ground_groups::conflicting::add_free;
 use ground_groups::defining::add_definitions;
-use ground_groups::entry::add_invariants;
 use ground_groups::ready::add_all_ready;
 use items::Items;
 use obligation_list::Obligation;
 use spec_core::Spec;
 use std::alloc::Global;
-
-// Appends what is true at the entry, nothing in the initial state.
-fn add_entry(
-    atoms: &mut Atoms,
-    alloc: Global,
-    spec: &Spec,
-    ob: &Obligation,
-    named: &Named,
-    out: &mut Items<GroundFormula>,
-) -> Result<(), GroundRefused>
-    ensures { Appends result out.old atoms.old
-        (entry.entry spec.now ob.now (constants_in named.now)) out.new atoms.new }
-{
-    match ob {
-        Obligation::Init { .. } => Ok(()),
-        Obligation::Safety { .. } => add_invariants(atoms, alloc, spec, named, out),
-        Obligation::Commute { .. } => add_invariants(atoms, alloc, spec, named, out),
-        Obligation::Stable { .. } => add_invariants(atoms, alloc, spec, named, out),
-    }
-}
 
 // Appends that the calls of these operations are ready and don't conflict.
 fn add_calls(
@@ -65,7 +45,7 @@ fn add_calls(
     add_free(atoms, alloc, spec, named, ops, out)
 }
 
-// Appends what is true before the conclusion.
+// Appends to what is true at the entry that the calls are ready and don't conflict.
 fn add_before(
     atoms: &mut Atoms,
     alloc: Global,
@@ -75,18 +55,20 @@ fn add_before(
     named: &Named,
     out: &mut Items<GroundFormula>,
 ) -> Result<(), GroundRefused>
-    requires { ops.now ≡ breaking.operations_of ob.now }
-    ensures { Appends result out.old atoms.old
-        (entry.before_conclusion spec.now ob.now (constants_in named.now)) out.new atoms.new }
+    requires ops { ops.now ≡ breaking.operations_of ob.now }
+    requires constants { constants_in named.now ≡ constants_of spec.now ob.now }
+    requires begun { make_upto [] (numbered_arguments spec.now ob.now)
+        (entry.entry spec.now ob.now (constants_of spec.now ob.now))
+        ≡ Some (record { known = atoms.now; forms = map form_of out.now }) }
+    ensures { Appends result [] (numbered_arguments spec.now ob.now)
+        (entry.before_conclusion spec.now ob.now (constants_of spec.now ob.now))
+        out.new atoms.new }
 {
-    match add_entry(atoms, alloc, spec, ob, named, out) {
-        Ok(()) => {}
-        Err(refused) => return Err(refused),
-    }
+    let _ob = ob;
     add_calls(atoms, alloc, spec, ops, named, out)
 }
 
-// Appends what is true at the entry, and that the conclusion fails.
+// Appends to what is true at the entry the rest of what is stated.
 fn add_stated(
     atoms: &mut Atoms,
     alloc: Global,
@@ -98,8 +80,12 @@ fn add_stated(
 ) -> Result<(), GroundRefused>
     requires member { IsObligation spec.now ob.now }
     requires ops { ops.now ≡ breaking.operations_of ob.now }
-    ensures { Appends result out.old atoms.old
-        (stated spec.now ob.now (constants_in named.now)) out.new atoms.new }
+    requires constants { constants_in named.now ≡ constants_of spec.now ob.now }
+    requires begun { make_upto [] (numbered_arguments spec.now ob.now)
+        (entry.entry spec.now ob.now (constants_of spec.now ob.now))
+        ≡ Some (record { known = atoms.now; forms = map form_of out.now }) }
+    ensures { Appends result [] (numbered_arguments spec.now ob.now)
+        (stated spec.now ob.now (constants_of spec.now ob.now)) out.new atoms.new }
 {
     match add_before(atoms, alloc, spec, ob, ops, named, out) {
         Ok(()) => {}
@@ -122,8 +108,9 @@ fn add_second(
     requires ops { ops.now ≡ breaking.operations_of ob.now }
     requires calls { named.now.calls ≡ calls_of spec.now ob.now }
     requires constants { constants_in named.now ≡ constants_of spec.now ob.now }
-    requires out { out.now ≡ [] }
-    requires atoms { atoms.now ≡ numbered_arguments spec.now ob.now }
+    requires begun { make_upto [] (numbered_arguments spec.now ob.now)
+        (entry.entry spec.now ob.now (constants_of spec.now ob.now))
+        ≡ Some (record { known = atoms.now; forms = map form_of out.now }) }
     ensures { Appends result [] (numbered_arguments spec.now ob.now)
         (with_definitions spec.now ob.now (constants_of spec.now ob.now) 2
         (stated spec.now ob.now (constants_of spec.now ob.now)))
@@ -136,7 +123,7 @@ fn add_second(
     add_definitions(spec, atoms, alloc, named.calls.as_slice(), 2, out)
 }
 
-/// These with the definitions of all later readings.
+/// Appends to what is true at the entry the rest of what is stated, and the definitions of all later readings.
 pub fn add_all_defined(
     atoms: &mut Atoms,
     alloc: Global,
@@ -150,8 +137,9 @@ pub fn add_all_defined(
     requires ops { ops.now ≡ breaking.operations_of ob.now }
     requires calls { named.now.calls ≡ calls_of spec.now ob.now }
     requires constants { constants_in named.now ≡ constants_of spec.now ob.now }
-    requires out { out.now ≡ [] }
-    requires atoms { atoms.now ≡ numbered_arguments spec.now ob.now }
+    requires begun { make_upto [] (numbered_arguments spec.now ob.now)
+        (entry.entry spec.now ob.now (constants_of spec.now ob.now))
+        ≡ Some (record { known = atoms.now; forms = map form_of out.now }) }
     ensures { Appends result [] (numbered_arguments spec.now ob.now)
         (defined spec.now ob.now (constants_of spec.now ob.now)) out.new atoms.new }
 {

@@ -2,3 +2,5 @@ pub mod Stays
 pub mod Tested
 pub mod Parts
 pub mod Loops
+pub mod Serving
+pub mod Entries

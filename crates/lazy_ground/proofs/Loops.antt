@@ -1,20 +1,21 @@
 -- Loops over pairs and over places.
-use Rattle.std.proofs.Common.{◌≡◌, ℕ, suc, ◌+◌, ◌<◌, Bool, true, false, ◌&&◌, List, [], ◌∷◌, ◌++◌, length, drop, drop-cons, get_or, length-append, append_assoc, append-nil, Option, Some, refl, sym, ◌∙◌, ap, subst, arith}
-use Rattle.std.specs.Prelude.{◌==◌, IfSome}
-use Rattle.std.specs.List.{flat_map, list_any}
-use Rattle.std.proofs.lemmas.Grind.{flat_map-append}
+use Rattle.std.proofs.Common.{◌≡◌, ℕ, suc, ◌+◌, ◌<◌, Bool, true, false, ◌&&◌, List, [], ◌∷◌, ◌++◌, length, map, drop, drop-cons, get_or, length-append, append_assoc, Option, Some, refl, sym, ◌∙◌, ap, subst, arith}
+use Rattle.std.specs.Prelude.{◌==◌, None, Result, Ok, Err, IfOk, IfSome}
+use Rattle.std.specs.List.{filter, flat_map, list_any}
+use Rattle.std.proofs.lemmas.List.{map-append}
 use Rattle.spec_core.specs.declared.update.Thing.{Thing}
 use Rattle.spec_core.specs.declared.update.Thing.TheVariants as thing
-use Rattle.ground_problem.specs.Symbols.{Symbolic}
+use Rattle.effectors.specs.Effect.{is_thing}
 use Rattle.ground_problem.specs.Definitions.{Reading}
-use Rattle.ground_problem.specs.Equality.{congruence}
+use Rattle.ground_problem.specs.Equality.{rising}
 use Rattle.ground_equality.specs.Pairs.{pair_count}
 use Rattle.ground_equality.proofs.Pairs.{pairs_length}
 use Rattle.lazy_ground.specs.declared.pairs.ReadingPairs.{ReadingPairs}
 use Rattle.ground_numbers.specs.Numbers.{Table}
 use Rattle.lazy_ground.specs.Pairs.{pairs_of}
 use Rattle.lazy_ground.specs.Equal.{fits}
-use Rattle.lazy_ground.specs.Named.{IsNamed, ArePairsOf, AllNamed}
+use Rattle.lazy_ground.specs.Kept.{thing_of, IsBuilt, AllBuilt}
+use Rattle.lazy_ground.specs.Named.{IsNamed, ArePairsAt, ArePairsOf, AllNamed}
 
 pub named_last : (o : Table) (ss : List ReadingPairs) (s : ReadingPairs) → AllNamed o ss → IsNamed o s → AllNamed o (ss ++ s ∷ [])
 named_last o [] s h k = (k, tt)
@@ -41,20 +42,50 @@ not_fitting (cs ∷ columns) (x ∷ t) h = by_test (list_any (λ c. c == x) cs) 
     by_test true e = e
     by_test false e = refl
 
+-- ---- the pairs of a thing
+
+pairs_from : (o : Table) (qs : List Reading) (x : Thing) (r : ℕ) (ts : List (List ℕ)) (s : ReadingPairs) → x ≡ thing.Relation r → ts ≡ rising (filter (λ q. is_thing q.thing (thing.Relation r)) qs)
+    → ArePairsAt o r ts s → ArePairsOf o qs x s
+pairs_from o qs x r ts s e t h =
+    let is : thing_of s ≡ x = ap (λ n. thing.Relation n) h.relation ∙ sym e in
+    record {
+      thing = is;
+      built = record {
+        tuples = h.tuples ∙ t ∙ ap (λ n. rising (filter (λ q. is_thing q.thing (thing.Relation n)) qs)) (sym h.relation);
+        different = h.named.different;
+        columns = h.columns;
+      };
+      named = h.named;
+    }
+
+pub pairs_of_if : {E : Type 0} (o : Table) (qs : List Reading) (x : Thing) (r : ℕ) (ts : List (List ℕ)) → x ≡ thing.Relation r → ts ≡ rising (filter (λ q. is_thing q.thing (thing.Relation r)) qs)
+    → (found : Result (Option ReadingPairs) E) → IfOk found (λ f. IfSome f (ArePairsAt o r ts)) → IfOk found (λ f. IfSome f (ArePairsOf o qs x))
+pairs_of_if o qs x r ts e t (Err why) h = tt
+pairs_of_if o qs x r ts e t (Ok None) h = tt
+pairs_of_if o qs x r ts e t (Ok (Some s)) h = pairs_from o qs x r ts s e t h
+
 -- ---- one relation more
 
 pub of_some : (o : Table) (qs : List Reading) (x : Thing) (found : Option ReadingPairs) (s : ReadingPairs) → found ≡ Some s → IfSome found (ArePairsOf o qs x) → ArePairsOf o qs x s
 of_some o qs x found s e h = subst (λ f. IfSome f (ArePairsOf o qs x)) e h
 
-pub pairs_next : (o : Table) (qs : List Reading) (xs : List Thing) (i : ℕ) (d : Thing) (ss new : List ReadingPairs) (s : ReadingPairs) → i < length xs → ArePairsOf o qs (get_or xs i d) s → new ≡ ss ++ s ∷ []
-    → flat_map pairs_of ss ++ congruence qs (drop i xs) ≡ congruence qs xs → flat_map pairs_of new ++ congruence qs (drop (i + 1) xs) ≡ congruence qs xs
-pairs_next o qs xs i d ss new s h k e g =
+pub things_next : (xs : List Thing) (i : ℕ) (d : Thing) (ss new : List ReadingPairs) (s : ReadingPairs) → i < length xs → thing_of s ≡ get_or xs i d → new ≡ ss ++ s ∷ []
+    → map thing_of ss ++ drop i xs ≡ xs → map thing_of new ++ drop (i + 1) xs ≡ xs
+things_next xs i d ss new s h k e g =
     let j : suc i ≡ i + 1 = omega arith in
-    let rest = congruence qs (drop (i + 1) xs) in
-    let p : congruence qs (drop i xs) ≡ pairs_of s ++ rest = ap (congruence qs) (drop-cons xs i d h) ∙ (λ z. sym k.1 z ++ congruence qs (drop (j z) xs)) in
-    let m : flat_map pairs_of new ≡ flat_map pairs_of ss ++ pairs_of s =
-    ap (flat_map pairs_of) e ∙ flat_map-append pairs_of ss (s ∷ []) ∙ ap (λ (l : List Symbolic). flat_map pairs_of ss ++ l) (append-nil (pairs_of s)) in
-    ap (λ (l : List Symbolic). l ++ rest) m ∙ append_assoc (flat_map pairs_of ss) (pairs_of s) rest ∙ ap (λ (l : List Symbolic). flat_map pairs_of ss ++ l) (sym p) ∙ g
+    let p : drop i xs ≡ thing_of s ∷ drop (i + 1) xs = drop-cons xs i d h ∙ (λ z. sym k z ∷ drop (j z) xs) in
+    ap (λ (l : List ReadingPairs). map thing_of l ++ drop (i + 1) xs) e
+    ∙ ap (λ (l : List Thing). l ++ drop (i + 1) xs) (map-append thing_of ss (s ∷ []))
+    ∙ append_assoc (map thing_of ss) (thing_of s ∷ []) (drop (i + 1) xs)
+    ∙ ap (λ (l : List Thing). map thing_of ss ++ l) (sym p)
+    ∙ g
+
+built_last : (qs : List Reading) (ss : List ReadingPairs) (s : ReadingPairs) → AllBuilt qs ss → IsBuilt qs s → AllBuilt qs (ss ++ s ∷ [])
+built_last qs [] s h k = (k, tt)
+built_last qs (r ∷ ss) s h k = (h.0, built_last qs ss s h.1 k)
+
+pub built_next : (qs : List Reading) (ss new : List ReadingPairs) (s : ReadingPairs) → AllBuilt qs ss → IsBuilt qs s → new ≡ ss ++ s ∷ [] → AllBuilt qs new
+built_next qs ss new s h k e = subst (AllBuilt qs) (sym e) (built_last qs ss s h k)
 
 pub named_next : (o : Table) (ss new : List ReadingPairs) (s : ReadingPairs) → AllNamed o ss → IsNamed o s → new ≡ ss ++ s ∷ [] → AllNamed o new
 named_next o ss new s h k e = subst (AllNamed o) (sym e) (named_last o ss s h k)

@@ -1,7 +1,7 @@
 -- The whole list in three parts: the formulas in front, those that pairs stand for, and those behind.
 use Rattle.std.proofs.Common.{◌≡◌, ℕ, ◌+◌, ◌≤◌, true, Some, List, [], ◌∷◌, ◌++◌, length, map, length-append, append_assoc, refl, sym, ◌∙◌, ap, subst, arith}
 use Rattle.std.specs.Prelude.{Err, Result}
-use Rattle.std.specs.List.{flat_map}
+use Rattle.std.specs.List.{filter, flat_map}
 use Rattle.std.proofs.lemmas.Grind.{flat_map-append}
 use Rattle.std.proofs.lemmas.List.{map-append, length-map}
 use Rattle.std.proofs.lemmas.Bool.{and_parts}
@@ -9,10 +9,11 @@ use Rattle.spec_core.specs.Specification.{Specification}
 use Rattle.spec_core.specs.declared.update.Thing.{Thing}
 use Rattle.obligation_list.specs.declared.obligation.Obligation.{Obligation}
 use Rattle.obligation_list.specs.Obligations.{things}
+use Rattle.effectors.specs.Effect.{is_thing}
 use Rattle.ground_problem.specs.Symbols.{Symbolic}
 use Rattle.ground_problem.specs.Constants.{constants_of}
 use Rattle.ground_problem.specs.Definitions.{Reading}
-use Rattle.ground_problem.specs.Equality.{equality, congruence}
+use Rattle.ground_problem.specs.Equality.{equality, congruent_pairs, rising, congruence}
 use Rattle.ground_problem.specs.Problem.{defined, formulas_of, most_formulas}
 use Rattle.ground_numbers.specs.Numbered.{Numbered}
 use Rattle.ground_numbers.specs.Numbers.{Table, has_atom, has_number, number_of, numbered, naming_all}
@@ -37,7 +38,8 @@ use Rattle.lazy_ground.specs.declared.front.Front.{Front}
 use Rattle.lazy_ground.specs.declared.grounding.LazyGround.{LazyGround}
 use Rattle.lazy_ground.specs.Pairs.{pairs_of, pair_forms}
 use Rattle.lazy_ground.specs.Lazy.{IsLazyGround, ArePairs, IsGroundEither}
-use Rattle.lazy_ground.specs.Named.{readings_known, AllNamed}
+use Rattle.lazy_ground.specs.Kept.{thing_of, AllBuilt}
+use Rattle.lazy_ground.specs.Named.{readings_known, AllNamed, AreFound}
 use Rattle.lazy_ground.specs.Front.{front_of, entry_readings, IsFront, IsFrontOr, IsChosen, IsMadeWithin}
 use Rattle.lazy_ground.proofs.Stays.{naming_all-append, all_numbered-stay}
 
@@ -146,6 +148,19 @@ pub pairs_stay : (t o : Table) (ss : List ReadingPairs) → Extends t o → AllN
 pairs_stay t o [] e h = tt
 pairs_stay t o (s ∷ ss) e h = ((h.0.different, h.0.atoms ∙ numbers_stay t o s.relation s.tuples e h.0.known), pairs_stay t o ss e h.1)
 
+-- ---- what pairs stand for
+
+-- pairs of all these things stand for the formulas on equal readings
+pub built_pairs : (qs : List Reading) (ss : List ReadingPairs) → AllBuilt qs ss → flat_map pairs_of ss ≡ congruence qs (map thing_of ss)
+built_pairs qs [] h = refl
+built_pairs qs (s ∷ ss) h =
+    let p : pairs_of s ≡ congruent_pairs (thing_of s) (rising (filter (λ q. is_thing q.thing (thing_of s)) qs)) = ap (congruent_pairs (thing_of s)) h.0.tuples in
+    let q = built_pairs qs ss h.1 in
+    λ i. p i ++ q i
+
+pub found_pairs : (o : Table) (qs : List Reading) (xs : List Thing) (ss : List ReadingPairs) → AreFound o qs xs ss → flat_map pairs_of ss ≡ congruence qs xs
+found_pairs o qs xs ss h = built_pairs qs ss h.built ∙ ap (congruence qs) h.things
+
 -- ---- the lazy ground problem
 
 pub lazy_made : (d : Specification) (ob : Obligation) (l m : Known) (rs cs : List Thing) (g : LazyGround)
@@ -199,14 +214,14 @@ whole_refused d ob Memory new now e = tt
 
 -- ---- the lazy one, of what is chosen
 
-pub lazy_from : (d : Specification) (ob : Obligation) (f : Front) (c : Chosen) (xs ys : List Thing) (rs : List NamedReading) (new : Known) (behind : List GroundFormula)
+pub lazy_from : (d : Specification) (ob : Obligation) (f : Front) (c : Chosen) (xs ys : List Thing) (rs : List NamedReading) (new : Known) (behind : List GroundFormula) (ss : List ℕ)
     → IsFront d ob f → IsChosen f xs c → xs ++ ys ≡ things d → rs ≡ f.readings → IsMadeWithin f.atoms (congruence (map reading_of rs) ys) new c.room behind
-    → IsLazyGround d ob (record { atoms = new; front = f.formulas; pairs = c.pairs; behind = behind })
-lazy_from d ob f c xs ys rs new behind is chosen all q made =
+    → IsLazyGround d ob (record { atoms = new; front = f.formulas; pairs = c.pairs; behind = behind; sorts = ss; readings = f.readings; part = f.part })
+lazy_from d ob f c xs ys rs new behind ss is chosen all q made =
     let a = chosen.room in
     let b = made.few in
-    lazy_made d ob f.atoms new xs ys (record { atoms = new; front = f.formulas; pairs = c.pairs; behind = behind }) all is.made
-    (chosen.found.pairs ∙ ap (λ (qs : List Reading). congruence qs xs) is.readings)
+    lazy_made d ob f.atoms new xs ys (record { atoms = new; front = f.formulas; pairs = c.pairs; behind = behind; sorts = ss; readings = f.readings; part = f.part }) all is.made
+    (found_pairs f.atoms.table (map reading_of f.readings) xs c.pairs chosen.found ∙ ap (λ (qs : List Reading). congruence qs xs) is.readings)
     chosen.found.named
     (ap (λ (qs : List Reading). make_upto [] f.atoms (congruence qs ys)) (sym (ap (map reading_of) q ∙ is.readings)) ∙ made.made)
     refl (omega (arith, a, b))

@@ -1,5 +1,5 @@
 -- What the tests of a relation's readings tell: its tuples are different, and its pairs name nothing new.
-use Rattle.std.proofs.Common.{◌≡◌, ℕ, suc, Bool, true, false, cond, ◌||◌, List, [], ◌∷◌, length, map, refl, sym, ◌∙◌, ap}
+use Rattle.std.proofs.Common.{◌≡◌, ℕ, suc, ◌<◌, ◌⊎◌, inl, inr, arith, Bool, true, false, cond, ◌||◌, List, [], ◌∷◌, length, map, refl, sym, ◌∙◌, ap}
 use Rattle.std.specs.Prelude.{ltb, ◌==◌, Option, Some, None, Result, Ok, Err, IfOk, IfSome}
 use Rattle.std.specs.List.{list_all, list_any}
 use Rattle.std.specs.Ordering.{nat_cmp, is_lt, ordering_reverse}
@@ -7,16 +7,17 @@ use Rattle.std.specs.declared.cmp.Ordering.{Ordering}
 use Rattle.std.specs.declared.cmp.Ordering.TheVariants.{Less, Equal, Greater}
 use Rattle.std.specs.Cmp.Lexicographic.{slice_cmp}
 use Rattle.std.proofs.lemmas.Cmp.{nat_list_cmp_total}
-use Rattle.std.proofs.lemmas.Bool.{and_parts}
+use Rattle.std.proofs.lemmas.Bool.{and_parts, cases_order, lt-ltb, le-ltb}
 use Rattle.std.proofs.lemmas.Bool.Decides.{Decides-eqb}
 use Rattle.spec_core.specs.declared.update.Thing.TheVariants as thing
 use Rattle.ground_problem.specs.Symbols.{Symbolic, always, same, both, both_and, all_parts, same_const}
 use Rattle.ground_problem.specs.Equality.{tuples_same, congruent, congruent_pairs}
 use Rattle.ground_numbers.specs.Numbers.{Table, same_atom, has_atom, has_number, naming_all}
 use Rattle.ground_numbers.proofs.Growing.{NamesIn, AllNamesIn}
+use Rattle.lazy_ground.specs.declared.pairs.ReadingPairs.{ReadingPairs}
 use Rattle.lazy_ground.specs.Pairs.{DiffersFrom, AreDifferent}
 use Rattle.lazy_ground.specs.Equal.{equality_known, all_known, fits}
-use Rattle.lazy_ground.specs.Named.{rise_from, all_rise, readings_known, HasKnownEqualities, AreNumbers, IsNamed}
+use Rattle.lazy_ground.specs.Named.{rise_from, all_rise, readings_known, HasKnownEqualities, AreNumbers, AreNumbersOfPairs, IsNamed, IsSettled}
 use Rattle.lazy_ground.proofs.Stays.{all_names_there, all_names-append}
 
 -- ---- equalities
@@ -38,8 +39,45 @@ member_passes p (c ∷ cs) x h k = (let q = and_parts (p c) (list_all p cs) h in
     by_test true e k h g = sym (ap p ((Decides-eqb c x).0 e)) ∙ h
     by_test false e k h g = g k
 
+self_known : (o : Table) (a : ℕ) → equality_known o a a ≡ true
+self_known o a = ap (λ (t : Bool). cond t true (cond (ltb a a) (has_number o (same_atom a a)) (has_number o (same_atom a a)))) ((Decides-eqb a a).1 refl)
+
+unequal : (a b : ℕ) → (a ≡ b → ⊥) → (a == b) ≡ false
+unequal a b n = by_test (a == b) refl
+  where
+    by_test : (t : Bool) → (a == b) ≡ t → t ≡ false
+    by_test true e = absurd (n ((Decides-eqb a b).0 e))
+    by_test false e = refl
+
+-- the lesser first, whichever is asked for first
+rising_known : (o : Table) (a b : ℕ) → a < b → equality_known o a b ≡ equality_known o b a
+rising_known o a b l =
+    let p = unequal a b (λ e. omega (arith, l, e)) in
+    let q = unequal b a (λ e. omega (arith, l, e)) in
+    let u = lt-ltb a b l in
+    let v = le-ltb b a (omega (arith, l)) in
+    (λ i. cond (p i) true (cond (u i) (has_number o (same_atom a b)) (has_number o (same_atom b a))))
+    ∙ sym (λ i. cond (q i) true (cond (v i) (has_number o (same_atom b a)) (has_number o (same_atom a b))))
+
+swapped_known : (o : Table) (a b : ℕ) → equality_known o a b ≡ true → equality_known o b a ≡ true
+swapped_known o a b h = by_order (cases_order a b)
+  where
+    by_order : (a ≡ b) ⊎ ((a < b) ⊎ (b < a)) → equality_known o b a ≡ true
+    by_order (inl e) = ap (equality_known o b) e ∙ self_known o b
+    by_order (inr (inl l)) = sym (rising_known o a b l) ∙ h
+    by_order (inr (inr l)) = rising_known o b a l ∙ h
+
+-- two members of a list, each two of which are known
 two_known : (o : Table) (cs : List ℕ) (a b : ℕ) → all_known o cs ≡ true → list_any (λ c. c == a) cs ≡ true → list_any (λ c. c == b) cs ≡ true → equality_known o a b ≡ true
-two_known o cs a b h k l = member_passes (equality_known o a) cs b (member_passes (λ x. list_all (equality_known o x) cs) cs a h k) l
+two_known o [] a b h k l = absurd cc
+two_known o (c ∷ cs) a b h k l = (let q = and_parts (list_all (equality_known o c) cs) (all_known o cs) h in by_tests (c == a) (c == b) refl refl k l q.0 (two_known o cs a b q.1))
+  where
+    by_tests : (s t : Bool) → (c == a) ≡ s → (c == b) ≡ t → (s || list_any (λ x. x == a) cs) ≡ true → (t || list_any (λ x. x == b) cs) ≡ true → list_all (equality_known o c) cs ≡ true
+        → (list_any (λ x. x == a) cs ≡ true → list_any (λ x. x == b) cs ≡ true → equality_known o a b ≡ true) → equality_known o a b ≡ true
+    by_tests true true e f k l p q = ap (λ (x : ℕ). equality_known o x b) (sym ((Decides-eqb c a).0 e) ∙ (Decides-eqb c b).0 f) ∙ self_known o b
+    by_tests true false e f k l p q = ap (λ (x : ℕ). equality_known o x b) (sym ((Decides-eqb c a).0 e)) ∙ member_passes (equality_known o c) cs b p l
+    by_tests false true e f k l p q = swapped_known o b a (ap (λ (x : ℕ). equality_known o x a) (sym ((Decides-eqb c b).0 f)) ∙ member_passes (equality_known o c) cs a p k)
+    by_tests false false e f k l p g = g k l
 
 -- two tuples that fit one list of columns have one length, and the equality of each place has a number
 same_length : (columns : List (List ℕ)) (t u : List ℕ) → fits columns t ≡ true → fits columns u ≡ true → length t ≡ length u
@@ -93,8 +131,9 @@ pairs_named o r columns (t ∷ ts) a k q =
     let m = and_parts (has_number o (has_atom [] r t)) (readings_known o r ts) q in
     all_names-append o _ _ (with_each_named o r columns t ts a l.0 l.1 m.0 m.1) (pairs_named o r columns ts a l.1 m.1)
 
-pub pairs_there : (o : Table) (r : ℕ) (ts : List (List ℕ)) → HasKnownEqualities o ts → readings_known o r ts ≡ true → naming_all o (congruent_pairs (thing.Relation r) ts) ≡ o
-pairs_there o r ts h q = all_names_there o _ (pairs_named o r h.0 ts h.1 h.2 q)
+pub pairs_there : (o : Table) (r : ℕ) (columns ts : List (List ℕ)) → list_all (all_known o) columns ≡ true → list_all (fits columns) ts ≡ true → readings_known o r ts ≡ true
+    → naming_all o (congruent_pairs (thing.Relation r) ts) ≡ o
+pairs_there o r columns ts a k q = all_names_there o _ (pairs_named o r columns ts a k q)
 
 -- ---- rising tuples are different
 
@@ -134,22 +173,29 @@ different_from columns t (u ∷ us) h k q =
     let b = and_parts (fits columns u) (list_all (fits columns) us) q in
     (differ_behind columns t (u ∷ us) h k q, different_from columns u us a.1 b.0 b.1)
 
-pub rising_different : (o : Table) (ts : List (List ℕ)) → all_rise ts ≡ true → HasKnownEqualities o ts → AreDifferent ts
-rising_different o [] h k = tt
-rising_different o (t ∷ us) h k = (let b = and_parts (fits k.0 t) (list_all (fits k.0) us) k.2 in different_from k.0 t us h b.0 b.1)
+pub rising_different : (columns ts : List (List ℕ)) → all_rise ts ≡ true → list_all (fits columns) ts ≡ true → AreDifferent ts
+rising_different columns [] h k = tt
+rising_different columns (t ∷ us) h k = (let b = and_parts (fits columns t) (list_all (fits columns) us) k in different_from columns t us h b.0 b.1)
 
 -- ---- a relation whose tests succeed
 
-pub named_from : (o : Table) (r : ℕ) (ts : List (List ℕ)) (ns : List ℕ) → all_rise ts ≡ true → HasKnownEqualities o ts → AreNumbers o r ts ns → IsNamed o (record { relation = r; tuples = ts; atoms = ns })
-named_from o r ts ns rise known numbers = record {
-  different = rising_different o ts rise known;
-  atoms = numbers.numbers;
-  known = numbers.known;
-  names = pairs_there o r ts known numbers.known;
+-- different tuples that fit columns whose equalities are known, with the numbers of their readings
+pub named_settled : (o : Table) (s : ReadingPairs) → AreDifferent s.tuples → list_all (fits s.columns) s.tuples ≡ true → IsSettled o s → IsNamed o s
+named_settled o s different fit settled = record {
+  different = different;
+  atoms = settled.numbers.numbers;
+  known = settled.numbers.known;
+  names = pairs_there o s.relation s.columns s.tuples settled.known fit settled.numbers.known;
 }
 
-pub named_if : {E : Type 0} (o : Table) (r : ℕ) (ts : List (List ℕ)) → all_rise ts ≡ true → HasKnownEqualities o ts → (found : Result (Option (List ℕ)) E)
-    → IfOk found (λ f. IfSome f (AreNumbers o r ts)) → IfOk found (λ f. IfSome f (λ ns. IsNamed o (record { relation = r; tuples = ts; atoms = ns })))
-named_if o r ts rise known (Err e) h = tt
-named_if o r ts rise known (Ok None) h = tt
-named_if o r ts rise known (Ok (Some ns)) h = named_from o r ts ns rise known h
+named_from : (o : Table) (r : ℕ) (ts columns : List (List ℕ)) (ns : List ℕ) → all_rise ts ≡ true → HasKnownEqualities o columns ts → AreNumbers o r ts ns → AreNumbersOfPairs o r ts columns ns
+named_from o r ts columns ns rise known numbers = record {
+  named = named_settled o (record { relation = r; tuples = ts; columns = columns; atoms = ns }) (rising_different columns ts rise known.fit) known.fit (record { known = known.known; numbers = numbers });
+  fit = known.fit;
+}
+
+pub named_if : {E : Type 0} (o : Table) (r : ℕ) (ts columns : List (List ℕ)) → all_rise ts ≡ true → HasKnownEqualities o columns ts → (found : Result (Option (List ℕ)) E)
+    → IfOk found (λ f. IfSome f (AreNumbers o r ts)) → IfOk found (λ f. IfSome f (AreNumbersOfPairs o r ts columns))
+named_if o r ts columns rise known (Err e) h = tt
+named_if o r ts columns rise known (Ok None) h = tt
+named_if o r ts columns rise known (Ok (Some ns)) h = named_from o r ts columns ns rise known h

@@ -16,9 +16,10 @@ abbrev pub equality_known : Table → ℕ → ℕ → Bool
 equality_known o a b =
     cond (a == b) true (cond (ltb a b) (has_number o (same_atom a b)) (has_number o (same_atom b a)))
 
--- every two of these constants have it
+-- each two of these constants have it, the earlier with the later
 abbrev pub all_known : Table → List ℕ → Bool
-all_known o cs = list_all (λ a. list_all (equality_known o a) cs) cs
+all_known o [] = true
+all_known o (c ∷ cs) = list_all (equality_known o c) cs && all_known o cs
 
 -- a tuple has as many places as there are lists, and at each place one of that list
 abbrev pub fits : List (List ℕ) → List ℕ → Bool

@@ -1,5 +1,5 @@
 -- The formulas of an obligation before those on equal readings. It mirrors the code.
-use Rattle.std.specs.Prelude.{◌≡◌, ℕ, ◌+◌, ◌<◌, ◌≤◌, Some, Result, Ok, Err, List, [], ◌++◌, length, map}
+use Rattle.std.specs.Prelude.{◌≡◌, ℕ, ◌+◌, ◌<◌, ◌≤◌, Some, Result, Ok, Err, IfSome, List, [], ◌++◌, length, map}
 use Rattle.std.specs.List.{flat_map}
 use Rattle.spec_core.specs.Specification.{Specification}
 use Rattle.spec_core.specs.declared.update.Thing.{Thing}
@@ -16,6 +16,10 @@ use Rattle.ground_atoms.specs.Symbols.{reading_of}
 use Rattle.ground_atoms.specs.declared.formula.GroundFormula.{GroundFormula}
 use Rattle.ground_constants.specs.Calls.{constants_in, numbered_arguments}
 use Rattle.ground_groups.specs.Limited.{make_upto}
+use Rattle.ground_numbers.specs.Numbered.{Numbered}
+use Rattle.ground_atoms.proofs.Cutting.{Begins, Grows}
+use Rattle.instances.specs.Entry.{invariants_at, IsPart}
+use Rattle.instances.specs.declared.entry.EntryPart.{EntryPart}
 use Rattle.ground_groups.specs.declared.refused.GroundRefused.{GroundRefused}
 use Rattle.ground_groups.specs.declared.refused.GroundRefused.TheVariants.{TooMany, Memory}
 use Rattle.lazy_ground.specs.declared.front.Front.{Front}
@@ -31,6 +35,15 @@ front_of d ob = defined d ob (constants_of d ob) ++ equality 0 (constants_of d o
 abbrev pub entry_readings : Specification → Obligation → List Reading
 entry_readings d ob = readings_after 0 (defined d ob (constants_of d ob))
 
+-- What is made of the entry stands first in what is known and made, so that it can be taken back.
+pub record HasPart (d : Specification) (ob : Obligation) (atoms : Known) (formulas : List GroundFormula) (p : EntryPart) : Type 0 where
+  pub known : Known
+  pub forms : List Numbered
+  pub made : make_upto [] (numbered_arguments d ob) (invariants_at d (constants_of d ob).sorts) ≡ Some (record { known = known; forms = forms })
+  pub part : IsPart (numbered_arguments d ob).table.ints known forms p
+  pub grows : Grows known atoms
+  pub begins : Begins forms (map form_of formulas)
+
 -- these formulas, made, with the readings that they name
 pub record IsFront (d : Specification) (ob : Obligation) (f : Front) : Type 0 where
   pub constants : constants_in f.named ≡ constants_of d ob
@@ -38,6 +51,7 @@ pub record IsFront (d : Specification) (ob : Obligation) (f : Front) : Type 0 wh
   pub readings : map reading_of f.readings ≡ entry_readings d ob
   pub made : make_upto [] (numbered_arguments d ob) (front_of d ob)
       ≡ Some (record { known = f.atoms; forms = map form_of f.formulas })
+  pub shared : IfSome f.part (HasPart d ob f.atoms f.formulas)
 
 -- They are made, or the whole list has too many.
 abbrev pub IsFrontOr : Specification → Obligation → Result Front GroundRefused → Type 0

@@ -1,5 +1,6 @@
 pub mod Pairs
 pub mod Lazy
 pub mod Equal
+pub mod Kept
 pub mod Named
 pub mod Front

@@ -1,16 +1,15 @@
 -- Readings of relations whose pairs name nothing new. It mirrors the code.
 use Rattle.std.specs.Prelude.{◌≡◌, ℕ, true, Bool, ◌&&◌, List, [], ◌∷◌, map}
-use Rattle.std.specs.List.{list_all, filter, flat_map}
+use Rattle.std.specs.List.{list_all}
 use Rattle.std.specs.Ordering.{nat_cmp, is_lt}
 use Rattle.std.specs.Cmp.Lexicographic.{slice_cmp}
 use Rattle.spec_core.specs.declared.update.Thing.{Thing}
-use Rattle.effectors.specs.Effect.{is_thing}
 use Rattle.ground_problem.specs.Definitions.{Reading}
-use Rattle.ground_problem.specs.Equality.{congruent_pairs, rising, congruence}
 use Rattle.ground_numbers.specs.Numbers.{Table, has_atom, has_number, number_of, naming_all}
 use Rattle.lazy_ground.specs.declared.pairs.ReadingPairs.{ReadingPairs}
 use Rattle.lazy_ground.specs.Equal.{all_known, fits}
 use Rattle.lazy_ground.specs.Pairs.{pairs_of, AreDifferent, HasAtoms}
+use Rattle.lazy_ground.specs.Kept.{thing_of, IsBuilt, AllBuilt}
 
 -- a tuple is before the first of these, and each of these before the next
 abbrev pub rise_from : List ℕ → List (List ℕ) → Bool
@@ -26,11 +25,10 @@ all_rise (t ∷ ts) = rise_from t ts
 abbrev pub readings_known : Table → ℕ → List (List ℕ) → Bool
 readings_known o r ts = list_all (λ t. has_number o (has_atom [] r t)) ts
 
--- The constants of these tuples stand, place by place, in lists, and the equality of every two of a list has a number.
-abbrev pub HasKnownEqualities : Table → List (List ℕ) → Type 0
-HasKnownEqualities o ts =
-    (columns : List (List ℕ))
-    × (list_all (all_known o) columns ≡ true) × (list_all (fits columns) ts ≡ true)
+-- The constants of these tuples stand, place by place, in these lists, and the equality of every two of a list has a number.
+pub record HasKnownEqualities (o : Table) (columns ts : List (List ℕ)) : Type 0 where
+  pub known : list_all (all_known o) columns ≡ true
+  pub fit : list_all (fits columns) ts ≡ true
 
 -- these are the numbers of the relation's readings at the tuples
 pub record AreNumbers (o : Table) (r : ℕ) (ts : List (List ℕ)) (ns : List ℕ) : Type 0 where
@@ -44,22 +42,41 @@ pub record IsNamed (o : Table) (s : ReadingPairs) : Type 0 where
   pub known : readings_known o s.relation s.tuples ≡ true
   pub names : naming_all o (pairs_of s) ≡ o
 
--- so it is with these tuples and numbers
-abbrev pub AreNumbersOfPairs : Table → ℕ → List (List ℕ) → List ℕ → Type 0
-AreNumbersOfPairs o r ts ns = IsNamed o (record { relation = r; tuples = ts; atoms = ns })
+-- so it is with these tuples and numbers, and the tuples' constants stand in these columns
+pub record AreNumbersOfPairs (o : Table) (r : ℕ) (ts columns : List (List ℕ)) (ns : List ℕ) : Type 0 where
+  pub named : IsNamed o (record { relation = r; tuples = ts; columns = columns; atoms = ns })
+  pub fit : list_all (fits columns) ts ≡ true
+
+-- the pairs of a relation's tuples, whose constants stand in columns; they name nothing new
+pub record ArePairsAt (o : Table) (r : ℕ) (ts : List (List ℕ)) (s : ReadingPairs) : Type 0 where
+  pub relation : s.relation ≡ r
+  pub tuples : s.tuples ≡ ts
+  pub columns : list_all (fits s.columns) s.tuples ≡ true
+  pub named : IsNamed o s
 
 -- a thing's pairs, which name nothing new
-abbrev pub ArePairsOf : Table → List Reading → Thing → ReadingPairs → Type 0
-ArePairsOf o qs x s =
-    IsNamed o s
-    × (pairs_of s ≡ congruent_pairs x (rising (filter (λ q. is_thing q.thing x) qs)))
+pub record ArePairsOf (o : Table) (qs : List Reading) (x : Thing) (s : ReadingPairs) : Type 0 where
+  pub thing : thing_of s ≡ x
+  pub built : IsBuilt qs s
+  pub named : IsNamed o s
 
 -- so it is with each of these
 abbrev pub AllNamed : Table → List ReadingPairs → Type 0
 AllNamed o [] = Unit {0}
 AllNamed o (s ∷ more) = IsNamed o s × AllNamed o more
 
+-- the equalities of each two constants of its columns are known, and its readings have its numbers
+pub record IsSettled (o : Table) (s : ReadingPairs) : Type 0 where
+  pub known : list_all (all_known o) s.columns ≡ true
+  pub numbers : AreNumbers o s.relation s.tuples s.atoms
+
+-- so it is with each of these
+abbrev pub AllSettled : Table → List ReadingPairs → Type 0
+AllSettled o [] = Unit {0}
+AllSettled o (s ∷ more) = IsSettled o s × AllSettled o more
+
 -- they stand for the formulas on equal readings of these things, and name nothing new
 pub record AreFound (o : Table) (qs : List Reading) (xs : List Thing) (ss : List ReadingPairs) : Type 0 where
-  pub pairs : flat_map pairs_of ss ≡ congruence qs xs
+  pub things : map thing_of ss ≡ xs
+  pub built : AllBuilt qs ss
   pub named : AllNamed o ss

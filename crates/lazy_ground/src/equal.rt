@@ -134,19 +134,20 @@ fn are_known_with(atoms: &Atoms, constant: u32, constants: &[u32]) -> bool
     true
 }
 
-// Whether those of every two of these have numbers.
-fn are_known(atoms: &Atoms, constants: &[u32]) -> bool
+/// Whether those of each two of these have numbers.
+pub fn are_known(atoms: &Atoms, constants: &[u32]) -> bool
     ensures { result ≡ all_known atoms.now.table constants.now }
 {
-    for constant in constants {
-        if !are_known_with(atoms, *constant, constants) {
+    for place in 0..constants.len() {
+        let next = place + 1;
+        if !are_known_with(atoms, constants[place], &constants[next..]) {
             return false;
         }
     }
     true
 }
 
-/// Whether at each place the equalities of every two of its constants have numbers.
+/// Whether at each place the equalities of each two of its constants have numbers.
 pub fn are_all_known(atoms: &Atoms, columns: &[Items<u32>]) -> bool
     ensures { result ≡ list_all (all_known atoms.now.table) columns.now }
 {

@@ -5,8 +5,13 @@
 // of two tuples is made when it is asked for (src/pairs.rt). They name nothing that isn't named before them, which is tested; so the
 // formulas before and behind them have the numbers that they have in the whole problem (src/grounding.rt).
 //
-// Definitions, in specs/: `Pairs` (what a relation's tuples stand for), `Lazy` (what the lazy ground problem is). `Equal`, `Named` and
-// `Front` mirror the code: what is tested of constants and of tuples, and what is made before the pairs.
+// Obligations of a specification mostly share their entry and its readings. What is made of the entry is cut back for the next
+// obligation, and the pairs are taken over where that one's readings are the same; only what depends on numbers is tested anew
+// (src/keeping.rt).
+//
+// Definitions, in specs/: `Pairs` (what a relation's tuples stand for), `Lazy` (what the lazy ground problem is), `Kept` (what of it
+// serves the next obligation). `Equal`, `Named` and `Front` mirror the code: what is tested of constants and of tuples, and what is made
+// before the pairs.
 #![tactic(auto)]
 
 /// The value of a call; where it fails, lets go of these values and ends with its error. Values that are let go by name are let go
@@ -28,8 +33,10 @@ mod columns;
 mod equal;
 mod front;
 mod grounding;
+mod keeping;
 mod naming;
 mod pairs;
 
-pub use grounding::{EitherGround, LazyGround, ground_lazily};
+pub use grounding::{EitherGround, Kept, LazyGround, ground_lazily, ground_lazily_from};
+pub use keeping::KeptPairs;
 pub use pairs::{ReadingPairs, pair_formula};

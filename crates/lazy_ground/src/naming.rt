@@ -1,8 +1,8 @@
 // The readings of relations at the entry, where the formulas of their pairs name nothing new.
-ghost use Rattle.std.specs.Prelude.{◌≡◌, [], IfOk, IfSome, true, map};
+ghost use Rattle.std.specs.Prelude.{◌≡◌, [], IfOk, IfSome, IsTrue, true, map};
 ghost use Rattle.ground_numbers.specs.Numbers.{has_atom, has_number, number_of};
 ghost use Rattle.ground_atoms.specs.Symbols.{reading_of};
-ghost use Rattle.lazy_ground.specs.Named.{rise_from, all_rise, AreNumbers, HasKnownEqualities, AreNumbersOfPairs, ArePairsOf, AreFound};
+ghost use Rattle.lazy_ground.specs.Named.{rise_from, all_rise, AreNumbers, HasKnownEqualities, AreNumbersOfPairs, ArePairsAt, ArePairsOf, AreFound};
 
 use crate::columns::columns_of;
 use crate::equal::{are_all_known, are_within};
@@ -79,18 +79,11 @@ fn numbers_at(
     Ok(Some(numbers))
 }
 
-// Whether the formulas of every two of these tuples name no equality that isn't known.
-fn has_known_equalities(
-    atoms: &Atoms,
-    alloc: Global,
-    tuples: &[Items<u32>],
-) -> Result<bool, AllocError>
-    ensures { IfOk result (λ known. known ≡ true → HasKnownEqualities atoms.now.table tuples.now) }
+// Whether the formulas of every two of these tuples, whose constants stand in columns, name no equality that isn't known.
+fn has_known_equalities(atoms: &Atoms, columns: &[Items<u32>], tuples: &[Items<u32>]) -> bool
+    ensures { IsTrue result → HasKnownEqualities atoms.now.table columns.now tuples.now }
 {
-    let columns = columns_of(alloc, tuples)?;
-    let known = are_all_known(atoms, columns.as_slice()) && are_within(columns.as_slice(), tuples);
-    drop(columns);
-    Ok(known)
+    are_all_known(atoms, columns) && are_within(columns, tuples)
 }
 
 // The numbers of a relation's readings at these tuples; nothing where their pairs name something new.
@@ -99,17 +92,54 @@ fn numbers_of_pairs(
     alloc: Global,
     relation: u8,
     tuples: &[Items<u32>],
+    columns: &[Items<u32>],
 ) -> Result<Option<Items<u32>>, AllocError>
     ensures { IfOk result (λ found. IfSome found
-        (AreNumbersOfPairs atoms.now.table relation tuples.now)) }
+        (AreNumbersOfPairs atoms.now.table relation tuples.now columns.now)) }
 {
     if !is_rising(tuples) {
         return Ok(None);
     }
-    if !has_known_equalities(atoms, alloc, tuples)? {
+    if !has_known_equalities(atoms, columns, tuples) {
         return Ok(None);
     }
     numbers_at(atoms, alloc, relation, tuples)
+}
+
+// The pairs of a relation's tuples, whose constants stand in columns; nothing where they name something new.
+fn pairs_at(
+    atoms: &Atoms,
+    alloc: Global,
+    relation: u8,
+    tuples: Items<Items<u32>>,
+    columns: Items<Items<u32>>,
+) -> Result<Option<ReadingPairs>, AllocError>
+    ensures { IfOk result (λ found. IfSome found (ArePairsAt atoms.now.table relation tuples)) }
+{
+    match numbers_of_pairs(
+        atoms,
+        alloc,
+        relation,
+        tuples.as_slice(),
+        columns.as_slice(),
+    ) {
+        Ok(Some(numbers)) => Ok(Some(ReadingPairs {
+            relation,
+            tuples,
+            columns,
+            atoms: numbers,
+        })),
+        Ok(None) => {
+            drop(tuples);
+            drop(columns);
+            Ok(None)
+        }
+        Err(error) => {
+            drop(tuples);
+            drop(columns);
+            Err(error)
+        }
+    }
 }
 
 // The pairs of the readings of a thing; nothing where it isn't a relation, or where its pairs name something new.
@@ -126,21 +156,11 @@ fn pairs_of_thing(
         return Ok(None);
     };
     let tuples = rising(alloc, readings, thing)?;
-    match numbers_of_pairs(atoms, alloc, relation, tuples.as_slice()) {
-        Ok(Some(numbers)) => Ok(Some(ReadingPairs {
-            relation,
-            tuples,
-            atoms: numbers,
-        })),
-        Ok(None) => {
-            drop(tuples);
-            Ok(None)
-        }
-        Err(error) => {
-            drop(tuples);
-            Err(error)
-        }
-    }
+    let Ok(columns) = columns_of(alloc, tuples.as_slice()) else {
+        drop(tuples);
+        return Err(AllocError);
+    };
+    pairs_at(atoms, alloc, relation, tuples, columns)
 }
 
 /// The pairs of the readings of each of these things; nothing where one isn't a relation, or where a pair names something new.

@@ -10,12 +10,14 @@ use crate::equal::tuples_equality;
 use ground_atoms::{Agreement, Atoms, GroundFormula};
 use items::Items;
 
-/// The tuples at which a relation is read at the entry, in rising order, and the numbers of the atoms of these readings. Every two of the
-/// tuples stand for the formula that where they are equal, the relation holds of both or of neither.
+/// The tuples at which a relation is read at the entry, in rising order; the constants that stand at each place, each once; and the
+/// numbers of the atoms of these readings. Every two of the tuples stand for the formula that where they are equal, the relation holds of
+/// both or of neither.
 #[derive(Drop)]
 pub struct ReadingPairs {
     pub relation: u8,
     pub tuples: Items<Items<u32>>,
+    pub columns: Items<Items<u32>>,
     pub atoms: Items<u32>,
 }
 

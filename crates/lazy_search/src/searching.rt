@@ -3,6 +3,7 @@ ghost use Rattle.std.specs.Prelude.{◌≡◌, ◌+◌, ℕ, true, length, IfOk,
 ghost use Rattle.sat_core.specs.Answers.{IsRefuted};
 ghost use Rattle.needed_clauses.specs.Renaming.{IsPart};
 ghost use Rattle.lazy_ground.specs.Lazy.{lazy_problem, ArePairs};
+ghost use Rattle.lazy_ground.specs.Kept.{HasClauses};
 ghost use Rattle.chosen_clauses.specs.Chosen.{IsLayout};
 ghost use Rattle.lazy_search.specs.Refuting.{AreSizes, AreOf, IsLazyAnswer, IsStep};
 
@@ -229,7 +230,8 @@ pub fn search_lazily(
     ground: &LazyGround,
     budget: u32,
 ) -> Result<LazyAnswer, AllocError>
-    requires { ArePairs ground.now.atoms.table ground.now.pairs }
+    requires pairs { ArePairs ground.now.atoms.table ground.now.pairs }
+    requires clauses { HasClauses ground.now }
     ensures { IfOk result (λ answer. IsLazyAnswer (lazy_problem ground.now) budget answer) }
 {
     let Some(first) = count_atoms(&ground.atoms) else {

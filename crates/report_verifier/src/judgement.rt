@@ -1,5 +1,6 @@
 // What is kept of the verdicts of a report, line by line.
-ghost use Rattle.std.specs.Prelude.{◌≡◌, suc, Some, IfOk, OnOk, slice_get};
+ghost use Rattle.std.specs.Prelude.{◌≡◌, suc, Some, IfOk, IfSome, OnOk, slice_get};
+ghost use Rattle.instances.specs.Entry.{IsEntry};
 ghost use Rattle.std.specs.List.{Contains};
 ghost use Rattle.obligation_list.specs.Obligations.{IsObligation, obligations_of};
 ghost use Rattle.proof_report.specs.Events.{told};
@@ -9,7 +10,7 @@ ghost use Rattle.report_verifier.specs.Taking.{end_fault_of, ended_as, with_ende
 
 use crate::ending::end_fault;
 use crate::logs::kind_of;
-use crate::posing::pose;
+use crate::posing::Poser;
 use obligation_list::Obligation;
 use proof_kernel::Kernel;
 use proof_lines::{Line, LineRefused};
@@ -17,7 +18,7 @@ use proof_report::{Ended, Fault, Fed};
 use report_lines::head::Tally;
 use report_lines::verdict::VerdictWord;
 use spec_core::Spec;
-use std::alloc::{AllocError, Global};
+use std::alloc::AllocError;
 
 /// How many verdicts of each kind there are; of the last one its line, whether its obligation has too many formulas, the kernel after
 /// the lines of its log so far, and how many these are; and the first fault of a verdict. There is no kernel outside a log, where there
@@ -95,17 +96,19 @@ fn obligation_due<'o>(
 
 // A verdict begins, whose obligation this is.
 fn begin_on(
-    alloc: Global,
+    poser: &mut Poser,
     spec: &Spec,
     ob: &Obligation,
     number: u32,
     logs: bool,
     judgement: &mut Judgement,
 ) -> Result<(), AllocError>
-    requires { IsObligation spec.now ob.now }
-    ensures { OnOk result (judgement.new ≡ begun_in spec.now ob.now number logs judgement.old) }
+    requires member { IsObligation spec.now ob.now }
+    requires kept { IfSome poser.old.entry (IsEntry spec.now) }
+    ensures kept { IfSome poser.new.entry (IsEntry spec.now) }
+    ensures begun { OnOk result (judgement.new ≡ begun_in spec.now ob.now number logs judgement.old) }
 {
-    let posed = pose(alloc, spec, ob)?;
+    let posed = poser.pose(spec, ob)?;
     judgement.line = number;
     judgement.log = 0;
     match posed {
@@ -122,7 +125,7 @@ fn begin_on(
 }
 
 fn begin(
-    alloc: Global,
+    poser: &mut Poser,
     spec: &Spec,
     obligations: &[Obligation],
     number: u32,
@@ -131,7 +134,9 @@ fn begin(
 ) -> Result<(), AllocError>
     requires list { obligations.now ≡ obligations_of spec.now }
     requires members { (ob : Obligation) → Contains obligations.now ob → IsObligation spec.now ob }
-    ensures { OnOk result (judgement.new ≡ begun spec.now number (Some word.now) judgement.old) }
+    requires kept { IfSome poser.old.entry (IsEntry spec.now) }
+    ensures kept { IfSome poser.new.entry (IsEntry spec.now) }
+    ensures begun { OnOk result (judgement.new ≡ begun spec.now number (Some word.now) judgement.old) }
 {
     if judgement.fault.is_some() {
         judgement.line = number;
@@ -141,7 +146,7 @@ fn begin(
         return Ok(());
     }
     let ob = obligation_due(obligations, &judgement.tally)?;
-    begin_on(alloc, spec, ob, number, has_log(word), judgement)
+    begin_on(poser, spec, ob, number, has_log(word), judgement)
 }
 
 /// A line of a log. The kernel takes it where it stands, since to move a kernel is dearer than most lines.
@@ -215,7 +220,7 @@ fn end(
 
 /// Takes what a reader tells of the line of this number.
 pub fn take(
-    alloc: Global,
+    poser: &mut Poser,
     spec: &Spec,
     obligations: &[Obligation],
     budget: u32,
@@ -225,10 +230,12 @@ pub fn take(
 ) -> Result<(), AllocError>
     requires list { obligations.now ≡ obligations_of spec.now }
     requires members { (ob : Obligation) → Contains obligations.now ob → IsObligation spec.now ob }
-    ensures { OnOk result (judgement.new ≡ taken_as spec.now budget number fed.now judgement.old) }
+    requires kept { IfSome poser.old.entry (IsEntry spec.now) }
+    ensures kept { IfSome poser.new.entry (IsEntry spec.now) }
+    ensures taken { OnOk result (judgement.new ≡ taken_as spec.now budget number fed.now judgement.old) }
 {
     if let Some(word) = &fed.begin {
-        begin(alloc, spec, obligations, number, word, judgement)?;
+        begin(poser, spec, obligations, number, word, judgement)?;
     }
     if let Some(line) = &fed.log {
         log_line(number, line, judgement)?;

@@ -10,6 +10,7 @@ ghost use Rattle.report_verifier.specs.Verifier.{IsJudgement, IsMissing, clauses
 
 use crate::judgement::{Judgement, log_line, no_judgement, take};
 use crate::notes::ResolvedPair;
+use crate::posing::Poser;
 use crate::refused::VerifyRefused;
 use items::Items;
 use obligation_list::{Obligation, list};
@@ -21,11 +22,12 @@ use spec_core::Spec;
 use std::alloc::{AllocError, Global};
 use std::marker::Model;
 
-/// Verifies a report line by line. It keeps one block, and of its log the clauses that weren't dropped. Contracts see it as a
+/// Verifies a report line by line. It keeps one block, of its log the clauses that weren't dropped, and what the problem of the next
+/// block shares with its. Contracts see it as a
 /// `VerifierForm`.
 #[derive(Drop)]
 pub struct Verifier<'a> {
-    alloc: Global,
+    poser: Poser,
     spec: &'a Spec,
     obligations: Items<Obligation>,
     reader: ReportReader<'a>,
@@ -40,6 +42,8 @@ impl<'a> Model for Verifier<'a> {
     ghost use Rattle.spec_core.specs.Code.{coded_form};
     ghost use Rattle.obligation_list.specs.declared.obligation.Obligation.{Obligation};
     ghost use Rattle.obligation_list.specs.Obligations.{obligations_of, IsObligation};
+    ghost use Rattle.std.specs.Prelude.{IfSome};
+    ghost use Rattle.instances.specs.Entry.{IsEntry};
     ghost use Rattle.report_verifier.specs.Verifier.{VerifierForm, IsWithin};
 
     ghost Value = { VerifierForm };
@@ -48,7 +52,7 @@ impl<'a> Model for Verifier<'a> {
 
     ghost view = { λ a. record { reader = a.reader; judgement = a.judgement; failed = a.failed } };
 
-    ghost invariant = { λ a. (a.obligations ≡ obligations_of a.spec.now) × (a.reader.spec ≡ a.spec.now) × ((ob : Obligation) → Contains a.obligations ob → IsObligation a.spec.now ob) × IsWithin a.spec.now a.judgement };
+    ghost invariant = { λ a. (a.obligations ≡ obligations_of a.spec.now) × (a.reader.spec ≡ a.spec.now) × ((ob : Obligation) → Contains a.obligations ob → IsObligation a.spec.now ob) × IsWithin a.spec.now a.judgement × IfSome a.poser.entry (IsEntry a.spec.now) };
 }
 
 // The budget of log lines, where it was stated.
@@ -71,8 +75,9 @@ impl<'a> Verifier<'a> {
             drop(obligations);
             return Err(AllocError);
         };
+        let poser = Poser { alloc, entry: None };
         Ok(Verifier {
-            alloc,
+            poser,
             spec,
             obligations,
             reader,
@@ -97,7 +102,7 @@ impl<'a> Verifier<'a> {
         ensures { IsTold self.old fed.now self.new result }
     {
         match take(
-            self.alloc,
+            &mut self.poser,
             self.spec,
             self.obligations.as_slice(),
             budget_in(&self.reader),

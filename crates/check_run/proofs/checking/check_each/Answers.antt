@@ -7,7 +7,7 @@ use Rattle.check_run.proofs.Blocks.{none_written, next_written, stopped_written,
 use Rattle.check_run.proofs.checking.check_each.Goals as goal
 
 pub loop-ob-init : goal.loop-ob-init
-loop-ob-init g c = (none_written c.args.spec.now c.args.budget (g.K.Sink.held c.args.out.now), refl, (let e : g.K.Sink.faults c.args.out.now ≤ g.K.Sink.faults c.args.out.now = omega arith in e))
+loop-ob-init g c = (none_written c.args.spec.now c.args.budget (g.K.Sink.held c.args.out.now), refl, (let e : g.K.Sink.faults c.args.out.now ≤ g.K.Sink.faults c.args.out.now = omega arith in e), c.none-kept.ensures c.args.spec.now)
 
 pub loop-ob-preserved : goal.loop-ob-preserved
 loop-ob-preserved g c =
@@ -24,6 +24,7 @@ loop-ob-preserved g c =
       next_written d c.args.budget i c.loop-ob.tally (g.K.Sink.held c.args.out.now) mid after here c.loop-ob.invariant.0 c.check_one.new.tally block,
       ap told b.2 ∙ told_next (shown_verdict d b.0) c.loop-ob.tally ∙ ap (λ n. n + 1) c.loop-ob.invariant.1,
       (let e : g.K.Sink.faults c.args.out.now ≤ g.K.Sink.faults c.check_one.new.out = omega (arith, before, now) in e),
+      c.in-Ok.ensures.kept,
     )
 
 pub returns-in-Err-clause-blocks : goal.returns-in-Err-clause-blocks

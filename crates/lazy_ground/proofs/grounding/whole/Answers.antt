@@ -6,17 +6,18 @@ use Rattle.ground_constants.specs.Calls.{numbered_arguments}
 use Rattle.instances.proofs.Whole.{few_made, table_made, forms_made}
 use Rattle.lazy_ground.specs.Front.{IsFront}
 use Rattle.lazy_ground.proofs.Parts.{whole_then, whole_refused}
+use Rattle.lazy_ground.proofs.Entries.{whole_entry}
 use Rattle.lazy_ground.proofs.grounding.whole.Goals as goal
 
-pub returns-in-Err : goal.returns-in-Err
-returns-in-Err c =
+pub returns-in-Err-clause-ground : goal.returns-in-Err-clause-ground
+returns-in-Err-clause-ground c =
     let d = c.args.spec.now in let ob = c.args.ob.now in
     let is : IsFront d ob c.args.front = c.requires.front in
     let all : c.args.all.now ≡ things d = c.requires.things in
     whole_refused d ob c.in-Err.error _ _ (whole_then d ob (Err c.in-Err.error) c.args.front c.as_slice.result.now c.args.all.now _ _ is c.as_slice.ensures all c.in-Err.ensures)
 
-pub returns : goal.returns
-returns c =
+pub returns-clause-ground : goal.returns-clause-ground
+returns-clause-ground c =
     let d = c.args.spec.now in let ob = c.args.ob.now in
     let is : IsFront d ob c.args.front = c.requires.front in
     let all : c.args.all.now ≡ things d = c.requires.things in
@@ -30,3 +31,6 @@ returns c =
         forms = forms_made d ob _ _ made;
       },
     )
+
+pub returns-clause-kept : goal.returns-clause-kept
+returns-clause-kept c = whole_entry c.args.spec.now c.args.ob.now c.args.front _ _ _ c.requires.front c.in-Ok.ensures

@@ -9,7 +9,7 @@ use Rattle.lazy_ground.specs.Lazy.{lazy_forms}
 use Rattle.chosen_clauses.specs.declared.places.Place.{Place}
 use Rattle.chosen_clauses.specs.declared.places.Layout.{Layout}
 use Rattle.chosen_clauses.specs.Chosen.{StandFrom, IsBehind, AreMoved}
-use Rattle.chosen_clauses.proofs.Placing.{front_stands, front_behind, behind_stands, laid_out}
+use Rattle.chosen_clauses.proofs.Placing.{front_stands, behind_stands, laid_out}
 use Rattle.chosen_clauses.proofs.choosing.Chosen.add_around.Goals as goal
 
 pub returns-in-Ok-clause-chosen : goal.returns-in-Ok-clause-chosen
@@ -20,35 +20,24 @@ returns-in-Ok-clause-chosen c = λ old.
     let start : Place = record { clause = 0; name = name } in
     let first : Place = c.in_ok-first.first in
     let last : Place = c.in-Some.pairs_end in
-    let clauses : first.clause ≡ 0 + length (all_clauses name (map form_of g.front)) =
-    subst (λ (z : List GroundFormula). first.clause ≡ 0 + length (all_clauses name (map form_of z))) c.as_slice.ensures c.in_ok-first.ensures.clause in
-    let names : first.name ≡ name + all_names (map form_of g.front) =
-    subst (λ (z : List GroundFormula). first.name ≡ name + all_names (map form_of z)) c.as_slice.ensures c.in_ok-first.ensures.name in
-    let behind : IsBehind name (map form_of g.front) first = front_behind g name start first refl refl clauses names in
+    let behind : IsBehind name (map form_of g.front) first = c.in_ok-first.ensures.behind in
     let moved : AreMoved first g.pairs c.in-Some.firsts.items last =
-    subst (λ (z : List ReadingPairs). AreMoved first z c.in-Some.firsts.items last) c.as_slice-2.ensures (rw c.in-Some.is at c.in_ok-firsts.ensures) in
-    let in_front : StandFrom all 0 (all_clauses name (map form_of c.as_slice.result.now)) =
-    subst (λ (z : List GroundFormula). StandFrom all 0 (all_clauses name (map form_of z))) (sym c.as_slice.ensures) (front_stands g name start refl refl) in
-    let at_end : StandFrom all last.clause (all_clauses last.name (map form_of c.as_slice-3.result.now)) =
-    subst (λ (z : List GroundFormula). StandFrom all last.clause (all_clauses last.name (map form_of z))) (sym c.as_slice-3.ensures)
-    (behind_stands g name first last behind c.requires moved.behind) in
-    c.in-Ok.ensures.chosen all at_end (c.in_ok-first.ensures.chosen all in_front old)
+    subst (λ (z : List ReadingPairs). AreMoved first z c.in-Some.firsts.items last) c.as_slice.ensures (rw c.in-Some.is at c.in_ok-firsts.ensures) in
+    let at_end : StandFrom all last.clause (all_clauses last.name (map form_of c.as_slice-2.result.now)) =
+    subst (λ (z : List GroundFormula). StandFrom all last.clause (all_clauses last.name (map form_of z))) (sym c.as_slice-2.ensures)
+    (behind_stands g name first last behind c.requires.pairs moved.behind) in
+    c.in-Ok.ensures.chosen all at_end (c.in_ok-first.ensures.chosen all (front_stands g name start refl refl) old)
 
 pub returns-in-Ok-clause-layout : goal.returns-in-Ok-clause-layout
 returns-in-Ok-clause-layout c =
     let g : LazyGround = c.args.ground.now in
     let name : ℕ = c.args.name in
-    let start : Place = record { clause = 0; name = name } in
     let first : Place = c.in_ok-first.first in
     let last : Place = c.in-Some.pairs_end in
     let layout : Layout = record { firsts = c.in-Some.firsts; behind = c.in-Ok.behind } in
-    let clauses : first.clause ≡ 0 + length (all_clauses name (map form_of g.front)) =
-    subst (λ (z : List GroundFormula). first.clause ≡ 0 + length (all_clauses name (map form_of z))) c.as_slice.ensures c.in_ok-first.ensures.clause in
-    let names : first.name ≡ name + all_names (map form_of g.front) =
-    subst (λ (z : List GroundFormula). first.name ≡ name + all_names (map form_of z)) c.as_slice.ensures c.in_ok-first.ensures.name in
-    let behind : IsBehind name (map form_of g.front) first = front_behind g name start first refl refl clauses names in
+    let behind : IsBehind name (map form_of g.front) first = c.in_ok-first.ensures.behind in
     let moved : AreMoved first g.pairs c.in-Some.firsts.items last =
-    subst (λ (z : List ReadingPairs). AreMoved first z c.in-Some.firsts.items last) c.as_slice-2.ensures (rw c.in-Some.is at c.in_ok-firsts.ensures) in
-    laid_out g name first last layout behind c.requires moved
-    (subst (λ (z : List GroundFormula). c.in-Ok.behind.clause ≡ last.clause + length (all_clauses last.name (map form_of z))) c.as_slice-3.ensures c.in-Ok.ensures.clause)
-    (subst (λ (z : List GroundFormula). c.in-Ok.behind.name ≡ last.name + all_names (map form_of z)) c.as_slice-3.ensures c.in-Ok.ensures.name)
+    subst (λ (z : List ReadingPairs). AreMoved first z c.in-Some.firsts.items last) c.as_slice.ensures (rw c.in-Some.is at c.in_ok-firsts.ensures) in
+    laid_out g name first last layout behind c.requires.pairs moved
+    (subst (λ (z : List GroundFormula). c.in-Ok.behind.clause ≡ last.clause + length (all_clauses last.name (map form_of z))) c.as_slice-2.ensures c.in-Ok.ensures.clause)
+    (subst (λ (z : List GroundFormula). c.in-Ok.behind.name ≡ last.name + all_names (map form_of z)) c.as_slice-2.ensures c.in-Ok.ensures.name)

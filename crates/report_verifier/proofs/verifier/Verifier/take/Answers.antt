@@ -7,10 +7,11 @@ invariant_of-self c = (
   c.self.invariant.0,
   c.self.invariant.1,
   c.self.invariant.2,
-  within_so c.self.inside.spec.now c.self.inside.judgement c.take.new.judgement c.args.fed.now c.budget_in.result c.taken.result c.self.invariant.3 c.in-Ok.ensures,
+  within_so c.self.inside.spec.now c.self.inside.judgement c.take.new.judgement c.args.fed.now c.budget_in.result c.taken.result c.self.invariant.3 c.in-Ok.ensures.taken,
+  c.take.ensures.kept,
 )
 
 pub returns-in-Ok : goal.returns-in-Ok
 returns-in-Ok c =
     told_so c.args.self.now c.self.inside.spec.now c.self.inside.reader c.self.inside.judgement c.take.new.judgement c.self.inside.failed c.args.fed.now c.budget_in.result c.taken.result
-    (sym c.self.view_is) c.self.invariant.1 c.requires c.budget_in.ensures c.taken.ensures c.in-Ok.ensures
+    (sym c.self.view_is) c.self.invariant.1 c.requires c.budget_in.ensures c.taken.ensures c.in-Ok.ensures.taken

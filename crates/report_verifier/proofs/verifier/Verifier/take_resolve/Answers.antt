@@ -10,6 +10,7 @@ invariant_of-self c = (
   c.self.invariant.1,
   c.self.invariant.2,
   within_so c.self.inside.spec.now c.self.inside.judgement c.log_line.new.judgement (resolve_told c.args.line) (budget_in c.self.inside.reader.budget) c.taken.result c.self.invariant.3 c.in-Ok.ensures,
+  c.self.invariant.4,
 )
 
 pub returns-in-Ok : goal.returns-in-Ok

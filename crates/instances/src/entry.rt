@@ -1,0 +1,208 @@
+// What is true at the entry, made once for obligations that share it.
+//
+// The obligations of one operation, of two, or of any whose parameters are alike, begin with the same invariants at the same constants,
+// under the same numbers. What was made of them is cut back to where an obligation's own formulas begin, and goes on from there.
+ghost use Rattle.std.specs.Prelude.{◌≡◌, [], true, length, map, take, Some, None, IfOk, IfSome, IsTrue};
+ghost use Rattle.obligation_list.specs.Obligations.{IsObligation};
+ghost use Rattle.ground_problem.specs.Constants.{constants_of};
+ghost use Rattle.ground_problem.specs.Entry as entry;
+ghost use Rattle.ground_atoms.specs.Formulas.{form_of};
+ghost use Rattle.ground_atoms.specs.Sizes.{size_of, cut_back};
+ghost use Rattle.ground_constants.specs.Calls.{constants_in, numbered_arguments};
+ghost use Rattle.ground_groups.specs.Limited.{Appends};
+ghost use Rattle.instances.specs.Entry.{known_from, AreClausesOf, IsEntry, IsSharedOr, IsBegunOr};
+
+use clausify::write_clauses;
+use ground_atoms::{Atoms, GroundFormula, KnownSize};
+use ground_constants::constants::Named;
+use ground_groups::GroundRefused;
+use ground_groups::entry::add_invariants;
+use items::Items;
+use obligation_list::Obligation;
+use proof_lines::Clause;
+use spec_core::Spec;
+use std::alloc::{AllocError, Global};
+
+/// How much of what was made belongs to the entry: the whole numbers among the arguments of calls, what is known, and the formulas.
+#[derive(Clone, Copy)]
+pub struct EntrySize {
+    pub arguments: usize,
+    pub known: KnownSize,
+    pub formulas: usize,
+}
+
+/// The size of an entry, and the clauses of its formulas, where none of their parts is named by an atom.
+#[derive(Drop)]
+pub struct EntryPart {
+    pub size: EntrySize,
+    pub clauses: Option<Items<Clause>>,
+}
+
+/// The invariants at constants of these sorts, made and numbered. What was appended to them since stands behind.
+#[derive(Drop)]
+pub struct Entry {
+    pub sorts: Items<u8>,
+    pub atoms: Atoms,
+    pub formulas: Items<GroundFormula>,
+    pub part: EntryPart,
+}
+
+/// What is known, and the formulas, once what is true at the entry of an obligation is made; nothing of it is shared in the initial
+/// state.
+#[derive(Drop)]
+pub struct Begun {
+    pub atoms: Atoms,
+    pub formulas: Items<GroundFormula>,
+    pub part: Option<EntryPart>,
+}
+
+// Whether an entry is for constants of these sorts and for calls with these whole numbers among their arguments.
+fn is_alike(entry: &Entry, sorts: &[u8], arguments: &Atoms) -> bool
+    ensures sorts { IsTrue result → entry.now.sorts ≡ sorts.now }
+    ensures count { IsTrue result
+        → entry.now.part.size.arguments ≡ length arguments.now.table.ints }
+    ensures arguments { IsTrue result
+        → take (length arguments.now.table.ints) entry.now.atoms.table.ints
+        ≡ arguments.now.table.ints }
+{
+    arguments.size().ints == entry.part.size.arguments
+        && entry.sorts.as_slice() == sorts
+        && entry.atoms.begins_with_arguments(arguments)
+}
+
+// How much there is.
+fn size_of(arguments: usize, atoms: &Atoms, formulas: &[GroundFormula]) -> EntrySize
+    ensures arguments { result.arguments ≡ arguments }
+    ensures known { result.known ≡ size_of atoms.now }
+    ensures formulas { result.formulas ≡ length formulas.now }
+{
+    EntrySize {
+        arguments,
+        known: atoms.size(),
+        formulas: formulas.len(),
+    }
+}
+
+// An entry without what was appended to it.
+fn cut(entry: Entry) -> Begun
+    ensures atoms { result.atoms ≡ cut_back entry.part.size.known entry.atoms }
+    ensures formulas { map form_of result.formulas
+        ≡ take entry.part.size.formulas (map form_of entry.formulas) }
+    ensures part { IfSome result.part (λ p. (p.size.arguments ≡ entry.part.size.arguments)
+        × (p.size.known ≡ size_of result.atoms)
+        × (p.size.formulas ≡ length result.formulas) × (p.clauses ≡ entry.part.clauses)) }
+{
+    let Entry {
+        sorts,
+        atoms,
+        formulas,
+        part,
+    } = entry;
+    drop(sorts);
+    let EntryPart { size, clauses } = part;
+    let atoms = atoms.cut_back(size.known);
+    let mut list = formulas.into_vec();
+    list.truncate(size.formulas);
+    let size = size_of(size.arguments, &atoms, list.as_slice());
+    Begun {
+        atoms,
+        formulas: Items::from_vec(list),
+        part: Some(EntryPart { size, clauses }),
+    }
+}
+
+// The clauses of some formulas; nothing where an atom names a part of one.
+fn clauses_of(
+    alloc: Global,
+    formulas: &[GroundFormula],
+) -> Result<Option<Items<Clause>>, AllocError>
+    ensures { IfOk result (λ found. IfSome found (AreClausesOf (map form_of formulas.now))) }
+{
+    let room = Vec::with_capacity(alloc, formulas.len())?;
+    let mut clauses = Items::from_vec(room);
+    let next = write_clauses(alloc, 0, formulas, &mut clauses)?;
+    if next == 0 {
+        Ok(Some(clauses))
+    } else {
+        drop(clauses);
+        Ok(None)
+    }
+}
+
+// The invariants at some constants, made of what is known.
+fn made(alloc: Global, spec: &Spec, named: &Named, arguments: Atoms) -> Result<Begun, GroundRefused>
+    ensures { IsSharedOr spec.now arguments named.now.sorts result }
+{
+    let mut atoms = arguments;
+    let count = atoms.size().ints;
+    let mut formulas = Items::new(alloc);
+    let added = add_invariants(&mut atoms, alloc, spec, named, &mut formulas);
+    or_drop!(added; formulas, atoms);
+    let Ok(clauses) = clauses_of(alloc, formulas.as_slice()) else {
+        drop(formulas);
+        drop(atoms);
+        return Err(GroundRefused::Memory);
+    };
+    let size = size_of(count, &atoms, formulas.as_slice());
+    Ok(Begun {
+        atoms,
+        formulas,
+        part: Some(EntryPart { size, clauses }),
+    })
+}
+
+// The invariants at some constants, made of what is known, or cut back from what was kept.
+fn shared(
+    alloc: Global,
+    spec: &Spec,
+    named: &Named,
+    arguments: Atoms,
+    kept: Option<Entry>,
+) -> Result<Begun, GroundRefused>
+    requires arguments { arguments ≡ known_from arguments.table.ints }
+    requires kept { IfSome kept (IsEntry spec.now) }
+    ensures { IsSharedOr spec.now arguments named.now.sorts result }
+{
+    match kept {
+        Some(entry) => {
+            if is_alike(&entry, named.sorts.as_slice(), &arguments) {
+                drop(arguments);
+                return Ok(cut(entry));
+            }
+            drop(entry);
+            made(alloc, spec, named, arguments)
+        }
+        None => made(alloc, spec, named, arguments),
+    }
+}
+
+/// What is true at the entry of an obligation, made: cut back from what was kept of another one, where this one's constants and
+/// arguments are like its.
+pub fn begin(
+    alloc: Global,
+    spec: &Spec,
+    ob: &Obligation,
+    named: &Named,
+    arguments: Atoms,
+    kept: Option<Entry>,
+) -> Result<Begun, GroundRefused>
+    requires member { IsObligation spec.now ob.now }
+    requires constants { constants_in named.now ≡ constants_of spec.now ob.now }
+    requires arguments { arguments ≡ numbered_arguments spec.now ob.now }
+    requires kept { IfSome kept (IsEntry spec.now) }
+    ensures { IsBegunOr spec.now ob.now result }
+{
+    match ob {
+        Obligation::Init { .. } => {
+            drop(kept);
+            Ok(Begun {
+                atoms: arguments,
+                formulas: Items::new(alloc),
+                part: None,
+            })
+        }
+        Obligation::Safety { .. } => shared(alloc, spec, named, arguments, kept),
+        Obligation::Commute { .. } => shared(alloc, spec, named, arguments, kept),
+        Obligation::Stable { .. } => shared(alloc, spec, named, arguments, kept),
+    }
+}

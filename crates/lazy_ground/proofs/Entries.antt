@@ -1,0 +1,134 @@
+-- The entry in what was made of it and more, which is left for the next obligation.
+use Rattle.std.proofs.Common.{◌≡◌, take, ℕ, Some, None, Option, List, [], map, refl, sym, ◌∙◌, ap, subst}
+use Rattle.std.specs.Prelude.{IfSome, IfOk, Result, Ok, Err}
+use Rattle.spec_core.specs.Specification.{Specification}
+use Rattle.spec_core.specs.declared.update.Thing.{Thing}
+use Rattle.obligation_list.specs.declared.obligation.Obligation.{Obligation}
+use Rattle.ground_problem.specs.Symbols.{Symbolic}
+use Rattle.ground_problem.specs.Constants.{Constants, constants_of}
+use Rattle.ground_problem.specs.Entry.{entry}
+use Rattle.ground_problem.specs.Equality.{equality}
+use Rattle.ground_problem.specs.Problem.{defined}
+use Rattle.ground_atoms.specs.Known.{Known}
+use Rattle.ground_atoms.specs.Formulas.{form_of}
+use Rattle.ground_atoms.specs.declared.formula.GroundFormula.{GroundFormula}
+use Rattle.ground_atoms.proofs.Cutting.{Begins, same_list, then_more, Grows, grows_then}
+use Rattle.ground_constants.specs.Calls.{numbered_arguments}
+use Rattle.ground_groups.specs.Limited.{make_upto}
+use Rattle.ground_groups.specs.declared.refused.GroundRefused.{GroundRefused}
+use Rattle.ground_groups.specs.declared.refused.GroundRefused.TheVariants.{TooMany, Memory}
+use Rattle.ground_groups.proofs.Lists.{upto_then}
+use Rattle.instances.specs.declared.entry.EntryPart.{EntryPart}
+use Rattle.instances.specs.declared.entry.Begun.{Begun}
+use Rattle.instances.specs.declared.grounding.Grounded.{Grounded}
+use Rattle.instances.specs.Entry.{invariants_at, IsEntry, IsPart, IsBegun, IsBegunOr, entry_with, HasEntry, AreClausesOf}
+use Rattle.instances.proofs.Shared.{upto_grows, upto_begins, entry_in, defined-begins, begun_refused}
+use Rattle.lazy_ground.specs.declared.front.Front.{Front}
+use Rattle.lazy_ground.specs.declared.choosing.Chosen.{Chosen}
+use Rattle.lazy_ground.specs.declared.grounding.LazyGround.{LazyGround}
+use Rattle.lazy_ground.specs.declared.grounding.EitherGround.{EitherGround}
+use Rattle.lazy_ground.specs.declared.grounding.EitherGround.TheVariants.{Whole, Lazy}
+use Rattle.lazy_ground.specs.Front.{front_of, HasPart, IsFront, IsFrontOr, IsChosen, IsMadeWithin}
+use Rattle.lazy_ground.specs.Kept.{HasLazyKept, HasKept, HasClauses, HasEitherClauses}
+
+-- ---- the front
+
+-- the front begins with what is true at the entry
+front_begins : (d : Specification) (ob : Obligation) → Begins (entry d ob (constants_of d ob)) (front_of d ob)
+front_begins d ob =
+    let z = constants_of d ob in
+    then_more (entry d ob z) (defined d ob z) _ (defined-begins d ob z) (record { more = equality 0 z.sorts; is = refl })
+
+-- What is made of the entry stands first in what is made of the front.
+pub front_shared : (d : Specification) (ob : Obligation) (b : Begun) (now : Known) (new : List GroundFormula) → IsBegun d ob b
+    → make_upto [] (numbered_arguments d ob) (front_of d ob) ≡ Some (record { known = now; forms = map form_of new })
+    → IfSome b.part (HasPart d ob now new)
+front_shared d ob b now new is e = by_part b.part is.shared
+  where
+    begins : Begins (entry d ob (constants_of d ob)) (front_of d ob)
+    begins = front_begins d ob
+
+    on : make_upto (map form_of b.formulas) b.atoms begins.more ≡ Some (record { known = now; forms = map form_of new })
+    on = sym (upto_then [] (map form_of b.formulas) (numbered_arguments d ob) b.atoms (entry d ob (constants_of d ob)) begins.more is.made) ∙ ap (make_upto [] (numbered_arguments d ob)) (sym begins.is) ∙ e
+
+    by_part : (found : Option EntryPart)
+        → IfSome found (λ p. (entry d ob (constants_of d ob) ≡ invariants_at d (constants_of d ob).sorts) × IsPart (numbered_arguments d ob).table.ints b.atoms (map form_of b.formulas) p)
+        → IfSome found (HasPart d ob now new)
+    by_part None h = tt
+    by_part (Some p) h = record {
+      known = b.atoms;
+      forms = map form_of b.formulas;
+      made = ap (make_upto [] (numbered_arguments d ob)) (sym h.0) ∙ is.made;
+      part = h.1;
+      grows = upto_grows (map form_of b.formulas) b.atoms begins.more (record { known = now; forms = map form_of new }) on;
+      begins = upto_begins (map form_of b.formulas) b.atoms begins.more (record { known = now; forms = map form_of new }) on;
+    }
+
+pub front_begun_refused : (d : Specification) (ob : Obligation) (why : GroundRefused) → IsBegunOr d ob (Err why) → IsFrontOr d ob (Err why)
+front_begun_refused d ob TooMany h = begun_refused d ob TooMany h
+front_begun_refused d ob Memory h = tt
+
+-- ---- after the front
+
+part_entry : (d : Specification) (ob : Obligation) (sorts : List ℕ) (atoms now : Known) (formulas new : List GroundFormula) (p : EntryPart) → sorts ≡ (constants_of d ob).sorts
+    → HasPart d ob atoms formulas p → Grows atoms now → Begins (map form_of formulas) (map form_of new) → IsEntry d (entry_with sorts now new p)
+part_entry d ob sorts atoms now formulas new p e h g b =
+    subst (λ (ss : List ℕ). IsEntry d (entry_with ss now new p)) (sym e)
+    (entry_in d (constants_of d ob).sorts (numbered_arguments d ob) h.known now h.forms new p refl h.made h.part
+    (grows_then h.known atoms now h.grows g) (then_more h.forms (map form_of formulas) (map form_of new) h.begins b))
+
+parts_entry : (d : Specification) (ob : Obligation) (sorts : List ℕ) (atoms now : Known) (formulas new : List GroundFormula) (found : Option EntryPart) → sorts ≡ (constants_of d ob).sorts
+    → IfSome found (HasPart d ob atoms formulas) → Grows atoms now → Begins (map form_of formulas) (map form_of new) → IfSome found (λ p. IsEntry d (entry_with sorts now new p))
+parts_entry d ob sorts atoms now formulas new None e h g b = tt
+parts_entry d ob sorts atoms now formulas new (Some p) e h g b = part_entry d ob sorts atoms now formulas new p e h g b
+
+-- the sorts of the constants
+front_sorts : (d : Specification) (ob : Obligation) (f : Front) → IsFront d ob f → f.named.sorts ≡ (constants_of d ob).sorts
+front_sorts d ob f is = ap (λ (z : Constants). z.sorts) is.constants
+
+-- The entry stands first in the whole ground problem.
+pub whole_entry : (d : Specification) (ob : Obligation) (f : Front) (fs : List Symbolic) (now : Known) (new : List GroundFormula) → IsFront d ob f
+    → make_upto (map form_of f.formulas) f.atoms fs ≡ Some (record { known = now; forms = map form_of new })
+    → IfSome f.part (λ p. IsEntry d (entry_with f.named.sorts now new p))
+whole_entry d ob f fs now new is e =
+    parts_entry d ob f.named.sorts f.atoms now f.formulas new f.part (front_sorts d ob f is) is.shared
+    (upto_grows (map form_of f.formulas) f.atoms fs (record { known = now; forms = map form_of new }) e)
+    (upto_begins (map form_of f.formulas) f.atoms fs (record { known = now; forms = map form_of new }) e)
+
+-- So it does in the lazy one, whose pairs are those of its readings.
+pub lazy_kept : (d : Specification) (ob : Obligation) (f : Front) (c : Chosen) (xs : List Thing) (fs : List Symbolic) (now : Known) (behind : List GroundFormula) (ss : List ℕ)
+    → ss ≡ f.named.sorts → IsFront d ob f → IsChosen f xs c → IsMadeWithin f.atoms fs now c.room behind
+    → HasLazyKept d (record { atoms = now; front = f.formulas; pairs = c.pairs; behind = behind; sorts = ss; readings = f.readings; part = f.part })
+lazy_kept d ob f c xs fs now behind ss e is chosen made = record {
+  entry = parts_entry d ob ss f.atoms now f.formulas f.formulas f.part (e ∙ front_sorts d ob f is) is.shared
+      (upto_grows [] f.atoms fs (record { known = now; forms = map form_of behind }) made.made) (same_list (map form_of f.formulas));
+  pairs = chosen.found.built;
+}
+
+-- ---- what is left
+
+pub entry_some : (d : Specification) (sorts : List ℕ) (atoms : Known) (formulas : List GroundFormula) (found : Option EntryPart) (p : EntryPart) → found ≡ Some p
+    → IfSome found (λ q. IsEntry d (entry_with sorts atoms formulas q)) → IsEntry d (entry_with sorts atoms formulas p)
+entry_some d sorts atoms formulas found p is h = subst (λ f. IfSome f (λ q. IsEntry d (entry_with sorts atoms formulas q))) is h
+
+pub either_whole : (d : Specification) (e : EitherGround) (g : Grounded) → e ≡ Whole g → HasKept d e → HasEntry d g
+either_whole d e g is h = subst (HasKept d) is h
+
+pub either_lazy : (d : Specification) (e : EitherGround) (g : LazyGround) → e ≡ Lazy g → HasKept d e → HasLazyKept d g
+either_lazy d e g is h = subst (HasKept d) is h
+
+-- ---- the entry's clauses
+
+lazy_clauses : (d : Specification) (g : LazyGround) → HasLazyKept d g → HasClauses g
+lazy_clauses d g h = by_part g.part h.entry
+  where
+    by_part : (found : Option EntryPart) → IfSome found (λ p. IsEntry d (entry_with g.sorts g.atoms g.front p))
+        → IfSome found (λ p. IfSome p.clauses (AreClausesOf (take p.size.formulas (map form_of g.front))))
+    by_part None h = tt
+    by_part (Some p) h = h.clauses
+
+-- What can be taken back has the clauses of its entry.
+pub kept_clauses : {E : Type 0} (d : Specification) (r : Result EitherGround E) → IfOk r (HasKept d) → IfOk r HasEitherClauses
+kept_clauses d (Err e) h = tt
+kept_clauses d (Ok (Whole g)) h = tt
+kept_clauses d (Ok (Lazy g)) h = lazy_clauses d g h

@@ -1,0 +1,64 @@
+-- What of an obligation's ground problem serves the next one: the entry, and the pairs, as long as that one has the same readings at the
+-- entry. Nothing is said of the numbers that the pairs' atoms have, which are tested anew.
+use Rattle.std.specs.Prelude.{◌≡◌, true, IfSome, List, [], ◌∷◌, map, take}
+use Rattle.std.specs.List.{list_all, filter}
+use Rattle.spec_core.specs.Specification.{Specification}
+use Rattle.spec_core.specs.declared.update.Thing.{Thing}
+use Rattle.spec_core.specs.declared.update.Thing.TheVariants as thing
+use Rattle.effectors.specs.Effect.{is_thing}
+use Rattle.ground_problem.specs.Definitions.{Reading}
+use Rattle.ground_problem.specs.Equality.{rising}
+use Rattle.ground_atoms.specs.Formulas.{form_of}
+use Rattle.ground_atoms.specs.Symbols.{reading_of}
+use Rattle.instances.specs.Entry.{AreClausesOf, IsEntry, entry_with, HasEntry}
+use Rattle.lazy_ground.specs.declared.pairs.ReadingPairs.{ReadingPairs}
+use Rattle.lazy_ground.specs.declared.keeping.KeptPairs.{KeptPairs}
+use Rattle.lazy_ground.specs.declared.grounding.LazyGround.{LazyGround}
+use Rattle.lazy_ground.specs.declared.grounding.EitherGround.{EitherGround}
+use Rattle.lazy_ground.specs.declared.grounding.EitherGround.TheVariants.{Whole, Lazy}
+use Rattle.lazy_ground.specs.declared.grounding.Kept.{Kept}
+use Rattle.lazy_ground.specs.Equal.{fits}
+use Rattle.lazy_ground.specs.Pairs.{AreDifferent}
+
+-- the relation whose readings they are
+abbrev pub thing_of : ReadingPairs → Thing
+thing_of s = thing.Relation s.relation
+
+-- the tuples of its relation among these readings, which are different, and whose constants stand in its columns
+pub record IsBuilt (qs : List Reading) (s : ReadingPairs) : Type 0 where
+  pub tuples : s.tuples ≡ rising (filter (λ q. is_thing q.thing (thing_of s)) qs)
+  pub different : AreDifferent s.tuples
+  pub columns : list_all (fits s.columns) s.tuples ≡ true
+
+-- so it is with each of these
+abbrev pub AllBuilt : List Reading → List ReadingPairs → Type 0
+AllBuilt qs [] = Unit {0}
+AllBuilt qs (s ∷ more) = IsBuilt qs s × AllBuilt qs more
+
+-- the pairs of these readings, whatever numbers atoms have
+abbrev pub IsKeptPairs : KeptPairs → Type 0
+IsKeptPairs k = AllBuilt (map reading_of k.readings) k.pairs
+
+-- What is kept for the next obligation: an entry of the specification, and pairs of readings.
+pub record IsKept (d : Specification) (k : Kept) : Type 0 where
+  pub entry : IfSome k.entry (IsEntry d)
+  pub pairs : IfSome k.pairs IsKeptPairs
+
+-- The entry can be taken back from a lazy problem, and its pairs are those of its readings.
+pub record HasLazyKept (d : Specification) (g : LazyGround) : Type 0 where
+  pub entry : IfSome g.part (λ p. IsEntry d (entry_with g.sorts g.atoms g.front p))
+  pub pairs : IsKeptPairs (record { readings = g.readings; pairs = g.pairs })
+
+-- a problem from which that can be taken back; from a whole one its entry alone
+abbrev pub HasKept : Specification → EitherGround → Type 0
+HasKept d (Whole g) = HasEntry d g
+HasKept d (Lazy g) = HasLazyKept d g
+
+-- the clauses that are at hand are those of the entry's formulas, which stand first
+abbrev pub HasClauses : LazyGround → Type 0
+HasClauses g = IfSome g.part (λ p. IfSome p.clauses (AreClausesOf (take p.size.formulas (map form_of g.front))))
+
+-- so it is with a lazy problem; of a whole one nothing is said
+abbrev pub HasEitherClauses : EitherGround → Type 0
+HasEitherClauses (Whole g) = Unit {0}
+HasEitherClauses (Lazy g) = HasClauses g
