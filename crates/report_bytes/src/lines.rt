@@ -17,6 +17,7 @@ fn line_len(bytes: &[u8]) -> usize
 }
 
 /// The first line, and the bytes behind its line feed; none where no line feed ends a line.
+#[inline(always)]
 pub fn next_line(bytes: &[u8]) -> Option<(&[u8], &[u8])>
     ensures some { IfSome result (λ x. pieces bytes.now ≡ x.0.now ∷ pieces x.1.now) }
     ensures fewer { IfSome result (λ x. length x.1.now < length bytes.now) }

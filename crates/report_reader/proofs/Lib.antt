@@ -4,3 +4,4 @@ pub mod States
 pub mod Kept
 pub mod Answering
 pub mod ResolveLines
+mod PlainNumbers

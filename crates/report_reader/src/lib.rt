@@ -6,12 +6,13 @@
 //
 // Definitions: specs/Reader (what a reader keeps between two lines, and what it tells of each), specs/Resolving (lines that resolve two
 // clauses). `reading` reads the line that may come, `saying` asks whether it is true, `moving` goes on to the place behind it, `feeding`
-// joins these, and `reader` is the whole.
+// joins these, and `reader` is the whole. `plain` reads the short numbers of lines that resolve two clauses where they stand.
 #![tactic(auto)]
 
 mod elements;
 mod feeding;
 mod moving;
+mod plain;
 mod reader;
 mod reading;
 pub mod resolving;

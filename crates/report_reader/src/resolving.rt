@@ -8,9 +8,9 @@ ghost use Rattle.report_words.specs.Words.{parts};
 ghost use Rattle.proof_report.specs.Feeding.{log_line};
 ghost use Rattle.report_reader.specs.Resolving.{IsOneLess};
 
+use crate::plain::{behind_key, last_number, number_before};
 use proof_report::place::Place;
-use report_words::fields::count;
-use report_words::words::{ReadError, Words, keyword};
+use report_words::words::ReadError;
 
 /// A line of a log that gives the resolvent of two clauses over the atom `pivot`.
 #[derive(Clone, Copy)]
@@ -22,17 +22,23 @@ pub struct ResolveLine {
 
 /// The line that a text is, if it resolves two clauses. It may stand in each log.
 #[tactic(auto, using(crate::proofs::ResolveLines::resolve_read))]
+#[inline(always)]
 pub fn resolve_line(text: &[u8]) -> Result<ResolveLine, ReadError>
     ensures { IfOk result (λ x. (drops : Bool)
         → read_as (log_line drops) (parts text.now) ≡ Some (Log (Resolve x.left x.right x.pivot))) }
 {
-    let rest = keyword(Words::of(text), b"r")?;
-    let (left, rest) = count(rest)?;
-    let (right, rest) = count(rest)?;
-    let (pivot, rest) = count(rest)?;
-    if !rest.is_over() {
+    let Some(rest) = behind_key(text) else {
         return Err(ReadError::Form);
-    }
+    };
+    let Some((left, rest)) = number_before(rest) else {
+        return Err(ReadError::Form);
+    };
+    let Some((right, rest)) = number_before(rest) else {
+        return Err(ReadError::Form);
+    };
+    let Some(pivot) = last_number(rest) else {
+        return Err(ReadError::Form);
+    };
     Ok(ResolveLine { left, right, pivot })
 }
 
