@@ -1,6 +1,6 @@
 -- For each clause the last line that names it, and what is written for the lines of a log from one on.
-use Rattle.std.proofs.Common.{◌≡◌, ℕ, zero, suc, ◌+◌, ◌<◌, ◌≤◌, ◌==◌, ◌||◌, Bool, true, false, not, cond, List, [], ◌∷◌, ◌++◌, length, length-append, get_or, refl, sym, ap, subst, ◌∙◌, arith, append_assoc, append-nil, inl, inr, ◌⊎◌}
-use Rattle.std.specs.Prelude.{filter, slice_index_or, slice_set, replicate, nat_lt}
+use Rattle.std.proofs.Common.{◌≡◌, ℕ, zero, suc, ◌+◌, ◌<◌, ◌≤◌, ◌==◌, ◌||◌, Bool, true, false, not, cond, List, [], ◌∷◌, ◌++◌, length, get_or, refl, sym, ap, subst, ◌∙◌, arith, append_assoc, append-nil, inl, inr, ◌⊎◌, Result, Ok, Err}
+use Rattle.std.specs.Prelude.{filter, slice_index_or, slice_set, replicate, nat_lt, OnOk}
 use Rattle.std.proofs.lemmas.List.{get_or-set_other}
 use Rattle.std.proofs.lemmas.Grind.{get_or-set_at}
 use Rattle.std.proofs.lemmas.Bool.Decides.{nat_tests}
@@ -120,59 +120,71 @@ single_written old first body after clause e f g =
     ∙ ap (λ (d : List ℕ). (old ++ 100 ∷ []) ++ (32 ∷ d ++ others)) (sym one_digit) in
     written old (old ++ 100 ∷ []) body after (100 ∷ []) (decimal 1 ∷ decimal clause ∷ []) refl same g ∙ ap (λ (x : List ℕ). old ++ x) (sym (append-nil _))
 
+-- lines that are copied, and the last of them
+ended_by : (old front line ended : List ℕ) → ended ≡ front ++ (line ++ 10 ∷ []) → old ++ ended ≡ (old ++ front) ++ (line ++ 10 ∷ [])
+ended_by old front line ended is = ap (λ (x : List ℕ). old ++ x) is ∙ sym (append_assoc old front (line ++ 10 ∷ []))
+
 -- a line that resolves two clauses, and those that it names last
-pub resolve_written : (last : List ℕ) (at : ℕ) (l : Line) (line old mid new : List ℕ) (a b n sum : ℕ) → IsText l line → IsKind (kinds.Resolve a b) l → mid ≡ old ++ (line ++ 10 ∷ [])
-    → IsWritten (drop_line (filter (is_last last at) (rising a b))) mid new n → sum ≡ 1 + n → IsWritten (with_drops last at l) old new sum
-resolve_written last at l line old mid new a b n sum text kind is (more, many) so =
+pub resolve_written : (last : List ℕ) (at : ℕ) (l : Line) (line front ended old mid new : List ℕ) (a b : ℕ) → ended ≡ front ++ (line ++ 10 ∷ []) → IsText l line → IsKind (kinds.Resolve a b) l → mid ≡ old ++ ended
+    → IsWritten (drop_line (filter (is_last last at) (rising a b))) mid new → IsWritten (with_drops last at l) (old ++ front) new
+resolve_written last at l line front ended old mid new a b cut text kind is more =
     let ds = drop_line (filter (is_last last at) (rising a b)) in
     let same : with_drops last at l ≡ l ∷ ds = λ i. kind.1 i ++ drop_line (filter (is_last last at) (kind.0 i)) in
-    let long : sum ≡ length (l ∷ ds) = omega (arith, many, so) in
-    subst (λ (ls : List Line). IsWritten ls old new sum) (sym same) (copied l ds line old mid new text is more, long)
+    subst (λ (ls : List Line). IsWritten ls (old ++ front) new) (sym same) (copied l ds line (old ++ front) mid new text (is ∙ ended_by old front line ended cut) more)
+
+pub resolve_result : {E : Type 0} (result : Result (Unit {0}) E) (last : List ℕ) (at : ℕ) (l : Line) (line front ended old mid new : List ℕ) (a b : ℕ) → ended ≡ front ++ (line ++ 10 ∷ []) → IsText l line → IsKind (kinds.Resolve a b) l → mid ≡ old ++ ended
+    → OnOk result (IsWritten (drop_line (filter (is_last last at) (rising a b))) mid new) → OnOk result (IsWritten (with_drops last at l) (old ++ front) new)
+resolve_result (Ok x) last at l line front ended old mid new a b cut text kind is more = resolve_written last at l line front ended old mid new a b cut text kind is more
+resolve_result (Err e) last at l line front ended old mid new a b cut text kind is more = tt
 
 -- any other line that drops no clauses
-pub other_written : (last : List ℕ) (at : ℕ) (l : Line) (line old new : List ℕ) → IsText l line → IsKind kinds.Other l → new ≡ old ++ (line ++ 10 ∷ []) → IsWritten (with_drops last at l) old new 1
-other_written last at l line old new text kind is =
+pub other_written : (last : List ℕ) (at : ℕ) (l : Line) (line front ended old new : List ℕ) → ended ≡ front ++ (line ++ 10 ∷ []) → IsText l line → IsKind kinds.Other l → new ≡ old ++ ended → IsWritten (with_drops last at l) (old ++ front) new
+other_written last at l line front ended old new cut text kind is =
     let same : with_drops last at l ≡ l ∷ [] = λ i. kind.1 i ++ drop_line (filter (is_last last at) (kind.0 i)) in
-    subst (λ (ls : List Line). IsWritten ls old new 1) (sym same) (copied l [] line old new new text is (sym (append-nil new)), refl)
+    subst (λ (ls : List Line). IsWritten ls (old ++ front) new) (sym same) (copied l [] line (old ++ front) new new text (is ∙ ended_by old front line ended cut) (sym (append-nil new)))
 
 -- a line that drops clauses
-pub drop_written : (last : List ℕ) (at : ℕ) (l : Line) (old : List ℕ) → IsKind kinds.Drop l → IsWritten (with_drops last at l) old old 0
-drop_written last at l old kind =
+pub drop_written : (last : List ℕ) (at : ℕ) (l : Line) (front old new : List ℕ) → IsKind kinds.Drop l → new ≡ old ++ front → IsWritten (with_drops last at l) (old ++ front) new
+drop_written last at l front old new kind is =
     let same : with_drops last at l ≡ [] = λ i. kind.1 i ++ drop_line (filter (is_last last at) (kind.0 i)) in
-    subst (λ (ls : List Line). IsWritten ls old old 0) (sym same) (sym (append-nil old), refl)
+    subst (λ (ls : List Line). IsWritten ls (old ++ front) new) (sym same) (is ∙ sym (append-nil (old ++ front)))
+
+-- those of two clauses that a line names last, where it names neither last
+none_last : (last : List ℕ) (at a b : ℕ) → is_last last at a ≡ false → is_last last at b ≡ false → filter (is_last last at) (rising a b) ≡ []
+none_last last at a b x y = by_case (a == b) (nat_lt a b)
+  where
+    by_case : (e l : Bool) → filter (is_last last at) (cond e (a ∷ []) (cond l (a ∷ b ∷ []) (b ∷ a ∷ []))) ≡ []
+    by_case true l = rw x refl
+    by_case false true = rw x (rw y refl)
+    by_case false false = rw y (rw x refl)
+
+-- a line that names neither of its clauses last
+pub alone : (last : List ℕ) (at : ℕ) (l : Line) (a b : ℕ) → IsKind (kinds.Resolve a b) l → is_last last at a ≡ false → is_last last at b ≡ false → with_drops last at l ≡ l ∷ []
+alone last at l a b kind x y =
+    (λ i. kind.1 i ++ drop_line (filter (is_last last at) (kind.0 i))) ∙ ap (λ (ns : List ℕ). l ∷ drop_line ns) (none_last last at a b x y)
+
+-- what isn't so
+pub not_so : (b r : Bool) → not r ≡ true → r ≡ b → b ≡ false
+not_so b true e is = absurd (let f : false ≡ true = e in cc)
+not_so b false e is = sym is
 
 log_text-append : (xs ys : List Line) → log_text (xs ++ ys) ≡ log_text xs ++ log_text ys
 log_text-append xs ys = flat_map-append (λ l. line_text (line_format.put l)) xs ys
 
--- what is written of a log, and what is left to write
-pub record IsLeftOf (whole left : List Line) (old new : List ℕ) (count : ℕ) : Type 0 where
-  pub text : new ++ log_text (upgraded left) ≡ old ++ log_text (upgraded whole)
-  pub lines : count + length (upgraded left) ≡ length (upgraded whole)
+-- an upgraded log from a line on
+pub upgraded_on : (last : List ℕ) (xs : List Line) (l : Line) (later : List Line) (at : ℕ) → at ≡ suc (length xs) → ((n : ℕ) → slice_index_or last n 0 ≡ last_naming (xs ++ l ∷ later) n)
+    → upgraded (l ∷ later) ≡ with_drops last at l ++ upgraded later
+upgraded_on last xs l later at is table =
+    sym (append_assoc (unless_drop l) (drop_line (last_named l later)) (upgraded later)) ∙ ap (λ (x : List Line). x ++ upgraded later) (sym (drops_same last xs l later at is table))
 
--- one line more
-pub one_line : (whole : List Line) (l : Line) (later : List Line) (old now new : List ℕ) (count more sum : ℕ) (ls : List Line) → IsLeftOf whole (l ∷ later) old now count → IsWritten ls now new more
-    → ls ≡ unless_drop l ++ drop_line (last_named l later) → sum ≡ count + more → IsLeftOf whole later old new sum
-one_line whole l later old now new count more sum ls way (text, lines) same is =
-    let front = unless_drop l ++ drop_line (last_named l later) in
-    let parts : upgraded (l ∷ later) ≡ front ++ upgraded later = sym (append_assoc (unless_drop l) (drop_line (last_named l later)) (upgraded later)) in
-    let long : length (upgraded (l ∷ later)) ≡ length front + length (upgraded later) = ap (λ (x : List Line). length x) parts ∙ length-append front (upgraded later) in
-    let so : more ≡ length front = lines ∙ ap (λ (x : List Line). length x) same in
-    let before = way.lines in
-    record {
-      text = ap (λ (x : List ℕ). x ++ log_text (upgraded later)) (text ∙ ap (λ (x : List Line). now ++ log_text x) same)
-          ∙ append_assoc now (log_text front) (log_text (upgraded later))
-          ∙ ap (λ (x : List ℕ). now ++ x) (sym (log_text-append front (upgraded later)) ∙ ap log_text (sym parts))
-          ∙ way.text;
-      lines = omega (arith, long, so, before, is);
-    }
+-- its text, before other bytes
+pub text_on : (ls ds later : List Line) (rest : List ℕ) → ls ≡ ds ++ later → log_text ls ++ rest ≡ log_text ds ++ (log_text later ++ rest)
+text_on ls ds later rest is =
+    ap (λ (x : List Line). log_text x ++ rest) is ∙ ap (λ (x : List ℕ). x ++ rest) (log_text-append ds later) ∙ append_assoc (log_text ds) (log_text later) rest
 
--- all lines
-pub all_lines : (whole left : List Line) (old new : List ℕ) (count : ℕ) → IsLeftOf whole left old new count → left ≡ [] → IsWritten (upgraded whole) old new count
-all_lines whole left old new count way none =
-    let text : new ≡ old ++ log_text (upgraded whole) = sym (append-nil new) ∙ ap (λ (x : List Line). new ++ log_text (upgraded x)) (sym none) ∙ way.text in
-    let nothing : length (upgraded left) ≡ 0 = ap (λ (x : List Line). length (upgraded x)) none in
-    let before = way.lines in
-    (text, omega (arith, nothing, before))
+-- the text of a line alone
+pub text_alone : (l : Line) (line : List ℕ) → IsText l line → log_text (l ∷ []) ≡ line ++ 10 ∷ []
+text_alone l line text = append-nil (line_text (line_format.put l)) ∙ text_same line (line_format.put l) text.0
 
 -- ---- the table
 

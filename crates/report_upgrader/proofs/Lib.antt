@@ -4,6 +4,7 @@ mod Follows
 mod FirstWords
 mod LineKinds
 mod LastLines
+mod Gathered
 mod LogBytes
 mod Texts
 mod Steps

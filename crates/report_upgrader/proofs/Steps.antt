@@ -1,12 +1,10 @@
 -- The lines of a report that stands, passed on one by one.
-use Rattle.std.proofs.Common.{◌≡◌, ℕ, ◌+◌, ◌≤◌, true, false, List, [], ◌∷◌, ◌++◌, map, length, take, drop, min, Option, None, Result, Ok, Err, refl, sym, ap, subst, ◌∙◌, append_assoc, append-nil, arith}
-use Rattle.std.specs.Prelude.{OnOk, OnErr}
+use Rattle.std.proofs.Common.{◌≡◌, ℕ, ◌+◌, ◌≤◌, true, false, List, [], ◌∷◌, ◌++◌, map, length, drop, Option, None, Result, Ok, Err, refl, sym, ap, subst, ◌∙◌, append-nil, arith}
+use Rattle.std.specs.Prelude.{IfOk, OnOk, OnErr}
 use Rattle.std.specs.Io.KnownBytes.{Appends}
 use Rattle.std.specs.List.{list_all}
-use Rattle.std.proofs.Math.Seq.{take-append-add}
 use Rattle.std.proofs.lemmas.Bool.{and_parts}
-use Rattle.std.proofs.lemmas.List.{take-append-le, take_min}
-use Rattle.std.proofs.KnownBytes.{Appends-trans, Appends-nil}
+use Rattle.std.proofs.KnownBytes.{Appends-trans}
 use Rattle.byte_ports.specs.Written.{IsFrontWritten}
 use Rattle.spec_core.specs.Specification.{Specification}
 use Rattle.spec_core.specs.Typed.{is_specification}
@@ -26,7 +24,8 @@ use Rattle.report_bytes.proofs.BytesOfReports.{text_bytes_are_fed}
 use Rattle.report_bytes.proofs.Cutting.{front_more, pieces_some, no_bytes}
 use Rattle.log_drops.specs.Upgraded.{upgraded}
 use Rattle.report_upgrader.specs.Reports.{upgraded_report, upgraded_version}
-use Rattle.report_upgrader.specs.Passing.{passed, text_of, proved_text, say_log, IsLogAhead, begins_proof, is_followed, logs_follow, IsLeft, Progress, IsPassed, Task, IsUnderway}
+use Rattle.report_upgrader.specs.Passing.{passed, text_of, proved_text, say_log, IsLogAhead, begins_proof, is_followed, logs_follow, IsLeft, Progress, Task, IsGathered, IsUnderway}
+use Rattle.report_upgrader.proofs.Gathered.{gathered_first, gathered_rest, gathered_stopped, gathered_still}
 use Rattle.report_upgrader.proofs.Passes.{lines_behind, report_passed, line_passed, verdict_passed}
 use Rattle.report_upgrader.proofs.Follows.{behind_log, report_follows}
 use Rattle.report_upgrader.proofs.Texts.{proved_before, text_same}
@@ -67,18 +66,25 @@ first_of d (e ∷ es) rest line behind cut left =
       left = record { said = tail_is _ _ _ _ both; whole = left.whole.1 };
     }
 
--- it is passed on as it is
-pub line_on : (line behind text new : List ℕ) (rest : List ℕ) → pieces rest ≡ line ∷ pieces behind → ((d : Specification) (e : Event) (es : List Event) → parts line ≡ words d e → is_followed e es → begins_proof e ≡ false) → new ≡ text ++ (line ++ 10 ∷ [])
-    → IsPassed (record { rest = rest; text = text }) (record { rest = behind; text = new })
-line_on line behind text new rest cut plain is d es left =
-    let f = first_of d es rest line behind cut left in
-    let out : text_of d (passed None es) ≡ (line ++ 10 ∷ []) ++ text_of d (passed None f.more) =
+-- It is passed on as it is.
+pub record IsPlainNext (task : Task) (line behind : List ℕ) (after : Option (List ℕ)) (text : List ℕ) : Type 0 where
+  pub later : List ℕ
+  pub gathered : IsGathered task.whole task.before after text ((line ++ 10 ∷ []) ++ later)
+  pub onward : (now : Option (List ℕ)) (new : List ℕ) → IsGathered task.whole task.before now new later → IsUnderway task (record { rest = behind; text = new }) now
+
+pub plain_next : (task : Task) (line behind text rest : List ℕ) (after : Option (List ℕ)) → pieces rest ≡ line ∷ pieces behind → ((d : Specification) (e : Event) (es : List Event) → parts line ≡ words d e → is_followed e es → begins_proof e ≡ false)
+    → IsUnderway task (record { rest = rest; text = text }) after → IsPlainNext task line behind after text
+plain_next task line behind text rest after cut plain way =
+    let d = task.spec in
+    let f = first_of d way.events rest line behind cut way.left in
+    let others : List ℕ = text_of d (passed None f.more) in
+    let out : text_of d (passed None way.events) ≡ (line ++ 10 ∷ []) ++ others =
     ap (λ (x : List Event). text_of d (passed None x)) f.are ∙ ap (text_of d) (line_passed f.event f.more (plain d f.event f.more f.says f.followed))
-    ∙ ap (λ (x : List ℕ). x ++ text_of d (passed None f.more)) (text_same line (words d f.event) f.says) in
+    ∙ ap (λ (x : List ℕ). x ++ others) (text_same line (words d f.event) f.says) in
     record {
-      more = f.more;
-      left = f.left;
-      same = ap (λ (x : List ℕ). x ++ text_of d (passed None f.more)) is ∙ append_assoc text (line ++ 10 ∷ []) (text_of d (passed None f.more)) ∙ ap (λ (x : List ℕ). text ++ x) (sym out);
+      later = others;
+      gathered = gathered_rest task.whole task.before after text (text_of d (passed None way.events)) ((line ++ 10 ∷ []) ++ others) way.gathered out;
+      onward = λ now new so. record { events = f.more; left = f.left; gathered = so };
     }
 
 -- ---- a log
@@ -127,23 +133,47 @@ whole_log d es line behind count f begun =
       passes = ap (passed None) events_are ∙ verdict_passed (proved log) later;
     }
 
--- a proved verdict is passed on with its log
-pub log_on : (line behind left text new : List ℕ) (count : ℕ) (rest : List ℕ) → pieces rest ≡ line ∷ pieces behind
+-- It is passed on with its log.
+pub record IsLogNext (task : Task) (count : ℕ) (behind : List ℕ) (after : Option (List ℕ)) (text : List ℕ) : Type 0 where
+  pub log : List Line
+  pub long : length log ≡ count
+  pub says : say_log log (pieces behind)
+  pub later : List ℕ
+  pub gathered : IsGathered task.whole task.before after text (proved_text (upgraded log) ++ later)
+  pub onward : (left : List ℕ) → drop count (pieces behind) ≡ pieces left → (now : Option (List ℕ)) (new : List ℕ) → IsGathered task.whole task.before now new later → IsUnderway task (record { rest = left; text = new }) now
+
+pub log_next : (task : Task) (line behind text rest : List ℕ) (count : ℕ) (after : Option (List ℕ)) → pieces rest ≡ line ∷ pieces behind
     → ((d : Specification) (e : Event) (es : List Event) → parts line ≡ words d e → is_followed e es → e ≡ events.Begin (word.Proved count))
-    → ((ls : List Line) → length ls ≡ count → say_log ls (pieces behind) → new ≡ text ++ proved_text (upgraded ls))
-    → drop count (pieces behind) ≡ pieces left
-    → IsPassed (record { rest = rest; text = text }) (record { rest = left; text = new })
-log_on line behind left text new count rest cut begun written others d es before =
-    let f = first_of d es rest line behind cut before in
-    let w = whole_log d es line behind count f (begun d f.event f.more f.says f.followed) in
-    let front = proved_text (upgraded w.log) in
-    let after = text_of d (passed None w.later) in
-    let out : text_of d (passed None es) ≡ front ++ after = ap (text_of d) w.passes ∙ proved_before d (upgraded w.log) (passed None w.later) in
+    → IsUnderway task (record { rest = rest; text = text }) after → IsLogNext task count behind after text
+log_next task line behind text rest count after cut begun way =
+    let d = task.spec in
+    let f = first_of d way.events rest line behind cut way.left in
+    let w = whole_log d way.events line behind count f (begun d f.event f.more f.says f.followed) in
+    let others : List ℕ = text_of d (passed None w.later) in
+    let out : text_of d (passed None way.events) ≡ proved_text (upgraded w.log) ++ others = ap (text_of d) w.passes ∙ proved_before d (upgraded w.log) (passed None w.later) in
     record {
-      more = w.later;
-      left = w.left left others;
-      same = ap (λ (x : List ℕ). x ++ after) (written w.log w.long w.says) ∙ append_assoc text front after ∙ ap (λ (x : List ℕ). text ++ x) (sym out);
+      log = w.log;
+      long = w.long;
+      says = w.says;
+      later = others;
+      gathered = gathered_rest task.whole task.before after text (text_of d (passed None way.events)) (proved_text (upgraded w.log) ++ others) way.gathered out;
+      onward = λ left same now new so. record { events = w.later; left = w.left left same; gathered = so };
     }
+
+-- how it ended
+pub plain_ok : {A E : Type 0} (result : Result A E) (bytes : A → List ℕ) (task : Task) (line behind : List ℕ) (after now : Option (List ℕ)) (text new : List ℕ) (n : IsPlainNext task line behind after text)
+    → OnOk result (IsGathered task.whole task.before now new n.later) → IfOk result (λ x. bytes x ≡ behind) → IfOk result (λ x. IsUnderway task (record { rest = bytes x; text = new }) now)
+plain_ok (Ok x) bytes task line behind after now text new n so is = subst (λ (b : List ℕ). IsUnderway task (record { rest = b; text = new }) now) (sym is) (n.onward now new so)
+plain_ok (Err e) bytes task line behind after now text new n so is = tt
+
+pub same_bytes : {A E : Type 0} (result : Result A E) (bytes : A → List ℕ) (behind : A) → IfOk result (λ x. x ≡ behind) → IfOk result (λ x. bytes x ≡ bytes behind)
+same_bytes (Ok x) bytes behind is = ap bytes is
+same_bytes (Err e) bytes behind is = tt
+
+pub log_ok : {A E : Type 0} (result : Result A E) (bytes : A → List ℕ) (task : Task) (count : ℕ) (behind : List ℕ) (after now : Option (List ℕ)) (text new : List ℕ) (n : IsLogNext task count behind after text)
+    → OnOk result (IsGathered task.whole task.before now new n.later) → IfOk result (λ x. drop count (pieces behind) ≡ pieces (bytes x)) → IfOk result (λ x. IsUnderway task (record { rest = bytes x; text = new }) now)
+log_ok (Ok x) bytes task count behind after now text new n so is = n.onward (bytes x) is now new so
+log_ok (Err e) bytes task count behind after now text new n so is = tt
 
 -- ---- what is left
 
@@ -175,57 +205,23 @@ begun d bytes line behind x text start before ok stands same cut none titled =
     record {
       events = lines_behind d x;
       left = behind_title d bytes line behind x ok stands same cut;
-      front = [];
-      written = Appends-nil before;
-      sum = ap (λ (t : List ℕ). t ++ text_of d (passed None (lines_behind d x))) (titled ∙ ap (λ (s : List ℕ). s ++ line_text (title_format.put upgraded_version)) none) ∙ ap (λ (es : List Event). line_text (title_format.put upgraded_version) ++ text_of d es) (report_passed d x);
+      gathered = gathered_first (report_bytes d (upgraded_report x)) before text (text_of d (passed None (lines_behind d x)))
+          (ap (λ (t : List ℕ). t ++ text_of d (passed None (lines_behind d x))) (titled ∙ ap (λ (s : List ℕ). s ++ line_text (title_format.put upgraded_version)) none) ∙ ap (λ (es : List Event). line_text (title_format.put upgraded_version) ++ text_of d es) (report_passed d x));
     }
-
--- behind lines that are passed on
-pub passed_on : (task : Task) (at to : Progress) (after : Option (List ℕ)) → IsUnderway task at after → IsPassed at to → IsUnderway task to after
-passed_on task at to after way pass =
-    let o = pass task.spec way.events way.left in
-    record {
-      events = o.more;
-      left = o.left;
-      front = way.front;
-      written = way.written;
-      sum = ap (λ (t : List ℕ). way.front ++ t) o.same ∙ way.sum;
-    }
-
--- what is gathered was written
-pub written_on : (task : Task) (rest gathered text : List ℕ) (after later : Option (List ℕ)) → IsUnderway task (record { rest = rest; text = gathered }) after → Appends after later gathered → text ≡ []
-    → IsUnderway task (record { rest = rest; text = text }) later
-written_on task rest gathered text after later way more none = record {
-  events = way.events;
-  left = way.left;
-  front = way.front ++ gathered;
-  written = Appends-trans task.before after later way.front gathered way.written more;
-  sum = ap (λ (t : List ℕ). (way.front ++ gathered) ++ (t ++ text_of task.spec (passed None way.events))) none ∙ append_assoc way.front gathered (text_of task.spec (passed None way.events)) ∙ way.sum;
-}
-
--- a front of what is gathered was written
-pub stopped_on : (task : Task) (at : Progress) (after later : Option (List ℕ)) → IsUnderway task at after → IsFrontWritten at.text after later → IsFrontWritten task.whole task.before later
-stopped_on task at after later way (n, more) =
-    let m : ℕ = min n (length at.text) in
-    let few : m ≤ length at.text = omega arith in
-    let others : List ℕ = text_of task.spec (passed None way.events) in
-    let same : way.front ++ take n at.text ≡ take (length way.front + m) task.whole =
-    ap (λ (x : List ℕ). way.front ++ x) (sym (take_min n at.text) ∙ sym (take-append-le m at.text others few))
-    ∙ sym (take-append-add way.front (at.text ++ others) m) ∙ ap (take (length way.front + m)) way.sum in
-    (length way.front + m, subst (Appends task.before later) same (Appends-trans task.before after later way.front (take n at.text) way.written more))
 
 -- nothing more was written
 pub stopped_at : (task : Task) (at : Progress) (after : Option (List ℕ)) → IsUnderway task at after → IsFrontWritten task.whole task.before after
-stopped_at task at after way = stopped_on task at after after way (0, Appends-nil after)
+stopped_at task at after way = gathered_still task.whole task.before after at.text (text_of task.spec (passed None way.events)) way.gathered
 
 -- all was written, where no line is left
 pub written_all : (task : Task) (at : Progress) (after later : Option (List ℕ)) → pieces at.rest ≡ at.rest ∷ [] → IsUnderway task at after → Appends after later at.text → Appends task.before later task.whole
 unfolding passed
 written_all task at after later cut way more =
     let none = nothing_left task.spec at.rest way.events cut way.left in
-    let same : way.front ++ at.text ≡ task.whole =
-    ap (λ (x : List ℕ). way.front ++ x) (sym (append-nil at.text) ∙ ap (λ (es : List Event). at.text ++ text_of task.spec (passed None es)) (sym none)) ∙ way.sum in
-    subst (Appends task.before later) same (Appends-trans task.before after later way.front at.text way.written more)
+    let so = way.gathered in
+    let same : so.front ++ at.text ≡ task.whole =
+    ap (λ (x : List ℕ). so.front ++ x) (sym (append-nil at.text) ∙ ap (λ (es : List Event). at.text ++ text_of task.spec (passed None es)) (sym none)) ∙ so.sum in
+    subst (Appends task.before later) same (Appends-trans task.before after later so.front at.text so.written more)
 
 pub no_line : (rest : List ℕ) (taken many : ℕ) → length rest + taken ≤ many → many ≤ taken → pieces rest ≡ rest ∷ []
 no_line rest taken many few all = no_bytes rest (omega (arith, few, all))
@@ -242,4 +238,4 @@ all_written (Err e) task at after later cut way more = tt
 pub front_written : {E : Type 0} (result : Result (Unit {0}) E) (task : Task) (at : Progress) (after later : Option (List ℕ)) → IsUnderway task at after
     → OnErr result (IsFrontWritten at.text after later) → OnErr result (IsFrontWritten task.whole task.before later)
 front_written (Ok x) task at after later way more = tt
-front_written (Err e) task at after later way more = stopped_on task at after later way more
+front_written (Err e) task at after later way more = gathered_stopped task.whole task.before after later at.text (text_of task.spec (passed None way.events)) way.gathered more

@@ -1,5 +1,5 @@
 -- For each clause the last line of a log that names it, and what is written for a line. It mirrors the code.
-use Rattle.std.specs.Prelude.{◌≡◌, ℕ, suc, ◌==◌, Bool, if◌then◌else◌, List, [], ◌∷◌, ◌++◌, filter, length}
+use Rattle.std.specs.Prelude.{◌≡◌, ℕ, suc, ◌==◌, Bool, if◌then◌else◌, List, [], ◌∷◌, ◌++◌, filter}
 use Rattle.std.specs.Prelude.{slice_index_or}
 use Rattle.proof_lines.specs.declared.line.Line.{Line}
 use Rattle.proof_lines.specs.Numbers.{stands_in}
@@ -34,6 +34,6 @@ is_last last at n = slice_index_or last n 0 == at
 abbrev pub with_drops : List ℕ → ℕ → Line → List Line
 with_drops last at l = unless_drop l ++ drop_line (filter (is_last last at) (named l))
 
--- the text of these lines, so many, was added
-abbrev pub IsWritten : List Line → List ℕ → List ℕ → ℕ → Type 0
-IsWritten ls old new count = (new ≡ old ++ log_text ls) × (count ≡ length ls)
+-- the text of these lines was added
+abbrev pub IsWritten : List Line → List ℕ → List ℕ → Type 0
+IsWritten ls old new = new ≡ old ++ log_text ls

@@ -1,7 +1,7 @@
 -- How a report that stands is upgraded line by line: what is held of the log of a proved verdict, and
 -- what is written behind each line. It mirrors the code.
 use Rattle.std.specs.Prelude.{◌≡◌, ℕ, ◌≤◌, nat_lt, Bool, true, false, if◌then◌else◌, List, [], ◌∷◌}
-use Rattle.std.specs.Prelude.{◌++◌, map, length, Option, Some, None}
+use Rattle.std.specs.Prelude.{◌++◌, map, length, slice_index_or, Option, Some, None}
 use Rattle.std.specs.Io.KnownBytes.{Appends}
 use Rattle.std.specs.List.{flat_map, list_all}
 use Rattle.spec_core.specs.Specification.{Specification}
@@ -20,6 +20,7 @@ use Rattle.report_reader.specs.Reader.{begin_of, log_of_event}
 use Rattle.proof_report.specs.Texts.{log_text}
 use Rattle.report_bytes.specs.Bytes.{lines_of}
 use Rattle.log_drops.specs.Upgraded.{upgraded}
+use Rattle.report_upgrader.specs.LastLines.{last_naming}
 
 -- ---- the log that is held
 
@@ -71,9 +72,13 @@ passed h (e ∷ es) = lines_out e (held_at h e) ++ passed (held_on (held_at h e)
 abbrev pub text_of : Specification → List Event → List ℕ
 text_of d es = flat_map line_text (map (words d) es)
 
+-- the text of a proved verdict with such a log
+abbrev pub verdict_text : List Line → List ℕ
+verdict_text log = line_text (verdict_format.put (word.Proved (length log)))
+
 -- the text of a proved verdict and its log
 abbrev pub proved_text : List Line → List ℕ
-proved_text log = line_text (verdict_format.put (word.Proved (length log))) ++ log_text log
+proved_text log = verdict_text log ++ log_text log
 
 -- ---- the lines that are left
 
@@ -86,6 +91,13 @@ unfoldable pub say_log : List Line → List (List ℕ) → Type 0
 say_log [] texts = Unit {0}
 say_log (l ∷ ls) [] = ⊥
 say_log (l ∷ ls) (text ∷ texts) = IsText l text × say_log ls texts
+
+-- Lines between line feeds begin with those of this log, so many, and a table has for each clause the
+-- last of them that names it.
+pub record IsTabled (ls : List Line) (count : ℕ) (texts : List (List ℕ)) (last : List ℕ) : Type 0 where
+  pub long : length ls ≡ count
+  pub says : say_log ls texts
+  pub named_last : (n : ℕ) → slice_index_or last n 0 ≡ last_naming ls n
 
 -- The lines of a log, so many, come first, and these behind them.
 pub record IsLogAhead (n : ℕ) (es : List Event) : Type 0 where
@@ -138,28 +150,21 @@ pub record Progress : Type 0 where
   pub rest : List ℕ
   pub text : List ℕ
 
--- Of what was left to say, this is left; and what is gathered and what will be come to the same.
-pub record IsOnward (d : Specification) (es : List Event) (before after : Progress) : Type 0 where
-  pub more : List Event
-  pub left : IsLeft d after.rest more
-  pub same : after.text ++ text_of d (passed None more) ≡ before.text ++ text_of d (passed None es)
-
--- lines of a report were passed on
-abbrev pub IsPassed : Progress → Progress → Type 0
-IsPassed before after =
-    (d : Specification) (es : List Event) → IsLeft d before.rest es → IsOnward d es before after
-
 -- What is written of a report on a specification, and what the sink held before.
 pub record Task : Type 0 where
   pub spec : Specification
   pub whole : List ℕ
   pub before : Option (List ℕ)
 
--- A front of a whole text was written, more is gathered, and what is left comes of the lines that are
--- left.
+-- A front of a whole text was written, more is gathered, and these bytes are left to gather.
+pub record IsGathered (whole : List ℕ) (before after : Option (List ℕ)) (text rest : List ℕ) : Type 0 where
+  pub front : List ℕ
+  pub written : Appends before after front
+  pub sum : front ++ (text ++ rest) ≡ whole
+
+-- The same where what is left comes of the lines that are left.
 pub record IsUnderway (task : Task) (at : Progress) (after : Option (List ℕ)) : Type 0 where
   pub events : List Event
   pub left : IsLeft task.spec at.rest events
-  pub front : List ℕ
-  pub written : Appends task.before after front
-  pub sum : front ++ (at.text ++ text_of task.spec (passed None events)) ≡ task.whole
+  pub gathered : IsGathered task.whole task.before after at.text
+      (text_of task.spec (passed None events))

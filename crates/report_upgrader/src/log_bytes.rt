@@ -1,13 +1,13 @@
-// The log of a proved verdict, upgraded from its bytes.
+// The lines of a log, looked at in its bytes.
 //
 // The lines of a report that stands aren't built anew: all that upgrading has to know of a line is
 // which clauses it names, and only lines that resolve two clauses name some. Of most of them that was
 // noted as they were verified, and how long each line is; the others are read here. The lines of a log
-// are gone through twice. First a table has for each clause the last line that names it. Then each line
-// is copied, with a Drop line behind it where it names clauses last. The table takes four bytes for
-// each clause.
+// are gone through three times. First a table has for each clause the last line that names it; it takes
+// four bytes for each clause. Then it is counted how many lines the upgraded log has, which stands before
+// it. `log_writing` writes them.
 ghost use Rattle.std.specs.Prelude.{◌≡◌, ℕ, ◌+◌, ◌==◌, ◌<◌, ◌≤◌, ◌++◌, ◌∷◌, [], List, true, codes};
-ghost use Rattle.std.specs.Prelude.{cond, drop, filter, length, slice_index_or, IfOk, OnOk, Some};
+ghost use Rattle.std.specs.Prelude.{cond, drop, filter, length, slice_index_or, take, IfOk, OnOk, Some};
 ghost use Rattle.std.specs.Str.{bytes_eq};
 ghost use Rattle.proof_lines.specs.declared.line.Line.{Line as Given};
 ghost use Rattle.proof_lines.specs.declared.line.Line.TheVariants.{Drop as DropLine};
@@ -19,10 +19,10 @@ ghost use Rattle.report_words.specs.Words.{left};
 ghost use Rattle.report_upgrader.specs.declared.log_bytes.LogLine.TheVariants.{Resolve};
 ghost use Rattle.report_upgrader.specs.LastLines.{IsKind, last_naming, is_last, with_drops};
 ghost use Rattle.report_upgrader.specs.LastLines.{IsWritten};
-ghost use Rattle.report_verifier.specs.Notes.{IsLong, IsPair, AreNotedTo, AreNoted};
-ghost use Rattle.report_upgrader.specs.Passing.{proved_text, say_log, IsText};
+ghost use Rattle.report_verifier.specs.Notes.{IsLong, IsPair, AreNotedTo};
+ghost use Rattle.report_upgrader.specs.Passing.{say_log, IsText, IsTabled};
 
-use report_lines::verdict::{VerdictWord, write_verdict_word};
+use crate::gathering::MANY;
 use report_verifier::LineNote;
 use report_words::fields::count;
 use report_words::words::{Words, next};
@@ -53,6 +53,7 @@ fn resolve_line(word: &[u8], rest: Words<'_>) -> Result<LogLine, AllocError>
 }
 
 // What a line of a log is, by its first word.
+#[inline(never)]
 #[tactic(auto, using(crate::proofs::LineKinds::drop_kind, crate::proofs::LineKinds::other_kind))]
 fn kind_of(line: &[u8]) -> Result<LogLine, AllocError>
     ensures { (l : Given) → IsText l line.now → IfOk result (λ k. IsKind k l) }
@@ -126,8 +127,8 @@ fn note_kind(table: &mut Vec<u32>, kind: LogLine, at: u32) -> Result<(), AllocEr
 // A line of which it was noted that it resolves two clauses.
 #[inline(always)]
 fn noted_pair(left: u32, right: u32, line: &[u8]) -> LogLine
-    requires { IsPair (Some (record { left = left; right = right })) line.now }
-    ensures { (l : Given) → IsText l line.now → IsKind result l }
+    ensures { (l : Given) → IsPair (Some (record { left = left; right = right })) line.now
+        → IsText l line.now → IsKind result l }
 {
     let _ = line;
     LogLine::Resolve(left, right)
@@ -137,10 +138,10 @@ fn noted_pair(left: u32, right: u32, line: &[u8]) -> LogLine
 // word says.
 #[inline(always)]
 fn kind_noted(note: &LineNote, line: &[u8]) -> Result<LogLine, AllocError>
-    requires { IsPair note.now.pair line.now }
-    ensures { (l : Given) → IsText l line.now → IfOk result (λ k. IsKind k l) }
+    ensures { (l : Given) → IsPair note.now.pair line.now → IsText l line.now
+        → IfOk result (λ k. IsKind k l) }
 {
-    match note.pair {
+    match note.pair() {
         Some(pair) => Ok(noted_pair(pair.left, pair.right, line)),
         None => kind_of(line),
     }
@@ -155,17 +156,45 @@ pub(crate) fn cut_line(bytes: &[u8], len: usize) -> (&[u8], &[u8])
     (&bytes[..len], &bytes[len + 1..])
 }
 
-// A line that is so long, with its line feed.
+// The line that stands behind so many bytes and is so long.
 #[inline(always)]
-fn ended_line(bytes: &[u8], len: usize) -> &[u8]
-    requires { len < length bytes.now }
-    ensures { (h : IsLong len bytes.now) → result.now ≡ h.line ++ 10 ∷ [] }
+fn line_at(bytes: &[u8], place: usize, len: usize) -> &[u8]
+    requires { place + len < length bytes.now }
+    ensures { (h : IsLong len (drop place bytes.now)) → result.now ≡ h.line }
 {
-    &bytes[..len + 1]
+    &bytes[place..place + len]
+}
+
+// So many bytes.
+#[inline(always)]
+fn front_of(bytes: &[u8], count: usize) -> &[u8]
+    requires { count ≤ length bytes.now }
+    ensures { result.now ≡ take count bytes.now }
+{
+    &bytes[..count]
+}
+
+// So many bytes, and the line behind them that is so long, with its line feed.
+#[inline(always)]
+fn with_line(bytes: &[u8], place: usize, len: usize) -> &[u8]
+    requires { place + len < length bytes.now }
+    ensures { (h : IsLong len (drop place bytes.now))
+        → result.now ≡ take place bytes.now ++ (h.line ++ 10 ∷ []) }
+{
+    &bytes[..place + len + 1]
+}
+
+// What stands behind the line that stands behind so many bytes and is so long.
+#[inline(always)]
+pub(crate) fn behind_line(bytes: &[u8], place: usize, len: usize) -> &[u8]
+    requires { place + len < length bytes.now }
+    ensures { result.now ≡ drop (place + len + 1) bytes.now }
+{
+    &bytes[place + len + 1..]
 }
 
 // For each clause the last of so many lines that names it.
-fn last_lines(
+pub(crate) fn last_lines(
     alloc: Global,
     count: u32,
     lines: &[u8],
@@ -181,7 +210,7 @@ fn last_lines(
         let Some(note) = notes.get(taken as usize) else {
             return Err(AllocError);
         };
-        let (line, behind) = cut_line(rest, note.len as usize);
+        let (line, behind) = cut_line(rest, note.len());
         let kind = kind_noted(note, line)?;
         note_kind(&mut table, kind, taken + 1)?;
         rest = behind;
@@ -199,37 +228,114 @@ fn is_last(last: &[u32], at: u32, number: u32) -> bool
     }
 }
 
+// Whether only the line itself is written for a line that resolves these clauses.
+#[inline(always)]
+fn names_neither(last: &[u32], at: u32, left: u32, right: u32) -> bool
+    ensures { result ≡ true → (l : Given) (line : List ℕ)
+        → IsPair (Some (record { left = left; right = right })) line → IsText l line
+        → with_drops last.now at l ≡ l ∷ [] }
+{
+    !is_last(last, at, left) && !is_last(last, at, right)
+}
+
+// Whether a line was noted as one that resolves two clauses, and names neither last, and few bytes before
+// it are to be copied as they are.
+#[inline(always)]
+pub(crate) fn is_copied(last: &[u32], at: u32, note: &LineNote, run: usize) -> bool
+    ensures { result ≡ true → (l : Given) (line : List ℕ) → IsPair note.now.pair line
+        → IsText l line → with_drops last.now at l ≡ l ∷ [] }
+{
+    if run >= MANY {
+        return false;
+    }
+    match note.pair() {
+        Some(pair) => names_neither(last, at, pair.left, pair.right),
+        None => false,
+    }
+}
+
+// How many lines are written for a line of this kind.
+#[inline(always)]
+fn line_count(last: &[u32], at: u32, kind: LogLine) -> u32
+    ensures { (l : Given) → IsKind kind l → result ≡ length (with_drops last.now at l) }
+{
+    match kind {
+        LogLine::Resolve(left, right) => {
+            if is_last(last, at, left) || is_last(last, at, right) {
+                2
+            } else {
+                1
+            }
+        }
+        LogLine::Drop => 0,
+        LogLine::Other => 1,
+    }
+}
+
+// The sum of two numbers of lines; more than a report can count are answered as want of memory.
+fn sum(count: u32, more: u32) -> Result<u32, AllocError>
+    ensures { IfOk result (λ n. n ≡ count + more) }
+{
+    match count.checked_add(more) {
+        Some(sum) => Ok(sum),
+        None => Err(AllocError),
+    }
+}
+
+// How many lines the upgraded log of so many lines has.
+pub(crate) fn count_lines(
+    last: &[u32],
+    count: u32,
+    lines: &[u8],
+    notes: &[LineNote],
+) -> Result<u32, AllocError>
+    requires { (end : List ℕ) × AreNotedTo notes.now lines.now end }
+    ensures { (ls : List Given) → IsTabled ls count (pieces lines.now) last.now
+        → IfOk result (λ n. n ≡ length (upgraded ls)) }
+{
+    let mut written: u32 = 0;
+    let mut rest = lines;
+    'lines: for taken in 0..count {
+        let Some(note) = notes.get(taken as usize) else {
+            return Err(AllocError);
+        };
+        let (line, behind) = cut_line(rest, note.len());
+        let kind = kind_noted(note, line)?;
+        written = sum(written, line_count(last, taken + 1, kind))?;
+        rest = behind;
+    }
+    Ok(written)
+}
+
 // Adds a Drop line of some clauses.
-fn write_drop(clauses: &[u32], out: &mut Vec<u8>) -> Result<u32, AllocError>
-    ensures { IfOk result
-        (λ n. IsWritten (DropLine clauses.now ∷ []) out.old.items out.new.items n) }
+fn write_drop(clauses: &[u32], out: &mut Vec<u8>) -> Result<(), AllocError>
+    ensures { OnOk result (IsWritten (DropLine clauses.now ∷ []) out.old.items out.new.items) }
 {
     out.push(b'd')?;
     put_list(out, clauses)?;
     out.push(b'\n')?;
-    Ok(1)
+    Ok(())
 }
 
 // Adds a Drop line of one clause.
-fn write_single(clause: u32, out: &mut Vec<u8>) -> Result<u32, AllocError>
-    ensures { IfOk result
-        (λ n. IsWritten (DropLine (clause ∷ []) ∷ []) out.old.items out.new.items n) }
+fn write_single(clause: u32, out: &mut Vec<u8>) -> Result<(), AllocError>
+    ensures { OnOk result (IsWritten (DropLine (clause ∷ []) ∷ []) out.old.items out.new.items) }
 {
     out.extend_from_slice(b"d 1")?;
     put_number(out, clause as u64)?;
     out.push(b'\n')?;
-    Ok(1)
+    Ok(())
 }
 
 // Adds a Drop line where this line names one clause last.
-fn write_one(last: &[u32], at: u32, number: u32, out: &mut Vec<u8>) -> Result<u32, AllocError>
-    ensures { IfOk result (λ n. IsWritten (drop_line (filter (is_last last.now at) (number ∷ [])))
-        out.old.items out.new.items n) }
+fn write_one(last: &[u32], at: u32, number: u32, out: &mut Vec<u8>) -> Result<(), AllocError>
+    ensures { OnOk result (IsWritten (drop_line (filter (is_last last.now at) (number ∷ [])))
+        out.old.items out.new.items) }
 {
     if is_last(last, at, number) {
         return write_single(number, out);
     }
-    Ok(0)
+    Ok(())
 }
 
 // Adds a Drop line of those of two clauses that this line names last.
@@ -239,10 +345,10 @@ fn write_two(
     first: u32,
     second: u32,
     out: &mut Vec<u8>,
-) -> Result<u32, AllocError>
-    ensures { IfOk result
-        (λ n. IsWritten (drop_line (filter (is_last last.now at) (first ∷ second ∷ [])))
-        out.old.items out.new.items n) }
+) -> Result<(), AllocError>
+    ensures { OnOk result
+        (IsWritten (drop_line (filter (is_last last.now at) (first ∷ second ∷ [])))
+        out.old.items out.new.items) }
 {
     if !is_last(last, at, first) {
         return write_one(last, at, second, out);
@@ -260,10 +366,10 @@ fn write_drops(
     left: u32,
     right: u32,
     out: &mut Vec<u8>,
-) -> Result<u32, AllocError>
-    ensures { IfOk result
-        (λ n. IsWritten (drop_line (filter (is_last last.now at) (rising left right)))
-        out.old.items out.new.items n) }
+) -> Result<(), AllocError>
+    ensures { OnOk result
+        (IsWritten (drop_line (filter (is_last last.now at) (rising left right)))
+        out.old.items out.new.items) }
 {
     if left == right {
         return write_one(last, at, left, out);
@@ -275,27 +381,8 @@ fn write_drops(
     }
 }
 
-/// Adds a line, with its line feed, to a text.
-pub fn copy_line(line: &[u8], text: &mut Vec<u8>) -> Result<(), AllocError>
-    ensures { OnOk result (text.new.items ≡ text.old.items ++ (line.now ++ 10 ∷ [])) }
-{
-    text.extend_from_slice(line)?;
-    text.push(b'\n')?;
-    Ok(())
-}
-
-// The sum of two numbers of lines; more than a report can count are answered as want of memory.
-fn sum(count: u32, more: u32) -> Result<u32, AllocError>
-    ensures { IfOk result (λ n. n ≡ count + more) }
-{
-    match count.checked_add(more) {
-        Some(sum) => Ok(sum),
-        None => Err(AllocError),
-    }
-}
-
-// Adds a line with its line feed as it is, and a Drop line of the clauses that it names last. Answers
-// how many lines these are.
+// Adds lines as they are, of which the last one resolves these clauses, and a Drop line of those that it
+// names last.
 fn write_resolve(
     last: &[u32],
     at: u32,
@@ -303,117 +390,65 @@ fn write_resolve(
     left: u32,
     right: u32,
     out: &mut Vec<u8>,
-) -> Result<u32, AllocError>
-    ensures { (l : Given) (line : List ℕ) → ended.now ≡ line ++ 10 ∷ [] → IsText l line
-        → IsKind (Resolve left right) l
-        → IfOk result
-        (λ n. IsWritten (with_drops last.now at l) out.old.items out.new.items n) }
+) -> Result<(), AllocError>
+    ensures { (l : Given) (front line : List ℕ) → ended.now ≡ front ++ (line ++ 10 ∷ [])
+        → IsText l line → IsKind (Resolve left right) l
+        → OnOk result
+        (IsWritten (with_drops last.now at l) (out.old.items ++ front) out.new.items) }
 {
     out.extend_from_slice(ended)?;
-    let dropped = write_drops(last, at, left, right, out)?;
-    let written = sum(1, dropped)?;
-    Ok(written)
+    write_drops(last, at, left, right, out)
 }
 
-// Adds a line of this kind with its line feed as it is, unless it drops clauses, and a Drop line of the
-// clauses that it names last. Answers how many lines these are.
+// Adds lines as they are, and a line of this kind behind them, unless it drops clauses, with a Drop line
+// of the clauses that it names last.
 #[tactic(auto, using(crate::proofs::LastLines::drop_written))]
 fn write_line(
     last: &[u32],
     at: u32,
     kind: LogLine,
+    front: &[u8],
     ended: &[u8],
     out: &mut Vec<u8>,
-) -> Result<u32, AllocError>
-    ensures { (l : Given) (line : List ℕ) → ended.now ≡ line ++ 10 ∷ [] → IsText l line
-        → IsKind kind l
-        → IfOk result
-        (λ n. IsWritten (with_drops last.now at l) out.old.items out.new.items n) }
+) -> Result<(), AllocError>
+    ensures { (l : Given) (line : List ℕ) → ended.now ≡ front.now ++ (line ++ 10 ∷ [])
+        → IsText l line → IsKind kind l
+        → OnOk result
+        (IsWritten (with_drops last.now at l) (out.old.items ++ front.now) out.new.items) }
 {
     match kind {
         LogLine::Resolve(left, right) => write_resolve(last, at, ended, left, right, out),
-        LogLine::Drop => Ok(0),
         LogLine::Other => {
             out.extend_from_slice(ended)?;
-            Ok(1)
+            Ok(())
         }
+        LogLine::Drop => out.extend_from_slice(front),
     }
 }
 
-// Adds the upgraded log of so many lines. Answers how many lines it has, and the bytes behind the log.
-fn write_lines<'a>(
+// Adds so many bytes as they are, and what comes for the line behind them.
+pub(crate) fn put_line(
     last: &[u32],
-    count: u32,
-    lines: &'a [u8],
-    notes: &[LineNote],
-    out: &mut Vec<u8>,
-) -> Result<(u32, &'a [u8]), AllocError>
-    requires { (end : List ℕ) × AreNotedTo notes.now lines.now end }
-    ensures written { (ls : List Given) → length ls ≡ count → say_log ls (pieces lines.now)
-        → ((n : ℕ) → slice_index_or last.now n 0 ≡ last_naming ls n)
-        → IfOk result (λ x. IsWritten (upgraded ls) out.old.items out.new.items x.0) }
-    ensures behind { IfOk result (λ x. drop count (pieces lines.now) ≡ pieces x.1.now) }
-    ensures fewer { IfOk result (λ x. length x.1.now ≤ length lines.now) }
-    ensures noted { (end : List ℕ) → AreNotedTo notes.now lines.now end
-        → IfOk result (λ x. AreNotedTo (drop count notes.now) x.1.now end) }
-{
-    let mut written: u32 = 0;
-    let mut rest = lines;
-    'lines: for taken in 0..count {
-        let Some(note) = notes.get(taken as usize) else {
-            return Err(AllocError);
-        };
-        let (line, behind) = cut_line(rest, note.len as usize);
-        let kind = kind_noted(note, line)?;
-        let ended = ended_line(rest, note.len as usize);
-        let more = write_line(last, taken + 1, kind, ended, out)?;
-        written = sum(written, more)?;
-        rest = behind;
-    }
-    Ok((written, rest))
-}
-
-// The notes behind so many.
-pub(crate) fn behind(notes: &[LineNote], count: u32) -> &[LineNote]
-    ensures { result.now ≡ drop count notes.now }
-{
-    let place = count as usize;
-    if place < notes.len() {
-        return &notes[place..];
-    }
-    &[]
-}
-
-/// The bytes of a report that are left to pass on, and the notes of their lines.
-#[derive(Clone, Copy)]
-pub struct LeftLines<'a> {
-    pub bytes: &'a [u8],
-    pub notes: &'a [LineNote],
-}
-
-/// Adds a proved verdict with the upgraded log of so many lines, and answers the lines behind the log.
-/// Where these lines aren't there, want of memory is answered.
-pub fn pass_log<'a>(
-    alloc: Global,
-    count: u32,
-    lines: LeftLines<'a>,
+    at: u32,
+    note: &LineNote,
+    from: &[u8],
+    run: usize,
     text: &mut Vec<u8>,
-) -> Result<LeftLines<'a>, AllocError>
-    requires { AreNoted lines.notes.now lines.bytes.now }
-    ensures written { (ls : List Given) → length ls ≡ count → say_log ls (pieces lines.entry.bytes.now)
-        → OnOk result (text.new.items ≡ text.old.items ++ proved_text (upgraded ls)) }
-    ensures behind { IfOk result
-        (λ left. drop count (pieces lines.entry.bytes.now) ≡ pieces left.bytes.now) }
-    ensures fewer { IfOk result (λ left. length left.bytes.now ≤ length lines.entry.bytes.now) }
-    ensures noted { IfOk result (λ left. AreNoted left.notes.now left.bytes.now) }
+) -> Result<(), AllocError>
+    requires { run + note.now.len < length from.now }
+    ensures { (h : IsLong note.now.len (drop run from.now)) (l : Given)
+        → IsPair note.now.pair h.line → IsText l h.line
+        → OnOk result
+        (IsWritten (with_drops last.now at l) (text.old.items ++ take run from.now) text.new.items) }
 {
-    let last = last_lines(alloc, count, lines.bytes, lines.notes)?;
-    let mut log = Vec::new(alloc);
-    let (written, left) = write_lines(last.as_slice(), count, lines.bytes, lines.notes, &mut log)?;
-    write_verdict_word(text, VerdictWord::Proved(written))?;
-    text.extend_from_slice(log.as_slice())?;
-    Ok(LeftLines {
-        bytes: left,
-        notes: behind(lines.notes, count),
-    })
+    let len = note.len();
+    let kind = kind_noted(note, line_at(from, run, len))?;
+    write_line(
+        last,
+        at,
+        kind,
+        front_of(from, run),
+        with_line(from, run, len),
+        text,
+    )
 }

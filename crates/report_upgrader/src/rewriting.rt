@@ -11,28 +11,14 @@ ghost use Rattle.report_bytes.specs.Bytes.{pieces, report_bytes};
 ghost use Rattle.report_upgrader.specs.Reports.{upgraded_report};
 ghost use Rattle.report_upgrader.specs.Passing.{Task, IsUnderway};
 
-use crate::log_bytes::{LeftLines, behind, cut_line};
+use crate::gathering::write_out;
+use crate::log_bytes::cut_line;
+use crate::log_writing::{LeftLines, behind};
 use crate::passing::pass_line;
-use byte_ports::{Sink, WriteOut, write_text};
+use byte_ports::{Sink, WriteOut};
 use report_lines::head::write_title;
 use spec_core::Spec;
 use std::alloc::Global;
-
-/// As soon as so many bytes are gathered they are written.
-const MANY: usize = 65_536;
-
-// Writes a text, and empties it.
-fn write_out<K: Sink>(text: &mut Vec<u8>, out: &mut K) -> Result<(), WriteOut>
-    ensures ok { OnOk result (Appends (K.held out.old) (K.held out.new) text.old.items) }
-    ensures emptied { OnOk result (text.new.items ≡ []) }
-    ensures front { OnErr result (IsFrontWritten text.old.items (K.held out.old) (K.held out.new)) }
-    ensures fault { OnErr result (IsFault (K.faults out.old) (K.faults out.new)) }
-    ensures never_falls { K.faults out.old ≤ K.faults out.new }
-{
-    write_text(out, text.as_slice())?;
-    text.clear();
-    Ok(())
-}
 
 // The next line, and the lines behind it; none where no line feed ends a line.
 fn next_line(lines: LeftLines<'_>) -> Option<(&[u8], LeftLines<'_>)>
@@ -46,44 +32,9 @@ fn next_line(lines: LeftLines<'_>) -> Option<(&[u8], LeftLines<'_>)>
     let Some(note) = lines.notes.get(0) else {
         return None;
     };
-    let (line, bytes) = cut_line(lines.bytes, note.len as usize);
+    let (line, bytes) = cut_line(lines.bytes, note.len());
     let notes = behind(lines.notes, 1);
     Some((line, LeftLines { bytes, notes }))
-}
-
-// Passes a line on, and writes what is gathered where it is much. Answers the lines that are left.
-fn take_line<'a, K: Sink>(
-    alloc: Global,
-    line: &[u8],
-    behind: LeftLines<'a>,
-    text: &mut Vec<u8>,
-    out: &mut K,
-) -> Result<LeftLines<'a>, WriteOut>
-    requires { AreNoted behind.notes.now behind.bytes.now }
-    ensures ok { (task : Task) (rest : List ℕ) → pieces rest ≡ line.now ∷ pieces behind.entry.bytes.now
-        → IsUnderway task (record { rest = rest; text = text.old.items }) (K.held out.old)
-        → IfOk result (λ left. IsUnderway task (record { rest = left.bytes.now; text = text.new.items })
-        (K.held out.new)) }
-    ensures front { (task : Task) (rest : List ℕ) → pieces rest ≡ line.now ∷ pieces behind.entry.bytes.now
-        → IsUnderway task (record { rest = rest; text = text.old.items }) (K.held out.old)
-        → OnErr result (IsFrontWritten task.whole task.before (K.held out.new)) }
-    ensures fault { IfErr result
-        (λ why. why ≡ Fault → IsFault (K.faults out.old) (K.faults out.new)) }
-    ensures fewer { IfOk result (λ left. length left.bytes.now ≤ length behind.entry.bytes.now) }
-    ensures noted { IfOk result (λ left. AreNoted left.notes.now left.bytes.now) }
-    ensures never_falls { K.faults out.old ≤ K.faults out.new }
-{
-    let left = match pass_line(alloc, line, behind, text) {
-        Ok(left) => left,
-        Err(_) => return Err(WriteOut::Memory),
-    };
-    if text.len() < MANY {
-        return Ok(left);
-    }
-    match write_out(text, out) {
-        Ok(()) => Ok(left),
-        Err(why) => Err(why),
-    }
 }
 
 // Passes all lines on.
@@ -109,7 +60,7 @@ fn take_lines<K: Sink>(
     'lines: for taken in 0..lines.bytes.len() {
         match next_line(rest) {
             None => return write_out(text, out),
-            Some((line, behind)) => match take_line(alloc, line, behind, text, out) {
+            Some((line, behind)) => match pass_line(alloc, line, behind, text, out) {
                 Ok(left) => rest = left,
                 Err(why) => return Err(why),
             },

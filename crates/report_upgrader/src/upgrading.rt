@@ -5,7 +5,7 @@ ghost use Rattle.byte_ports.specs.Faults.{IsFault};
 ghost use Rattle.report_verifier.specs.Verified.{most_report_bytes, IsVerified};
 ghost use Rattle.report_upgrader.specs.Upgrading.{refused_as, IsUpgraded, IsUpgradedFrom, IsOnAll, IsUnwritten};
 
-use crate::log_bytes::LeftLines;
+use crate::log_writing::LeftLines;
 use crate::refused::UpgradeRefused;
 use crate::rewriting::write_upgraded;
 use byte_ports::{ReadRefused, Sink, Source, WriteOut, read_up_to};

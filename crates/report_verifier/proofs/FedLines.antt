@@ -18,8 +18,7 @@ use Rattle.report_verifier.specs.declared.refused.VerifyRefused.{VerifyRefused}
 use Rattle.report_verifier.specs.declared.refused.VerifyRefused.TheVariants as refused
 use Rattle.report_verifier.specs.Verified.{most_report_bytes, IsVerified, IsVerifiedFrom}
 use Rattle.report_verifier.specs.Pieces.{IsUnended, AreTaken}
-use Rattle.report_verifier.specs.declared.notes.LineNote.{LineNote}
-use Rattle.report_verifier.specs.Notes.{AreNotedTo, AreNoted}
+use Rattle.report_verifier.specs.Notes.{NoteForm, AreNotedTo, AreNoted}
 use Rattle.report_verifier.specs.Verifier.{VerifierForm, first_verifier, next_verifier, verifier_after, IsFinished, IsCutOff, IsEnded, AreFed}
 use Rattle.report_verifier.proofs.Lines.{finished, cut_off, uncounted}
 use Rattle.report_verifier.proofs.CutPieces.{begun_cut, cut_append, unended_free}
@@ -45,7 +44,7 @@ onward_fed (Ok x) now v bytes w rest u o f = (o.0 ∙ f.0, o.1 ∙ f.1)
 onward_fed (Err error) now v bytes w rest u o f = tt
 
 -- nothing need be noted where a line wasn't counted
-pub unnoted : {T E : Type 0} (result : Result T E) (now : T → List ℕ) (notes : List LineNote) (bytes : List ℕ) (v : VerifierForm) (line : List ℕ) (u : VerifierForm) (behind : List ℕ) (w : VerifierForm)
+pub unnoted : {T E : Type 0} (result : Result T E) (now : T → List ℕ) (notes : List NoteForm) (bytes : List ℕ) (v : VerifierForm) (line : List ℕ) (u : VerifierForm) (behind : List ℕ) (w : VerifierForm)
     → u ≡ next_verifier v line → u.reader.number ≡ v.reader.number → IfOk result (λ x. AreFed u behind w (now x)) → IfOk result (λ x. w.reader.fault ≡ None → AreNotedTo notes bytes (now x))
 unnoted (Ok x) now notes bytes v line u behind w e same f = λ none. absurd (uncounted v line u (lines_of behind) w e same f.0 none)
 unnoted (Err error) now notes bytes v line u behind w e same f = tt
@@ -115,7 +114,7 @@ no_fault_met r over None p h = refl
 no_fault_met r over (Some f) p h = absurd cc
 
 -- where a report stands, this was noted of its lines
-pub ended_noted : (w : VerifierForm) (rest : List ℕ) (result : Result Tally VerifyRefused) (notes : List LineNote) (bytes : List ℕ) → IsEnded w rest result → (w.reader.fault ≡ None → AreNotedTo notes bytes rest) → pieces rest ≡ rest ∷ [] → OnOk result (AreNoted notes bytes)
+pub ended_noted : (w : VerifierForm) (rest : List ℕ) (result : Result Tally VerifyRefused) (notes : List NoteForm) (bytes : List ℕ) → IsEnded w rest result → (w.reader.fault ≡ None → AreNotedTo notes bytes rest) → pieces rest ≡ rest ∷ [] → OnOk result (AreNoted notes bytes)
 ended_noted w [] (Ok tally) notes bytes e noted over = ([], (noted (no_fault_met w.reader (is_over w.reader.state.place) w.reader.fault w.judgement.fault e.1), over))
 ended_noted w (b ∷ bs) (Ok tally) notes bytes e noted over = absurd e
 ended_noted w rest (Err why) notes bytes e noted over = tt

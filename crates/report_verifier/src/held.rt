@@ -4,8 +4,7 @@ ghost use Rattle.std.specs.Prelude.{IsErrOf};
 ghost use Rattle.spec_core.specs.Specification.{Specification};
 ghost use Rattle.spec_core.specs.Typed.{is_specification};
 ghost use Rattle.report_bytes.specs.Bytes.{pieces};
-ghost use Rattle.report_verifier.specs.declared.notes.LineNote.{LineNote as Note};
-ghost use Rattle.report_verifier.specs.Notes.{IsPair, AreNotedTo, AreNoted};
+ghost use Rattle.report_verifier.specs.Notes.{NoteForm, IsPair, AreNotedTo, AreNoted};
 ghost use Rattle.report_verifier.specs.Verifier.{first_verifier, next_verifier, AreFed};
 ghost use Rattle.report_verifier.specs.Verified.{most_report_bytes, IsVerified};
 
@@ -35,7 +34,7 @@ fn take_line(
     notes: &mut Vec<LineNote>,
 ) -> Result<bool, AllocError>
     ensures fed { IfOk result (λ read. verifier.new ≡ next_verifier verifier.old line.now) }
-    ensures noted { IfOk result (λ read. read ≡ true → (note : Note)
+    ensures noted { IfOk result (λ read. read ≡ true → (note : NoteForm)
         × ((notes.new.items ≡ notes.old.items ++ note ∷ [])
         × ((note.len ≡ length line.now) × IsPair note.pair line.now))) }
     ensures faulty { IfOk result (λ read. read ≡ false
@@ -47,7 +46,7 @@ fn take_line(
     if verifier.taken() == before {
         return Ok(false);
     }
-    notes.push(LineNote { pair, len })?;
+    notes.push(LineNote::new(pair, len))?;
     Ok(true)
 }
 
