@@ -1,7 +1,7 @@
 // Literals, and clauses: sets of literals.
-ghost use Rattle.std.specs.Prelude.{◌≡◌, ◌≤◌, true, not, ◌&&◌, IfOk, OnOk, OnErr, [], ◌++◌, length};
+ghost use Rattle.std.specs.Prelude.{◌≡◌, ◌≤◌, ◌+◌, nat_lt, true, false, not, ◌&&◌, IfOk, OnOk, OnErr, [], ◌++◌, length, take, drop};
 ghost use Rattle.proof_lines.specs.Marks.{HasMarks};
-ghost use Rattle.proof_lines.specs.Clauses.{is_empty, has, resolvent, insert, join, same_lit, sub, distinct, without, flip, negations, holds_both_ways};
+ghost use Rattle.proof_lines.specs.Clauses.{is_empty, has, resolvent, insert, join, lit_of, same_lit, sub, distinct, without, flip, negations, holds_both_ways};
 
 use crate::literals::Literals;
 use crate::marks::{SHORT_TABLE, are_few, is_among, mark_all, marks_for};
@@ -10,6 +10,9 @@ use std::marker::Model;
 
 // Of clauses that give at most so many literals a scan finds each in less time than a table of marks.
 const SHORT: usize = 5;
+
+// Where at most so many comparisons are needed, a scan finds each literal in less time than a table of marks.
+const SCANNED: usize = 16;
 
 /// An atom, or its negation. Atoms are numbered from 0.
 #[derive(Clone, Copy, PartialEq, Eq, Debug)]
@@ -152,8 +155,10 @@ impl Clause {
         };
         left.law_distinct();
         right.law_distinct();
+        let (left, right) = (left.lits(), right.lits());
+        let at = place_of(left, up);
         let mut lits = Vec::with_capacity(alloc, most)?;
-        put_resolvent(alloc, &mut lits, left.lits(), right.lits(), up)?;
+        put_both(alloc, &mut lits, left, right, up, at)?;
         Ok(Clause {
             lits: Literals::from_vec(lits),
         })
@@ -251,9 +256,12 @@ fn push_others(out: &mut Literals, lits: &[Lit], lit: Lit) -> Result<(), AllocEr
     Ok(())
 }
 
-// The first place of a literal, or the number of literals where it isn't there.
+// The place of a literal among different ones, or the number of these where it isn't there.
 fn place_of(lits: &[Lit], lit: Lit) -> usize
-    ensures { result ≤ length lits.now }
+    requires { distinct lits.now ≡ true }
+    ensures there { nat_lt result (length lits.now) ≡ has lits.now lit }
+    ensures around { without lit lits.now ≡ take result lits.now ++ drop (result + 1) lits.now }
+    ensures within { result ≤ length lits.now }
 {
     for (i, x) in lits.iter().enumerate() {
         if x.same(lit) {
@@ -263,44 +271,15 @@ fn place_of(lits: &[Lit], lit: Lit) -> usize
     lits.len()
 }
 
-// Appends the literals other than one: at once, where it isn't there.
-fn put_run(out: &mut Vec<Lit>, lits: &[Lit], lit: Lit) -> Result<(), AllocError>
-    ensures { OnOk result (out.new.items ≡ out.old.items ++ without lit lits.now) }
+// Appends the literals around a place, in two parts that are copied at once.
+fn put_around(out: &mut Vec<Lit>, lits: &[Lit], at: usize) -> Result<(), AllocError>
+    requires { at ≤ length lits.now }
+    ensures { OnOk result
+        (out.new.items ≡ out.old.items ++ (take at lits.now ++ drop (at + 1) lits.now)) }
 {
-    if holds(lits, lit) {
-        return put_others(out, lits, lit);
-    }
-    out.extend_from_slice(lits)?;
-    Ok(())
-}
-
-// The same, where the literal may be the first.
-fn put_behind(out: &mut Vec<Lit>, lits: &[Lit], lit: Lit) -> Result<(), AllocError>
-    ensures { OnOk result (out.new.items ≡ out.old.items ++ without lit lits.now) }
-{
-    if lits.is_empty() || !lits[0].same(lit) {
-        return put_run(out, lits, lit);
-    }
-    put_run(out, &lits[1..], lit)
-}
-
-// The same, in two parts around its place, which are copied at once.
-fn put_without(out: &mut Vec<Lit>, lits: &[Lit], lit: Lit) -> Result<(), AllocError>
-    ensures { OnOk result (out.new.items ≡ out.old.items ++ without lit lits.now) }
-{
-    let at = place_of(lits, lit);
-    put_run(out, &lits[..at], lit)?;
-    put_behind(out, &lits[at..], lit)
-}
-
-// The same, one by one.
-fn put_others(out: &mut Vec<Lit>, lits: &[Lit], lit: Lit) -> Result<(), AllocError>
-    ensures { OnOk result (out.new.items ≡ out.old.items ++ without lit lits.now) }
-{
-    for x in lits {
-        if !x.same(lit) {
-            out.push(*x)?;
-        }
+    out.extend_from_slice(&lits[..at])?;
+    if at < lits.len() {
+        out.extend_from_slice(&lits[at + 1..])?;
     }
     Ok(())
 }
@@ -346,52 +325,115 @@ fn put_right(
     Ok(())
 }
 
-// Puts the resolvent of two clauses into an empty list. The literals of the left one are marked in a table on the stack.
-fn put_few(out: &mut Vec<Lit>, left: &[Lit], right: &[Lit], up: Lit) -> Result<(), AllocError>
-    requires none { out.old.items ≡ [] }
+// The same, where there are so few that each is looked for.
+fn put_looked_for(out: &mut Vec<Lit>, right: &[Lit], down: Lit) -> Result<(), AllocError>
+    ensures { OnOk result (out.new.items ≡ join out.old.items (without down right.now)) }
+{
+    for lit in right {
+        if !lit.same(down) && !holds(out.as_slice(), *lit) {
+            out.push(*lit)?;
+        }
+    }
+    Ok(())
+}
+
+// The same, with a table on the stack.
+fn put_short(out: &mut Vec<Lit>, left: &[Lit], right: &[Lit], up: Lit) -> Result<(), AllocError>
+    requires left { out.old.items ≡ without up left.now }
     requires right { distinct right.now ≡ true }
     ensures { OnOk result (out.new.items ≡ join (without up left.now)
         (without (flip up) right.now)) }
 {
     let mut table = [false; SHORT_TABLE];
     mark_all(&mut table, left);
-    put_others(out, left, up)?;
     put_right(out, &table, left, right, up)
 }
 
-// The same of many literals. The table has room for the greatest, and runs of literals are copied at once.
-fn put_many(
+// The same, with a table that has room for the greatest.
+fn put_long(
     alloc: Global,
     out: &mut Vec<Lit>,
     left: &[Lit],
     right: &[Lit],
     up: Lit,
 ) -> Result<(), AllocError>
-    requires none { out.old.items ≡ [] }
+    requires left { out.old.items ≡ without up left.now }
     requires right { distinct right.now ≡ true }
     ensures { OnOk result (out.new.items ≡ join (without up left.now)
         (without (flip up) right.now)) }
 {
     let marks = marks_for(alloc, left, right)?;
-    put_without(out, left, up)?;
     put_right(out, marks.as_slice(), left, right, up)
 }
 
-// The same, by the way that takes less.
-fn put_resolvent(
+// The same, by the way that takes least.
+fn put_behind(
     alloc: Global,
     out: &mut Vec<Lit>,
     left: &[Lit],
     right: &[Lit],
     up: Lit,
 ) -> Result<(), AllocError>
-    requires none { out.old.items ≡ [] }
+    requires left { out.old.items ≡ without up left.now }
     requires right { distinct right.now ≡ true }
     ensures { OnOk result (out.new.items ≡ join (without up left.now)
         (without (flip up) right.now)) }
 {
-    if are_few(left.len(), right.len()) {
-        return put_few(out, left, right, up);
+    if left.len().saturating_mul(right.len()) <= SCANNED {
+        return put_looked_for(out, right, up.opposite());
     }
-    put_many(alloc, out, left, right, up)
+    if are_few(left.len(), right.len()) {
+        return put_short(out, left, right, up);
+    }
+    put_long(alloc, out, left, right, up)
+}
+
+// Puts the resolvent of two clauses, of which the left one has the literal at a place, into an empty list.
+fn put_both(
+    alloc: Global,
+    out: &mut Vec<Lit>,
+    left: &[Lit],
+    right: &[Lit],
+    up: Lit,
+    at: usize,
+) -> Result<(), AllocError>
+    requires none { out.old.items ≡ [] }
+    requires within { at ≤ length left.now }
+    requires around { without up left.now ≡ take at left.now ++ drop (at + 1) left.now }
+    requires right { distinct right.now ≡ true }
+    ensures { OnOk result (out.new.items ≡ join (without up left.now)
+        (without (flip up) right.now)) }
+{
+    put_around(out, left, at)?;
+    put_behind(alloc, out, left, right, up)
+}
+
+/// Puts the resolvent of two clauses over an atom into an empty list, where the left one has the atom and the right one its
+/// negation, and tells whether they have. Where they haven't, nothing is put.
+pub fn put_resolvent(
+    alloc: Global,
+    out: &mut Vec<Lit>,
+    left: &[Lit],
+    right: &[Lit],
+    atom: u32,
+) -> Result<bool, AllocError>
+    requires none { out.old.items ≡ [] }
+    requires left { distinct left.now ≡ true }
+    requires right { distinct right.now ≡ true }
+    ensures there { IfOk result (λ put. put
+        ≡ (has left.now (lit_of atom true) && has right.now (lit_of atom false))) }
+    ensures put { IfOk result (λ put. put ≡ true
+        → out.new.items ≡ resolvent atom left.now right.now) }
+    ensures none { IfOk result (λ put. put ≡ false → out.new.items ≡ []) }
+{
+    let up = Lit {
+        atom,
+        positive: true,
+    };
+    let at = place_of(left, up);
+    if at >= left.len() || !holds(right, up.opposite()) {
+        return Ok(false);
+    }
+    put_both(alloc, out, left, right, up, at)?;
+    Ok(true)
 }

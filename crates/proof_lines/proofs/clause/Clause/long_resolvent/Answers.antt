@@ -6,5 +6,5 @@ use Rattle.proof_lines.proofs.clause.Clause.long_resolvent.Goals as goal
 
 pub invariant_of-result : goal.invariant_of-result
 invariant_of-result c =
-    let left : distinct c.lits.result.now ≡ true = rw c.lits.ensures c.law_distinct.ensures in
-    subst (λ (z : List Lit). distinct z ≡ true) (sym (c.from_vec.ensures ∙ c.in_ok-put_resolvent.ensures)) (distinct-resolvent c.args.atom c.lits.result.now c.lits-2.result.now left)
+    let left : distinct c.lits-left.result.now ≡ true = rw c.lits-left.ensures c.law_distinct.ensures in
+    subst (λ (z : List Lit). distinct z ≡ true) (sym (c.from_vec.ensures ∙ c.in_ok-put_both.ensures)) (distinct-resolvent c.args.atom c.lits-left.result.now c.lits-right.result.now left)
