@@ -17,8 +17,9 @@ ghost use Rattle.log_freshness.specs.Index.{MarksAre};
 ghost use Rattle.log_freshness.specs.Blocks.{number_within, block_within, finds_in_blocks, AllFit, BlockFits, BlocksFit, RulesOut, AreNotWithin, BitsAre, PutsNumber, PutsInBlocks, MovesLast, IsEmptyBlock, HasNoClause};
 
 use crate::freshness::{is_marked, marked_slot_within, spot};
+use clause_store::ClauseStore;
 use items::Items;
-use proof_lines::clause::{Clause, Lit};
+use proof_lines::clause::Lit;
 use std::alloc::{AllocError, Global};
 use std::mem;
 
@@ -149,7 +150,7 @@ fn has_bit(mask: u128, place: usize) -> bool
 fn is_left_within(
     count: usize,
     marks: &[bool],
-    slots: &[Option<Clause>],
+    slots: &ClauseStore,
     lits: &[Lit],
     ruled: bool,
     number: usize,
@@ -170,7 +171,7 @@ fn is_left_within(
 fn any_left_within(
     count: usize,
     marks: &[bool],
-    slots: &[Option<Clause>],
+    slots: &ClauseStore,
     lits: &[Lit],
     numbers: &[usize],
     out: u128,
@@ -195,7 +196,7 @@ fn any_left_within(
 fn any_in_block(
     count: usize,
     marks: &[bool],
-    slots: &[Option<Clause>],
+    slots: &ClauseStore,
     lits: &[Lit],
     block: &Block,
     hint: &mut usize,
@@ -217,7 +218,7 @@ fn any_in_block(
 fn any_in_full(
     count: usize,
     marks: &[bool],
-    slots: &[Option<Clause>],
+    slots: &ClauseStore,
     lits: &[Lit],
     full: &[Block],
     hint: &mut usize,
@@ -240,7 +241,7 @@ fn any_in_full(
 pub fn any_in_blocks(
     count: usize,
     marks: &[bool],
-    slots: &[Option<Clause>],
+    slots: &ClauseStore,
     lits: &[Lit],
     blocks: &Blocks,
     hint: &mut usize,

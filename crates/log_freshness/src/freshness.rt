@@ -21,13 +21,14 @@ ghost use Rattle.std.specs.List.{list_all, list_any};
 ghost use Rattle.proof_lines.specs.Clauses.{sub, holds_both_ways};
 ghost use Rattle.log_freshness.specs.Freshness.{live_of, is_new, each_new};
 ghost use Rattle.proof_lines.specs.Numbers.{stands_in};
-ghost use Rattle.log_freshness.specs.Index.{HasNoEntry, HasNoMark, slot_new, PutsOne, finds, finds_marked, marked, all_marked, lits_marked, any_opposite_marked, marked_both_ways, marked_within, marked_slot_within, sign_number, spot, spots, with_marks, MarksAre};
+ghost use Rattle.log_freshness.specs.Index.{HasNoEntry, HasNoMark, slot_new, PutsOne, finds, finds_marked, marked, all_marked, lits_marked, any_opposite_marked, marked_both_ways, marked_within, marked_slot_within, sign_number, slot_within, spot, spots, with_marks, MarksAre};
 ghost use Rattle.log_freshness.specs.Blocks.{finds_in_blocks, BlocksFit};
 ghost use Rattle.log_freshness.specs.Puts.{IsIndex, PutsEither};
 
 use crate::blocks::{Blocks, any_in_blocks, is_crowded, is_for_blocks, no_blocks, put_in_blocks};
+use clause_store::ClauseStore;
 use items::Items;
-use proof_lines::clause::{Clause, Lit, holds_both_ways, is_within};
+use proof_lines::clause::{Lit, holds_both_ways, is_within};
 use std::alloc::{AllocError, Global};
 
 // How many places before the last one a search for a literal without a mark begins.
@@ -151,7 +152,7 @@ fn marked_both_ways(count: usize, marks: &[bool], lits: &[Lit]) -> bool
 pub fn marked_slot_within(
     count: usize,
     marks: &[bool],
-    slots: &[Option<Clause>],
+    slots: &ClauseStore,
     number: usize,
     lits: &[Lit],
     hint: &mut usize,
@@ -161,10 +162,8 @@ pub fn marked_slot_within(
         (slice_index_or slots.now number None) }
 {
     match slots.get(number) {
-        Some(Some(clause)) => {
-            lits_marked(count, marks, clause.lits(), hint) && is_within(clause.lits(), lits)
-        }
-        _ => false,
+        Some(clause) => lits_marked(count, marks, clause, hint) && is_within(clause, lits),
+        None => false,
     }
 }
 
@@ -193,7 +192,7 @@ fn list_at(lists: &[Items<Entry>], at: usize) -> &[Entry]
 fn is_entry_within(
     count: usize,
     marks: &[bool],
-    slots: &[Option<Clause>],
+    slots: &ClauseStore,
     lits: &[Lit],
     entry: Entry,
     hints: &mut Hints,
@@ -211,7 +210,7 @@ fn is_entry_within(
 fn any_within(
     count: usize,
     marks: &[bool],
-    slots: &[Option<Clause>],
+    slots: &ClauseStore,
     lits: &[Lit],
     entries: &[Entry],
     hints: &mut Hints,
@@ -231,7 +230,7 @@ fn any_within(
 fn finds_marked(
     count: usize,
     marks: &[bool],
-    slots: &[Option<Clause>],
+    slots: &ClauseStore,
     lists: &[Items<Entry>],
     lits: &[Lit],
     hints: &mut Hints,
@@ -246,7 +245,7 @@ fn finds_marked(
 fn finds_at_literals(
     count: usize,
     marks: &[bool],
-    slots: &[Option<Clause>],
+    slots: &ClauseStore,
     lists: &[Items<Entry>],
     lits: &[Lit],
     hints: &mut Hints,
@@ -274,7 +273,7 @@ fn finds_at_literals(
 fn finds_either(
     count: usize,
     marks: &[bool],
-    slots: &[Option<Clause>],
+    slots: &ClauseStore,
     lists: &[Items<Entry>],
     blocks: &Blocks,
     lits: &[Lit],
@@ -305,7 +304,7 @@ fn finds_either(
 fn finds(
     count: usize,
     marks: &mut Vec<bool>,
-    slots: &[Option<Clause>],
+    slots: &ClauseStore,
     lists: &[Items<Entry>],
     blocks: &Blocks,
     lits: &[Lit],
@@ -456,7 +455,7 @@ fn put_clause(
 fn put_slot(
     alloc: Global,
     count: usize,
-    slots: &[Option<Clause>],
+    slots: &ClauseStore,
     seen: &mut Vec<usize>,
     lists: &mut Vec<Items<Entry>>,
     blocks: &mut Blocks,
@@ -473,17 +472,8 @@ fn put_slot(
         (live_of (take number slots.now)) → IsIndex count slots.now lists.new.items blocks.new
         (live_of (take (number + 1) slots.now))) }
 {
-    match &slots[number] {
-        Some(clause) => put_clause(
-            alloc,
-            count,
-            seen,
-            lists,
-            blocks,
-            number,
-            clause.lits(),
-            crowded,
-        ),
+    match slots.get(number) {
+        Some(clause) => put_clause(alloc, count, seen, lists, blocks, number, clause, crowded),
         None => Ok(()),
     }
 }
@@ -503,7 +493,7 @@ fn empty_lists(alloc: Global, count: usize) -> Result<Vec<Items<Entry>>, AllocEr
 fn put_before(
     alloc: Global,
     count: usize,
-    slots: &[Option<Clause>],
+    slots: &ClauseStore,
     seen: &mut Vec<usize>,
     lists: &mut Vec<Items<Entry>>,
     blocks: &mut Blocks,
@@ -529,7 +519,7 @@ fn put_before(
 fn is_slot_new(
     count: usize,
     marks: &mut Vec<bool>,
-    slots: &[Option<Clause>],
+    slots: &ClauseStore,
     lists: &[Items<Entry>],
     blocks: &Blocks,
     number: usize,
@@ -547,10 +537,10 @@ fn is_slot_new(
     ensures sized { length marks.new.items ≡ count }
     ensures clear { HasNoMark marks.new.items }
 {
-    match &slots[number] {
+    match slots.get(number) {
         Some(clause) => {
-            let found = finds(count, marks, slots, lists, blocks, clause.lits(), hints);
-            let both = is_both_ways(count, marks, clause.lits());
+            let found = finds(count, marks, slots, lists, blocks, clause, hints);
+            let both = is_both_ways(count, marks, clause);
             !found && !both && !clause.is_empty()
         }
         None => true,
@@ -561,7 +551,7 @@ fn is_slot_new(
 fn each_new_after(
     alloc: Global,
     count: usize,
-    slots: &[Option<Clause>],
+    slots: &ClauseStore,
     seen: &mut Vec<usize>,
     lists: &mut Vec<Items<Entry>>,
     blocks: &mut Blocks,
@@ -603,7 +593,7 @@ fn each_new_after(
 fn each_new_by_index(
     alloc: Global,
     count: usize,
-    slots: &[Option<Clause>],
+    slots: &ClauseStore,
     given: usize,
 ) -> Result<bool, AllocError>
     requires some { 0 < count }
@@ -634,33 +624,44 @@ fn each_new_by_index(
     )
 }
 
-fn holds_one_within(earlier: &[Option<Clause>], lits: &[Lit]) -> bool
-    ensures { result ≡ list_any (λ d. sub d lits.now) (live_of earlier.now) }
+// Whether the clause of a number lies within another.
+fn is_slot_within(slots: &ClauseStore, number: usize, lits: &[Lit]) -> bool
+    ensures { result ≡ slot_within lits.now (slice_index_or slots.now number None) }
 {
-    for slot in earlier {
-        if let Some(clause) = slot {
-            if is_within(clause.lits(), lits) {
-                return true;
-            }
+    match slots.get(number) {
+        Some(clause) => is_within(clause, lits),
+        None => false,
+    }
+}
+
+// Whether one of the clauses before a number lies within another.
+fn holds_one_within(slots: &ClauseStore, number: usize, lits: &[Lit]) -> bool
+    requires { number ≤ length slots.now }
+    ensures { result ≡ list_any (λ d. sub d lits.now) (live_of (take number slots.now)) }
+{
+    for i in 0..number {
+        if is_slot_within(slots, i, lits) {
+            return true;
         }
     }
     false
 }
 
-// Whether a clause contains none of the earlier ones, holds no atom both ways and isn't empty.
-fn is_new(earlier: &[Option<Clause>], lits: &[Lit]) -> bool
-    ensures { result ≡ is_new (live_of earlier.now) lits.now }
+// Whether a clause contains none of those before a number, holds no atom both ways and isn't empty.
+fn is_new(slots: &ClauseStore, number: usize, lits: &[Lit]) -> bool
+    requires { number ≤ length slots.now }
+    ensures { result ≡ is_new (live_of (take number slots.now)) lits.now }
 {
-    !holds_one_within(earlier, lits) && !holds_both_ways(lits) && !lits.is_empty()
+    !holds_one_within(slots, number, lits) && !holds_both_ways(lits) && !lits.is_empty()
 }
 
-fn each_new_by_scan(slots: &[Option<Clause>], given: usize) -> bool
+fn each_new_by_scan(slots: &ClauseStore, given: usize) -> bool
     requires { given ≤ length slots.now }
     ensures { result ≡ each_new (live_of (take given slots.now)) (live_of (drop given slots.now)) }
 {
     for i in given..slots.len() {
-        if let Some(clause) = &slots[i] {
-            if !is_new(&slots[..i], clause.lits()) {
+        if let Some(clause) = slots.get(i) {
+            if !is_new(slots, i, clause) {
                 return false;
             }
         }
@@ -670,7 +671,7 @@ fn each_new_by_scan(slots: &[Option<Clause>], given: usize) -> bool
 
 /// Whether each clause from a number on is new among those before it. `atoms` is the number of atoms; with another number the
 /// answer is the same and takes longer.
-pub fn each_new(alloc: Global, atoms: usize, slots: &[Option<Clause>], given: usize) -> bool
+pub fn each_new(alloc: Global, atoms: usize, slots: &ClauseStore, given: usize) -> bool
     requires few { atoms < 2 ^ 32 }
     requires there { given ≤ length slots.now }
     ensures { result ≡ each_new (live_of (take given slots.now)) (live_of (drop given slots.now)) }
@@ -682,8 +683,13 @@ pub fn each_new(alloc: Global, atoms: usize, slots: &[Option<Clause>], given: us
 }
 
 /// Whether no clause was dropped.
-pub fn none_dropped(slots: &[Option<Clause>]) -> bool
+pub fn none_dropped(slots: &ClauseStore) -> bool
     ensures { result ≡ list_all (λ o. is_some o) slots.now }
 {
-    slots.iter().all(|slot| slot.is_some())
+    for i in 0..slots.len() {
+        if slots.get(i).is_none() {
+            return false;
+        }
+    }
+    true
 }

@@ -1,12 +1,11 @@
 -- A log that the rules take keeps what makes the problem's clauses true; so one with an empty clause shows that nothing does.
-use Rattle.std.proofs.Common.{◌≡◌, ℕ, ◌+◌, ◌<◌, ◌≤◌, Bool, true, false, not, cond, ◌&&◌, List, [], ◌∷◌, ◌++◌, length, map, length-append, refl, sym, ◌∙◌, ap, subst, arith, Some, Result, Ok, Err}
+use Rattle.std.proofs.Common.{◌≡◌, ℕ, ◌+◌, Bool, true, false, not, cond, ◌&&◌, List, [], ◌∷◌, ◌++◌, length, length-append, refl, subst, arith, Result, Ok, Err}
 use Rattle.std.specs.Prelude.{nat_lt, ℤ}
 use Rattle.std.specs.List.{list_any, list_all}
 use Rattle.std.proofs.lemmas.Bool.{and_parts, and_from}
 use Rattle.std.proofs.lemmas.List.Folds.{list_all-append}
 use Rattle.lin_rows.specs.Rows.{Row, is_row}
 use Rattle.proof_lines.specs.declared.clause.Lit.{Lit}
-use Rattle.proof_lines.specs.declared.problem.AtomKind.{AtomKind}
 use Rattle.proof_lines.specs.declared.problem.AtomKind.TheVariants.{Row as OfRow}
 use Rattle.proof_lines.specs.declared.line.RowStep.{RowStep}
 use Rattle.proof_lines.specs.declared.line.Line.{Line}
@@ -15,7 +14,7 @@ use Rattle.proof_lines.specs.declared.line.Why.{Why}
 use Rattle.proof_lines.specs.declared.line.Why.TheVariants.{Place, Pivot, Contradiction, SplitAgain, Dropped}
 use Rattle.proof_lines.specs.Numbers.{are_different}
 use Rattle.proof_lines.specs.Clauses.{has, lit_of, resolvent, negations, all_true}
-use Rattle.proof_lines.specs.Problems.{PlainProblem, Meaning, HasNoInterpretation, makes_true, atom_true, atoms_below, names_below, has_good_row, fits}
+use Rattle.proof_lines.specs.Problems.{PlainProblem, Meaning, HasNoInterpretation, atom_true, atoms_below, names_below, has_good_row, fits}
 use Rattle.line_rows.specs.Refusals.{then_}
 use Rattle.line_rows.specs.Steps.{line_rows, ends_badly, row_at}
 use Rattle.line_rows.specs.Splits.{at_most, is_at_most, split_fits, split_cause}
@@ -25,7 +24,7 @@ use Rattle.line_rows.proofs.LineRows.{line-are_rows, row_at-is_row, split-in_ran
 use Rattle.log_freshness.specs.Freshness.{live_of}
 use Rattle.proof_kernel.specs.Rules.{State, next, holds, start, is_live, clause_at, grown, named, resolved, combined, combined_after, split, split_after, dropped, without_clauses, is_some_number, run, run_from}
 use Rattle.proof_kernel.proofs.States.{live_of-push, live_of-map, all-live_of, all-cleared}
-use Rattle.proof_kernel.proofs.Lines.{Keeps, Went, then-went, start-holds, next-sound}
+use Rattle.proof_kernel.proofs.Lines.{Keeps, then-went, start-holds, next-sound}
 
 -- what a line leaves sound
 grown-sound : (s : State) (c : List Lit) → Keeps s → atoms_below (length s.atoms) c ≡ true → Keeps (grown s c)

@@ -8,7 +8,7 @@ use Rattle.proof_lines.specs.declared.clause.Lit.{Lit}
 use Rattle.proof_lines.specs.declared.problem.AtomKind.{AtomKind}
 use Rattle.proof_lines.specs.declared.problem.AtomKind.TheVariants.{Row as OfRow}
 use Rattle.proof_lines.specs.Problems.{PlainProblem, atoms_below, names_below, has_good_row, fits}
-use Rattle.log_freshness.specs.Freshness.{live_of, is_new, each_new}
+use Rattle.log_freshness.specs.Freshness.{live_of}
 use Rattle.proof_kernel.specs.Rules.{State, StateFits, live_clause, clause_or_empty, cleared}
 use Rattle.proof_lines.specs.Numbers.{are_different, stands_in}
 use Rattle.std.proofs.lemmas.Bool.{and_parts, and_from, and_right}
@@ -130,21 +130,21 @@ different-drop [] (suc i) h = h
 different-drop (n ∷ ns) (suc i) h = and_right (not (stands_in ns n)) (are_different ns) (different-drop ns i h)
 
 -- how many clauses are live among some slots and the next one
-pub live_of-more : (slots : List (Option (List Lit))) (i : ℕ) (d : Option (List Lit)) (b : Bool) → i < length slots → d ≡ get_or slots i d → is_some d ≡ b
+pub live_of-one : (slots : List (Option (List Lit))) (i : ℕ) (b : Bool) → i < length slots → is_some (get_or slots i None) ≡ b
     → length (live_of (take (suc i) slots)) ≡ length (live_of (take i slots)) + cond b 1 0
-live_of-more [] i d b lt is s = absurd (omega arith)
-live_of-more (x ∷ slots) zero d b lt is s = by_case x b (subst (λ (z : Option (List Lit)). is_some z ≡ b) is s)
+live_of-one [] i b lt s = absurd (omega (arith, lt))
+live_of-one (x ∷ slots) zero b lt s = by_case x b s
   where
     by_case : (x : Option (List Lit)) (b : Bool) → is_some x ≡ b → length (live_of (x ∷ [])) ≡ 0 + cond b 1 0
     by_case (Some c) true s = refl
     by_case (Some c) false s = absurd cc
     by_case None true s = absurd cc
     by_case None false s = refl
-live_of-more (Some c ∷ slots) (suc i) d b lt is s = let h = live_of-more slots i d b (omega arith) is s in one_more (length (live_of (take (suc i) slots))) (length (live_of (take i slots))) (cond b 1 0) h
+live_of-one (Some c ∷ slots) (suc i) b lt s = let h = live_of-one slots i b (omega (arith, lt)) s in one_more (length (live_of (take (suc i) slots))) (length (live_of (take i slots))) (cond b 1 0) h
   where
     one_more : (m n k : ℕ) → m ≡ n + k → suc m ≡ suc n + k
     one_more m n k h = omega (arith, h)
-live_of-more (None ∷ slots) (suc i) d b lt is s = live_of-more slots i d b (omega arith) is s
+live_of-one (None ∷ slots) (suc i) b lt s = live_of-one slots i b (omega (arith, lt)) s
 
 pub fits-named : (s : State) (atoms : List AtomKind) (r : Row) → StateFits s → atoms ≡ s.atoms ++ OfRow r ∷ [] → length atoms < 2 ^ 32 → is_row r ≡ true → places_below s.ints r ≡ true
     → StateFits (record { atoms = atoms; ints = s.ints; given = s.given; slots = s.slots; empty = s.empty })

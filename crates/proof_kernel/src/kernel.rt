@@ -1,8 +1,8 @@
 // The kernel: what stands after the lines taken so far.
-ghost use Rattle.std.specs.Prelude.{◌≡◌, ℕ, ◌<◌, ◌≤◌, ◌^◌, Bool, true, MatchResult, OnOk, OnErr, IsOk, IfOk, IsTrue, length, option_copied, slice_get, Ok, nat_lt, map, Some, [], ◌∷◌};
+ghost use Rattle.std.specs.Prelude.{◌≡◌, ℕ, ◌<◌, ◌≤◌, ◌^◌, Bool, true, MatchResult, OnOk, OnErr, IsOk, IfOk, IsTrue, length, option_copied, slice_get, slice_index_or, is_some, Ok, nat_lt, map, Some, None, [], ◌∷◌};
 ghost use Rattle.std.specs.List.{list_all, list_any};
 ghost use Rattle.lin_rows.specs.Rows.{is_row, places_below};
-ghost use Rattle.proof_lines.specs.Clauses.{is_empty};
+ghost use Rattle.proof_lines.specs.Clauses.{is_empty, distinct};
 ghost use Rattle.proof_lines.specs.Problems.{Meaning, makes_true, atoms_below};
 ghost use Rattle.log_freshness.specs.Freshness.{live_of};
 ghost use Rattle.proof_kernel.specs.Rules.{State, StateFits, start, grown, live_clause, is_live, resolved, combined, split, split_after, named, dropped, cleared, next, holds};
@@ -11,19 +11,21 @@ ghost use Rattle.proof_kernel.specs.Evidence.{is_fresh, rows_hold, range_holds};
 ghost use Rattle.line_rows.specs.Refusals.{IsTold};
 
 use crate::atoms::Atoms;
+use clause_store::ClauseStore;
 use lin_rows::Row;
 use line_rows::evidence::{all_cancel, all_different, shows_range};
 use line_rows::kept::{kept_at, kept_rows, refutes_used};
 use line_rows::splitting::{at_most, names_of_two, split_cause};
 use line_rows::steps::line_rows;
 use log_freshness::{each_new, none_dropped};
-use proof_lines::clause::{Clause, Lit, holds_both_ways};
+use proof_lines::clause::{Clause, Lit, holds_both_ways, put_resolvent};
 use proof_lines::line::{Line, LineRefused, RangeWhat, RowStep, Why};
 use proof_lines::marks::some_both_ways;
 use proof_lines::problem::{AtomKind, Problem, law_rows};
 use std::alloc::{AllocError, Global};
 use std::collections::HashSet;
 use std::marker::Model;
+use std::mem;
 
 /// The atoms and clauses that stand after some lines. Contracts see them as a `State`; the literals of dropped clauses aren't
 /// kept.
@@ -32,8 +34,9 @@ pub struct Kernel {
     atoms: Atoms,
     ints: u32,
     given: u32,
-    slots: Vec<Option<Clause>>,
+    slots: ClauseStore,
     empty: bool,
+    made: Vec<Lit>,
     alloc: Global,
 }
 
@@ -42,9 +45,9 @@ impl Model for Kernel {
 
     ghost Value = { State };
 
-    ghost view = { λ a. record { atoms = a.atoms; ints = a.ints; given = a.given; slots = a.slots.items; empty = a.empty } };
+    ghost view = { λ a. record { atoms = a.atoms; ints = a.ints; given = a.given; slots = a.slots; empty = a.empty } };
 
-    ghost invariant = { λ a. StateFits (record { atoms = a.atoms; ints = a.ints; given = a.given; slots = a.slots.items; empty = a.empty }) };
+    ghost invariant = { λ a. StateFits (record { atoms = a.atoms; ints = a.ints; given = a.given; slots = a.slots; empty = a.empty }) };
 }
 
 impl Kernel {
@@ -72,13 +75,15 @@ impl Kernel {
         let atoms = Atoms::of(alloc, atoms)?;
         let given = clauses.len() as u32;
         let empty = holds_empty(clauses.as_slice());
-        let slots = slots_of(alloc, clauses.into_vec())?;
+        let slots = slots_of(alloc, clauses.as_slice())?;
+        drop(clauses);
         Ok(Kernel {
             atoms,
             ints,
             given,
             slots,
             empty,
+            made: Vec::new(alloc),
             alloc,
         })
     }
@@ -144,14 +149,11 @@ impl Kernel {
         let _ = &self.empty;
     }
 
-    /// The clause of a number; nothing where there is none or it was dropped.
-    pub fn clause(&self, number: u32) -> Option<&Clause>
+    /// The literals of the clause of a number; nothing where there is none or it was dropped.
+    pub fn clause(&self, number: u32) -> Option<&[Lit]>
         ensures { option_copied result ≡ live_clause self.now number }
     {
-        match self.slots.get(number as usize) {
-            Some(slot) => slot.as_ref(),
-            None => None,
-        }
+        self.slots.get(number as usize)
     }
 
     /// The atom of a number, if there is one.
@@ -186,7 +188,7 @@ impl Kernel {
     pub fn live_count(&self) -> u32
         ensures { result ≡ length (live_of self.now.slots) }
     {
-        count_live(self.slots.as_slice()) as u32
+        count_live(&self.slots) as u32
     }
 
     /// Whether an empty clause was among the clauses, dropped or not. Then no interpretation makes all clauses of the problem
@@ -202,11 +204,11 @@ impl Kernel {
     pub fn all_fresh(&self) -> bool
         ensures { result ≡ is_fresh self.now }
     {
-        none_dropped(self.slots.as_slice())
+        none_dropped(&self.slots)
             && each_new(
                 self.alloc,
                 self.atoms.len(),
-                self.slots.as_slice(),
+                &self.slots,
                 self.given as usize,
             )
     }
@@ -252,18 +254,18 @@ impl Kernel {
         numbers.iter().all(|number| self.is_live(*number))
     }
 
-    // Takes a clause under the next number.
-    fn grow(&mut self, clause: Clause) -> Result<(), AllocError>
-        requires { atoms_below (length self.old.atoms) clause ≡ true }
-        ensures exact { OnOk result (self.new ≡ grown self.old clause) }
+    // Takes the clause that was made under the next number.
+    fn grow(&mut self, lits: &[Lit]) -> Result<(), AllocError>
+        requires named { atoms_below (length self.old.atoms) lits.now ≡ true }
+        requires apart { distinct lits.now ≡ true }
+        ensures exact { OnOk result (self.new ≡ grown self.old lits.now) }
         ensures kept { OnErr result (self.new ≡ self.old) }
     {
         if self.slots.len() >= u32::MAX as usize {
             return Err(AllocError);
         }
-        let empty = self.empty || clause.is_empty();
-        self.slots.push(Some(clause))?;
-        self.empty = empty;
+        self.slots.push(lits)?;
+        self.empty = self.empty || lits.is_empty();
         Ok(())
     }
 
@@ -276,20 +278,40 @@ impl Kernel {
         if left >= count || right >= count || pivot >= self.atom_count() {
             return Err(LineRefused::Bad(Why::Place));
         }
-        let (Some(left), Some(right)) = (self.clause(left), self.clause(right)) else {
+        let mut made = mem::replace(&mut self.made, Vec::new(self.alloc));
+        let told = self.resolve_into(&mut made, left, right, pivot);
+        self.made = made;
+        told
+    }
+
+    // Makes the resolvent in a list, and takes it under the next number.
+    fn resolve_into(
+        &mut self,
+        made: &mut Vec<Lit>,
+        left: u32,
+        right: u32,
+        pivot: u32,
+    ) -> Result<(), LineRefused>
+        requires left { left < length self.old.slots }
+        requires right { right < length self.old.slots }
+        requires pivot { pivot < length self.old.atoms }
+        ensures exact { MatchResult result (λ _. resolved self.old left right pivot ≡ Ok self.new)
+            (λ e. IsTold e (resolved self.old left right pivot)) }
+        ensures kept { OnErr result (self.new ≡ self.old) }
+    {
+        made.clear();
+        let (Some(left), Some(right)) = (
+            self.slots.get(left as usize),
+            self.slots.get(right as usize),
+        ) else {
             return Err(LineRefused::Bad(Why::Dropped));
         };
-        let up = Lit {
-            atom: pivot,
-            positive: true,
-        };
-        if !left.holds(up) || !right.holds(up.opposite()) {
-            return Err(LineRefused::Bad(Why::Pivot));
+        match put_resolvent(self.alloc, made, left, right, pivot) {
+            Ok(true) => {}
+            Ok(false) => return Err(LineRefused::Bad(Why::Pivot)),
+            Err(_) => return Err(LineRefused::Memory),
         }
-        let Ok(clause) = Clause::resolvent(self.alloc, left, right, pivot) else {
-            return Err(LineRefused::Memory);
-        };
-        let Ok(()) = self.grow(clause) else {
+        let Ok(()) = self.grow(made.as_slice()) else {
             return Err(LineRefused::Memory);
         };
         Ok(())
@@ -308,7 +330,10 @@ impl Kernel {
         let Ok(clause) = Clause::of_opposites(self.alloc, used) else {
             return Err(LineRefused::Memory);
         };
-        let Ok(()) = self.grow(clause) else {
+        clause.law_distinct();
+        let grown = self.grow(clause.lits());
+        drop(clause);
+        let Ok(()) = grown else {
             return Err(LineRefused::Memory);
         };
         Ok(())
@@ -416,6 +441,7 @@ impl Kernel {
             return Err(LineRefused::Bad(Why::Dropped));
         }
         clear(&mut self.slots, numbers);
+        self.slots.tidy();
         Ok(())
     }
 }
@@ -445,35 +471,42 @@ fn all_below(numbers: &[u32], count: u32) -> bool
 }
 
 // The clauses of a problem by their numbers.
-fn slots_of(alloc: Global, clauses: Vec<Clause>) -> Result<Vec<Option<Clause>>, AllocError>
-    ensures { IfOk result (λ slots. slots.items ≡ map (λ c. Some c) clauses.items) }
+fn slots_of(alloc: Global, clauses: &[Clause]) -> Result<ClauseStore, AllocError>
+    ensures { IfOk result (λ slots. slots ≡ map (λ c. Some c) clauses.now) }
 {
-    let mut slots = Vec::new(alloc);
+    let mut slots = ClauseStore::new(alloc);
     for clause in clauses {
-        slots.push(Some(clause))?;
+        clause.law_distinct();
+        slots.push(clause.lits())?;
     }
     Ok(slots)
 }
 
-fn count_live(slots: &[Option<Clause>]) -> usize
+fn is_live_at(slots: &ClauseStore, number: usize) -> bool
+    ensures { result ≡ is_some (slice_index_or slots.now number None) }
+{
+    slots.get(number).is_some()
+}
+
+fn count_live(slots: &ClauseStore) -> usize
     ensures count { result ≡ length (live_of slots.now) }
     ensures few { result ≤ length slots.now }
 {
     let mut count = 0;
-    for slot in slots {
-        if slot.is_some() {
+    for number in 0..slots.len() {
+        if is_live_at(slots, number) {
             count += 1;
         }
     }
     count
 }
 
-fn clear(slots: &mut Vec<Option<Clause>>, numbers: &[u32])
-    requires { list_all (λ n. nat_lt n (length slots.old.items)) numbers.now ≡ true }
-    ensures { slots.new.items ≡ cleared slots.old.items numbers.now }
+fn clear(slots: &mut ClauseStore, numbers: &[u32])
+    requires { list_all (λ n. nat_lt n (length slots.old)) numbers.now ≡ true }
+    ensures { slots.new ≡ cleared slots.old numbers.now }
 {
     for number in numbers {
-        slots[*number as usize] = None;
+        slots.drop_clause(*number as usize);
     }
 }
 

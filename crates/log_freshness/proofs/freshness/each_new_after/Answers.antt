@@ -14,7 +14,7 @@ loop-i-preserved c =
       index = c.in_ok-put_slot.ensures.next c.loop-i.invariant.index;
       sized = c.is_slot_new.ensures.sized;
       clear = c.is_slot_new.ensures.clear;
-      rest = c.loop-i.invariant.rest ∙ each_new-slot slots i _ (omega arith) c.loop-i-test.true
+      rest = c.loop-i.invariant.rest ∙ each_new-slot slots i _ (omega arith) (omega (arith, c.loop-i-test.true, c.len-i-end.ensures))
           ∙ ap (λ (b : Bool). b && each_new (live_of (take (i + 1) slots)) (live_of (drop (i + 1) slots))) (sym c.is_slot_new.ensures.is ∙ c.if-not-is_slot_new.false);
     }
 

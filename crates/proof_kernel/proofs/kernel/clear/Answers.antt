@@ -4,4 +4,4 @@ use Rattle.proof_kernel.specs.Rules.{cleared}
 use Rattle.proof_kernel.proofs.kernel.clear.Goals as goal
 
 pub returns : goal.returns
-returns c = c.loop-number.invariant.0 ∙ ap (λ (ns : List ℕ). cleared c.args.slots.now.items ns) (take_all c.loop-number.number-index c.args.numbers.now c.loop-number-test.false)
+returns c = c.loop-number.invariant.0 ∙ ap (λ (ns : List ℕ). cleared c.args.slots.now ns) (take_all c.loop-number.number-index c.args.numbers.now c.loop-number-test.false)

@@ -1,19 +1,22 @@
-use Rattle.std.proofs.Common.{◌∙◌, sym, arith, add-one, true, false}
-use Rattle.proof_kernel.proofs.States.{live_of-more}
+use Rattle.std.proofs.Common.{◌<◌, ◌∙◌, sym, arith, add-one, true, false, length}
+use Rattle.proof_kernel.proofs.States.{live_of-one}
 use Rattle.proof_kernel.proofs.kernel.count_live.Goals as goal
-use Rattle.proof_kernel.proofs.kernel.count_live.Goals.{then-is_some, else-is_some}
+use Rattle.proof_kernel.proofs.kernel.count_live.Goals.{then-is_live_at, else-is_live_at}
 
-pub loop-slot-preserved : goal.loop-slot-preserved
-loop-slot-preserved c =
-    let h = c.loop-slot.invariant.0 in
-    let k = c.loop-slot.invariant.1 in
-    elim c.if-is_some.branch [
-      | then-is_some w ↦ (
-        rw add-one (let m = live_of-more c.args.slots.now c.loop-slot.slot-index c.slot-item.result true c.loop-slot-test.true c.slot-item.is (sym c.is_some.ensures ∙ w.if-is_some.true) in let e = w.count-is in omega (arith, e, h, m)),
+pub loop-number-preserved : goal.loop-number-preserved
+loop-number-preserved c =
+    let slots = c.args.slots.now in
+    let number = c.loop-number.number in
+    let h = c.loop-number.invariant.0 in
+    let k = c.loop-number.invariant.1 in
+    let within : number < length slots = omega (arith, c.loop-number-test.true, c.len-number-end.ensures) in
+    elim c.if-is_live_at.branch [
+      | then-is_live_at w ↦ (
+        rw add-one (let m = live_of-one slots number true within (sym c.is_live_at.ensures ∙ w.if-is_live_at.true) in let e = w.count-is in omega (arith, e, h, m)),
         (let e = w.count-is in omega (arith, e, k)),
       )
-      | else-is_some w ↦ (
-        rw add-one (let m = live_of-more c.args.slots.now c.loop-slot.slot-index c.slot-item.result false c.loop-slot-test.true c.slot-item.is (sym c.is_some.ensures ∙ w.if-is_some.false) in let e = w.count-is in omega (arith, e, h, m)),
+      | else-is_live_at w ↦ (
+        rw add-one (let m = live_of-one slots number false within (sym c.is_live_at.ensures ∙ w.if-is_live_at.false) in let e = w.count-is in omega (arith, e, h, m)),
         (let e = w.count-is in omega (arith, e, k)),
       )
     ]

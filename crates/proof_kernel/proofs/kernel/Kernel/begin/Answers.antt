@@ -12,15 +12,15 @@ pub invariant_of-result : goal.invariant_of-result
 invariant_of-result c =
     let few : length c.problem.inside.clauses < 2 ^ 32 = omega (arith, c.if-len.false, c.len.ensures) in
     let fewer : length c.problem.inside.atoms < 2 ^ 32 = omega (arith, c.if-len-2.false, c.len-else-len.ensures) in
-    subst (λ (z : List AtomKind). StateFits (record { atoms = z; ints = c.problem.inside.ints; given = c.len-given.result; slots = c.in_ok-slots.slots.items; empty = c.holds_empty-empty.result })) (sym c.in_ok-atoms.ensures)
+    subst (λ (z : List AtomKind). StateFits (record { atoms = z; ints = c.problem.inside.ints; given = c.len-given.result; slots = c.in_ok-slots.slots; empty = c.holds_empty-empty.result })) (sym c.in_ok-atoms.ensures)
     (fits-start (record { atoms = c.problem.inside.atoms; ints = c.problem.inside.ints; clauses = c.problem.inside.clauses })
-    c.in_ok-slots.slots.items _ _ c.len-given.ensures c.problem.invariant (subst (λ (z : List AtomKind). list_all has_good_row z ≡ true) c.as_slice.ensures c.law_rows.ensures)
-    (c.in_ok-slots.ensures ∙ ap (map (λ (x : List Lit). Some x)) c.into_vec.ensures) few fewer)
+    c.in_ok-slots.slots _ _ c.len-given.ensures c.problem.invariant (subst (λ (z : List AtomKind). list_all has_good_row z ≡ true) c.as_slice.ensures c.law_rows.ensures)
+    (c.in_ok-slots.ensures ∙ ap (map (λ (x : List Lit). Some x)) c.as_slice-3.ensures) few fewer)
 
 pub returns : goal.returns
 returns c =
     let atoms = c.in_ok-atoms.ensures in
     let given = c.len-given.ensures in
     let empty = c.holds_empty-empty.ensures ∙ ap (list_any is_empty) c.as_slice-2.ensures in
-    let slots = c.in_ok-slots.ensures ∙ ap (map (λ (x : List Lit). Some x)) c.into_vec.ensures in
+    let slots = c.in_ok-slots.ensures ∙ ap (map (λ (x : List Lit). Some x)) c.as_slice-3.ensures in
     (λ i. record { atoms = atoms i; ints = c.problem.inside.ints; given = given i; slots = slots i; empty = empty i }) ∙ ap start c.problem.view_is
