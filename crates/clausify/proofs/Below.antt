@@ -18,12 +18,12 @@ below_more a m n h k = grind (arith, nat_tests)
 
 -- ---- folding
 
-abbrev normal_below : ℕ → Normal → Bool
+abbrev pub normal_below : ℕ → Normal → Bool
 normal_below m (lit l) = nat_lt l.atom m
 normal_below m (all f g) = normal_below m f && normal_below m g
 normal_below m (any f g) = normal_below m f && normal_below m g
 
-abbrev folded_below : ℕ → Folded → Bool
+abbrev pub folded_below : ℕ → Folded → Bool
 folded_below m (settled b) = true
 folded_below m (unsettled f) = normal_below m f
 
@@ -41,7 +41,7 @@ fold_any-below m (unsettled f) (settled true) h k = refl
 fold_any-below m (unsettled f) (settled false) h k = h
 fold_any-below m (unsettled f) (unsettled g) h k = and_from (normal_below m f) (normal_below m g) h k
 
-folded-below : (m : ℕ) (s : Bool) (f : Numbered) → is_below m f ≡ true → folded_below m (folded s f) ≡ true
+pub folded-below : (m : ℕ) (s : Bool) (f : Numbered) → is_below m f ≡ true → folded_below m (folded s f) ≡ true
 folded-below m s (known b) h = refl
 folded-below m s (literal a t) h = h
 folded-below m s (negation f) h = folded-below m (not s) f h

@@ -1,13 +1,14 @@
 // The problem of numbered formulas.
-ghost use Rattle.std.specs.Prelude.{◌≡◌, ◌++◌, [], true, IfOk, IfSome, length, map, replicate};
+ghost use Rattle.std.specs.Prelude.{◌≡◌, ◌++◌, [], true, IfOk, IfSome, length, map, replicate, take};
 ghost use Rattle.std.specs.List.{list_all};
 ghost use Rattle.proof_lines.specs.Problems.{names_below};
 ghost use Rattle.ground_numbers.specs.Numbered.{is_below};
 ghost use Rattle.ground_numbers.specs.Problem.{kind_of, problem};
 ghost use Rattle.ground_atoms.specs.Symbols.{atom_of};
 ghost use Rattle.ground_atoms.specs.Formulas.{form_of};
+ghost use Rattle.clausify.specs.Kept.{AreClausesOf};
 
-use crate::listing::write_clauses;
+use crate::kept::{KeptClauses, write_from};
 use ground_atoms::{Atom, Atoms, GroundFormula};
 use items::Items;
 use proof_lines::{AtomKind, Clause, Problem};
@@ -67,12 +68,15 @@ fn no_clauses(alloc: Global, room: usize) -> Result<Items<Clause>, AllocError>
 }
 
 /// The problem of formulas over numbered atoms: its clauses are true together exactly where the formulas are, but for the atoms that
-/// name parts. Atoms keep their numbers, and those that name parts come after them.
-pub fn problem_of(
+/// name parts. Atoms keep their numbers, and those that name parts come after them. Where clauses of the first so many formulas were
+/// kept, these are copied.
+pub fn problem_from(
     alloc: Global,
     atoms: &Atoms,
     formulas: &[GroundFormula],
+    kept: Option<(&KeptClauses, usize)>,
 ) -> Result<Problem, AllocError>
+    requires kept { IfSome kept (λ k. AreClausesOf (take k.1 (map form_of formulas.now)) k.0.now) }
     requires named { list_all (is_below (length atoms.now.table.atoms)) (map form_of formulas.now)
         ≡ true }
     requires placed { list_all (names_below (length atoms.now.table.ints))
@@ -84,11 +88,26 @@ pub fn problem_of(
         return Err(AllocError);
     };
     let mut clauses = no_clauses(alloc, formulas.len())?;
-    let end = write_clauses(alloc, first, formulas, &mut clauses)?;
+    let end = write_from(alloc, first, formulas, kept, &mut clauses)?;
     let named = with_names(kinds, end - first)?;
     Ok(Problem {
         atoms: named,
         ints,
         clauses,
     })
+}
+
+/// The same problem, where no clauses were kept.
+pub fn problem_of(
+    alloc: Global,
+    atoms: &Atoms,
+    formulas: &[GroundFormula],
+) -> Result<Problem, AllocError>
+    requires named { list_all (is_below (length atoms.now.table.atoms)) (map form_of formulas.now)
+        ≡ true }
+    requires placed { list_all (names_below (length atoms.now.table.ints))
+        (map kind_of atoms.now.table.atoms) ≡ true }
+    ensures { IfOk result (λ p. p ≡ problem atoms.now.table (map form_of formulas.now)) }
+{
+    problem_from(alloc, atoms, formulas, None)
 }

@@ -1,10 +1,12 @@
 -- What is made of the entry, and taken back from what was made after it.
-use Rattle.std.proofs.Common.{◌≡◌, ℕ, Some, None, Option, List, [], ◌++◌, map, take, refl, sym, ◌∙◌, ap, subst, flat_map}
+use Rattle.std.proofs.Common.{◌≡◌, ℕ, Some, None, Option, true, List, [], ◌∷◌, ◌++◌, length, map, take, refl, sym, ◌∙◌, ap, subst, flat_map}
 use Rattle.std.specs.Prelude.{IfSome, Result, Ok, Err}
+use Rattle.std.specs.List.{list_all}
+use Rattle.std.proofs.lemmas.List.{length-map}
+use Rattle.std.proofs.lemmas.Bool.{and_from}
 use Rattle.spec_core.specs.Specification.{Specification}
 use Rattle.obligation_list.specs.declared.obligation.Obligation.{Obligation}
 use Rattle.obligation_list.specs.Obligations.{things}
-use Rattle.proof_lines.specs.declared.clause.Lit.{Lit}
 use Rattle.ground_problem.specs.Symbols.{Integer, Symbolic}
 use Rattle.ground_problem.specs.Constants.{Constants, constants_of}
 use Rattle.ground_problem.specs.Conclusion.{conclusion}
@@ -13,23 +15,29 @@ use Rattle.ground_problem.specs.Entry.{entry, before_conclusion, calls_ready, ca
 use Rattle.ground_problem.specs.Equality.{equality, congruence}
 use Rattle.ground_problem.specs.Problem.{stated, defined, formulas_of}
 use Rattle.obligation_list.specs.Breaking.{operations_of}
-use Rattle.ground_numbers.specs.Numbered.{Numbered}
+use Rattle.ground_numbers.specs.Numbered.{Numbered, is_below}
+use Rattle.ground_numbers.specs.Numbers.{Table, numbered, naming_all}
+use Rattle.ground_numbers.proofs.Growing.{AllNamesIn, naming_all-has, numbered-below}
 use Rattle.ground_atoms.specs.Known.{Known}
 use Rattle.ground_atoms.specs.Making.{MadeList}
-use Rattle.ground_atoms.specs.Sizes.{cut_back}
+use Rattle.ground_atoms.specs.Sizes.{size_of, cut_back}
 use Rattle.ground_atoms.specs.Formulas.{form_of}
 use Rattle.ground_atoms.specs.declared.formula.GroundFormula.{GroundFormula}
+use Rattle.ground_atoms.proofs.Numbering.{make_all-is}
 use Rattle.ground_atoms.proofs.Cutting.{Begins, then_more, front_of, Grows, grows_then, all_grows, forms_begin, cut-grown}
+use Rattle.clausify.specs.Kept.{AreClausesOf}
 use Rattle.ground_constants.specs.Calls.{numbered_arguments}
-use Rattle.ground_groups.specs.Limited.{make_upto}
+use Rattle.ground_groups.specs.Limited.{make_upto, Appends}
 use Rattle.ground_groups.proofs.Lists.{upto_then, upto_none, upto_made}
+use Rattle.instances.specs.declared.entry.Entry.{Entry}
 use Rattle.instances.specs.declared.entry.EntryPart.{EntryPart}
 use Rattle.instances.specs.declared.entry.Begun.{Begun}
+use Rattle.instances.specs.declared.grounding.Grounded.{Grounded}
 use Rattle.ground_groups.specs.declared.refused.GroundRefused.{GroundRefused}
 use Rattle.ground_groups.specs.declared.refused.GroundRefused.TheVariants.{TooMany, Memory}
 use Rattle.instances.specs.Ground.{IsGround}
 use Rattle.instances.proofs.Whole.{many_made}
-use Rattle.instances.specs.Entry.{invariants_at, known_from, AreClausesOf, IsEntry, IsPart, IsSharedOr, IsBegun, IsBegunOr, entry_with}
+use Rattle.instances.specs.Entry.{invariants_at, known_from, HasClausesOf, IsEntry, IsPart, IsShared, IsSharedOr, IsBegun, IsBegunOr, entry_with, HasEntry, HasEntryClauses}
 
 -- ---- made on
 
@@ -40,6 +48,56 @@ upto_grows so_far k fs m e = subst (λ (z : MadeList). Grows k z.known) (upto_ma
 -- and its formulas stand behind those that were there
 pub upto_begins : (so_far : List Numbered) (k : Known) (fs : List Symbolic) (m : MadeList) → make_upto so_far k fs ≡ Some m → Begins so_far m.forms
 upto_begins so_far k fs m e = subst (λ (z : MadeList). Begins so_far z.forms) (upto_made so_far k fs m e) (forms_begin so_far k fs)
+
+-- The atoms of formulas that are made are those that are known.
+all-below : (o : Table) (fs : List Symbolic) → AllNamesIn o fs → list_all (is_below (length o.atoms)) (map (numbered o) fs) ≡ true
+all-below o [] h = refl
+all-below o (f ∷ fs) h = and_from (is_below (length o.atoms) (numbered o f)) _ (numbered-below o f h.0) (all-below o fs h.1)
+
+pub upto_below : (k l : Known) (fs : List Symbolic) (forms : List Numbered) → make_upto [] k fs ≡ Some (record { known = l; forms = forms })
+    → list_all (is_below (length l.table.atoms)) forms ≡ true
+upto_below k l fs forms e =
+    subst (λ (m : MadeList). list_all (is_below (length m.known.table.atoms)) m.forms ≡ true)
+    (sym (make_all-is [] k fs) ∙ upto_made [] k fs (record { known = l; forms = forms }) e)
+    (all-below (naming_all k.table fs) fs (naming_all-has k.table fs))
+
+-- So it is with formulas that a call appends to none.
+pub made_below : {A : Type 0} (r : Result A GroundRefused) (value : A) (old new forms : List GroundFormula) (k now : Known) (fs : List Symbolic)
+    → r ≡ Ok value → old ≡ [] → forms ≡ new → Appends r old k fs new now → list_all (is_below (length now.table.atoms)) (map form_of forms) ≡ true
+made_below r value old new forms k now fs ok none same made =
+    let there : make_upto (map form_of old) k fs ≡ Some (record { known = now; forms = map form_of new }) = subst (λ z. Appends z old k fs new now) ok made in
+    let first : make_upto [] k fs ≡ Some (record { known = now; forms = map form_of new }) = ap (λ (z : List GroundFormula). make_upto (map form_of z) k fs) (sym none) ∙ there in
+    subst (λ (z : List GroundFormula). list_all (is_below (length now.table.atoms)) (map form_of z) ≡ true) (sym same) (upto_below k now fs (map form_of new) first)
+
+-- ---- an entry that is cut back
+
+-- what is left of a part where its entry is cut back
+abbrev IsCut : Entry → Begun → EntryPart → Type 0
+IsCut e b p = (p.size.arguments ≡ e.part.size.arguments) × (p.size.known ≡ size_of b.atoms) × (p.size.formulas ≡ length b.formulas) × (p.clauses ≡ e.part.clauses)
+
+pub cut_shared : (d : Specification) (e : Entry) (k : Known) (sorts : List ℕ) (b : Begun) → IsEntry d e → k ≡ known_from k.table.ints → e.sorts ≡ sorts
+    → e.part.size.arguments ≡ length k.table.ints → take (length k.table.ints) e.atoms.table.ints ≡ k.table.ints
+    → b.atoms ≡ cut_back e.part.size.known e.atoms → map form_of b.formulas ≡ take e.part.size.formulas (map form_of e.formulas) → IfSome b.part (IsCut e b) → IsShared d k sorts b
+cut_shared d e k sorts b is start same count arguments atoms forms part = record { made = made; part = by_part b.part part }
+  where
+    ints : take e.part.size.arguments e.atoms.table.ints ≡ k.table.ints
+    ints = ap (λ (n : ℕ). take n e.atoms.table.ints) count ∙ arguments
+
+    made : make_upto [] k (invariants_at d sorts) ≡ Some (record { known = b.atoms; forms = map form_of b.formulas })
+    made =
+        ap (λ (z : Known). make_upto [] z (invariants_at d sorts)) start
+        ∙ ap (λ (xs : List Integer). make_upto [] (known_from xs) (invariants_at d sorts)) (sym ints)
+        ∙ ap (λ (xs : List ℕ). make_upto [] (known_from (take e.part.size.arguments e.atoms.table.ints)) (invariants_at d xs)) (sym same)
+        ∙ is.made ∙ (λ i. Some (record { known = sym atoms i; forms = sym forms i }))
+
+    by_part : (found : Option EntryPart) → IfSome found (IsCut e b) → IfSome found (IsPart k.table.ints b.atoms (map form_of b.formulas))
+    by_part None h = tt
+    by_part (Some p) h = record {
+      arguments = h.0 ∙ count;
+      known = h.1;
+      formulas = h.2 ∙ sym (length-map b.formulas form_of);
+      clauses = subst (λ (z : List Numbered). AreClausesOf z p.clauses) (sym forms) (subst (AreClausesOf (take e.part.size.formulas (map form_of e.formulas))) (sym h.3) is.clauses);
+    }
 
 -- ---- an entry in what was made on from it
 
@@ -57,12 +115,16 @@ entry_in d sorts k l now fs new p start made part grows begins =
           ∙ ap (λ (z : Known). make_upto [] z (invariants_at d sorts)) (sym start)
           ∙ made
           ∙ (λ i. Some (record { known = sym known i; forms = sym forms i }));
-      clauses = clauses_in p.clauses part.clauses forms;
+      clauses = subst (λ (zs : List Numbered). AreClausesOf zs p.clauses) (sym forms) part.clauses;
     }
+
+-- An entry that can be taken back has its clauses.
+pub entry_clauses : (d : Specification) (g : Grounded) → HasEntry d g → HasEntryClauses g
+entry_clauses d g h = by_part g.part h
   where
-    clauses_in : (found : Option (List (List Lit))) → IfSome found (AreClausesOf fs) → take p.size.formulas (map form_of new) ≡ fs
-        → IfSome found (AreClausesOf (take p.size.formulas (map form_of new)))
-    clauses_in found h e = subst (λ (zs : List Numbered). IfSome found (AreClausesOf zs)) (sym e) h
+    by_part : (found : Option EntryPart) → IfSome found (λ p. IsEntry d (entry_with g.consts g.atoms g.formulas p)) → IfSome found (HasClausesOf (map form_of g.formulas))
+    by_part None k = tt
+    by_part (Some p) k = k.clauses
 
 -- ---- the entry stands first
 

@@ -3,16 +3,15 @@
 use Rattle.std.specs.Prelude.{◌≡◌, ℕ, Some, None, Result, Ok, Err, IfSome, List, [], length, map, take}
 use Rattle.spec_core.specs.Specification.{Specification}
 use Rattle.obligation_list.specs.declared.obligation.Obligation.{Obligation}
-use Rattle.proof_lines.specs.declared.clause.Lit.{Lit}
 use Rattle.ground_problem.specs.Symbols.{Integer, Symbolic}
 use Rattle.ground_problem.specs.Constants.{constants_of}
 use Rattle.ground_problem.specs.Entry.{entry, invariants_hold}
 use Rattle.ground_numbers.specs.Numbered.{Numbered}
-use Rattle.ground_numbers.specs.Clauses.{all_clauses, all_names}
 use Rattle.ground_atoms.specs.Formulas.{form_of}
 use Rattle.ground_atoms.specs.declared.formula.GroundFormula.{GroundFormula}
 use Rattle.ground_atoms.specs.Known.{Known}
 use Rattle.ground_atoms.specs.Sizes.{size_of, cut_back}
+use Rattle.clausify.specs.Kept.{AreClausesOf}
 use Rattle.ground_constants.specs.Calls.{numbered_arguments}
 use Rattle.ground_groups.specs.Limited.{make_upto}
 use Rattle.ground_groups.specs.declared.refused.GroundRefused.{GroundRefused}
@@ -31,27 +30,32 @@ invariants_at d sorts =
 abbrev pub known_from : List Integer → Known
 known_from xs = record { table = record { atoms = []; ints = xs }; named = [] }
 
--- these are the clauses of some formulas, none of whose parts is named
-pub record AreClausesOf (fs : List Numbered) (cs : List (List Lit)) : Type 0 where
-  pub unnamed : all_names fs ≡ 0
-  pub clauses : cs ≡ all_clauses 0 fs
+-- The clauses that are kept are those of the entry's formulas, which stand first among these.
+abbrev pub HasClausesOf : List Numbered → EntryPart → Type 0
+HasClausesOf fs p = AreClausesOf (take p.size.formulas fs) p.clauses
 
 -- Cut back to its size, it is what the invariants at its constants make; what was appended since doesn't count.
 pub record IsEntry (d : Specification) (e : Entry) : Type 0 where
-  pub made : make_upto [] (known_from (take e.part.size.arguments e.atoms.table.ints)) (invariants_at d e.sorts)
-      ≡ Some (record { known = cut_back e.part.size.known e.atoms; forms = take e.part.size.formulas (map form_of e.formulas) })
-  pub clauses : IfSome e.part.clauses (AreClausesOf (take e.part.size.formulas (map form_of e.formulas)))
+  pub made : make_upto [] (known_from (take e.part.size.arguments e.atoms.table.ints))
+      (invariants_at d e.sorts)
+      ≡ Some (record {
+        known = cut_back e.part.size.known e.atoms;
+        forms = take e.part.size.formulas (map form_of e.formulas);
+      })
+  pub clauses : HasClausesOf (map form_of e.formulas) e.part
 
 -- a part of this size, with the clauses of these formulas, which are all that there are
-pub record IsPart (ints : List Integer) (k : Known) (fs : List Numbered) (p : EntryPart) : Type 0 where
+pub record IsPart (ints : List Integer) (k : Known) (fs : List Numbered)
+    (p : EntryPart) : Type 0 where
   pub arguments : p.size.arguments ≡ length ints
   pub known : p.size.known ≡ size_of k
   pub formulas : p.size.formulas ≡ length fs
-  pub clauses : IfSome p.clauses (AreClausesOf fs)
+  pub clauses : AreClausesOf fs p.clauses
 
 -- The invariants at constants of these sorts, made of what is known, with the size of all that.
 pub record IsShared (d : Specification) (k : Known) (sorts : List ℕ) (b : Begun) : Type 0 where
-  pub made : make_upto [] k (invariants_at d sorts) ≡ Some (record { known = b.atoms; forms = map form_of b.formulas })
+  pub made : make_upto [] k (invariants_at d sorts)
+      ≡ Some (record { known = b.atoms; forms = map form_of b.formulas })
   pub part : IfSome b.part (IsPart k.table.ints b.atoms (map form_of b.formulas))
 
 -- They are made, or they have too many formulas.
@@ -64,19 +68,26 @@ IsSharedOr d k sorts (Err Memory) = Unit {0}
 pub record IsBegun (d : Specification) (ob : Obligation) (b : Begun) : Type 0 where
   pub made : make_upto [] (numbered_arguments d ob) (entry d ob (constants_of d ob))
       ≡ Some (record { known = b.atoms; forms = map form_of b.formulas })
-  pub shared : IfSome b.part (λ p. (entry d ob (constants_of d ob) ≡ invariants_at d (constants_of d ob).sorts)
+  pub shared : IfSome b.part (λ p.
+      (entry d ob (constants_of d ob) ≡ invariants_at d (constants_of d ob).sorts)
       × IsPart (numbered_arguments d ob).table.ints b.atoms (map form_of b.formulas) p)
 
 -- There is one, or what is true at the entry has too many formulas.
 abbrev pub IsBegunOr : Specification → Obligation → Result Begun GroundRefused → Type 0
 IsBegunOr d ob (Ok b) = IsBegun d ob b
-IsBegunOr d ob (Err TooMany) = make_upto [] (numbered_arguments d ob) (entry d ob (constants_of d ob)) ≡ None
+IsBegunOr d ob (Err TooMany) =
+    make_upto [] (numbered_arguments d ob) (entry d ob (constants_of d ob)) ≡ None
 IsBegunOr d ob (Err Memory) = Unit {0}
 
 -- the entry in what was made of it and more
 abbrev pub entry_with : List ℕ → Known → List GroundFormula → EntryPart → Entry
-entry_with sorts atoms formulas p = record { sorts = sorts; atoms = atoms; formulas = formulas; part = p }
+entry_with sorts atoms formulas p =
+    record { sorts = sorts; atoms = atoms; formulas = formulas; part = p }
 
 -- a ground problem from which its entry can be taken back
 abbrev pub HasEntry : Specification → Grounded → Type 0
 HasEntry d g = IfSome g.part (λ p. IsEntry d (entry_with g.consts g.atoms g.formulas p))
+
+-- the clauses that it keeps, if any, are those of its first formulas
+abbrev pub HasEntryClauses : Grounded → Type 0
+HasEntryClauses g = IfSome g.part (HasClausesOf (map form_of g.formulas))

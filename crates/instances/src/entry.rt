@@ -2,24 +2,26 @@
 //
 // The obligations of one operation, of two, or of any whose parameters are alike, begin with the same invariants at the same constants,
 // under the same numbers. What was made of them is cut back to where an obligation's own formulas begin, and goes on from there.
-ghost use Rattle.std.specs.Prelude.{◌≡◌, [], true, length, map, take, Some, None, IfOk, IfSome, IsTrue};
+ghost use Rattle.std.specs.Prelude.{◌≡◌, [], true, length, map, take, List, Some, None, IfOk, IfSome, IsTrue};
+ghost use Rattle.std.specs.List.{list_all};
 ghost use Rattle.obligation_list.specs.Obligations.{IsObligation};
 ghost use Rattle.ground_problem.specs.Constants.{constants_of};
 ghost use Rattle.ground_problem.specs.Entry as entry;
+ghost use Rattle.ground_numbers.specs.Numbered.{Numbered, is_below};
 ghost use Rattle.ground_atoms.specs.Formulas.{form_of};
 ghost use Rattle.ground_atoms.specs.Sizes.{size_of, cut_back};
 ghost use Rattle.ground_constants.specs.Calls.{constants_in, numbered_arguments};
 ghost use Rattle.ground_groups.specs.Limited.{Appends};
-ghost use Rattle.instances.specs.Entry.{known_from, AreClausesOf, IsEntry, IsSharedOr, IsBegunOr};
+ghost use Rattle.clausify.specs.Kept.{AreClausesOf};
+ghost use Rattle.instances.specs.Entry.{known_from, HasClausesOf, IsEntry, IsSharedOr, IsBegunOr};
 
-use clausify::write_clauses;
+use clausify::{KeptClauses, keep_clauses};
 use ground_atoms::{Atoms, GroundFormula, KnownSize};
 use ground_constants::constants::Named;
 use ground_groups::GroundRefused;
 use ground_groups::entry::add_invariants;
 use items::Items;
 use obligation_list::Obligation;
-use proof_lines::Clause;
 use spec_core::Spec;
 use std::alloc::{AllocError, Global};
 
@@ -31,11 +33,22 @@ pub struct EntrySize {
     pub formulas: usize,
 }
 
-/// The size of an entry, and the clauses of its formulas, where none of their parts is named by an atom.
+/// The size of an entry, and the clauses of its formulas.
 #[derive(Drop)]
 pub struct EntryPart {
     pub size: EntrySize,
-    pub clauses: Option<Items<Clause>>,
+    pub clauses: KeptClauses,
+}
+
+/// The clauses that are kept, and of how many of the first formulas they are.
+pub fn kept_clauses(part: &Option<EntryPart>) -> Option<(&KeptClauses, usize)>
+    ensures { (fs : List Numbered) → IfSome part.now (HasClausesOf fs)
+        → IfSome result (λ found. AreClausesOf (take found.1 fs) found.0.now) }
+{
+    match part {
+        Some(part) => Some((&part.clauses, part.size.formulas)),
+        None => None,
+    }
 }
 
 /// The invariants at constants of these sorts, made and numbered. What was appended to them since stands behind.
@@ -111,22 +124,20 @@ fn cut(entry: Entry) -> Begun
     }
 }
 
-// The clauses of some formulas; nothing where an atom names a part of one.
+// The clauses of the formulas that were made. The atoms that name their parts come behind those that are known.
 fn clauses_of(
     alloc: Global,
+    atoms: &Atoms,
     formulas: &[GroundFormula],
-) -> Result<Option<Items<Clause>>, AllocError>
-    ensures { IfOk result (λ found. IfSome found (AreClausesOf (map form_of formulas.now))) }
+) -> Result<KeptClauses, AllocError>
+    requires { list_all (is_below (length atoms.now.table.atoms)) (map form_of formulas.now)
+        ≡ true }
+    ensures { IfOk result (AreClausesOf (map form_of formulas.now)) }
 {
-    let room = Vec::with_capacity(alloc, formulas.len())?;
-    let mut clauses = Items::from_vec(room);
-    let next = write_clauses(alloc, 0, formulas, &mut clauses)?;
-    if next == 0 {
-        Ok(Some(clauses))
-    } else {
-        drop(clauses);
-        Ok(None)
-    }
+    let Ok(first) = u32::try_from(atoms.size().atoms) else {
+        return Err(AllocError);
+    };
+    keep_clauses(alloc, first, formulas)
 }
 
 // The invariants at some constants, made of what is known.
@@ -138,7 +149,7 @@ fn made(alloc: Global, spec: &Spec, named: &Named, arguments: Atoms) -> Result<B
     let mut formulas = Items::new(alloc);
     let added = add_invariants(&mut atoms, alloc, spec, named, &mut formulas);
     or_drop!(added; formulas, atoms);
-    let Ok(clauses) = clauses_of(alloc, formulas.as_slice()) else {
+    let Ok(clauses) = clauses_of(alloc, &atoms, formulas.as_slice()) else {
         drop(formulas);
         drop(atoms);
         return Err(GroundRefused::Memory);

@@ -1,10 +1,14 @@
 // The ground problem of an obligation.
-ghost use Rattle.std.specs.Prelude.{◌≡◌, ◌++◌, [], map, Some, IfOk, IfSome};
+ghost use Rattle.std.specs.Prelude.{◌≡◌, ◌++◌, [], true, length, map, Some, IfOk, IfSome};
+ghost use Rattle.std.specs.List.{list_all};
+ghost use Rattle.proof_lines.specs.Problems.{names_below};
 ghost use Rattle.obligation_list.specs.Breaking as breaking;
 ghost use Rattle.obligation_list.specs.Obligations.{IsObligation};
 ghost use Rattle.ground_problem.specs.Constants.{constants_of};
 ghost use Rattle.ground_problem.specs.Equality as equality;
 ghost use Rattle.ground_problem.specs.Problem.{formulas_of};
+ghost use Rattle.ground_numbers.specs.Numbered.{is_below};
+ghost use Rattle.ground_numbers.specs.Problem.{kind_of, problem};
 ghost use Rattle.ground_atoms.specs.Symbols.{reading_of};
 ghost use Rattle.ground_groups.specs.Limited.{Appends, make_upto};
 ghost use Rattle.ground_problem.specs.Entry.{entry};
@@ -13,10 +17,11 @@ ghost use Rattle.spec_core.specs.Specification.{Specification};
 ghost use Rattle.ground_atoms.specs.Calls.{calls_of};
 ghost use Rattle.ground_constants.specs.Calls.{constants_in, numbered_arguments};
 ghost use Rattle.instances.specs.Ground.{IsGround};
-ghost use Rattle.instances.specs.Entry.{IsEntry, IsBegun, HasEntry};
+ghost use Rattle.instances.specs.Entry.{IsEntry, IsBegun, HasEntry, HasEntryClauses};
 
-use crate::entry::{Begun, Entry, EntryPart, begin};
+use crate::entry::{Begun, Entry, EntryPart, begin, kept_clauses};
 use crate::listing::add_all_defined;
+use clausify::problem_from;
 use ground_atoms::{Atoms, GroundCall, GroundFormula, NamedReading};
 use ground_constants::constants::{Named, constants, operations_of};
 use ground_constants::numbering::number_arguments;
@@ -28,6 +33,7 @@ use ground_groups::defining::readings_after;
 use ground_numbers::law_arguments_are_first;
 use items::Items;
 use obligation_list::Obligation;
+use proof_lines::Problem;
 use spec_core::{Spec, Thing};
 use std::alloc::{AllocError, Global};
 
@@ -44,6 +50,25 @@ pub struct Grounded {
 }
 
 impl Grounded {
+    /// Where the entry can be taken back, the clauses that are kept are those of its formulas.
+    pub fn law_clauses(&self)
+        ensures { (d : Specification) → HasEntry d self.now → HasEntryClauses self.now }
+    {}
+
+    /// The problem of the formulas. The clauses of the entry, which are kept, are copied.
+    pub fn problem(&self, alloc: Global) -> Result<Problem, AllocError>
+        requires clauses { HasEntryClauses self.now }
+        requires named { list_all (is_below (length self.now.atoms.table.atoms))
+            (map form_of self.now.formulas) ≡ true }
+        requires placed { list_all (names_below (length self.now.atoms.table.ints))
+            (map kind_of self.now.atoms.table.atoms) ≡ true }
+        ensures { IfOk result (λ p. p
+            ≡ problem self.now.atoms.table (map form_of self.now.formulas)) }
+    {
+        let kept = kept_clauses(&self.part);
+        problem_from(alloc, &self.atoms, self.formulas.as_slice(), kept)
+    }
+
     /// The entry of the problem, for other obligations that share it; nothing where there is none.
     pub fn into_entry(self) -> Option<Entry>
         ensures { (d : Specification) → HasEntry d self → IfSome result (IsEntry d) }

@@ -24,6 +24,7 @@ pub mod entry;
 pub mod grounding;
 pub mod listing;
 
-pub use entry::{Entry, EntryPart, EntrySize};
+pub use clausify::KeptClauses;
+pub use entry::{Entry, EntryPart, EntrySize, kept_clauses};
 pub use ground_groups::GroundRefused;
 pub use grounding::{Grounded, ground, ground_from};

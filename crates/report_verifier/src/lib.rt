@@ -1,7 +1,7 @@
 // The verifier of reports: whether bytes are a report on a specification whose verdicts all rest on what they say.
 //
 // It believes nothing of the program that wrote the report. The text is read by `report_bytes`; for each verdict the ground problem of
-// its obligation is made anew (`instances`, `clausify`), the lines of a log are taken by the kernel (`proof_kernel`), and a witness is
+// its obligation is made anew (`instances`), the lines of a log are taken by the kernel (`proof_kernel`), and a witness is
 // tried by evaluation (`obligation_list`). So an accepted report whose verdicts are all proved shows that the specification is safe.
 //
 // Definitions, in the order in which a reader needs them: specs/Valid (when a verdict is valid), specs/Rules (the same as a function:

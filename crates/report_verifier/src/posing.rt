@@ -4,10 +4,9 @@ ghost use Rattle.obligation_list.specs.Obligations.{IsObligation};
 ghost use Rattle.ground_numbers.specs.Problem.{problem_of};
 ghost use Rattle.proof_kernel.specs.Rules.{start};
 ghost use Rattle.instances.specs.Ground.{IsGrounded};
-ghost use Rattle.instances.specs.Entry.{IsEntry};
+ghost use Rattle.instances.specs.Entry.{IsEntry, HasEntryClauses};
 ghost use Rattle.report_verifier.specs.Taking.{IsPosed};
 
-use clausify::problem_of;
 use ground_numbers::law_obligation_fits;
 use instances::{Entry, GroundRefused, Grounded, ground_from};
 use obligation_list::Obligation;
@@ -23,11 +22,12 @@ fn clauses_of(
     ob: &Obligation,
     ground: &Grounded,
 ) -> Result<Problem, AllocError>
-    requires { IsGrounded spec.now ob.now ground.now }
+    requires ground { IsGrounded spec.now ob.now ground.now }
+    requires clauses { HasEntryClauses ground.now }
     ensures { IfOk result (λ p. p ≡ problem_of spec.now ob.now) }
 {
     law_obligation_fits();
-    problem_of(alloc, &ground.atoms, ground.formulas.as_slice())
+    ground.problem(alloc)
 }
 
 /// Poses the problems of obligations one after another. What one of them shares with the next is kept.
@@ -44,7 +44,8 @@ fn kernel_of(
     ob: &Obligation,
     ground: &Grounded,
 ) -> Result<Kernel, AllocError>
-    requires { IsGrounded spec.now ob.now ground.now }
+    requires ground { IsGrounded spec.now ob.now ground.now }
+    requires clauses { HasEntryClauses ground.now }
     ensures { IfOk result (λ kernel. kernel ≡ start (problem_of spec.now ob.now)) }
 {
     let problem = clauses_of(alloc, spec, ob, ground)?;
@@ -65,6 +66,7 @@ impl Poser {
             Err(GroundRefused::TooMany) => return Ok(None),
             Err(GroundRefused::Memory) => return Err(AllocError),
         };
+        ground.law_clauses();
         let made = kernel_of(self.alloc, spec, ob, &ground);
         self.entry = ground.into_entry();
         match made {
