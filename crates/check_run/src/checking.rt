@@ -68,6 +68,39 @@ fn check_one<K: Sink>(
 }
 
 // Decides obligations one by one, and writes each block as soon as its verdict is there.
+fn check_from<K: Sink>(
+    alloc: Global,
+    spec: &Spec,
+    budget: u32,
+    obligations: &[Obligation],
+    kept: &mut Kept,
+    out: &mut K,
+) -> Result<Tally, WriteOut>
+    requires listed { obligations.now ≡ obligations_of spec.now }
+    requires members { (ob : Obligation) → Contains obligations.now ob → IsObligation spec.now ob }
+    requires budget { 1 ≤ budget }
+    requires few { length obligations.now ≤ 12208 }
+    requires kept { IsKept spec.now kept.old }
+    ensures blocks { AreBlocks spec.now budget (K.held out.old) (K.held out.new) result }
+    ensures fault { IfErr result
+        (λ why. why ≡ Fault → IsFault (K.faults out.old) (K.faults out.new)) }
+    ensures never_falls { K.faults out.old ≤ K.faults out.new }
+{
+    let mut tally = Tally {
+        proved: 0,
+        refuted: 0,
+        undecided: 0,
+    };
+    for ob in obligations {
+        match check_one(alloc, spec, budget, ob, kept, &mut tally, out) {
+            Ok(()) => {}
+            Err(why) => return Err(why),
+        }
+    }
+    Ok(tally)
+}
+
+// The same, from nothing that was kept.
 fn check_each<K: Sink>(
     alloc: Global,
     spec: &Spec,
@@ -84,19 +117,10 @@ fn check_each<K: Sink>(
         (λ why. why ≡ Fault → IsFault (K.faults out.old) (K.faults out.new)) }
     ensures never_falls { K.faults out.old ≤ K.faults out.new }
 {
-    let mut tally = Tally {
-        proved: 0,
-        refuted: 0,
-        undecided: 0,
-    };
     let mut kept = Kept::none();
-    for ob in obligations {
-        match check_one(alloc, spec, budget, ob, &mut kept, &mut tally, out) {
-            Ok(()) => {}
-            Err(why) => return Err(why),
-        }
-    }
-    Ok(tally)
+    let result = check_from(alloc, spec, budget, obligations, &mut kept, out);
+    drop(kept);
+    result
 }
 
 // The lines before the blocks.

@@ -55,6 +55,31 @@ fn decide_one(
 }
 
 // Decides obligations one by one, and counts their verdicts.
+fn decide_from(
+    alloc: Global,
+    spec: &Spec,
+    budget: u32,
+    obligations: &[Obligation],
+    kept: &mut Kept,
+) -> Result<Tally, AllocError>
+    requires members { (ob : Obligation) → Contains obligations.now ob → IsObligation spec.now ob }
+    requires budget { 1 ≤ budget }
+    requires few { length obligations.now ≤ 12208 }
+    requires kept { IsKept spec.now kept.old }
+    ensures { IfOk result (λ tally. AreDecided spec.now budget obligations.now tally) }
+{
+    let mut tally = Tally {
+        proved: 0,
+        refuted: 0,
+        undecided: 0,
+    };
+    for ob in obligations {
+        tally = decide_one(alloc, spec, budget, ob, kept, tally)?;
+    }
+    Ok(tally)
+}
+
+// The same, from nothing that was kept. What is kept is let go once, and not once for each way out of the loop.
 fn decide_each(
     alloc: Global,
     spec: &Spec,
@@ -66,16 +91,10 @@ fn decide_each(
     requires few { length obligations.now ≤ 12208 }
     ensures { IfOk result (λ tally. AreDecided spec.now budget obligations.now tally) }
 {
-    let mut tally = Tally {
-        proved: 0,
-        refuted: 0,
-        undecided: 0,
-    };
     let mut kept = Kept::none();
-    for ob in obligations {
-        tally = decide_one(alloc, spec, budget, ob, &mut kept, tally)?;
-    }
-    Ok(tally)
+    let result = decide_from(alloc, spec, budget, obligations, &mut kept);
+    drop(kept);
+    result
 }
 
 /// Decides each obligation of a specification, with logs of at most `budget` lines, and answers how many verdicts of each kind

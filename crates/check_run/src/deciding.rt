@@ -13,6 +13,7 @@ ghost use Rattle.check_run.specs.Decided.{IsDecided};
 ghost use Rattle.diff_bounds.specs.Differences.{problem_fits};
 ghost use Rattle.check_run.specs.Reports.{written_version};
 ghost use Rattle.instances.specs.Ground.{IsGrounded};
+ghost use Rattle.instances.specs.Entry.{HasEntry};
 ghost use Rattle.lazy_ground.specs.Lazy.{IsLazyGround};
 ghost use Rattle.lazy_ground.specs.Kept.{IsKept, HasClauses, HasLazyKept};
 
@@ -20,7 +21,7 @@ use crate::fitting::numbered;
 use clausify::problem_of;
 use ground_atoms::GroundFormula;
 use ground_numbers::{law_clauses_make_formulas_true, law_obligation_fits};
-use instances::{GroundRefused, Grounded, ground_from};
+use instances::{GroundRefused, Grounded};
 use lazy_ground::{EitherGround, Kept, LazyGround, ground_lazily_from};
 use lazy_search::{LazyAnswer, search_lazily};
 use model_back::witness_of;
@@ -181,34 +182,64 @@ fn decide_grounded(
     numbered(verdict_of(alloc, spec, ob, budget, ground, answer)?)
 }
 
-// Decides an obligation by its whole ground problem, which probably has an interpretation or not, from the entry that is kept.
+// Keeps this for the next obligation.
+fn keep(kept: &mut Kept, next: Kept)
+    ensures { kept.new ≡ next }
+{
+    let before = mem::replace(kept, next);
+    drop(before);
+}
+
+// Decides an obligation by its whole ground problem.
 fn decide_whole(
     alloc: Global,
     spec: &Spec,
     ob: &Obligation,
     budget: u32,
+    ground: Grounded,
+    kept: &mut Kept,
+) -> Result<Verdict, AllocError>
+    requires member { IsObligation spec.now ob.now }
+    requires few { HasFew spec.now ob.now }
+    requires ground { IsGrounded spec.now ob.now ground }
+    requires taken { HasEntry spec.now ground }
+    ensures good { IfOk result (λ v. IsGood spec.now budget ob.now (shown_verdict spec.now v)) }
+    ensures fit { IfOk result (λ v. IsFit spec.now written_version ob.now v) }
+    ensures decided { problem_fits (problem_of spec.now ob.now) ≡ true
+        → IfOk result (λ v. IsDecided (length (problem_of spec.now ob.now).atoms) budget v) }
+    ensures kept { IsKept spec.now kept.new }
+{
+    let verdict = decide_grounded(alloc, spec, ob, budget, &ground, false);
+    keep(kept, EitherGround::Whole(ground).into_kept());
+    verdict
+}
+
+// Decides an obligation by its whole ground problem, completed from the lazy one; it probably has an interpretation or not.
+fn decide_completed(
+    alloc: Global,
+    spec: &Spec,
+    ob: &Obligation,
+    budget: u32,
+    ground: LazyGround,
     is_likely: bool,
     kept: &mut Kept,
 ) -> Result<Verdict, AllocError>
     requires member { IsObligation spec.now ob.now }
-    requires budget { 1 ≤ budget }
+    requires ground { IsLazyGround spec.now ob.now ground }
+    requires taken { HasLazyKept spec.now ground }
     requires kept { IsKept spec.now kept.old }
     ensures good { IfOk result (λ v. IsGood spec.now budget ob.now (shown_verdict spec.now v)) }
     ensures fit { IfOk result (λ v. IsFit spec.now written_version ob.now v) }
-    ensures decided { HasFew spec.now ob.now → problem_fits (problem_of spec.now ob.now) ≡ true
+    ensures decided { problem_fits (problem_of spec.now ob.now) ≡ true
         → IfOk result (λ v. IsDecided (length (problem_of spec.now ob.now).atoms) budget v) }
     ensures kept { IsKept spec.now kept.new }
 {
-    let entry = mem::replace(&mut kept.entry, None);
-    match ground_from(alloc, spec, ob, entry) {
-        Ok(ground) => {
-            let verdict = decide_grounded(alloc, spec, ob, budget, &ground, is_likely);
-            kept.entry = ground.into_entry();
-            verdict
-        }
-        Err(GroundRefused::TooMany) => Ok(Verdict::Undecided(Cause::Instances)),
-        Err(GroundRefused::Memory) => Err(AllocError),
-    }
+    let Ok(whole) = ground.into_whole(alloc, spec, ob) else {
+        return Err(AllocError);
+    };
+    let verdict = decide_grounded(alloc, spec, ob, budget, &whole.ground, is_likely);
+    keep(kept, whole.into_kept());
+    verdict
 }
 
 // Decides an obligation by its lazy ground problem, and by the whole one where that doesn't prove it.
@@ -221,22 +252,31 @@ fn decide_lazily(
     kept: &mut Kept,
 ) -> Result<Verdict, AllocError>
     requires member { IsObligation spec.now ob.now }
-    requires budget { 1 ≤ budget }
     requires ground { IsLazyGround spec.now ob.now ground }
     requires clauses { HasClauses ground }
     requires taken { HasLazyKept spec.now ground }
+    requires kept { IsKept spec.now kept.old }
     ensures good { IfOk result (λ v. IsGood spec.now budget ob.now (shown_verdict spec.now v)) }
     ensures fit { IfOk result (λ v. IsFit spec.now written_version ob.now v) }
     ensures decided { problem_fits (problem_of spec.now ob.now) ≡ true
         → IfOk result (λ v. IsDecided (length (problem_of spec.now ob.now).atoms) budget v) }
     ensures kept { IsKept spec.now kept.new }
 {
-    let answer = search_lazily(alloc, &ground, budget);
-    *kept = ground.into_kept();
-    match answer? {
-        LazyAnswer::Refuted(log) => numbered(Verdict::Proved(log)),
-        LazyAnswer::Satisfiable => decide_whole(alloc, spec, ob, budget, true, kept),
-        LazyAnswer::Unknown => decide_whole(alloc, spec, ob, budget, false, kept),
+    match search_lazily(alloc, &ground, budget) {
+        Ok(LazyAnswer::Refuted(log)) => {
+            keep(kept, ground.into_kept());
+            numbered(Verdict::Proved(log))
+        }
+        Ok(LazyAnswer::Satisfiable) => {
+            decide_completed(alloc, spec, ob, budget, ground, true, kept)
+        }
+        Ok(LazyAnswer::Unknown) => {
+            decide_completed(alloc, spec, ob, budget, ground, false, kept)
+        }
+        Err(AllocError) => {
+            drop(ground);
+            Err(AllocError)
+        }
     }
 }
 
@@ -260,11 +300,7 @@ pub fn decide_next(
 {
     let taken = mem::replace(kept, Kept::none());
     match ground_lazily_from(alloc, spec, ob, taken) {
-        Ok(EitherGround::Whole(ground)) => {
-            let verdict = decide_grounded(alloc, spec, ob, budget, &ground, false);
-            *kept = EitherGround::Whole(ground).into_kept();
-            verdict
-        }
+        Ok(EitherGround::Whole(ground)) => decide_whole(alloc, spec, ob, budget, ground, kept),
         Ok(EitherGround::Lazy(ground)) => decide_lazily(alloc, spec, ob, budget, ground, kept),
         Err(GroundRefused::TooMany) => Ok(Verdict::Undecided(Cause::Instances)),
         Err(GroundRefused::Memory) => Err(AllocError),

@@ -1,5 +1,5 @@
 -- The entry in what was made of it and more, which is left for the next obligation.
-use Rattle.std.proofs.Common.{◌≡◌, take, ℕ, Some, None, Option, List, [], map, refl, sym, ◌∙◌, ap, subst}
+use Rattle.std.proofs.Common.{◌≡◌, ℕ, Some, None, Option, List, [], map, refl, sym, ◌∙◌, ap, subst}
 use Rattle.std.specs.Prelude.{IfSome, IfOk, Result, Ok, Err}
 use Rattle.spec_core.specs.Specification.{Specification}
 use Rattle.spec_core.specs.declared.update.Thing.{Thing}
@@ -21,7 +21,7 @@ use Rattle.ground_groups.proofs.Lists.{upto_then}
 use Rattle.instances.specs.declared.entry.EntryPart.{EntryPart}
 use Rattle.instances.specs.declared.entry.Begun.{Begun}
 use Rattle.instances.specs.declared.grounding.Grounded.{Grounded}
-use Rattle.instances.specs.Entry.{invariants_at, IsEntry, IsPart, IsBegun, IsBegunOr, entry_with, HasEntry, AreClausesOf}
+use Rattle.instances.specs.Entry.{invariants_at, IsEntry, IsPart, IsBegun, IsBegunOr, entry_with, HasEntry, HasClausesOf}
 use Rattle.instances.proofs.Shared.{upto_grows, upto_begins, entry_in, defined-begins, begun_refused}
 use Rattle.lazy_ground.specs.declared.front.Front.{Front}
 use Rattle.lazy_ground.specs.declared.choosing.Chosen.{Chosen}
@@ -30,6 +30,7 @@ use Rattle.lazy_ground.specs.declared.grounding.EitherGround.{EitherGround}
 use Rattle.lazy_ground.specs.declared.grounding.EitherGround.TheVariants.{Whole, Lazy}
 use Rattle.lazy_ground.specs.Front.{front_of, HasPart, IsFront, IsFrontOr, IsChosen, IsMadeWithin}
 use Rattle.lazy_ground.specs.Kept.{HasLazyKept, HasKept, HasClauses, HasEitherClauses}
+use Rattle.lazy_ground.proofs.Parts.{lazy_of}
 
 -- ---- the front
 
@@ -96,11 +97,10 @@ whole_entry d ob f fs now new is e =
     (upto_begins (map form_of f.formulas) f.atoms fs (record { known = now; forms = map form_of new }) e)
 
 -- So it does in the lazy one, whose pairs are those of its readings.
-pub lazy_kept : (d : Specification) (ob : Obligation) (f : Front) (c : Chosen) (xs : List Thing) (fs : List Symbolic) (now : Known) (behind : List GroundFormula) (ss : List ℕ)
-    → ss ≡ f.named.sorts → IsFront d ob f → IsChosen f xs c → IsMadeWithin f.atoms fs now c.room behind
-    → HasLazyKept d (record { atoms = now; front = f.formulas; pairs = c.pairs; behind = behind; sorts = ss; readings = f.readings; part = f.part })
-lazy_kept d ob f c xs fs now behind ss e is chosen made = record {
-  entry = parts_entry d ob ss f.atoms now f.formulas f.formulas f.part (e ∙ front_sorts d ob f is) is.shared
+pub lazy_kept : (d : Specification) (ob : Obligation) (f : Front) (c : Chosen) (xs : List Thing) (fs : List Symbolic) (now : Known) (behind : List GroundFormula)
+    → IsFront d ob f → IsChosen f xs c → IsMadeWithin f.atoms fs now c.room behind → HasLazyKept d (lazy_of f c now behind)
+lazy_kept d ob f c xs fs now behind is chosen made = record {
+  entry = parts_entry d ob f.named.sorts f.atoms now f.formulas f.formulas f.part (front_sorts d ob f is) is.shared
       (upto_grows [] f.atoms fs (record { known = now; forms = map form_of behind }) made.made) (same_list (map form_of f.formulas));
   pairs = chosen.found.built;
 }
@@ -123,7 +123,7 @@ lazy_clauses : (d : Specification) (g : LazyGround) → HasLazyKept d g → HasC
 lazy_clauses d g h = by_part g.part h.entry
   where
     by_part : (found : Option EntryPart) → IfSome found (λ p. IsEntry d (entry_with g.sorts g.atoms g.front p))
-        → IfSome found (λ p. IfSome p.clauses (AreClausesOf (take p.size.formulas (map form_of g.front))))
+        → IfSome found (HasClausesOf (map form_of g.front))
     by_part None h = tt
     by_part (Some p) h = h.clauses
 

@@ -4,3 +4,4 @@ pub mod Parts
 pub mod Loops
 pub mod Serving
 pub mod Entries
+pub mod Wholes

@@ -1,17 +1,17 @@
 -- The whole list in three parts: the formulas in front, those that pairs stand for, and those behind.
-use Rattle.std.proofs.Common.{◌≡◌, ℕ, ◌+◌, ◌≤◌, true, Some, List, [], ◌∷◌, ◌++◌, length, map, length-append, append_assoc, refl, sym, ◌∙◌, ap, subst, arith}
-use Rattle.std.specs.Prelude.{Err, Result}
+use Rattle.std.proofs.Common.{◌≡◌, ℕ, ◌+◌, ◌≤◌, true, Some, None, Option, List, [], ◌∷◌, ◌++◌, length, map, length-append, append_assoc, refl, sym, ◌∙◌, ap, subst, arith}
+use Rattle.std.specs.Prelude.{Err, Result, IfSome}
 use Rattle.std.specs.List.{filter, flat_map}
 use Rattle.std.proofs.lemmas.Grind.{flat_map-append}
 use Rattle.std.proofs.lemmas.List.{map-append, length-map}
-use Rattle.std.proofs.lemmas.Bool.{and_parts}
+use Rattle.std.proofs.lemmas.Bool.{and_parts, and_from}
 use Rattle.spec_core.specs.Specification.{Specification}
 use Rattle.spec_core.specs.declared.update.Thing.{Thing}
 use Rattle.obligation_list.specs.declared.obligation.Obligation.{Obligation}
 use Rattle.obligation_list.specs.Obligations.{things}
 use Rattle.effectors.specs.Effect.{is_thing}
 use Rattle.ground_problem.specs.Symbols.{Symbolic}
-use Rattle.ground_problem.specs.Constants.{constants_of}
+use Rattle.ground_problem.specs.Constants.{Constants, constants_of}
 use Rattle.ground_problem.specs.Definitions.{Reading}
 use Rattle.ground_problem.specs.Equality.{equality, congruent_pairs, rising, congruence}
 use Rattle.ground_problem.specs.Problem.{defined, formulas_of, most_formulas}
@@ -19,6 +19,7 @@ use Rattle.ground_numbers.specs.Numbered.{Numbered}
 use Rattle.ground_numbers.specs.Numbers.{Table, has_atom, has_number, number_of, numbered, naming_all}
 use Rattle.ground_numbers.specs.Problem.{table_of}
 use Rattle.ground_numbers.proofs.Growing.{Extends, AllNamesIn, naming_all-extends, naming_all-has}
+use Rattle.ground_atoms.specs.Calls.{calls_of}
 use Rattle.ground_atoms.specs.Formulas.{form_of}
 use Rattle.ground_atoms.specs.Symbols.{reading_of}
 use Rattle.ground_atoms.specs.Known.{Known}
@@ -31,6 +32,7 @@ use Rattle.ground_groups.specs.Limited.{make_upto, Appends}
 use Rattle.ground_groups.specs.declared.refused.GroundRefused.{GroundRefused}
 use Rattle.ground_groups.specs.declared.refused.GroundRefused.TheVariants.{TooMany, Memory}
 use Rattle.ground_groups.proofs.Lists.{upto_made, upto_length, upto_none, seq}
+use Rattle.instances.specs.declared.entry.EntryPart.{EntryPart}
 use Rattle.instances.proofs.Whole.{many_made}
 use Rattle.lazy_ground.specs.declared.pairs.ReadingPairs.{ReadingPairs}
 use Rattle.lazy_ground.specs.declared.choosing.Chosen.{Chosen}
@@ -40,8 +42,8 @@ use Rattle.lazy_ground.specs.Pairs.{pairs_of, pair_forms}
 use Rattle.lazy_ground.specs.Lazy.{IsLazyGround, ArePairs, IsGroundEither}
 use Rattle.lazy_ground.specs.Kept.{thing_of, AllBuilt}
 use Rattle.lazy_ground.specs.Named.{readings_known, AllNamed, AreFound}
-use Rattle.lazy_ground.specs.Front.{front_of, entry_readings, IsFront, IsFrontOr, IsChosen, IsMadeWithin}
-use Rattle.lazy_ground.proofs.Stays.{naming_all-append, all_numbered-stay}
+use Rattle.lazy_ground.specs.Front.{front_of, entry_readings, HasPart, IsFront, IsFrontOr, IsChosen, IsMadeWithin}
+use Rattle.lazy_ground.proofs.Stays.{naming_all-append, all_names_there, all_numbered-stay, all_names-stay, all_names_in}
 
 -- ---- the list
 
@@ -144,9 +146,27 @@ numbers_stay t o r (u ∷ us) e h =
     let g = numbers_stay t o r us e p.1 in
     λ i. q i ∷ g i
 
-pub pairs_stay : (t o : Table) (ss : List ReadingPairs) → Extends t o → AllNamed t ss → ArePairs o ss
-pairs_stay t o [] e h = tt
-pairs_stay t o (s ∷ ss) e h = ((h.0.different, h.0.atoms ∙ numbers_stay t o s.relation s.tuples e h.0.known), pairs_stay t o ss e h.1)
+readings_stay : (t o : Table) (r : ℕ) (ts : List (List ℕ)) → Extends t o → readings_known t r ts ≡ true → readings_known o r ts ≡ true
+readings_stay t o r [] e h = refl
+readings_stay t o r (u ∷ us) e h =
+    let p = and_parts (has_number t (has_atom [] r u)) (readings_known t r us) h in
+    and_from (has_number o (has_atom [] r u)) (readings_known o r us) (e.atoms (has_atom [] r u) p.0).0 (readings_stay t o r us e p.1)
+
+named_stay : (t o : Table) (ss : List ReadingPairs) → Extends t o → AllNamed t ss → AllNamed o ss
+named_stay t o [] e h = tt
+named_stay t o (s ∷ ss) e h = (
+  record {
+    different = h.0.different;
+    atoms = h.0.atoms ∙ numbers_stay t o s.relation s.tuples e h.0.known;
+    known = readings_stay t o s.relation s.tuples e h.0.known;
+    names = all_names_there o (pairs_of s) (all_names-stay t o e (pairs_of s) (all_names_in t (pairs_of s) h.0.names));
+  },
+  named_stay t o ss e h.1,
+)
+
+are_pairs : (o : Table) (ss : List ReadingPairs) → AllNamed o ss → ArePairs o ss
+are_pairs o [] h = tt
+are_pairs o (s ∷ ss) h = ((h.0.different, h.0.atoms), are_pairs o ss h.1)
 
 -- ---- what pairs stand for
 
@@ -164,6 +184,10 @@ found_pairs o qs xs ss h = built_pairs qs ss h.built ∙ ap (congruence qs) h.th
 -- ---- the lazy ground problem
 
 pub lazy_made : (d : Specification) (ob : Obligation) (l m : Known) (rs cs : List Thing) (g : LazyGround)
+    → g.sorts ≡ (constants_of d ob).sorts
+    → g.calls ≡ calls_of d ob
+    → g.elements ≡ (constants_of d ob).elements
+    → IfSome g.part (λ p. p.size.formulas ≤ length g.front)
     → rs ++ cs ≡ things d
     → make_upto [] (numbered_arguments d ob) (front_of d ob) ≡ Some (record { known = l; forms = map form_of g.front })
     → flat_map pairs_of g.pairs ≡ congruence (entry_readings d ob) rs
@@ -172,12 +196,13 @@ pub lazy_made : (d : Specification) (ob : Obligation) (l m : Known) (rs cs : Lis
     → m ≡ g.atoms
     → length g.front + (length (flat_map pairs_of g.pairs) + length g.behind) ≤ most_formulas
     → IsLazyGround d ob g
-lazy_made d ob l m rs cs g all in_front found named then_behind same few =
+lazy_made d ob l m rs cs g consts calls elements entry all in_front found named then_behind same few =
     let k = numbered_arguments d ob in
     let fs = front_of d ob in
     let ps = flat_map pairs_of g.pairs in
     let bs = congruence (entry_readings d ob) cs in
     let there = all_named_there l.table g.pairs named in
+    let over : AllNamed m.table g.pairs = named_stay l.table m.table g.pairs (grown k l m fs ps bs _ _ in_front there then_behind) named in
     let whole : fs ++ (ps ++ bs) ≡ formulas_of d ob = ap (λ (x : List Symbolic). fs ++ (x ++ bs)) found ∙ three_parts d ob rs cs all in
     let table : m.table ≡ table_of d ob = parts_table k l m fs ps bs _ _ in_front there then_behind ∙ ap (naming_all k.table) whole in
     let tables : g.atoms.table ≡ m.table = ap (λ (z : Known). z.table) (sym same) in
@@ -187,13 +212,18 @@ lazy_made d ob l m rs cs g all in_front found named then_behind same few =
     let size : length (formulas_of d ob) ≡ length (fs ++ (ps ++ bs)) = ap length (sym whole) in
     record {
       few = omega (arith, few, sizes, front_size, behind_size, size);
+      consts = consts;
+      calls = calls;
+      elements = elements;
       table = tables ∙ table;
       forms =
           ap (λ (o : Table). map form_of g.front ++ (flat_map (pair_forms o) g.pairs ++ map form_of g.behind)) tables
           ∙ ap (λ (x : List Numbered). map form_of g.front ++ (x ++ map form_of g.behind)) (map_flat_map m.table g.pairs)
           ∙ parts_forms k l m fs ps bs _ _ in_front there then_behind
           ∙ (λ i. map (numbered (table i)) (whole i));
-      pairs = subst (λ (o : Table). ArePairs o g.pairs) (sym tables) (pairs_stay l.table m.table g.pairs (grown k l m fs ps bs _ _ in_front there then_behind) named);
+      pairs = subst (λ (o : Table). ArePairs o g.pairs) (sym tables) (are_pairs m.table g.pairs over);
+      named = subst (λ (o : Table). AllNamed o g.pairs) (sym tables) over;
+      entry = entry;
     }
 
 -- ---- the whole ground problem
@@ -214,13 +244,40 @@ whole_refused d ob Memory new now e = tt
 
 -- ---- the lazy one, of what is chosen
 
-pub lazy_from : (d : Specification) (ob : Obligation) (f : Front) (c : Chosen) (xs ys : List Thing) (rs : List NamedReading) (new : Known) (behind : List GroundFormula) (ss : List ℕ)
-    → IsFront d ob f → IsChosen f xs c → xs ++ ys ≡ things d → rs ≡ f.readings → IsMadeWithin f.atoms (congruence (map reading_of rs) ys) new c.room behind
-    → IsLazyGround d ob (record { atoms = new; front = f.formulas; pairs = c.pairs; behind = behind; sorts = ss; readings = f.readings; part = f.part })
-lazy_from d ob f c xs ys rs new behind ss is chosen all q made =
+-- the entry's formulas are among those in front
+part_within : (d : Specification) (ob : Obligation) (atoms : Known) (formulas : List GroundFormula) (found : Option EntryPart) → IfSome found (HasPart d ob atoms formulas) → IfSome found (λ p. p.size.formulas ≤ length formulas)
+part_within d ob atoms formulas None h = tt
+part_within d ob atoms formulas (Some p) h =
+    let a = h.part.formulas in
+    let b = ap length h.begins.is ∙ length-append h.forms h.begins.more in
+    let c = length-map formulas form_of in
+    omega (arith, a, b, c)
+
+-- what is made of the front, the pairs and the formulas behind them
+abbrev pub lazy_of : Front → Chosen → Known → List GroundFormula → LazyGround
+lazy_of f c now behind = record {
+  atoms = now;
+  front = f.formulas;
+  pairs = c.pairs;
+  behind = behind;
+  sorts = f.named.sorts;
+  calls = f.named.calls;
+  elements = f.named.elements;
+  readings = f.readings;
+  part = f.part;
+}
+
+pub lazy_from : (d : Specification) (ob : Obligation) (f : Front) (c : Chosen) (xs ys : List Thing) (rs : List NamedReading) (new : Known) (behind : List GroundFormula)
+    → IsFront d ob f → IsChosen f xs c → xs ++ ys ≡ things d → rs ≡ f.readings → IsMadeWithin f.atoms (congruence (map reading_of rs) ys) new c.room behind → IsLazyGround d ob (lazy_of f c new behind)
+lazy_from d ob f c xs ys rs new behind is chosen all q made =
     let a = chosen.room in
     let b = made.few in
-    lazy_made d ob f.atoms new xs ys (record { atoms = new; front = f.formulas; pairs = c.pairs; behind = behind; sorts = ss; readings = f.readings; part = f.part }) all is.made
+    lazy_made d ob f.atoms new xs ys (lazy_of f c new behind)
+    (ap (λ (z : Constants). z.sorts) is.constants)
+    is.calls
+    (ap (λ (z : Constants). z.elements) is.constants)
+    (part_within d ob f.atoms f.formulas f.part is.shared)
+    all is.made
     (found_pairs f.atoms.table (map reading_of f.readings) xs c.pairs chosen.found ∙ ap (λ (qs : List Reading). congruence qs xs) is.readings)
     chosen.found.named
     (ap (λ (qs : List Reading). make_upto [] f.atoms (congruence qs ys)) (sym (ap (map reading_of) q ∙ is.readings)) ∙ made.made)

@@ -1,6 +1,6 @@
 -- What of an obligation's ground problem serves the next one: the entry, and the pairs, as long as that one has the same readings at the
 -- entry. Nothing is said of the numbers that the pairs' atoms have, which are tested anew.
-use Rattle.std.specs.Prelude.{◌≡◌, true, IfSome, List, [], ◌∷◌, map, take}
+use Rattle.std.specs.Prelude.{◌≡◌, true, IfSome, List, [], ◌∷◌, map}
 use Rattle.std.specs.List.{list_all, filter}
 use Rattle.spec_core.specs.Specification.{Specification}
 use Rattle.spec_core.specs.declared.update.Thing.{Thing}
@@ -10,9 +10,10 @@ use Rattle.ground_problem.specs.Definitions.{Reading}
 use Rattle.ground_problem.specs.Equality.{rising}
 use Rattle.ground_atoms.specs.Formulas.{form_of}
 use Rattle.ground_atoms.specs.Symbols.{reading_of}
-use Rattle.instances.specs.Entry.{AreClausesOf, IsEntry, entry_with, HasEntry}
+use Rattle.instances.specs.Entry.{HasClausesOf, IsEntry, entry_with, HasEntry}
 use Rattle.lazy_ground.specs.declared.pairs.ReadingPairs.{ReadingPairs}
 use Rattle.lazy_ground.specs.declared.keeping.KeptPairs.{KeptPairs}
+use Rattle.lazy_ground.specs.declared.completing.WholeGround.{WholeGround}
 use Rattle.lazy_ground.specs.declared.grounding.LazyGround.{LazyGround}
 use Rattle.lazy_ground.specs.declared.grounding.EitherGround.{EitherGround}
 use Rattle.lazy_ground.specs.declared.grounding.EitherGround.TheVariants.{Whole, Lazy}
@@ -54,9 +55,14 @@ abbrev pub HasKept : Specification → EitherGround → Type 0
 HasKept d (Whole g) = HasEntry d g
 HasKept d (Lazy g) = HasLazyKept d g
 
--- the clauses that are at hand are those of the entry's formulas, which stand first
+-- The entry can be taken back from a lazy problem that was completed, and its pairs are those of its readings.
+pub record HasWholeKept (d : Specification) (w : WholeGround) : Type 0 where
+  pub entry : HasEntry d w.ground
+  pub pairs : IsKeptPairs w.pairs
+
+-- the clauses that it keeps, if any, are those of its first formulas
 abbrev pub HasClauses : LazyGround → Type 0
-HasClauses g = IfSome g.part (λ p. IfSome p.clauses (AreClausesOf (take p.size.formulas (map form_of g.front))))
+HasClauses g = IfSome g.part (HasClausesOf (map form_of g.front))
 
 -- so it is with a lazy problem; of a whole one nothing is said
 abbrev pub HasEitherClauses : EitherGround → Type 0

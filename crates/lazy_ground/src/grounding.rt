@@ -13,7 +13,7 @@ use crate::choosing::{Chosen, choose};
 use crate::front::{Front, make_front};
 use crate::keeping::KeptPairs;
 use crate::pairs::ReadingPairs;
-use ground_atoms::{Atoms, GroundFormula, NamedReading};
+use ground_atoms::{Atoms, GroundCall, GroundFormula, NamedReading};
 use ground_constants::constants::Named;
 use ground_constants::things::things_of;
 use ground_equality::agreeing::add_congruence;
@@ -26,7 +26,8 @@ use std::alloc::{AllocError, Global};
 
 /// The ground problem of an obligation, without the formulas on equal readings of relations: the atoms and the integer names by their
 /// numbers; the formulas in front of those that the pairs stand for; the pairs of each relation; the formulas behind them; the sorts
-/// of the constants; the readings at the entry; and how much of the atoms and of the formulas in front is the entry's.
+/// of the constants, the calls at them and the elements of the conclusion; the readings at the entry; and how much of the atoms and of
+/// the formulas in front is the entry's.
 #[derive(Drop)]
 pub struct LazyGround {
     pub atoms: Atoms,
@@ -34,6 +35,8 @@ pub struct LazyGround {
     pub pairs: Items<ReadingPairs>,
     pub behind: Items<GroundFormula>,
     pub sorts: Items<u8>,
+    pub calls: Items<GroundCall>,
+    pub elements: Items<u32>,
     pub readings: Items<NamedReading>,
     pub part: Option<EntryPart>,
 }
@@ -101,10 +104,14 @@ impl LazyGround {
             pairs,
             behind,
             sorts,
+            calls,
+            elements,
             readings,
             part,
         } = self;
         drop(behind);
+        drop(calls);
+        drop(elements);
         Kept {
             entry: entry_of(sorts, atoms, front, part),
             pairs: Some(KeptPairs { readings, pairs }),
@@ -214,22 +221,6 @@ fn made_within(
     }
 }
 
-// The sorts of constants.
-fn sorts_of(named: Named) -> Items<u8>
-    ensures { result ≡ named.sorts }
-{
-    let Named {
-        sorts,
-        calls,
-        chosen,
-        elements,
-    } = named;
-    drop(calls);
-    drop(chosen);
-    drop(elements);
-    sorts
-}
-
 // The lazy ground problem, of which the front and the pairs are made; the whole one where it has too many formulas.
 fn lazily(
     alloc: Global,
@@ -256,16 +247,24 @@ fn lazily(
         part,
     } = front;
     let Chosen { pairs, room } = chosen;
-    let sorts = sorts_of(named);
     let made = made_within(&mut atoms, alloc, spec, readings.as_slice(), counters, room);
     let is_refused = match made {
         Ok(Some(behind)) => {
+            let Named {
+                sorts,
+                calls,
+                chosen,
+                elements,
+            } = named;
+            drop(chosen);
             return Ok(EitherGround::Lazy(LazyGround {
                 atoms,
                 front: formulas,
                 pairs,
                 behind,
                 sorts,
+                calls,
+                elements,
                 readings,
                 part,
             }));
@@ -273,7 +272,7 @@ fn lazily(
         Ok(None) => false,
         Err(AllocError) => true,
     };
-    drop(sorts);
+    drop(named);
     drop(readings);
     drop(part);
     drop(atoms);

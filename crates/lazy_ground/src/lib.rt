@@ -3,7 +3,8 @@
 // Where two tuples are equal, a relation holds of both or of neither. There is a formula that says so for every two tuples of each
 // relation that any invariant names, and a search needs few of them. Here a relation's tuples stand for all these formulas, and the one
 // of two tuples is made when it is asked for (src/pairs.rt). They name nothing that isn't named before them, which is tested; so the
-// formulas before and behind them have the numbers that they have in the whole problem (src/grounding.rt).
+// formulas before and behind them have the numbers that they have in the whole problem (src/grounding.rt). Where a search needs all
+// of them, they are made and put between, and that is the whole problem (src/completing.rt).
 //
 // Obligations of a specification mostly share their entry and its readings. What is made of the entry is cut back for the next
 // obligation, and the pairs are taken over where that one's readings are the same; only what depends on numbers is tested anew
@@ -30,6 +31,7 @@ macro_rules! or_drop {
 
 mod choosing;
 mod columns;
+mod completing;
 mod equal;
 mod front;
 mod grounding;
@@ -37,6 +39,7 @@ mod keeping;
 mod naming;
 mod pairs;
 
+pub use completing::WholeGround;
 pub use grounding::{EitherGround, Kept, LazyGround, ground_lazily, ground_lazily_from};
 pub use keeping::KeptPairs;
 pub use pairs::{ReadingPairs, pair_formula};

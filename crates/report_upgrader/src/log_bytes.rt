@@ -4,7 +4,7 @@
 // which clauses it names, and only lines that resolve two clauses name some. Of most of them that was
 // noted as they were verified, and how long each line is; the others are read here. The lines of a log
 // are gone through three times. First a table has for each clause the last line that names it; it takes
-// four bytes for each clause. Then it is counted how many lines the upgraded log has, which stands before
+// four bytes for each clause, and at most half as many again. Then it is counted how many lines the upgraded log has, which stands before
 // it. `log_writing` writes them.
 ghost use Rattle.std.specs.Prelude.{◌≡◌, ℕ, ◌+◌, ◌==◌, ◌<◌, ◌≤◌, ◌++◌, ◌∷◌, [], List, true, codes};
 ghost use Rattle.std.specs.Prelude.{cond, drop, filter, length, slice_index_or, take, IfOk, OnOk, Some};
@@ -70,7 +70,7 @@ fn kind_of(line: &[u8]) -> Result<LogLine, AllocError>
     Ok(LogLine::Other)
 }
 
-// A longer table, with a place for a clause that it had none for.
+// A longer table, with a place for a clause that it had none for, and for half as many further ones.
 #[cold]
 #[inline(never)]
 fn grow(table: &mut Vec<u32>, place: usize) -> Result<(), AllocError>
@@ -80,7 +80,7 @@ fn grow(table: &mut Vec<u32>, place: usize) -> Result<(), AllocError>
         ≡ slice_index_or table.old.items n 0) }
     ensures room { OnOk result (place < length table.new.items) }
 {
-    table.resize(place + 1, 0)
+    table.resize(place + 1 + place / 2, 0)
 }
 
 // A table that has a place for a clause. It has 0 where no line names it.

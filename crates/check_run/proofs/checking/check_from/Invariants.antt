@@ -2,7 +2,7 @@ use Rattle.std.proofs.Common.{◌≡◌, ◌≤◌}
 use Rattle.proof_report.specs.Events.{told}
 use Rattle.lazy_ground.specs.Kept.{IsKept}
 use Rattle.check_run.specs.Checking.{AreWritten}
-use Rattle.check_run.proofs.checking.check_each.Given as goal
+use Rattle.check_run.proofs.checking.check_from.Given as goal
 
 abbrev pub invariant-loop-ob : goal.invariant-loop-ob
 invariant-loop-ob g l =
