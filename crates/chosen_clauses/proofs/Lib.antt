@@ -4,4 +4,4 @@ mod Ranks
 mod Adding
 mod Standing
 mod Placing
-mod Unnamed
+mod Behind

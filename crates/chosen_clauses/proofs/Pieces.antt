@@ -1,24 +1,9 @@
 -- The clauses of one formula stand among those of all behind those of the formulas before it.
 use Rattle.std.proofs.Common.{◌≡◌, ℕ, zero, suc, ◌+◌, true, List, [], ◌∷◌, ◌++◌, length, take, slice_get, sym, ◌∙◌, ap, subst, arith, Some}
-use Rattle.std.proofs.lemmas.List.{length-append, append_assoc}
+use Rattle.std.proofs.lemmas.List.{length-append}
 use Rattle.proof_lines.specs.declared.clause.Lit.{Lit}
 use Rattle.ground_numbers.specs.Numbered.{Numbered}
 use Rattle.ground_numbers.specs.Clauses.{folded, clauses_of, names_of, all_clauses, all_names}
-
--- the clauses of two lists in turn
-pub clauses-append : (n : ℕ) (xs ys : List Numbered) → all_clauses n (xs ++ ys) ≡ all_clauses n xs ++ all_clauses (n + all_names xs) ys
-clauses-append n [] ys = ap (λ (z : ℕ). all_clauses z ys) (let e : n ≡ n + 0 = omega arith in e)
-clauses-append n (x ∷ xs) ys =
-    let one = clauses_of n (folded true x) in
-    let m = n + names_of (folded true x) in
-    let e : m + all_names xs ≡ n + (names_of (folded true x) + all_names xs) = omega arith in
-    ap (λ (z : List (List Lit)). one ++ z) (clauses-append m xs ys)
-    ∙ sym (append_assoc one (all_clauses m xs) (all_clauses (m + all_names xs) ys))
-    ∙ ap (λ (z : ℕ). (one ++ all_clauses m xs) ++ all_clauses z ys) e
-
-pub names-append : (xs ys : List Numbered) → all_names (xs ++ ys) ≡ all_names xs + all_names ys
-names-append [] ys = let e : all_names ys ≡ 0 + all_names ys = omega arith in e
-names-append (x ∷ xs) ys = let e = names-append xs ys in omega (arith, e)
 
 pub get-skip : {A : Type 0} (xs ys : List A) (j : ℕ) → slice_get (xs ++ ys) (length xs + j) ≡ slice_get ys j
 get-skip [] ys j = let e : 0 + j ≡ j = omega arith in ap (λ (z : ℕ). slice_get ys z) e

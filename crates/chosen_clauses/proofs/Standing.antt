@@ -11,7 +11,8 @@ use Rattle.ground_numbers.specs.Clauses.{folded, clauses_of, names_of, all_claus
 use Rattle.lazy_ground.specs.Pairs.{DiffersFrom, AreDifferent}
 use Rattle.chosen_clauses.specs.declared.places.Place.{Place}
 use Rattle.chosen_clauses.specs.Chosen.{StandFrom, IsBehind, IsMoved}
-use Rattle.chosen_clauses.proofs.Pieces.{clauses-append, names-append, get-skip, get-front, piece}
+use Rattle.clausify.proofs.Appending.{clauses-append, names-append}
+use Rattle.chosen_clauses.proofs.Pieces.{get-skip, get-front, piece}
 use Rattle.chosen_clauses.proofs.Sizes.{IsSized, congruent-sized}
 
 -- ---- any formulas

@@ -1,17 +1,18 @@
 // Some clauses of a lazy ground problem, with the numbers that they have among all.
-ghost use Rattle.std.specs.Prelude.{◌≡◌, ◌+◌, ◌++◌, ℕ, List, length, map, take, drop, OnOk, IfOk, IfSome};
+ghost use Rattle.std.specs.Prelude.{◌≡◌, ◌≤◌, ◌+◌, ◌++◌, ℕ, List, length, map, take, drop, OnOk, IfOk, IfSome};
 ghost use Rattle.std.specs.List.{range_with_len};
 ghost use Rattle.proof_lines.specs.declared.clause.Lit.{Lit as PlainLit};
 ghost use Rattle.ground_numbers.specs.Clauses.{all_clauses, all_names};
 ghost use Rattle.ground_atoms.specs.Formulas.{form_of};
 ghost use Rattle.lazy_ground.specs.Lazy.{lazy_forms, ArePairs};
-ghost use Rattle.instances.specs.Entry.{AreClausesOf};
+ghost use Rattle.clausify.specs.Kept.{AreClausesOf};
 ghost use Rattle.lazy_ground.specs.Kept.{HasClauses};
 ghost use Rattle.chosen_clauses.specs.Chosen.{AreAt, StandFrom, IsBehind, IsLayout};
 
 use crate::places::{Layout, Place, firsts_of, place_of_pair};
-use clausify::write_clauses;
+use clausify::{KeptClauses, write_from};
 use ground_atoms::GroundFormula;
+use instances::kept_clauses;
 use items::Items;
 use lazy_ground::{LazyGround, pair_formula};
 use proof_lines::Clause;
@@ -40,42 +41,49 @@ fn add_numbers(numbers: &mut Vec<u32>, from: u32, many: usize) -> Result<(), All
     Ok(())
 }
 
-// The clauses of the entry that are at hand, and of how many of the formulas in front they are.
-fn clauses_at_hand(ground: &LazyGround) -> Option<(&[Clause], usize)>
-    requires { HasClauses ground.now }
-    ensures { IfSome result
-        (λ found. AreClausesOf (take found.1 (map form_of ground.now.front)) found.0.now) }
-{
-    match &ground.part {
-        Some(part) => match &part.clauses {
-            Some(clauses) => Some((clauses.as_slice(), part.size.formulas)),
-            None => None,
-        },
-        None => None,
-    }
-}
-
 // The formulas behind so many.
-fn forms_behind(front: &[GroundFormula], count: usize) -> &[GroundFormula]
-    ensures { map form_of result.now ≡ drop count (map form_of front.now) }
+fn forms_behind(forms: &[GroundFormula], count: usize) -> &[GroundFormula]
+    ensures { map form_of result.now ≡ drop count (map form_of forms.now) }
 {
-    if count > front.len() {
+    if count > forms.len() {
         return &[];
     }
-    &front[count..]
-}
-
-// Appends copies of clauses.
-fn copy_all(alloc: Global, clauses: &[Clause], out: &mut Items<Clause>) -> Result<(), AllocError>
-    ensures { OnOk result (out.new ≡ out.old ++ clauses.now) }
-{
-    for clause in clauses {
-        out.push(clause.copy(alloc)?)?;
-    }
-    Ok(())
+    &forms[count..]
 }
 
 impl Chosen {
+    // Adds the clauses of some formulas, which stand from a place on, and answers the place behind them. Where those of the first so
+    // many were kept, these are copied.
+    fn add_from(
+        &mut self,
+        alloc: Global,
+        at: Place,
+        forms: &[GroundFormula],
+        kept: Option<(&KeptClauses, usize)>,
+    ) -> Result<Place, AllocError>
+        requires { IfSome kept (λ k. AreClausesOf (take k.1 (map form_of forms.now)) k.0.now) }
+        ensures chosen { OnOk result ((all : List (List PlainLit))
+            → StandFrom all at.clause (all_clauses at.name (map form_of forms.now))
+            → AreAt all self.old.clauses self.old.numbers.items
+            → AreAt all self.new.clauses self.new.numbers.items) }
+        ensures clause { IfOk result (λ next. next.clause
+            ≡ at.clause + length (all_clauses at.name (map form_of forms.now))) }
+        ensures name { IfOk result (λ next. next.name
+            ≡ at.name + all_names (map form_of forms.now)) }
+    {
+        let before = self.clauses.len();
+        let name = write_from(alloc, at.name, forms, kept, &mut self.clauses)?;
+        let more = self.clauses.len() - before;
+        add_numbers(&mut self.numbers, at.clause, more)?;
+        let Ok(more) = u32::try_from(more) else {
+            return Err(AllocError);
+        };
+        let Some(clause) = at.clause.checked_add(more) else {
+            return Err(AllocError);
+        };
+        Ok(Place { clause, name })
+    }
+
     // Adds the clauses of some formulas, which stand from a place on, and answers the place behind them.
     fn add(
         &mut self,
@@ -92,62 +100,49 @@ impl Chosen {
         ensures name { IfOk result (λ next. next.name
             ≡ at.name + all_names (map form_of forms.now)) }
     {
-        let before = self.clauses.len();
-        let name = write_clauses(alloc, at.name, forms, &mut self.clauses)?;
-        let more = self.clauses.len() - before;
-        add_numbers(&mut self.numbers, at.clause, more)?;
-        let Ok(more) = u32::try_from(more) else {
-            return Err(AllocError);
-        };
-        let Some(clause) = at.clause.checked_add(more) else {
-            return Err(AllocError);
-        };
-        Ok(Place { clause, name })
+        self.add_from(alloc, at, forms, None)
     }
 
-    // Adds clauses that are at hand, which stand from the first on.
-    fn add_copies(&mut self, alloc: Global, clauses: &[Clause]) -> Result<u32, AllocError>
-        ensures count { IfOk result (λ n. n ≡ length clauses.now) }
-        ensures chosen { OnOk result ((all : List (List PlainLit)) → StandFrom all 0 clauses.now
-            → AreAt all self.old.clauses self.old.numbers.items
-            → AreAt all self.new.clauses self.new.numbers.items) }
-    {
-        let Ok(count) = u32::try_from(clauses.len()) else {
-            return Err(AllocError);
-        };
-        copy_all(alloc, clauses, &mut self.clauses)?;
-        add_numbers(&mut self.numbers, 0, clauses.len())?;
-        Ok(count)
-    }
-
-    // Adds the clauses of the formulas in front of the pairs, of which those of so many are at hand, and answers the place
-    // behind them.
-    fn add_behind_copies(
+    // Adds the clauses of the formulas behind the first so many, whose clauses were kept and aren't added, and answers the place behind
+    // them.
+    fn add_behind(
         &mut self,
         alloc: Global,
-        front: &[GroundFormula],
         name: u32,
-        clauses: &[Clause],
+        forms: &[GroundFormula],
         count: usize,
+        kept: &KeptClauses,
     ) -> Result<Place, AllocError>
-        requires { AreClausesOf (take count (map form_of front.now)) clauses.now }
+        requires within { kept.now.first ≤ name }
+        requires kept { AreClausesOf (take count (map form_of forms.now)) kept.now }
         ensures chosen { OnOk result ((all : List (List PlainLit))
-            → StandFrom all 0 (all_clauses name (map form_of front.now))
+            → StandFrom all 0 (all_clauses name (map form_of forms.now))
             → AreAt all self.old.clauses self.old.numbers.items
             → AreAt all self.new.clauses self.new.numbers.items) }
-        ensures behind { IfOk result (IsBehind name (map form_of front.now)) }
+        ensures behind { IfOk result (IsBehind name (map form_of forms.now)) }
     {
-        let clause = self.add_copies(alloc, clauses)?;
-        let next = self.add(alloc, Place { clause, name }, forms_behind(front, count))?;
+        let Ok(clause) = u32::try_from(kept.clauses.len()) else {
+            return Err(AllocError);
+        };
+        let Some(after) = name.checked_add(kept.names) else {
+            return Err(AllocError);
+        };
+        let at = Place {
+            clause,
+            name: after,
+        };
+        let next = self.add(alloc, at, forms_behind(forms, count))?;
         Ok(next)
     }
 
-    // Adds the clauses of the formulas in front of the pairs, and answers the place behind them.
+    // Adds the clauses of the formulas in front of the pairs, or of those of them that aren't the entry's, and answers the place behind
+    // them.
     fn add_front(
         &mut self,
         alloc: Global,
         ground: &LazyGround,
         name: u32,
+        with_entry: bool,
     ) -> Result<Place, AllocError>
         requires { HasClauses ground.now }
         ensures chosen { OnOk result ((all : List (List PlainLit))
@@ -157,19 +152,22 @@ impl Chosen {
         ensures behind { IfOk result (IsBehind name (map form_of ground.now.front)) }
     {
         let front = ground.front.as_slice();
-        match clauses_at_hand(ground) {
-            Some((clauses, count)) => self.add_behind_copies(alloc, front, name, clauses, count),
-            None => self.add(alloc, Place { clause: 0, name }, front),
+        match kept_clauses(&ground.part) {
+            Some((kept, count)) if !with_entry && kept.first <= name => {
+                self.add_behind(alloc, name, front, count, kept)
+            }
+            kept => self.add_from(alloc, Place { clause: 0, name }, front, kept),
         }
     }
 
-    // Adds the clauses of the formulas in front of the pairs and of those behind them, and answers where all
-    // stand.
+    // Adds the clauses of the formulas in front of the pairs and of those behind them, with those of the entry's formulas or without
+    // them, and answers where all stand.
     fn add_around(
         &mut self,
         alloc: Global,
         ground: &LazyGround,
         name: u32,
+        with_entry: bool,
     ) -> Result<Option<Layout>, AllocError>
         requires pairs { ArePairs ground.now.atoms.table ground.now.pairs }
         requires clauses { HasClauses ground.now }
@@ -181,7 +179,7 @@ impl Chosen {
         ensures layout { IfOk result (λ found. IfSome found
             (λ layout. IsLayout ground.now name layout)) }
     {
-        let first = self.add_front(alloc, ground, name)?;
+        let first = self.add_front(alloc, ground, name, with_entry)?;
         let Some((firsts, pairs_end)) = firsts_of(alloc, first, ground.pairs.as_slice())? else {
             return Ok(None);
         };
@@ -237,11 +235,13 @@ impl Chosen {
 }
 
 /// All clauses of the formulas in front of the pairs and of those behind them, and where the pairs' clauses stand; nothing where numbers
-/// don't reach. `name` is the number of the first atom that names a part. Clauses of the entry that are at hand are copied.
+/// don't reach. `name` is the number of the first atom that names a part. Clauses of the entry that are at hand are copied. Where
+/// `with_entry` is false they are left out.
 pub fn chosen_front(
     alloc: Global,
     ground: &LazyGround,
     name: u32,
+    with_entry: bool,
 ) -> Result<Option<(Chosen, Layout)>, AllocError>
     requires pairs { ArePairs ground.now.atoms.table ground.now.pairs }
     requires clauses { HasClauses ground.now }
@@ -254,7 +254,7 @@ pub fn chosen_front(
         clauses: Items::new(alloc),
         numbers: Vec::new(alloc),
     };
-    match chosen.add_around(alloc, ground, name) {
+    match chosen.add_around(alloc, ground, name, with_entry) {
         Ok(Some(layout)) => Ok(Some((chosen, layout))),
         Ok(None) => {
             drop(chosen);

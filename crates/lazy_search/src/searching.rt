@@ -223,21 +223,32 @@ fn sizes_of(first: u32, layout: &Layout) -> Option<Sizes>
     })
 }
 
-/// A search of a lazy ground problem, with logs of at most `budget` lines: a log that shows that the problem has no interpretation, or
-/// whether it probably has one. Nothing is found where a few searches of a few lines don't find it.
-pub fn search_lazily(
+// How many clauses the entry has at least, where a search without them comes first.
+const MANY: usize = 256;
+
+// Whether a search without the clauses of the entry comes first: where these are many, and the obligation is on two calls. Two calls mostly
+// commute, and one mostly leaves the other's precondition, whatever the invariants say.
+fn is_first_without_entry(ground: &LazyGround) -> bool {
+    match &ground.part {
+        Some(part) => ground.calls.len() > 1 && part.clauses.clauses.len() >= MANY,
+        None => false,
+    }
+}
+
+// A search of the clauses in front and behind, with those of the entry or without them, where so many atoms have numbers.
+fn search_from(
     alloc: Global,
     ground: &LazyGround,
+    first: u32,
+    with_entry: bool,
     budget: u32,
 ) -> Result<LazyAnswer, AllocError>
     requires pairs { ArePairs ground.now.atoms.table ground.now.pairs }
     requires clauses { HasClauses ground.now }
+    requires first { first ≡ length ground.now.atoms.table.atoms }
     ensures { IfOk result (λ answer. IsLazyAnswer (lazy_problem ground.now) budget answer) }
 {
-    let Some(first) = count_atoms(&ground.atoms) else {
-        return Ok(LazyAnswer::Unknown);
-    };
-    let Some((mut chosen, layout)) = chosen_front(alloc, ground, first)? else {
+    let Some((mut chosen, layout)) = chosen_front(alloc, ground, first, with_entry)? else {
         return Ok(LazyAnswer::Unknown);
     };
     let Some(sizes) = sizes_of(first, &layout) else {
@@ -253,4 +264,43 @@ pub fn search_lazily(
         &mut picked,
         budget,
     )
+}
+
+// A search without the clauses of the entry, and one with them where that doesn't refute the problem.
+fn search_twice(
+    alloc: Global,
+    ground: &LazyGround,
+    first: u32,
+    budget: u32,
+) -> Result<LazyAnswer, AllocError>
+    requires pairs { ArePairs ground.now.atoms.table ground.now.pairs }
+    requires clauses { HasClauses ground.now }
+    requires first { first ≡ length ground.now.atoms.table.atoms }
+    ensures { IfOk result (λ answer. IsLazyAnswer (lazy_problem ground.now) budget answer) }
+{
+    match search_from(alloc, ground, first, false, budget)? {
+        LazyAnswer::Refuted(log) => Ok(LazyAnswer::Refuted(log)),
+        LazyAnswer::Satisfiable => search_from(alloc, ground, first, true, budget),
+        LazyAnswer::Unknown => search_from(alloc, ground, first, true, budget),
+    }
+}
+
+/// A search of a lazy ground problem, with logs of at most `budget` lines: a log that shows that the problem has no interpretation, or
+/// whether it probably has one. Nothing is found where a few searches of a few lines don't find it.
+pub fn search_lazily(
+    alloc: Global,
+    ground: &LazyGround,
+    budget: u32,
+) -> Result<LazyAnswer, AllocError>
+    requires pairs { ArePairs ground.now.atoms.table ground.now.pairs }
+    requires clauses { HasClauses ground.now }
+    ensures { IfOk result (λ answer. IsLazyAnswer (lazy_problem ground.now) budget answer) }
+{
+    let Some(first) = count_atoms(&ground.atoms) else {
+        return Ok(LazyAnswer::Unknown);
+    };
+    if is_first_without_entry(ground) {
+        return search_twice(alloc, ground, first, budget);
+    }
+    search_from(alloc, ground, first, true, budget)
 }

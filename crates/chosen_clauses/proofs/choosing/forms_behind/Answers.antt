@@ -4,4 +4,4 @@ use Rattle.ground_atoms.specs.Formulas.{form_of}
 use Rattle.chosen_clauses.proofs.choosing.forms_behind.Goals as goal
 
 pub returns : goal.returns
-returns c = ap (map form_of) (take_rest c.args.front.now c.args.count) ∙ sym (drop-map form_of c.args.count c.args.front.now)
+returns c = ap (map form_of) (take_rest c.args.forms.now c.args.count) ∙ sym (drop-map form_of c.args.count c.args.forms.now)

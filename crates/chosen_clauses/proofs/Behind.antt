@@ -1,0 +1,41 @@
+-- The clauses of formulas behind the first so many, whose clauses were kept.
+use Rattle.std.proofs.Common.{◌≡◌, ℕ, ◌+◌, ◌-◌, ◌≤◌, List, [], ◌++◌, length, map, take, drop, slice_get, sym, ◌∙◌, ap, subst, arith}
+use Rattle.std.proofs.lemmas.List.{take-append-drop, append-nil, length-map}
+use Rattle.proof_lines.specs.declared.clause.Lit.{Lit}
+use Rattle.ground_numbers.specs.Numbered.{Numbered}
+use Rattle.ground_numbers.specs.Clauses.{all_clauses, all_names}
+use Rattle.clausify.specs.declared.kept.KeptClauses.{KeptClauses}
+use Rattle.clausify.specs.Kept.{AreClausesOf, raised}
+use Rattle.clausify.proofs.Raised.{kept-raised}
+use Rattle.chosen_clauses.specs.declared.places.Place.{Place}
+use Rattle.chosen_clauses.specs.Chosen.{StandFrom, IsBehind}
+use Rattle.chosen_clauses.proofs.Standing.{stand_between, more_behind}
+
+-- the place behind the formulas whose clauses were kept
+pub behind_kept : (k : KeptClauses) (name n : ℕ) (fs : List Numbered) (at : Place) → k.first ≤ name → AreClausesOf (take n fs) k
+    → at.clause ≡ length k.clauses → at.name ≡ name + k.names → IsBehind name (take n fs) at
+behind_kept k name n fs at le h c m = (
+  c ∙ sym (length-map k.clauses (map (raised k.first (name - k.first)))) ∙ ap length (sym (kept-raised k name (take n fs) le h)),
+  m ∙ ap (λ (z : ℕ). name + z) h.names,
+)
+
+-- what stands among clauses that stand among all from the first on
+stand_among : (every xs ys : List (List Lit)) (m : ℕ) → StandFrom every 0 xs → StandFrom xs m ys → StandFrom every m ys
+stand_among every xs ys m s t j c e =
+    let zero_more : 0 + (m + j) ≡ m + j = omega arith in
+    ap (slice_get every) (sym zero_more) ∙ s (m + j) c (t j c e)
+
+-- the clauses of the formulas behind stand among all from that place on
+pub stand_behind : (every : List (List Lit)) (name n : ℕ) (fs gs : List Numbered) (at : Place) → IsBehind name (take n fs) at → gs ≡ drop n fs
+    → StandFrom every 0 (all_clauses name fs) → StandFrom every at.clause (all_clauses at.name gs)
+stand_behind every name n fs gs at b is s =
+    let whole : take n fs ++ (drop n fs ++ []) ≡ fs = ap (λ (z : List Numbered). take n fs ++ z) (append-nil (drop n fs)) ∙ take-append-drop n fs in
+    let t : StandFrom (all_clauses name fs) at.clause (all_clauses at.name (drop n fs)) =
+    subst (λ (z : List Numbered). StandFrom (all_clauses name z) at.clause (all_clauses at.name (drop n fs))) whole (stand_between name (take n fs) (drop n fs) [] at b) in
+    subst (λ (z : List Numbered). StandFrom every at.clause (all_clauses at.name z)) (sym is) (stand_among every (all_clauses name fs) (all_clauses at.name (drop n fs)) at.clause s t)
+
+-- and the place behind these
+pub behind_both : (name n : ℕ) (fs gs : List Numbered) (at next : Place) → IsBehind name (take n fs) at → gs ≡ drop n fs
+    → next.clause ≡ at.clause + length (all_clauses at.name gs) → next.name ≡ at.name + all_names gs → IsBehind name fs next
+behind_both name n fs gs at next b is c m =
+    subst (λ (z : List Numbered). IsBehind name z next) (ap (λ (z : List Numbered). take n fs ++ z) is ∙ take-append-drop n fs) (more_behind name (take n fs) gs at next b c m)
