@@ -68,6 +68,14 @@ more_at all some more numbers from s h = record { as_many = many; there = λ i c
         let v = ap (λ (z : ℕ). get_or (numbers ++ range) z 0) n ∙ get_or-append-add numbers range (i - length some) 0 ∙ get_or-range_with_len from (length more) (i - length some) 0 w in
         ap (λ (z : ℕ). slice_get all z) v ∙ s (i - length some) c t
 
+-- one more clause with its number
+pub one_more_at : (all some : List (List Lit)) (numbers : List ℕ) (n : ℕ) (c : List Lit) → slice_get all n ≡ Some c → AreAt all some numbers → AreAt all (some ++ c ∷ []) (numbers ++ n ∷ [])
+one_more_at all some numbers n c there h = more_at all some (c ∷ []) numbers n stands h
+  where
+    stands : StandFrom all n (c ∷ [])
+    stands zero d e = let same : n + 0 ≡ n = omega arith in ap (slice_get all) same ∙ there ∙ e
+    stands (suc j) d e = absurd cc
+
 -- one more number behind two lists
 pub append-one : (xs ys old new : List ℕ) (n m : ℕ) → old ≡ xs ++ ys → new ≡ old ++ n ∷ [] → n ≡ m → new ≡ xs ++ (ys ++ m ∷ [])
 append-one xs ys old new n m a b c = b ∙ ap (λ (z : List ℕ). z ++ n ∷ []) a ∙ assoc xs ∙ ap (λ (z : ℕ). xs ++ (ys ++ z ∷ [])) c

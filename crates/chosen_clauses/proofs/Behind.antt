@@ -1,12 +1,19 @@
 -- The clauses of formulas behind the first so many, whose clauses were kept.
-use Rattle.std.proofs.Common.{◌≡◌, ℕ, ◌+◌, ◌-◌, ◌≤◌, List, [], ◌++◌, length, map, take, drop, slice_get, sym, ◌∙◌, ap, subst, arith}
-use Rattle.std.proofs.lemmas.List.{take-append-drop, append-nil, length-map}
+use Rattle.std.proofs.Common.{◌≡◌, ℕ, ◌+◌, ◌-◌, ◌≤◌, List, [], ◌++◌, length, map, take, drop, slice_get, sym, ◌∙◌, ap, subst, arith, Some}
+use Rattle.std.specs.List.{flat_map}
+use Rattle.std.proofs.lemmas.List.{take-append-drop, append-nil, append_assoc, length-map}
 use Rattle.proof_lines.specs.declared.clause.Lit.{Lit}
 use Rattle.ground_numbers.specs.Numbered.{Numbered}
 use Rattle.ground_numbers.specs.Clauses.{all_clauses, all_names}
 use Rattle.clausify.specs.declared.kept.KeptClauses.{KeptClauses}
 use Rattle.clausify.specs.Kept.{AreClausesOf, raised}
 use Rattle.clausify.proofs.Raised.{kept-raised}
+use Rattle.clausify.proofs.Appending.{clauses-append}
+use Rattle.ground_atoms.specs.Formulas.{form_of}
+use Rattle.lazy_ground.specs.declared.grounding.LazyGround.{LazyGround}
+use Rattle.lazy_ground.specs.Pairs.{pair_forms}
+use Rattle.lazy_ground.specs.Lazy.{lazy_forms}
+use Rattle.chosen_clauses.proofs.Pieces.{get-front}
 use Rattle.chosen_clauses.specs.declared.places.Place.{Place}
 use Rattle.chosen_clauses.specs.Chosen.{StandFrom, IsBehind}
 use Rattle.chosen_clauses.proofs.Standing.{stand_between, more_behind}
@@ -39,3 +46,13 @@ pub behind_both : (name n : ℕ) (fs gs : List Numbered) (at next : Place) → I
     → next.clause ≡ at.clause + length (all_clauses at.name gs) → next.name ≡ at.name + all_names gs → IsBehind name fs next
 behind_both name n fs gs at next b is c m =
     subst (λ (z : List Numbered). IsBehind name z next) (ap (λ (z : List Numbered). take n fs ++ z) is ∙ take-append-drop n fs) (more_behind name (take n fs) gs at next b c m)
+
+-- a clause of the entry stands among all clauses where it stands among the entry's
+pub kept_stands : (g : LazyGround) (name n place : ℕ) (c : List Lit) → slice_get (all_clauses name (take n (map form_of g.front))) place ≡ Some c → slice_get (all_clauses name (lazy_forms g)) place ≡ Some c
+kept_stands g name n place c h =
+    let fs = map form_of g.front in
+    let rest = flat_map (pair_forms g.atoms.table) g.pairs ++ map form_of g.behind in
+    let whole : take n fs ++ (drop n fs ++ rest) ≡ lazy_forms g = sym (append_assoc (take n fs) (drop n fs) rest) ∙ ap (λ (z : List Numbered). z ++ rest) (take-append-drop n fs) in
+    ap (λ (z : List Numbered). slice_get (all_clauses name z) place) (sym whole)
+    ∙ ap (λ (z : List (List Lit)). slice_get z place) (clauses-append name (take n fs) (drop n fs ++ rest))
+    ∙ get-front (all_clauses name (take n fs)) (all_clauses (name + all_names (take n fs)) (drop n fs ++ rest)) place c h

@@ -10,7 +10,7 @@ ghost use Rattle.lazy_ground.specs.Kept.{HasClauses};
 ghost use Rattle.chosen_clauses.specs.Chosen.{AreAt, StandFrom, IsBehind, IsLayout};
 
 use crate::places::{Layout, Place, firsts_of, place_of_pair};
-use clausify::{KeptClauses, write_from};
+use clausify::{KeptClauses, write_clauses};
 use ground_atoms::GroundFormula;
 use instances::kept_clauses;
 use items::Items;
@@ -52,38 +52,6 @@ fn forms_behind(forms: &[GroundFormula], count: usize) -> &[GroundFormula]
 }
 
 impl Chosen {
-    // Adds the clauses of some formulas, which stand from a place on, and answers the place behind them. Where those of the first so
-    // many were kept, these are copied.
-    fn add_from(
-        &mut self,
-        alloc: Global,
-        at: Place,
-        forms: &[GroundFormula],
-        kept: Option<(&KeptClauses, usize)>,
-    ) -> Result<Place, AllocError>
-        requires { IfSome kept (λ k. AreClausesOf (take k.1 (map form_of forms.now)) k.0.now) }
-        ensures chosen { OnOk result ((all : List (List PlainLit))
-            → StandFrom all at.clause (all_clauses at.name (map form_of forms.now))
-            → AreAt all self.old.clauses self.old.numbers.items
-            → AreAt all self.new.clauses self.new.numbers.items) }
-        ensures clause { IfOk result (λ next. next.clause
-            ≡ at.clause + length (all_clauses at.name (map form_of forms.now))) }
-        ensures name { IfOk result (λ next. next.name
-            ≡ at.name + all_names (map form_of forms.now)) }
-    {
-        let before = self.clauses.len();
-        let name = write_from(alloc, at.name, forms, kept, &mut self.clauses)?;
-        let more = self.clauses.len() - before;
-        add_numbers(&mut self.numbers, at.clause, more)?;
-        let Ok(more) = u32::try_from(more) else {
-            return Err(AllocError);
-        };
-        let Some(clause) = at.clause.checked_add(more) else {
-            return Err(AllocError);
-        };
-        Ok(Place { clause, name })
-    }
-
     // Adds the clauses of some formulas, which stand from a place on, and answers the place behind them.
     fn add(
         &mut self,
@@ -100,7 +68,17 @@ impl Chosen {
         ensures name { IfOk result (λ next. next.name
             ≡ at.name + all_names (map form_of forms.now)) }
     {
-        self.add_from(alloc, at, forms, None)
+        let before = self.clauses.len();
+        let name = write_clauses(alloc, at.name, forms, &mut self.clauses)?;
+        let more = self.clauses.len() - before;
+        add_numbers(&mut self.numbers, at.clause, more)?;
+        let Ok(more) = u32::try_from(more) else {
+            return Err(AllocError);
+        };
+        let Some(clause) = at.clause.checked_add(more) else {
+            return Err(AllocError);
+        };
+        Ok(Place { clause, name })
     }
 
     // Adds the clauses of the formulas behind the first so many, whose clauses were kept and aren't added, and answers the place behind
@@ -135,14 +113,13 @@ impl Chosen {
         Ok(next)
     }
 
-    // Adds the clauses of the formulas in front of the pairs, or of those of them that aren't the entry's, and answers the place behind
-    // them.
+    // Adds the clauses of those formulas in front of the pairs that aren't the entry's, and answers the place behind all in front of the
+    // pairs. Where no clauses of the entry are at hand, it adds those of all.
     fn add_front(
         &mut self,
         alloc: Global,
         ground: &LazyGround,
         name: u32,
-        with_entry: bool,
     ) -> Result<Place, AllocError>
         requires { HasClauses ground.now }
         ensures chosen { OnOk result ((all : List (List PlainLit))
@@ -153,21 +130,20 @@ impl Chosen {
     {
         let front = ground.front.as_slice();
         match kept_clauses(&ground.part) {
-            Some((kept, count)) if !with_entry && kept.first <= name => {
+            Some((kept, count)) if kept.first <= name => {
                 self.add_behind(alloc, name, front, count, kept)
             }
-            kept => self.add_from(alloc, Place { clause: 0, name }, front, kept),
+            _ => self.add(alloc, Place { clause: 0, name }, front),
         }
     }
 
-    // Adds the clauses of the formulas in front of the pairs and of those behind them, with those of the entry's formulas or without
-    // them, and answers where all stand.
+    // Adds the clauses of the formulas in front of the pairs and of those behind them, without those of the entry's formulas, and answers
+    // where all stand.
     fn add_around(
         &mut self,
         alloc: Global,
         ground: &LazyGround,
         name: u32,
-        with_entry: bool,
     ) -> Result<Option<Layout>, AllocError>
         requires pairs { ArePairs ground.now.atoms.table ground.now.pairs }
         requires clauses { HasClauses ground.now }
@@ -179,7 +155,7 @@ impl Chosen {
         ensures layout { IfOk result (λ found. IfSome found
             (λ layout. IsLayout ground.now name layout)) }
     {
-        let first = self.add_front(alloc, ground, name, with_entry)?;
+        let first = self.add_front(alloc, ground, name)?;
         let Some((firsts, pairs_end)) = firsts_of(alloc, first, ground.pairs.as_slice())? else {
             return Ok(None);
         };
@@ -190,6 +166,32 @@ impl Chosen {
                 Err(error)
             }
         }
+    }
+
+    /// Adds the clause of the entry that stands at a place among those that are at hand. It says whether it did: it does not where none
+    /// stands there.
+    pub fn add_kept(
+        &mut self,
+        alloc: Global,
+        ground: &LazyGround,
+        name: u32,
+        place: u32,
+    ) -> Result<bool, AllocError>
+        requires { HasClauses ground.now }
+        ensures { OnOk result (AreAt (all_clauses name (lazy_forms ground.now))
+            self.old.clauses self.old.numbers.items
+            → AreAt (all_clauses name (lazy_forms ground.now))
+            self.new.clauses self.new.numbers.items) }
+    {
+        let Some((kept, _)) = kept_clauses(&ground.part) else {
+            return Ok(false);
+        };
+        let Some(clause) = kept.at(alloc, name, place as usize)? else {
+            return Ok(false);
+        };
+        self.clauses.push(clause)?;
+        self.numbers.push(place)?;
+        Ok(true)
     }
 
     /// Adds the clauses of the tuples at two places of a relation's pairs, the earlier first, where `relation` is its place among these.
@@ -234,14 +236,13 @@ impl Chosen {
     }
 }
 
-/// All clauses of the formulas in front of the pairs and of those behind them, and where the pairs' clauses stand; nothing where numbers
-/// don't reach. `name` is the number of the first atom that names a part. Clauses of the entry that are at hand are copied. Where
-/// `with_entry` is false they are left out.
+/// The clauses of the formulas in front of the pairs and of those behind them, and where the pairs' clauses stand; nothing where numbers
+/// don't reach. `name` is the number of the first atom that names a part. Clauses of the entry that are at hand are left out: `add_kept`
+/// adds each.
 pub fn chosen_front(
     alloc: Global,
     ground: &LazyGround,
     name: u32,
-    with_entry: bool,
 ) -> Result<Option<(Chosen, Layout)>, AllocError>
     requires pairs { ArePairs ground.now.atoms.table ground.now.pairs }
     requires clauses { HasClauses ground.now }
@@ -254,7 +255,7 @@ pub fn chosen_front(
         clauses: Items::new(alloc),
         numbers: Vec::new(alloc),
     };
-    match chosen.add_around(alloc, ground, name, with_entry) {
+    match chosen.add_around(alloc, ground, name) {
         Ok(Some(layout)) => Ok(Some((chosen, layout))),
         Ok(None) => {
             drop(chosen);

@@ -1,10 +1,11 @@
 -- Where the atoms that name parts have higher numbers, the clauses of formulas are the same but for these numbers.
-use Rattle.std.proofs.Common.{◌≡◌, ℕ, ◌+◌, ◌-◌, ◌≤◌, ◌==◌, nat_lt, Bool, true, false, not, cond, ◌&&◌, ◌||◌, Option, None, Some, List, [], ◌∷◌, ◌++◌, map, take, drop, refl, sym, ◌∙◌, ap, subst, arith}
+use Rattle.std.proofs.Common.{◌≡◌, ℕ, ◌+◌, ◌-◌, ◌≤◌, ◌==◌, nat_lt, Bool, true, false, not, cond, ◌&&◌, ◌||◌, Option, None, Some, option_map, List, [], ◌∷◌, ◌++◌, map, take, drop, slice_get, refl, sym, ◌∙◌, ap, subst, arith}
 use Rattle.std.specs.List.{list_all}
 use Rattle.std.specs.Prelude.{Result, Ok, Err, IfOk, OnOk}
 use Rattle.std.proofs.lemmas.Bool.{and_parts}
 use Rattle.std.proofs.lemmas.Bool.Decides.{nat_tests}
 use Rattle.std.proofs.lemmas.List.{map-append, append-nil, append_assoc}
+use Rattle.std.proofs.lemmas.Option.{slice_get-map}
 use Rattle.proof_lines.specs.declared.clause.Lit.{Lit}
 use Rattle.proof_lines.specs.Problems.{atoms_below}
 use Rattle.proof_lines.proofs.Sets.{same_lit-sym, has-append}
@@ -224,6 +225,13 @@ kept-unnamed k name fs h none is =
     let low : list_all (atoms_below k.first) (all_clauses k.first fs) ≡ true =
     subst (λ (n : ℕ). list_all (atoms_below n) (all_clauses k.first fs) ≡ true) e (all_clauses-below k.first fs is.below) in
     all_clauses-raised k.first name fs h is.below ∙ sym (clauses-stay k.first (name - k.first) (all_clauses k.first fs) low) ∙ sym is.clauses
+
+-- the clause that stands at a place, raised, stands there among the clauses of the same formulas
+pub kept_at : (k : KeptClauses) (name place : ℕ) (c r : List Lit) → k.first ≤ name → slice_get k.clauses place ≡ Some c → r ≡ map (raised k.first (name - k.first)) c
+    → (fs : List Numbered) → AreClausesOf fs k → slice_get (all_clauses name fs) place ≡ Some r
+kept_at k name place c r h there made fs is =
+    let up = map (raised k.first (name - k.first)) in
+    ap (λ z. slice_get z place) (kept-raised k name fs h is) ∙ slice_get-map up k.clauses place ∙ ap (option_map up) there ∙ ap Some (sym made)
 
 pub copied_raised : {A E : Type 0} (k : KeptClauses) (name : ℕ) (r : Result A E) (cs old new : List (List Lit)) → k.first ≤ name → cs ≡ k.clauses
     → OnOk r (new ≡ old ++ all_raised k.first (name - k.first) cs) → OnOk r ((fs : List Numbered) → AreClausesOf fs k → new ≡ old ++ all_clauses name fs)

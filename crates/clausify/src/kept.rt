@@ -1,8 +1,10 @@
 // Clauses that are kept for other problems, whose formulas begin with the same ones.
 //
 // Only the atoms that name parts have other numbers there: they come behind all other atoms, of which another problem may have more. So a
-// clause is copied as it stands where it has no such atom, and else with the numbers of these raised.
-ghost use Rattle.std.specs.Prelude.{◌≡◌, ◌≤◌, ◌+◌, ◌++◌, [], true, IfOk, IfSome, OnOk, List, drop, map, take};
+// clause is copied as it stands where it has no such atom, and else with the numbers of these raised. A problem that needs few of them finds
+// these by the atoms that they name, and has each by its place.
+ghost use Rattle.std.specs.Prelude.{◌≡◌, ◌≤◌, ◌+◌, ◌++◌, [], true, IfOk, IfSome, OnOk, List, Some};
+ghost use Rattle.std.specs.Prelude.{drop, map, slice_get, take};
 ghost use Rattle.std.specs.List.{list_all};
 ghost use Rattle.proof_lines.specs.Problems.{atoms_below};
 ghost use Rattle.proof_lines.specs.Clauses.{join};
@@ -11,18 +13,21 @@ ghost use Rattle.ground_numbers.specs.Clauses.{all_clauses, all_names};
 ghost use Rattle.ground_atoms.specs.Formulas.{form_of};
 ghost use Rattle.clausify.specs.Kept.{AreClausesOf, raised, all_raised};
 
+use crate::by_atom::ClausesByAtom;
 use crate::listing::write_clauses;
 use ground_atoms::GroundFormula;
 use items::Items;
 use proof_lines::{Clause, Lit};
 use std::alloc::{AllocError, Global};
 
-/// The clauses of some formulas. `first` is the number of the first atom that names a part, and so many atoms name parts.
+/// The clauses of some formulas. `first` is the number of the first atom that names a part, and so many atoms name parts. Where the clauses
+/// that name an atom stand is a hint.
 #[derive(Drop)]
 pub struct KeptClauses {
     pub first: u32,
     pub names: u32,
     pub clauses: Items<Clause>,
+    pub by_atom: ClausesByAtom,
 }
 
 /// The clauses of some formulas, to be kept. `first` is a number that no atom of the formulas reaches.
@@ -37,10 +42,12 @@ pub fn keep_clauses(
     let room = Vec::with_capacity(alloc, forms.len())?;
     let mut clauses = Items::from_vec(room);
     let end = write_clauses(alloc, first, forms, &mut clauses)?;
+    let by_atom = ClausesByAtom::of(alloc, end, clauses.as_slice())?;
     Ok(KeptClauses {
         first,
         names: end - first,
         clauses,
+        by_atom,
     })
 }
 
@@ -88,6 +95,22 @@ fn raised_copy(alloc: Global, first: u32, more: u32, clause: &Clause) -> Result<
     }
     clause.law_distinct();
     raise(alloc, first, more, clause)
+}
+
+impl KeptClauses {
+    /// The clause that stands at a place among those of the formulas, where the first atom that names a part has this number; nothing where
+    /// none stands there, or the number is lower than the one that it had.
+    pub fn at(&self, alloc: Global, name: u32, place: usize) -> Result<Option<Clause>, AllocError>
+        ensures { (fs : List Numbered) → AreClausesOf fs self.now → IfOk result
+            (λ found. IfSome found (λ c. slice_get (all_clauses name fs) place ≡ Some c)) }
+    {
+        if name < self.first || place >= self.clauses.len() {
+            return Ok(None);
+        }
+        let clause = &self.clauses.as_slice()[place];
+        let copy = raised_copy(alloc, self.first, name - self.first, clause)?;
+        Ok(Some(copy))
+    }
 }
 
 // Appends copies of clauses, with their literals raised.

@@ -8,6 +8,7 @@
 #![tactic(auto)]
 
 mod bare;
+mod by_atom;
 mod folding;
 mod kept;
 mod listing;
@@ -15,6 +16,7 @@ mod problem;
 mod straight;
 mod writing;
 
+pub use by_atom::ClausesByAtom;
 pub use kept::{KeptClauses, keep_clauses, write_from};
 pub use listing::write_clauses;
 pub use problem::{problem_from, problem_of};

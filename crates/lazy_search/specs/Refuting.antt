@@ -15,7 +15,7 @@ use Rattle.lazy_search.specs.declared.counting.Sizes.{Sizes}
 use Rattle.lazy_search.specs.declared.searching.LazyAnswer.{LazyAnswer}
 use Rattle.lazy_search.specs.declared.searching.LazyAnswer.TheVariants.{Refuted, Satisfiable, Unknown}
 use Rattle.lazy_search.specs.declared.searching.Step.{Step}
-use Rattle.lazy_search.specs.declared.searching.Step.TheVariants.{Answered, Picking, Disagreeing}
+use Rattle.lazy_search.specs.declared.searching.Step.TheVariants.{Answered, MoreClauses}
 
 -- A log of at most so many lines shows that a problem has no interpretation: the kernel accepts its lines, and an empty clause is among
 -- the clauses.
@@ -29,8 +29,9 @@ pub record RefutesWithin (p : PlainProblem) (budget : ℕ) (log : List Line) : T
 abbrev pub atoms_with : Table → ℕ → List AtomKind
 atoms_with o names = map kind_of o.atoms ++ replicate names Plain
 
--- so many atoms and clauses the whole problem has, and so many of the atoms name parts
+-- so many atoms and clauses the whole problem has; the first of those that name parts has this number, and there are so many of these
 pub record AreSizes (g : LazyGround) (sizes : Sizes) : Type 0 where
+  pub first : sizes.first ≡ length g.atoms.table.atoms
   pub atoms : sizes.atoms ≡ length (lazy_problem g).atoms
   pub names : (lazy_problem g).atoms ≡ atoms_with g.atoms.table sizes.names
   pub clauses : sizes.clauses ≡ length (lazy_problem g).clauses
@@ -48,5 +49,4 @@ IsLazyAnswer p budget Unknown = Unit {0}
 -- what a round answers is an answer
 abbrev pub IsStep : LazyGround → ℕ → Step → Type 0
 IsStep g budget (Answered answer) = IsLazyAnswer (lazy_problem g) budget answer
-IsStep g budget Picking = Unit {0}
-IsStep g budget (Disagreeing pairs) = Unit {0}
+IsStep g budget (MoreClauses more) = Unit {0}

@@ -1,7 +1,7 @@
 // The search of a lazy ground problem for a log that shows that it has no interpretation.
 //
-// Some clauses are searched first, as a problem of their own over the atoms that they name (src/picking.rt, src/parts.rt), which is
-// tested to be a part of the whole (src/testing.rt). Where they have no interpretation, the log is written with the numbers of the whole
+// Some clauses are searched first, as a problem of their own over the atoms that they name (src/picking.rt, src/beside.rt, src/parts.rt),
+// which is tested to be a part of the whole (src/testing.rt). Where they have no interpretation, the log is written with the numbers of the whole
 // problem, and the kernel takes it there. Where they have one, it says which constants are equal and which readings are true. The pairs
 // of tuples that it makes equal and of which it reads one true and one false (src/agreeing.rt) are those whose clauses are false. These
 // and the other clauses that it makes false join the first ones, and all are searched again (src/searching.rt).
@@ -27,6 +27,7 @@ macro_rules! or_drop {
 }
 
 mod agreeing;
+mod beside;
 mod counting;
 mod parts;
 mod picking;

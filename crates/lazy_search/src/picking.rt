@@ -1,21 +1,27 @@
 // Which of the chosen clauses are searched.
 //
 // First those that say something of a later stage, and those of one literal: the conclusion, the definitions and most preconditions. Then
-// those of the others, mostly of invariants, that name a reading, a row or a part that one of these names, and those on equality alone. An
-// interpretation of these may make others false; they are searched too in the next round.
+// those of the others that name a reading, a row or a part that one of these names, and those on equality alone. The clauses of the entry,
+// which are mostly of invariants, are found by what they name, and chosen where they are searched (src/beside.rt). An interpretation of
+// these may make others false; they are searched too in the next round.
 use crate::agreeing::value_of;
+use crate::beside::{kept_beside, take};
 use crate::parts::{Part, count_named};
 use crate::testing::Picks;
 use chosen_clauses::Chosen;
+use clausify::KeptClauses;
 use ground_atoms::{Atom, Atoms, IntName};
 use needed_clauses::parts::{NOWHERE, mark, no_places, number_of, place_of};
 use proof_lines::Lit;
 use std::alloc::{AllocError, Global};
 
-/// For each chosen clause, whether it is searched.
+/// For each chosen clause, whether it is searched; which atoms the central ones name; and for each clause of the entry whether it was
+/// chosen, once some are.
 #[derive(Drop)]
 pub(crate) struct Picked {
     pub marks: Vec<bool>,
+    pub named: Vec<u32>,
+    pub kept: Vec<bool>,
 }
 
 fn is_later_integer(atoms: &Atoms, number: u32) -> bool {
@@ -70,6 +76,34 @@ fn mark_parts(atoms: &Atoms, places: &mut [u32], lits: &[Lit]) {
     }
 }
 
+// The number of an atom of the entry's clauses, where so many more come before those that name parts.
+fn raised(first: u32, more: u32, atom: u32) -> u32 {
+    if atom < first {
+        atom
+    } else {
+        atom.wrapping_add(more)
+    }
+}
+
+// Marks what a clause names, and lists of it what wasn't marked and is no equality.
+fn mark_named(
+    atoms: &Atoms,
+    places: &mut [u32],
+    lits: &[Lit],
+    named: &mut Vec<u32>,
+) -> Result<(), AllocError> {
+    for lit in lits {
+        let atom = lit.atom as usize;
+        if atom < places.len() && places[atom] == NOWHERE {
+            places[atom] = 0;
+            if !is_equality(atoms, lit.atom) {
+                named.push(lit.atom)?;
+            }
+        }
+    }
+    Ok(())
+}
+
 impl Picked {
     // Picks the clauses that are central, and marks what they name.
     fn central(
@@ -79,14 +113,19 @@ impl Picked {
         places: &mut [u32],
     ) -> Result<Picked, AllocError> {
         let mut marks = Vec::with_capacity(alloc, chosen.clauses.len())?;
+        let mut named = Vec::new(alloc);
         for clause in chosen.clauses.iter() {
             let is_picked = is_central(atoms, clause.lits());
             if is_picked {
-                mark(places, clause.lits());
+                mark_named(atoms, places, clause.lits(), &mut named)?;
             }
             marks.push(is_picked)?;
         }
-        Ok(Picked { marks })
+        Ok(Picked {
+            marks,
+            named,
+            kept: Vec::new(alloc),
+        })
     }
 
     fn pick(&mut self, place: usize) -> bool {
@@ -108,6 +147,59 @@ impl Picked {
             }
         }
         Ok(picked)
+    }
+
+    /// Chooses of the entry's clauses those that are searched first, and answers their places.
+    pub fn choose_kept(
+        &mut self,
+        alloc: Global,
+        kept: &KeptClauses,
+    ) -> Result<Vec<u32>, AllocError> {
+        self.kept.resize(kept.clauses.len(), false)?;
+        kept_beside(alloc, kept, self.named.as_slice(), self.kept.as_mut_slice())
+    }
+
+    /// Chooses of the entry's clauses those that truth values of a part make false, and answers their places. `name` is the number of the
+    /// first atom that names a part.
+    pub fn choose_false(
+        &mut self,
+        alloc: Global,
+        kept: &KeptClauses,
+        name: u32,
+        part: &Part,
+        truths: &[bool],
+    ) -> Result<Vec<u32>, AllocError> {
+        let mut found = Vec::new(alloc);
+        if self.kept.is_empty() {
+            return Ok(found);
+        }
+        let more = name.wrapping_sub(kept.first);
+        for (place, clause) in kept.clauses.iter().enumerate() {
+            if place >= self.kept.len() || self.kept[place] {
+                continue;
+            }
+            let is_true = clause.lits().iter().any(|lit| value_of(
+                part,
+                truths,
+                raised(kept.first, more, lit.atom),
+            ) == lit.positive);
+            if !is_true {
+                self.kept[place] = true;
+                found.push(number_of(place))?;
+            }
+        }
+        Ok(found)
+    }
+
+    /// Chooses all clauses of the entry, where some were chosen, and answers the places of those that weren't.
+    pub fn choose_others(&mut self, alloc: Global) -> Result<Vec<u32>, AllocError> {
+        let mut found = Vec::new(alloc);
+        for place in 0..self.kept.len() {
+            if take(self.kept.as_mut_slice(), place) {
+                found.push(number_of(place))?;
+            }
+        }
+        Ok(found)
     }
 
     /// Picks the clauses that truth values of a part make false. It says whether there are any.
@@ -141,14 +233,23 @@ impl Picked {
         Ok(())
     }
 
-    /// The clauses that are picked.
+    // Whether a chosen clause is picked, and is one of the entry or not.
+    fn is_picked(&self, place: usize, number: u32, of_entry: bool) -> bool {
+        place < self.marks.len()
+            && self.marks[place]
+            && ((number as usize) < self.kept.len()) == of_entry
+    }
+
+    /// The clauses that are picked, those of the entry first.
     pub fn picks(&self, alloc: Global, numbers: &[u32]) -> Result<Picks, AllocError> {
         let mut places = Vec::new(alloc);
         let mut own = Vec::new(alloc);
-        for (place, number) in numbers.iter().enumerate() {
-            if place < self.marks.len() && self.marks[place] {
-                places.push(number_of(place))?;
-                own.push(*number)?;
+        for of_entry in [true, false] {
+            for (place, number) in numbers.iter().enumerate() {
+                if self.is_picked(place, *number, of_entry) {
+                    places.push(number_of(place))?;
+                    own.push(*number)?;
+                }
             }
         }
         Ok(Picks {

@@ -12,6 +12,7 @@ use crate::counting::{Sizes, count_atoms};
 use crate::parts::{Part, part_of};
 use crate::picking::Picked;
 use chosen_clauses::{Chosen, Layout, chosen_front};
+use instances::kept_clauses;
 use items::Items;
 use lazy_ground::LazyGround;
 use needed_clauses::renumbering::{are_plain_lines, renumbered};
@@ -39,15 +40,22 @@ pub enum LazyAnswer {
     Unknown,
 }
 
+/// Clauses that an interpretation of those that were searched makes false: whether there are chosen ones, which are picked now; the places
+/// of the entry's; and pairs that have some.
+#[derive(Drop)]
+pub struct MoreClauses {
+    pub is_picking: bool,
+    pub places: Vec<u32>,
+    pub pairs: Vec<PairAt>,
+}
+
 /// What a round comes to.
 #[derive(Drop)]
 pub enum Step {
     /// This is the answer.
     Answered(LazyAnswer),
-    /// The clauses that were searched have an interpretation that makes other chosen ones false; they are picked now.
-    Picking,
-    /// The chosen clauses have an interpretation that makes clauses of these pairs false.
-    Disagreeing(Vec<PairAt>),
+    /// These clauses are to be searched too.
+    MoreClauses(MoreClauses),
 }
 
 fn few_of(budget: u32) -> u32 {
@@ -85,10 +93,26 @@ fn judge_log(
     Ok(Step::Answered(LazyAnswer::Refuted(lines)))
 }
 
+// The places of the entry's clauses that truth values of a part make false; they are chosen now.
+fn false_kept(
+    alloc: Global,
+    ground: &LazyGround,
+    sizes: &Sizes,
+    picked: &mut Picked,
+    part: &Part,
+    truths: &[bool],
+) -> Result<Vec<u32>, AllocError> {
+    match kept_clauses(&ground.part) {
+        Some((kept, _)) => picked.choose_false(alloc, kept, sizes.first, part, truths),
+        None => Ok(Vec::new(alloc)),
+    }
+}
+
 // What truth values of a part come to.
 fn judge_found(
     alloc: Global,
     ground: &LazyGround,
+    sizes: &Sizes,
     chosen: &Chosen,
     picked: &mut Picked,
     part: &Part,
@@ -97,14 +121,18 @@ fn judge_found(
     ensures { IfOk result (λ step. (budget : ℕ) → IsStep ground.now budget step) }
 {
     let is_picking = picked.pick_false(chosen, part, truths);
-    let pairs = disagreeing(alloc, ground, part, truths)?;
-    if !pairs.is_empty() {
-        return Ok(Step::Disagreeing(pairs));
+    let places = false_kept(alloc, ground, sizes, picked, part, truths)?;
+    let pairs = or_drop!(disagreeing(alloc, ground, part, truths); places);
+    if !is_picking && places.is_empty() && pairs.is_empty() {
+        drop(places);
+        drop(pairs);
+        return Ok(Step::Answered(LazyAnswer::Satisfiable));
     }
-    if is_picking {
-        return Ok(Step::Picking);
-    }
-    Ok(Step::Answered(LazyAnswer::Satisfiable))
+    Ok(Step::MoreClauses(MoreClauses {
+        is_picking,
+        places,
+        pairs,
+    }))
 }
 
 // A search of the chosen clauses that are picked.
@@ -131,6 +159,7 @@ fn search_picked(
             judge_found(
                 alloc,
                 ground,
+                sizes,
                 chosen,
                 picked,
                 &part,
@@ -174,6 +203,71 @@ fn add_pairs(
     Ok(some)
 }
 
+// Adds the entry's clauses at these places. It says whether it added any.
+fn add_kept(
+    alloc: Global,
+    ground: &LazyGround,
+    sizes: &Sizes,
+    chosen: &mut Chosen,
+    places: &[u32],
+) -> Result<bool, AllocError>
+    requires clauses { HasClauses ground.now }
+    requires sizes { AreSizes ground.now sizes.now }
+    requires chosen { AreOf ground.now chosen.now }
+    ensures { OnOk result (AreOf ground.now chosen.new) }
+{
+    let mut some = false;
+    for place in places {
+        if chosen.add_kept(alloc, ground, sizes.first, *place)? {
+            some = true;
+        }
+    }
+    Ok(some)
+}
+
+// Adds what is to be searched too. It says whether there is anything new.
+fn add_more(
+    alloc: Global,
+    ground: &LazyGround,
+    sizes: &Sizes,
+    layout: &Layout,
+    chosen: &mut Chosen,
+    more: &MoreClauses,
+) -> Result<bool, AllocError>
+    requires pairs { ArePairs ground.now.atoms.table ground.now.pairs }
+    requires clauses { HasClauses ground.now }
+    requires sizes { AreSizes ground.now sizes.now }
+    requires layout { IsLayout ground.now (length ground.now.atoms.table.atoms) layout.now }
+    requires chosen { AreOf ground.now chosen.now }
+    ensures { OnOk result (AreOf ground.now chosen.new) }
+{
+    let has_kept = add_kept(alloc, ground, sizes, chosen, more.places.as_slice())?;
+    let has_pairs = add_pairs(alloc, ground, layout, chosen, more.pairs.as_slice())?;
+    Ok(more.is_picking || has_kept || has_pairs)
+}
+
+// Picks the clauses for the next round: the new ones, and after some rounds all.
+fn pick_next(
+    alloc: Global,
+    ground: &LazyGround,
+    sizes: &Sizes,
+    chosen: &mut Chosen,
+    picked: &mut Picked,
+    round: u32,
+) -> Result<(), AllocError>
+    requires clauses { HasClauses ground.now }
+    requires sizes { AreSizes ground.now sizes.now }
+    requires chosen { AreOf ground.now chosen.now }
+    ensures { OnOk result (AreOf ground.now chosen.new) }
+{
+    if round < PICKY_ROUNDS {
+        return picked.pick_new(chosen.clauses.len());
+    }
+    let places = picked.choose_others(alloc)?;
+    add_kept(alloc, ground, sizes, chosen, places.as_slice())?;
+    picked.pick_all(chosen.clauses.len())
+}
+
 // Rounds until there is an answer, or nothing more to be chosen.
 fn rounds(
     alloc: Global,
@@ -185,38 +279,37 @@ fn rounds(
     budget: u32,
 ) -> Result<LazyAnswer, AllocError>
     requires pairs { ArePairs ground.now.atoms.table ground.now.pairs }
+    requires clauses { HasClauses ground.now }
     requires sizes { AreSizes ground.now sizes.now }
     requires layout { IsLayout ground.now (length ground.now.atoms.table.atoms) layout.now }
     requires chosen { AreOf ground.now chosen.now }
-    ensures { IfOk result (λ answer. IsLazyAnswer (lazy_problem ground.now) budget answer) }
+    ensures answer { IfOk result (λ answer. IsLazyAnswer (lazy_problem ground.now) budget answer) }
+    ensures chosen { OnOk result (AreOf ground.now chosen.new) }
 {
     for round in 0..ROUNDS {
         match search_picked(alloc, ground, sizes, chosen, picked, budget)? {
             Step::Answered(answer) => return Ok(answer),
-            Step::Picking => {}
-            Step::Disagreeing(pairs) => {
-                if !add_pairs(alloc, ground, layout, chosen, pairs.as_slice())? {
+            Step::MoreClauses(more) => {
+                if !add_more(alloc, ground, sizes, layout, chosen, &more)? {
                     return Ok(LazyAnswer::Unknown);
                 }
             }
         }
-        if round >= PICKY_ROUNDS {
-            picked.pick_all(chosen.clauses.len())?;
-        } else {
-            picked.pick_new(chosen.clauses.len())?;
-        }
+        pick_next(alloc, ground, sizes, chosen, picked, round)?;
     }
     Ok(LazyAnswer::Unknown)
 }
 
 // How many atoms and clauses the whole problem has, where so many of the atoms are those of the table.
 fn sizes_of(first: u32, layout: &Layout) -> Option<Sizes>
+    ensures first { IfSome result (λ s. s.first ≡ first) }
     ensures atoms { IfSome result (λ s. s.atoms ≡ layout.now.behind.name) }
     ensures names { IfSome result (λ s. layout.now.behind.name ≡ first + s.names) }
     ensures clauses { IfSome result (λ s. s.clauses ≡ layout.now.behind.clause) }
 {
     let names = layout.behind.name.checked_sub(first)?;
     Some(Sizes {
+        first,
         atoms: layout.behind.name as usize,
         names,
         clauses: layout.behind.clause as usize,
@@ -235,54 +328,54 @@ fn is_first_without_entry(ground: &LazyGround) -> bool {
     }
 }
 
-// A search of the clauses in front and behind, with those of the entry or without them, where so many atoms have numbers.
-fn search_from(
+// Adds of the entry's clauses those that are searched first.
+fn add_entry(
     alloc: Global,
     ground: &LazyGround,
-    first: u32,
-    with_entry: bool,
-    budget: u32,
-) -> Result<LazyAnswer, AllocError>
-    requires pairs { ArePairs ground.now.atoms.table ground.now.pairs }
+    sizes: &Sizes,
+    chosen: &mut Chosen,
+    picked: &mut Picked,
+) -> Result<(), AllocError>
     requires clauses { HasClauses ground.now }
-    requires first { first ≡ length ground.now.atoms.table.atoms }
-    ensures { IfOk result (λ answer. IsLazyAnswer (lazy_problem ground.now) budget answer) }
+    requires sizes { AreSizes ground.now sizes.now }
+    requires chosen { AreOf ground.now chosen.now }
+    ensures { OnOk result (AreOf ground.now chosen.new) }
 {
-    let Some((mut chosen, layout)) = chosen_front(alloc, ground, first, with_entry)? else {
-        return Ok(LazyAnswer::Unknown);
+    let Some((kept, _)) = kept_clauses(&ground.part) else {
+        return Ok(());
     };
-    let Some(sizes) = sizes_of(first, &layout) else {
-        return Ok(LazyAnswer::Unknown);
-    };
-    let mut picked = Picked::first(alloc, &ground.atoms, &chosen)?;
-    rounds(
-        alloc,
-        ground,
-        &sizes,
-        &layout,
-        &mut chosen,
-        &mut picked,
-        budget,
-    )
+    let places = picked.choose_kept(alloc, kept)?;
+    add_kept(alloc, ground, sizes, chosen, places.as_slice())?;
+    picked.pick_new(chosen.clauses.len())
 }
 
-// A search without the clauses of the entry, and one with them where that doesn't refute the problem.
-fn search_twice(
+// A search of some clauses in front and behind, and of more as they are needed; where a search without the entry's comes first, these join
+// them where that doesn't refute the problem.
+fn search_chosen(
     alloc: Global,
     ground: &LazyGround,
-    first: u32,
+    sizes: &Sizes,
+    layout: &Layout,
+    chosen: &mut Chosen,
     budget: u32,
 ) -> Result<LazyAnswer, AllocError>
     requires pairs { ArePairs ground.now.atoms.table ground.now.pairs }
     requires clauses { HasClauses ground.now }
-    requires first { first ≡ length ground.now.atoms.table.atoms }
+    requires sizes { AreSizes ground.now sizes.now }
+    requires layout { IsLayout ground.now (length ground.now.atoms.table.atoms) layout.now }
+    requires chosen { AreOf ground.now chosen.now }
     ensures { IfOk result (λ answer. IsLazyAnswer (lazy_problem ground.now) budget answer) }
 {
-    match search_from(alloc, ground, first, false, budget)? {
-        LazyAnswer::Refuted(log) => Ok(LazyAnswer::Refuted(log)),
-        LazyAnswer::Satisfiable => search_from(alloc, ground, first, true, budget),
-        LazyAnswer::Unknown => search_from(alloc, ground, first, true, budget),
+    let mut picked = Picked::first(alloc, &ground.atoms, chosen)?;
+    if is_first_without_entry(ground) {
+        match rounds(alloc, ground, sizes, layout, chosen, &mut picked, budget)? {
+            LazyAnswer::Refuted(log) => return Ok(LazyAnswer::Refuted(log)),
+            LazyAnswer::Satisfiable => {}
+            LazyAnswer::Unknown => {}
+        }
     }
+    add_entry(alloc, ground, sizes, chosen, &mut picked)?;
+    rounds(alloc, ground, sizes, layout, chosen, &mut picked, budget)
 }
 
 /// A search of a lazy ground problem, with logs of at most `budget` lines: a log that shows that the problem has no interpretation, or
@@ -299,8 +392,11 @@ pub fn search_lazily(
     let Some(first) = count_atoms(&ground.atoms) else {
         return Ok(LazyAnswer::Unknown);
     };
-    if is_first_without_entry(ground) {
-        return search_twice(alloc, ground, first, budget);
-    }
-    search_from(alloc, ground, first, true, budget)
+    let Some((mut chosen, layout)) = chosen_front(alloc, ground, first)? else {
+        return Ok(LazyAnswer::Unknown);
+    };
+    let Some(sizes) = sizes_of(first, &layout) else {
+        return Ok(LazyAnswer::Unknown);
+    };
+    search_chosen(alloc, ground, &sizes, &layout, &mut chosen, budget)
 }

@@ -6,12 +6,12 @@ use Rattle.ground_numbers.specs.Clauses.{all_clauses}
 use Rattle.ground_atoms.specs.Formulas.{form_of}
 use Rattle.chosen_clauses.specs.Chosen.{AreAt}
 use Rattle.chosen_clauses.proofs.Adding.{more_at}
-use Rattle.chosen_clauses.proofs.choosing.Chosen.add_from.Goals as goal
+use Rattle.chosen_clauses.proofs.choosing.Chosen.add.Goals as goal
 
 pub returns-clause-chosen : goal.returns-clause-chosen
 returns-clause-chosen c = λ all s h.
     let old = c.args.self.now.clauses in
-    let out = c.write_from.new.out in
+    let out = c.write_clauses.new.out in
     let more : List (List Lit) = all_clauses c.args.at.name (map form_of c.args.forms.now) in
     let made : out ≡ old ++ more = c.in_ok-name.ensures.made in
     let many : c.len.result - c.len-before.result ≡ length more =

@@ -1,0 +1,132 @@
+// Which clauses of the entry are searched first, found by what they name.
+//
+// Those that name one of some atoms, or a part that one of these names, and those of one literal on what these name. So the clauses of
+// invariants that say nothing of these atoms aren't looked at.
+use clausify::KeptClauses;
+use needed_clauses::parts::{NOWHERE, number_of, place_of};
+use proof_lines::Lit;
+use std::alloc::{AllocError, Global};
+
+/// Takes what is at a place. It says whether it was there, and not taken yet.
+pub(crate) fn take(taken: &mut [bool], place: usize) -> bool {
+    if place < taken.len() && !taken[place] {
+        taken[place] = true;
+        return true;
+    }
+    false
+}
+
+fn lits_at(kept: &KeptClauses, place: u32) -> &[Lit] {
+    match kept.clauses.get(place as usize) {
+        Some(clause) => clause.lits(),
+        None => &[],
+    }
+}
+
+// The places of the clauses that were found, and for each part the first of them that names it.
+#[derive(Drop)]
+struct Found {
+    places: Vec<u32>,
+    firsts: Vec<u32>,
+}
+
+impl Found {
+    fn new(alloc: Global, parts: usize) -> Result<Found, AllocError> {
+        let mut firsts = Vec::new(alloc);
+        firsts.resize(parts, NOWHERE)?;
+        Ok(Found {
+            places: Vec::new(alloc),
+            firsts,
+        })
+    }
+
+    // Notes the parts that a clause names.
+    fn note_parts(&mut self, first: u32, place: u32, lits: &[Lit]) {
+        for lit in lits {
+            if let Some(part) = lit.atom.checked_sub(first) {
+                let part = part as usize;
+                if part < self.firsts.len() && place < self.firsts[part] {
+                    self.firsts[part] = place;
+                }
+            }
+        }
+    }
+
+    // Adds the clauses from a place on that name an atom.
+    fn add_naming(
+        &mut self,
+        kept: &KeptClauses,
+        atom: u32,
+        from: u32,
+        taken: &mut [bool],
+    ) -> Result<(), AllocError> {
+        for place in kept.by_atom.naming(atom) {
+            if *place >= from && take(taken, *place as usize) {
+                self.places.push(*place)?;
+                self.note_parts(kept.first, *place, lits_at(kept, *place));
+            }
+        }
+        Ok(())
+    }
+
+    // Adds the clauses that name a part behind the first that was found to name it: a part is named before what it is made of.
+    fn add_of_parts(&mut self, kept: &KeptClauses, taken: &mut [bool]) -> Result<(), AllocError> {
+        for part in 0..kept.names {
+            let from = place_of(self.firsts.as_slice(), part);
+            if from != NOWHERE {
+                self.add_naming(kept, kept.first.wrapping_add(part), from, taken)?;
+            }
+        }
+        Ok(())
+    }
+
+    // Takes the clauses of one literal on an atom, which come first of those that name it.
+    fn take_single(&self, kept: &KeptClauses, atom: u32, taken: &mut [bool]) {
+        for place in kept.by_atom.naming(atom) {
+            if lits_at(kept, *place).len() > 1 {
+                break;
+            }
+            take(taken, *place as usize);
+        }
+    }
+
+    // Takes those on what the clauses name that were found.
+    fn take_all_single(&self, kept: &KeptClauses, taken: &mut [bool]) {
+        for place in self.places.iter() {
+            for lit in lits_at(kept, *place) {
+                self.take_single(kept, lit.atom, taken);
+            }
+        }
+    }
+}
+
+// The places of what was taken.
+fn places_taken(alloc: Global, taken: &[bool], many: usize) -> Result<Vec<u32>, AllocError> {
+    let mut places = Vec::with_capacity(alloc, many)?;
+    for (place, is_taken) in taken.iter().enumerate() {
+        if *is_taken {
+            places.push(number_of(place))?;
+        }
+    }
+    Ok(places)
+}
+
+/// The places of these clauses, where the atoms are these, in rising order. They are taken; none was before.
+pub(crate) fn kept_beside(
+    alloc: Global,
+    kept: &KeptClauses,
+    named: &[u32],
+    taken: &mut [bool],
+) -> Result<Vec<u32>, AllocError> {
+    let mut found = Found::new(alloc, kept.names as usize)?;
+    for atom in named {
+        if *atom < kept.first {
+            found.add_naming(kept, *atom, 0, taken)?;
+        }
+    }
+    found.add_of_parts(kept, taken)?;
+    found.take_all_single(kept, taken);
+    let many = found.places.len();
+    drop(found);
+    places_taken(alloc, taken, many)
+}
