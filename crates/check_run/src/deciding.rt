@@ -302,6 +302,10 @@ pub fn decide_next(
     match ground_lazily_from(alloc, spec, ob, taken) {
         Ok(EitherGround::Whole(ground)) => decide_whole(alloc, spec, ob, budget, ground, kept),
         Ok(EitherGround::Lazy(ground)) => decide_lazily(alloc, spec, ob, budget, ground, kept),
+        Ok(EitherGround::TooMany(left)) => {
+            keep(kept, left);
+            Ok(Verdict::Undecided(Cause::Instances))
+        }
         Err(GroundRefused::TooMany) => Ok(Verdict::Undecided(Cause::Instances)),
         Err(GroundRefused::Memory) => Err(AllocError),
     }

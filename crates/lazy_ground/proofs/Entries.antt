@@ -11,8 +11,9 @@ use Rattle.ground_problem.specs.Equality.{equality}
 use Rattle.ground_problem.specs.Problem.{defined}
 use Rattle.ground_atoms.specs.Known.{Known}
 use Rattle.ground_atoms.specs.Formulas.{form_of}
+use Rattle.ground_atoms.specs.Symbols.{reading_of}
 use Rattle.ground_atoms.specs.declared.formula.GroundFormula.{GroundFormula}
-use Rattle.ground_atoms.proofs.Cutting.{Begins, same_list, then_more, Grows, grows_then}
+use Rattle.ground_atoms.proofs.Cutting.{Begins, same_list, then_more, Grows, stays, grows_then}
 use Rattle.ground_constants.specs.Calls.{numbered_arguments}
 use Rattle.ground_groups.specs.Limited.{make_upto}
 use Rattle.ground_groups.specs.declared.refused.GroundRefused.{GroundRefused}
@@ -24,12 +25,14 @@ use Rattle.instances.specs.declared.grounding.Grounded.{Grounded}
 use Rattle.instances.specs.Entry.{invariants_at, IsEntry, IsPart, IsBegun, IsBegunOr, entry_with, HasEntry, HasClausesOf}
 use Rattle.instances.proofs.Shared.{upto_grows, upto_begins, entry_in, defined-begins, begun_refused}
 use Rattle.lazy_ground.specs.declared.front.Front.{Front}
-use Rattle.lazy_ground.specs.declared.choosing.Chosen.{Chosen}
+use Rattle.lazy_ground.specs.declared.pairs.ReadingPairs.{ReadingPairs}
 use Rattle.lazy_ground.specs.declared.grounding.LazyGround.{LazyGround}
 use Rattle.lazy_ground.specs.declared.grounding.EitherGround.{EitherGround}
-use Rattle.lazy_ground.specs.declared.grounding.EitherGround.TheVariants.{Whole, Lazy}
-use Rattle.lazy_ground.specs.Front.{front_of, HasPart, IsFront, IsFrontOr, IsChosen, IsMadeWithin}
-use Rattle.lazy_ground.specs.Kept.{HasLazyKept, HasKept, HasClauses, HasEitherClauses}
+use Rattle.lazy_ground.specs.declared.grounding.EitherGround.TheVariants as either
+use Rattle.lazy_ground.specs.declared.grounding.Kept.{Kept}
+use Rattle.lazy_ground.specs.Front.{front_of, HasPart, IsFront, IsFrontOr}
+use Rattle.lazy_ground.specs.Named.{AreFound}
+use Rattle.lazy_ground.specs.Kept.{IsKept, HasLazyKept, HasKept, HasClauses, HasEitherClauses}
 use Rattle.lazy_ground.proofs.Parts.{lazy_of}
 
 -- ---- the front
@@ -87,6 +90,11 @@ parts_entry d ob sorts atoms now formulas new (Some p) e h g b = part_entry d ob
 front_sorts : (d : Specification) (ob : Obligation) (f : Front) → IsFront d ob f → f.named.sorts ≡ (constants_of d ob).sorts
 front_sorts d ob f is = ap (λ (z : Constants). z.sorts) is.constants
 
+-- The entry stands first in the front.
+pub front_entry : (d : Specification) (ob : Obligation) (f : Front) → IsFront d ob f → IfSome f.part (λ p. IsEntry d (entry_with f.named.sorts f.atoms f.formulas p))
+front_entry d ob f is =
+    parts_entry d ob f.named.sorts f.atoms f.atoms f.formulas f.formulas f.part (front_sorts d ob f is) is.shared (stays f.atoms) (same_list (map form_of f.formulas))
+
 -- The entry stands first in the whole ground problem.
 pub whole_entry : (d : Specification) (ob : Obligation) (f : Front) (fs : List Symbolic) (now : Known) (new : List GroundFormula) → IsFront d ob f
     → make_upto (map form_of f.formulas) f.atoms fs ≡ Some (record { known = now; forms = map form_of new })
@@ -97,12 +105,13 @@ whole_entry d ob f fs now new is e =
     (upto_begins (map form_of f.formulas) f.atoms fs (record { known = now; forms = map form_of new }) e)
 
 -- So it does in the lazy one, whose pairs are those of its readings.
-pub lazy_kept : (d : Specification) (ob : Obligation) (f : Front) (c : Chosen) (xs : List Thing) (fs : List Symbolic) (now : Known) (behind : List GroundFormula)
-    → IsFront d ob f → IsChosen f xs c → IsMadeWithin f.atoms fs now c.room behind → HasLazyKept d (lazy_of f c now behind)
-lazy_kept d ob f c xs fs now behind is chosen made = record {
+pub lazy_kept : (d : Specification) (ob : Obligation) (f : Front) (ss : List ReadingPairs) (xs : List Thing) (fs : List Symbolic) (now : Known) (behind : List GroundFormula)
+    → IsFront d ob f → AreFound f.atoms.table (map reading_of f.readings) xs ss → make_upto [] f.atoms fs ≡ Some (record { known = now; forms = map form_of behind })
+    → HasLazyKept d (lazy_of f ss now behind)
+lazy_kept d ob f ss xs fs now behind is found made = record {
   entry = parts_entry d ob f.named.sorts f.atoms now f.formulas f.formulas f.part (front_sorts d ob f is) is.shared
-      (upto_grows [] f.atoms fs (record { known = now; forms = map form_of behind }) made.made) (same_list (map form_of f.formulas));
-  pairs = chosen.found.built;
+      (upto_grows [] f.atoms fs (record { known = now; forms = map form_of behind }) made) (same_list (map form_of f.formulas));
+  pairs = found.built;
 }
 
 -- ---- what is left
@@ -111,11 +120,14 @@ pub entry_some : (d : Specification) (sorts : List ℕ) (atoms : Known) (formula
     → IfSome found (λ q. IsEntry d (entry_with sorts atoms formulas q)) → IsEntry d (entry_with sorts atoms formulas p)
 entry_some d sorts atoms formulas found p is h = subst (λ f. IfSome f (λ q. IsEntry d (entry_with sorts atoms formulas q))) is h
 
-pub either_whole : (d : Specification) (e : EitherGround) (g : Grounded) → e ≡ Whole g → HasKept d e → HasEntry d g
+pub either_whole : (d : Specification) (e : EitherGround) (g : Grounded) → e ≡ either.Whole g → HasKept d e → HasEntry d g
 either_whole d e g is h = subst (HasKept d) is h
 
-pub either_lazy : (d : Specification) (e : EitherGround) (g : LazyGround) → e ≡ Lazy g → HasKept d e → HasLazyKept d g
+pub either_lazy : (d : Specification) (e : EitherGround) (g : LazyGround) → e ≡ either.Lazy g → HasKept d e → HasLazyKept d g
 either_lazy d e g is h = subst (HasKept d) is h
+
+pub either_left : (d : Specification) (e : EitherGround) (k : Kept) → e ≡ either.TooMany k → HasKept d e → IsKept d k
+either_left d e k is h = subst (HasKept d) is h
 
 -- ---- the entry's clauses
 
@@ -130,5 +142,6 @@ lazy_clauses d g h = by_part g.part h.entry
 -- What can be taken back has the clauses of its entry.
 pub kept_clauses : {E : Type 0} (d : Specification) (r : Result EitherGround E) → IfOk r (HasKept d) → IfOk r HasEitherClauses
 kept_clauses d (Err e) h = tt
-kept_clauses d (Ok (Whole g)) h = tt
-kept_clauses d (Ok (Lazy g)) h = lazy_clauses d g h
+kept_clauses d (Ok (either.Whole g)) h = tt
+kept_clauses d (Ok (either.Lazy g)) h = lazy_clauses d g h
+kept_clauses d (Ok (either.TooMany k)) h = tt

@@ -4,4 +4,5 @@ pub mod Parts
 pub mod Loops
 pub mod Serving
 pub mod Entries
+pub mod Counts
 pub mod Wholes

@@ -1,18 +1,15 @@
 -- Loops over pairs and over places.
-use Rattle.std.proofs.Common.{◌≡◌, ℕ, suc, ◌+◌, ◌<◌, Bool, true, false, ◌&&◌, List, [], ◌∷◌, ◌++◌, length, map, drop, drop-cons, get_or, length-append, append_assoc, Option, Some, refl, sym, ◌∙◌, ap, subst, arith}
+use Rattle.std.proofs.Common.{◌≡◌, ℕ, suc, ◌+◌, ◌<◌, Bool, true, false, ◌&&◌, List, [], ◌∷◌, ◌++◌, length, map, drop, drop-cons, get_or, append_assoc, Option, Some, refl, sym, ◌∙◌, ap, subst, arith}
 use Rattle.std.specs.Prelude.{◌==◌, None, Result, Ok, Err, IfOk, IfSome}
-use Rattle.std.specs.List.{filter, flat_map, list_any}
+use Rattle.std.specs.List.{filter, list_any}
 use Rattle.std.proofs.lemmas.List.{map-append}
 use Rattle.spec_core.specs.declared.update.Thing.{Thing}
 use Rattle.spec_core.specs.declared.update.Thing.TheVariants as thing
 use Rattle.effectors.specs.Effect.{is_thing}
 use Rattle.ground_problem.specs.Definitions.{Reading}
 use Rattle.ground_problem.specs.Equality.{rising}
-use Rattle.ground_equality.specs.Pairs.{pair_count}
-use Rattle.ground_equality.proofs.Pairs.{pairs_length}
 use Rattle.lazy_ground.specs.declared.pairs.ReadingPairs.{ReadingPairs}
 use Rattle.ground_numbers.specs.Numbers.{Table}
-use Rattle.lazy_ground.specs.Pairs.{pairs_of}
 use Rattle.lazy_ground.specs.Equal.{fits}
 use Rattle.lazy_ground.specs.Kept.{thing_of, IsBuilt, AllBuilt}
 use Rattle.lazy_ground.specs.Named.{IsNamed, ArePairsAt, ArePairsOf, AllNamed}
@@ -20,16 +17,6 @@ use Rattle.lazy_ground.specs.Named.{IsNamed, ArePairsAt, ArePairsOf, AllNamed}
 pub named_last : (o : Table) (ss : List ReadingPairs) (s : ReadingPairs) → AllNamed o ss → IsNamed o s → AllNamed o (ss ++ s ∷ [])
 named_last o [] s h k = (k, tt)
 named_last o (r ∷ ss) s h k = (h.0, named_last o ss s h.1 k)
-
--- as many formulas as the tuples of one relation more have pairs
-pub count_next : (ss : List ReadingPairs) (i : ℕ) (s : ReadingPairs) (n more all : ℕ) → i < length ss → s ≡ get_or ss i s → more ≡ pair_count (length s.tuples)
-    → n + length (flat_map pairs_of (drop i ss)) ≡ all → (n + more) + length (flat_map pairs_of (drop (i + 1) ss)) ≡ all
-count_next ss i s n more all h is m e =
-    let g : suc i ≡ i + 1 = omega arith in
-    let p : flat_map pairs_of (drop i ss) ≡ pairs_of s ++ flat_map pairs_of (drop (i + 1) ss) = ap (flat_map pairs_of) (drop-cons ss i s h) ∙ (λ j. pairs_of (sym is j) ++ flat_map pairs_of (drop (g j) ss)) in
-    let q = ap length p ∙ length-append (pairs_of s) (flat_map pairs_of (drop (i + 1) ss)) in
-    let r = pairs_length (thing.Relation s.relation) s.tuples in
-    omega (arith, q, r, m, e)
 
 -- a tuple with more or fewer places than there are lists doesn't fit
 pub not_fitting : (columns : List (List ℕ)) (t : List ℕ) → ¬ (length columns ≡ length t) → false ≡ fits columns t

@@ -1,5 +1,5 @@
 -- The whole list in three parts: the formulas in front, those that pairs stand for, and those behind.
-use Rattle.std.proofs.Common.{◌≡◌, ℕ, ◌+◌, ◌≤◌, true, Some, None, Option, List, [], ◌∷◌, ◌++◌, length, map, length-append, append_assoc, refl, sym, ◌∙◌, ap, subst, arith}
+use Rattle.std.proofs.Common.{◌≡◌, ℕ, ◌≤◌, true, Some, None, Option, List, [], ◌∷◌, ◌++◌, length, map, length-append, append_assoc, refl, sym, ◌∙◌, ap, subst, arith}
 use Rattle.std.specs.Prelude.{Err, Result, IfSome}
 use Rattle.std.specs.List.{filter, flat_map}
 use Rattle.std.proofs.lemmas.Grind.{flat_map-append}
@@ -31,18 +31,17 @@ use Rattle.ground_constants.specs.Calls.{numbered_arguments}
 use Rattle.ground_groups.specs.Limited.{make_upto, Appends}
 use Rattle.ground_groups.specs.declared.refused.GroundRefused.{GroundRefused}
 use Rattle.ground_groups.specs.declared.refused.GroundRefused.TheVariants.{TooMany, Memory}
-use Rattle.ground_groups.proofs.Lists.{upto_made, upto_length, upto_none, seq}
+use Rattle.ground_groups.proofs.Lists.{upto_made, upto_none, seq}
 use Rattle.instances.specs.declared.entry.EntryPart.{EntryPart}
 use Rattle.instances.proofs.Whole.{many_made}
 use Rattle.lazy_ground.specs.declared.pairs.ReadingPairs.{ReadingPairs}
-use Rattle.lazy_ground.specs.declared.choosing.Chosen.{Chosen}
 use Rattle.lazy_ground.specs.declared.front.Front.{Front}
 use Rattle.lazy_ground.specs.declared.grounding.LazyGround.{LazyGround}
 use Rattle.lazy_ground.specs.Pairs.{pairs_of, pair_forms}
 use Rattle.lazy_ground.specs.Lazy.{IsLazyGround, ArePairs, IsGroundEither}
 use Rattle.lazy_ground.specs.Kept.{thing_of, AllBuilt}
 use Rattle.lazy_ground.specs.Named.{readings_known, AllNamed, AreFound}
-use Rattle.lazy_ground.specs.Front.{front_of, entry_readings, HasPart, IsFront, IsFrontOr, IsChosen, IsMadeWithin}
+use Rattle.lazy_ground.specs.Front.{front_of, entry_readings, HasPart, IsFront, IsFrontOr}
 use Rattle.lazy_ground.proofs.Stays.{naming_all-append, all_names_there, all_numbered-stay, all_names-stay, all_names_in}
 
 -- ---- the list
@@ -116,14 +115,6 @@ module _ (k l m : Known) (fs ps bs : List Symbolic) (front behind : List Numbere
       ∙ ap (λ (l : List Numbered). map (numbered m.table) fs ++ l) (sym (map-append (numbered m.table) ps bs))
       ∙ sym (map-append (numbered m.table) fs (ps ++ bs))
 
-  pub parts_length : length (fs ++ (ps ++ bs)) ≡ length front + (length ps + length behind)
-  parts_length =
-      let a = length-append fs (ps ++ bs) in
-      let b = length-append ps bs in
-      let c = upto_length [] k fs (record { known = l; forms = front }) in_front in
-      let e = upto_length [] l bs (record { known = m; forms = behind }) then_behind in
-      omega (arith, a, b, c, e)
-
 -- ---- pairs over a larger table
 
 map_flat_map : (o : Table) (ss : List ReadingPairs) → flat_map (pair_forms o) ss ≡ map (numbered o) (flat_map pairs_of ss)
@@ -194,7 +185,7 @@ pub lazy_made : (d : Specification) (ob : Obligation) (l m : Known) (rs cs : Lis
     → AllNamed l.table g.pairs
     → make_upto [] l (congruence (entry_readings d ob) cs) ≡ Some (record { known = m; forms = map form_of g.behind })
     → m ≡ g.atoms
-    → length g.front + (length (flat_map pairs_of g.pairs) + length g.behind) ≤ most_formulas
+    → length (formulas_of d ob) ≤ most_formulas
     → IsLazyGround d ob g
 lazy_made d ob l m rs cs g consts calls elements entry all in_front found named then_behind same few =
     let k = numbered_arguments d ob in
@@ -206,12 +197,8 @@ lazy_made d ob l m rs cs g consts calls elements entry all in_front found named 
     let whole : fs ++ (ps ++ bs) ≡ formulas_of d ob = ap (λ (x : List Symbolic). fs ++ (x ++ bs)) found ∙ three_parts d ob rs cs all in
     let table : m.table ≡ table_of d ob = parts_table k l m fs ps bs _ _ in_front there then_behind ∙ ap (naming_all k.table) whole in
     let tables : g.atoms.table ≡ m.table = ap (λ (z : Known). z.table) (sym same) in
-    let sizes = parts_length k l m fs ps bs _ _ in_front there then_behind in
-    let front_size : length (map form_of g.front) ≡ length g.front = length-map g.front form_of in
-    let behind_size : length (map form_of g.behind) ≡ length g.behind = length-map g.behind form_of in
-    let size : length (formulas_of d ob) ≡ length (fs ++ (ps ++ bs)) = ap length (sym whole) in
     record {
-      few = omega (arith, few, sizes, front_size, behind_size, size);
+      few = few;
       consts = consts;
       calls = calls;
       elements = elements;
@@ -254,11 +241,11 @@ part_within d ob atoms formulas (Some p) h =
     omega (arith, a, b, c)
 
 -- what is made of the front, the pairs and the formulas behind them
-abbrev pub lazy_of : Front → Chosen → Known → List GroundFormula → LazyGround
-lazy_of f c now behind = record {
+abbrev pub lazy_of : Front → List ReadingPairs → Known → List GroundFormula → LazyGround
+lazy_of f ss now behind = record {
   atoms = now;
   front = f.formulas;
-  pairs = c.pairs;
+  pairs = ss;
   behind = behind;
   sorts = f.named.sorts;
   calls = f.named.calls;
@@ -267,18 +254,17 @@ lazy_of f c now behind = record {
   part = f.part;
 }
 
-pub lazy_from : (d : Specification) (ob : Obligation) (f : Front) (c : Chosen) (xs ys : List Thing) (rs : List NamedReading) (new : Known) (behind : List GroundFormula)
-    → IsFront d ob f → IsChosen f xs c → xs ++ ys ≡ things d → rs ≡ f.readings → IsMadeWithin f.atoms (congruence (map reading_of rs) ys) new c.room behind → IsLazyGround d ob (lazy_of f c new behind)
-lazy_from d ob f c xs ys rs new behind is chosen all q made =
-    let a = chosen.room in
-    let b = made.few in
-    lazy_made d ob f.atoms new xs ys (lazy_of f c new behind)
+pub lazy_from : (d : Specification) (ob : Obligation) (f : Front) (ss : List ReadingPairs) (xs ys : List Thing) (rs : List NamedReading) (new : Known) (behind : List GroundFormula)
+    → length (formulas_of d ob) ≤ most_formulas → IsFront d ob f → AreFound f.atoms.table (map reading_of f.readings) xs ss → xs ++ ys ≡ things d → rs ≡ f.readings
+    → make_upto [] f.atoms (congruence (map reading_of rs) ys) ≡ Some (record { known = new; forms = map form_of behind }) → IsLazyGround d ob (lazy_of f ss new behind)
+lazy_from d ob f ss xs ys rs new behind few is found all q made =
+    lazy_made d ob f.atoms new xs ys (lazy_of f ss new behind)
     (ap (λ (z : Constants). z.sorts) is.constants)
     is.calls
     (ap (λ (z : Constants). z.elements) is.constants)
     (part_within d ob f.atoms f.formulas f.part is.shared)
     all is.made
-    (found_pairs f.atoms.table (map reading_of f.readings) xs c.pairs chosen.found ∙ ap (λ (qs : List Reading). congruence qs xs) is.readings)
-    chosen.found.named
-    (ap (λ (qs : List Reading). make_upto [] f.atoms (congruence qs ys)) (sym (ap (map reading_of) q ∙ is.readings)) ∙ made.made)
-    refl (omega (arith, a, b))
+    (found_pairs f.atoms.table (map reading_of f.readings) xs ss found ∙ ap (λ (qs : List Reading). congruence qs xs) is.readings)
+    found.named
+    (ap (λ (qs : List Reading). make_upto [] f.atoms (congruence qs ys)) (sym (ap (map reading_of) q ∙ is.readings)) ∙ made)
+    refl few

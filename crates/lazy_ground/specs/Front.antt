@@ -1,8 +1,6 @@
 -- The formulas of an obligation before those on equal readings. It mirrors the code.
-use Rattle.std.specs.Prelude.{◌≡◌, ℕ, ◌+◌, ◌<◌, ◌≤◌, Some, Result, Ok, Err, IfSome, List, [], ◌++◌, length, map}
-use Rattle.std.specs.List.{flat_map}
+use Rattle.std.specs.Prelude.{◌≡◌, ℕ, ◌<◌, Option, Some, None, Result, Ok, Err, IfSome, List, [], ◌++◌, length, map}
 use Rattle.spec_core.specs.Specification.{Specification}
-use Rattle.spec_core.specs.declared.update.Thing.{Thing}
 use Rattle.obligation_list.specs.declared.obligation.Obligation.{Obligation}
 use Rattle.ground_problem.specs.Symbols.{Symbolic}
 use Rattle.ground_problem.specs.Constants.{constants_of}
@@ -23,9 +21,6 @@ use Rattle.instances.specs.declared.entry.EntryPart.{EntryPart}
 use Rattle.ground_groups.specs.declared.refused.GroundRefused.{GroundRefused}
 use Rattle.ground_groups.specs.declared.refused.GroundRefused.TheVariants.{TooMany, Memory}
 use Rattle.lazy_ground.specs.declared.front.Front.{Front}
-use Rattle.lazy_ground.specs.declared.choosing.Chosen.{Chosen}
-use Rattle.lazy_ground.specs.Pairs.{pairs_of}
-use Rattle.lazy_ground.specs.Named.{AreFound}
 
 -- what is stated and defined, and that equality goes over constants
 abbrev pub front_of : Specification → Obligation → List Symbolic
@@ -59,12 +54,7 @@ IsFrontOr d ob (Ok f) = IsFront d ob f
 IsFrontOr d ob (Err TooMany) = most_formulas < length (formulas_of d ob)
 IsFrontOr d ob (Err Memory) = Unit {0}
 
--- pairs that stand for the formulas on equal readings of these things, and the room that is left beside all these
-pub record IsChosen (f : Front) (xs : List Thing) (c : Chosen) : Type 0 where
-  pub found : AreFound f.atoms.table (map reading_of f.readings) xs c.pairs
-  pub room : length f.formulas + (length (flat_map pairs_of c.pairs) + c.room) ≤ most_formulas
-
--- these formulas, made from nothing, at most so many
-pub record IsMadeWithin (old : Known) (fs : List Symbolic) (new : Known) (room : ℕ) (forms : List GroundFormula) : Type 0 where
-  pub made : make_upto [] old fs ≡ Some (record { known = new; forms = map form_of forms })
-  pub few : length forms ≤ room
+-- a count of so many, which stops where there are more than there may be formulas
+abbrev pub IsCount : Option ℕ → ℕ → Type 0
+IsCount (Some n) all = n ≡ all
+IsCount None all = most_formulas < all

@@ -16,7 +16,7 @@ use Rattle.lazy_ground.specs.declared.keeping.KeptPairs.{KeptPairs}
 use Rattle.lazy_ground.specs.declared.completing.WholeGround.{WholeGround}
 use Rattle.lazy_ground.specs.declared.grounding.LazyGround.{LazyGround}
 use Rattle.lazy_ground.specs.declared.grounding.EitherGround.{EitherGround}
-use Rattle.lazy_ground.specs.declared.grounding.EitherGround.TheVariants.{Whole, Lazy}
+use Rattle.lazy_ground.specs.declared.grounding.EitherGround.TheVariants.{Whole, Lazy, TooMany}
 use Rattle.lazy_ground.specs.declared.grounding.Kept.{Kept}
 use Rattle.lazy_ground.specs.Equal.{fits}
 use Rattle.lazy_ground.specs.Pairs.{AreDifferent}
@@ -50,10 +50,11 @@ pub record HasLazyKept (d : Specification) (g : LazyGround) : Type 0 where
   pub entry : IfSome g.part (λ p. IsEntry d (entry_with g.sorts g.atoms g.front p))
   pub pairs : IsKeptPairs (record { readings = g.readings; pairs = g.pairs })
 
--- a problem from which that can be taken back; from a whole one its entry alone
+-- a problem from which that can be taken back; from a whole one its entry alone, and where there are too many formulas what is there
 abbrev pub HasKept : Specification → EitherGround → Type 0
 HasKept d (Whole g) = HasEntry d g
 HasKept d (Lazy g) = HasLazyKept d g
+HasKept d (TooMany k) = IsKept d k
 
 -- The entry can be taken back from a lazy problem that was completed, and its pairs are those of its readings.
 pub record HasWholeKept (d : Specification) (w : WholeGround) : Type 0 where
@@ -64,7 +65,8 @@ pub record HasWholeKept (d : Specification) (w : WholeGround) : Type 0 where
 abbrev pub HasClauses : LazyGround → Type 0
 HasClauses g = IfSome g.part (HasClausesOf (map form_of g.front))
 
--- so it is with a lazy problem; of a whole one nothing is said
+-- so it is with a lazy problem; else nothing is said
 abbrev pub HasEitherClauses : EitherGround → Type 0
 HasEitherClauses (Whole g) = Unit {0}
 HasEitherClauses (Lazy g) = HasClauses g
+HasEitherClauses (TooMany k) = Unit {0}

@@ -17,7 +17,7 @@ use Rattle.instances.specs.Ground.{IsGrounded}
 use Rattle.lazy_ground.specs.declared.pairs.ReadingPairs.{ReadingPairs}
 use Rattle.lazy_ground.specs.declared.grounding.LazyGround.{LazyGround}
 use Rattle.lazy_ground.specs.declared.grounding.EitherGround.{EitherGround}
-use Rattle.lazy_ground.specs.declared.grounding.EitherGround.TheVariants.{Whole, Lazy}
+use Rattle.lazy_ground.specs.declared.grounding.EitherGround.TheVariants as either
 use Rattle.lazy_ground.specs.Pairs.{pair_forms, AreDifferent, HasAtoms}
 use Rattle.lazy_ground.specs.Named.{AllNamed}
 
@@ -48,9 +48,10 @@ pub record IsLazyGround (d : Specification) (ob : Obligation) (g : LazyGround) :
   pub named : AllNamed g.atoms.table g.pairs
   pub entry : IfSome g.part (λ p. p.size.formulas ≤ length g.front)
 
--- There is one, whole or lazy, where the list has at most so many formulas, and it has too many where it has more.
+-- There is one, whole or lazy, where the list has at most so many formulas, and it has too many where it has more, whatever is left then.
 abbrev pub IsGroundEither : Specification → Obligation → Result EitherGround GroundRefused → Type 0
-IsGroundEither d ob (Ok (Whole g)) = (length (formulas_of d ob) ≤ most_formulas) × IsGrounded d ob g
-IsGroundEither d ob (Ok (Lazy g)) = IsLazyGround d ob g
+IsGroundEither d ob (Ok (either.Whole g)) = (length (formulas_of d ob) ≤ most_formulas) × IsGrounded d ob g
+IsGroundEither d ob (Ok (either.Lazy g)) = IsLazyGround d ob g
+IsGroundEither d ob (Ok (either.TooMany k)) = most_formulas < length (formulas_of d ob)
 IsGroundEither d ob (Err TooMany) = most_formulas < length (formulas_of d ob)
 IsGroundEither d ob (Err Memory) = Unit {0}

@@ -1,11 +1,14 @@
-// Whether the formulas on equal readings of relations are left to tuples: where there are enough of them, and not too many.
-ghost use Rattle.std.specs.Prelude.{◌≡◌, ◌≤◌, ◌+◌, length, map, IfOk, IfSome};
-ghost use Rattle.std.specs.List.{flat_map};
-ghost use Rattle.ground_problem.specs.Problem.{most_formulas};
+// Whether there are too many formulas, and whether those on equal readings of relations are left to tuples: where there are enough of them.
+ghost use Rattle.std.specs.Prelude.{◌≡◌, ◌≤◌, ◌+◌, ◌++◌, ltb, length, map, IfOk, IfSome};
+ghost use Rattle.std.specs.List.{filter, flat_map};
+ghost use Rattle.obligation_list.specs.Obligations.{things};
+ghost use Rattle.effectors.specs.Effect as effect;
+ghost use Rattle.ground_problem.specs.Equality.{congruence};
+ghost use Rattle.ground_problem.specs.Problem.{formulas_of, most_formulas};
 ghost use Rattle.ground_equality.specs.Pairs.{pair_count};
-ghost use Rattle.lazy_ground.specs.Pairs.{pairs_of};
 ghost use Rattle.ground_atoms.specs.Symbols.{reading_of};
-ghost use Rattle.lazy_ground.specs.Front.{IsChosen};
+ghost use Rattle.lazy_ground.specs.Pairs.{pairs_of};
+ghost use Rattle.lazy_ground.specs.Front.{IsFront, IsCount};
 ghost use Rattle.lazy_ground.specs.Named.{AreFound};
 ghost use Rattle.lazy_ground.specs.Kept.{IsKeptPairs};
 
@@ -13,30 +16,39 @@ use crate::front::Front;
 use crate::keeping::{KeptPairs, serves};
 use crate::naming::pairs_of_all;
 use crate::pairs::ReadingPairs;
+use effectors::is_thing;
 use ground_atoms::NamedReading;
 use ground_groups::adding::MOST_FORMULAS;
 use items::Items;
-use spec_core::Thing;
+use obligation_list::Obligation;
 use spec_core::limits::MOST_RELATIONS;
+use spec_core::{Spec, Thing};
 use std::alloc::{AllocError, Global};
 
 /// Where there are fewer pairs of tuples, all formulas are made.
 pub const FEWEST_PAIRS: usize = 40;
 
-/// More tuples of one relation have more pairs than there may be formulas.
+/// More tuples of one thing have more pairs than there may be formulas.
 pub const MOST_TUPLES: usize = 250;
 
-/// The pairs of the readings of relations, and how many formulas there may be beside theirs and those in front.
-#[derive(Drop)]
-pub struct Chosen {
-    pub pairs: Items<ReadingPairs>,
-    pub room: usize,
+// How many of the readings are of a thing.
+fn count_readings(readings: &[NamedReading], thing: Thing) -> usize
+    ensures { result
+        ≡ length (filter (λ q. effect.is_thing q.thing thing) (map reading_of readings.now)) }
+{
+    let mut count: usize = 0;
+    for reading in readings {
+        if is_thing(reading.thing, thing) {
+            count += 1;
+        }
+    }
+    count
 }
 
 #[tactic(auto, using(ground_equality::proofs::Pairs::pairs_more))]
-// How many pairs so many tuples make; nothing where there are too many tuples.
+// How many pairs so many tuples make; nothing where they are more than there may be formulas.
 fn count_pairs(tuples: usize) -> Option<usize>
-    ensures count { IfSome result (λ n. n ≡ pair_count tuples) }
+    ensures count { IsCount result (pair_count tuples) }
     ensures few { IfSome result (λ n. n ≤ 62500) }
 {
     if tuples > MOST_TUPLES {
@@ -49,49 +61,75 @@ fn count_pairs(tuples: usize) -> Option<usize>
     Some(pairs)
 }
 
-// How many formulas they stand for; nothing where there are too many.
-fn count_all(pairs: &[ReadingPairs]) -> Option<usize>
-    ensures { IfSome result (λ n. n ≡ length (flat_map pairs_of pairs.now)) }
+// How many formulas there are on equal readings of these things; nothing where they are more than there may be. None is made for this.
+fn count_equal(readings: &[NamedReading], things: &[Thing]) -> Option<usize>
+    ensures count { IsCount result (length (congruence (map reading_of readings.now) things.now)) }
+    ensures few { IfSome result (λ n. n ≤ most_formulas) }
 {
     let mut count: usize = 0;
-    for some in pairs {
-        let more = count_pairs(some.tuples.len())?;
+    for thing in things {
+        let more = count_pairs(count_readings(readings, *thing))?;
+        count += more;
         if count > MOST_FORMULAS {
             return None;
         }
-        count += more;
     }
     Some(count)
 }
 
-// The room that is left beside these and so many other formulas; nothing where there are few of these, or too many together.
-fn room_beside(pairs: &[ReadingPairs], others: usize) -> Option<usize>
-    ensures { IfSome result (λ room. others + (length (flat_map pairs_of pairs.now) + room)
-        ≤ most_formulas) }
+// How many formulas these pairs stand for; nothing where they are more than there may be.
+fn count_found(pairs: &[ReadingPairs]) -> Option<usize>
+    ensures count { IsCount result (length (flat_map pairs_of pairs.now)) }
+    ensures few { IfSome result (λ n. n ≤ most_formulas) }
 {
-    let count = count_all(pairs)?;
-    if count < FEWEST_PAIRS || others > MOST_FORMULAS {
-        return None;
+    let mut count: usize = 0;
+    for some in pairs {
+        let more = count_pairs(some.tuples.len())?;
+        count += more;
+        if count > MOST_FORMULAS {
+            return None;
+        }
     }
-    let room = MOST_FORMULAS - others;
-    if count > room {
-        return None;
-    }
-    Some(room - count)
+    Some(count)
 }
 
-// These with the room that is left, where it is worthwhile.
-fn with_room(pairs: Items<ReadingPairs>, others: usize) -> Option<Chosen>
-    ensures pairs { IfSome result (λ c. c.pairs ≡ pairs) }
-    ensures room { IfSome result (λ c. others + (length (flat_map pairs_of c.pairs) + c.room)
-        ≤ most_formulas) }
+/// Whether the list has too many formulas, of which the front is made, and the pairs of the readings of relations.
+pub fn has_too_many_beside(
+    spec: &Spec,
+    ob: &Obligation,
+    front: &Front,
+    pairs: &[ReadingPairs],
+    relations: &[Thing],
+    counters: &[Thing],
+) -> bool
+    requires front { IsFront spec.now ob.now front.now }
+    requires pairs { AreFound front.now.atoms.table (map reading_of front.now.readings) relations.now pairs.now }
+    requires things { relations.now ++ counters.now ≡ things spec.now }
+    ensures { result ≡ ltb most_formulas (length (formulas_of spec.now ob.now)) }
 {
-    match room_beside(pairs.as_slice(), others) {
-        Some(room) => Some(Chosen { pairs, room }),
-        None => {
-            drop(pairs);
-            None
-        }
+    let _spec = spec;
+    let _ob = ob;
+    let _relations = relations;
+    let Some(found) = count_found(pairs) else {
+        return true;
+    };
+    match count_equal(front.readings.as_slice(), counters) {
+        Some(others) => front.formulas.len() + found + others > MOST_FORMULAS,
+        None => true,
+    }
+}
+
+/// Whether the list has too many formulas, of which the front is made.
+pub fn has_too_many(spec: &Spec, ob: &Obligation, front: &Front, all: &[Thing]) -> bool
+    requires front { IsFront spec.now ob.now front.now }
+    requires things { all.now ≡ things spec.now }
+    ensures { result ≡ ltb most_formulas (length (formulas_of spec.now ob.now)) }
+{
+    let _spec = spec;
+    let _ob = ob;
+    match count_equal(front.readings.as_slice(), all) {
+        Some(count) => front.formulas.len() + count > MOST_FORMULAS,
+        None => true,
     }
 }
 
@@ -125,8 +163,9 @@ fn made_pairs(
     pairs_of_all(&front.atoms, alloc, front.readings.as_slice(), relations)
 }
 
-// The same: those that are kept, where they serve.
-fn pairs_for(
+/// The pairs of the readings of these relations, where it is worthwhile to leave their formulas to them, and they name nothing new. Those
+/// that are kept are taken, where they serve.
+pub fn choose(
     alloc: Global,
     front: &Front,
     relations: &[Thing],
@@ -153,22 +192,5 @@ fn pairs_for(
             made_pairs(alloc, front, relations)
         }
         None => made_pairs(alloc, front, relations),
-    }
-}
-
-/// The pairs of the readings of these relations, where it is worthwhile to leave their formulas to them, and they name nothing new.
-pub fn choose(
-    alloc: Global,
-    front: &Front,
-    relations: &[Thing],
-    kept: Option<KeptPairs>,
-) -> Result<Option<Chosen>, AllocError>
-    requires { IfSome kept IsKeptPairs }
-    ensures { IfOk result (λ found. IfSome found (IsChosen front.now relations.now)) }
-{
-    match pairs_for(alloc, front, relations, kept) {
-        Ok(Some(pairs)) => Ok(with_room(pairs, front.formulas.len())),
-        Ok(None) => Ok(None),
-        Err(error) => Err(error),
     }
 }

@@ -1,15 +1,18 @@
-// The ground problem of an obligation: the whole of it where it has few pairs of readings, and else the lazy one.
-ghost use Rattle.std.specs.Prelude.{◌≡◌, ◌++◌, map, IfOk, IfSome};
+// The ground problem of an obligation: the whole of it where it has few pairs of readings, and else the lazy one. The formulas are counted
+// before those on equal readings are made: where they are too many, none of these is.
+ghost use Rattle.std.specs.Prelude.{◌≡◌, ◌≤◌, ◌++◌, length, map, IfOk, IfSome};
 ghost use Rattle.obligation_list.specs.Obligations.{IsObligation, things};
-ghost use Rattle.ground_problem.specs.Equality as equality;
+ghost use Rattle.obligation_list.specs.declared.obligation.Obligation.{Obligation};
+ghost use Rattle.ground_problem.specs.Problem.{formulas_of, most_formulas};
 ghost use Rattle.ground_atoms.specs.Symbols.{reading_of};
-ghost use Rattle.lazy_ground.specs.Front.{IsFront, IsChosen, IsMadeWithin};
+ghost use Rattle.lazy_ground.specs.Front.{IsFront};
+ghost use Rattle.lazy_ground.specs.Named.{AreFound};
 ghost use Rattle.spec_core.specs.Specification.{Specification};
 ghost use Rattle.instances.specs.Entry.{IsEntry, entry_with};
 ghost use Rattle.lazy_ground.specs.Kept.{IsKeptPairs, IsKept, HasLazyKept, HasKept, HasEitherClauses};
 ghost use Rattle.lazy_ground.specs.Lazy.{IsGroundEither};
 
-use crate::choosing::{Chosen, choose};
+use crate::choosing::{choose, has_too_many, has_too_many_beside};
 use crate::front::{Front, make_front};
 use crate::keeping::KeptPairs;
 use crate::pairs::ReadingPairs;
@@ -18,7 +21,7 @@ use ground_constants::constants::Named;
 use ground_constants::things::things_of;
 use ground_equality::agreeing::add_congruence;
 use ground_groups::GroundRefused;
-use instances::{Entry, EntryPart, Grounded, ground_from};
+use instances::{Entry, EntryPart, Grounded};
 use items::Items;
 use obligation_list::Obligation;
 use spec_core::{Spec, Thing};
@@ -41,11 +44,12 @@ pub struct LazyGround {
     pub part: Option<EntryPart>,
 }
 
-/// A ground problem, whole or lazy.
+/// A ground problem, whole or lazy; or that there are too many formulas, with what is left for the next obligation.
 #[derive(Drop)]
 pub enum EitherGround {
     Whole(Grounded),
     Lazy(LazyGround),
+    TooMany(Kept),
 }
 
 /// What the ground problem of one obligation leaves for the next one.
@@ -93,6 +97,50 @@ fn entry_of(
     }
 }
 
+// Pairs of readings, to be kept with these; nothing where none were made.
+fn kept_with(readings: Items<NamedReading>, pairs: Option<Items<ReadingPairs>>) -> Option<KeptPairs>
+    requires { IfSome pairs (λ ss. IsKeptPairs (record { readings = readings; pairs = ss })) }
+    ensures { IfSome result IsKeptPairs }
+{
+    match pairs {
+        Some(pairs) => Some(KeptPairs { readings, pairs }),
+        None => {
+            drop(readings);
+            None
+        }
+    }
+}
+
+impl Front {
+    // What it leaves for the next obligation, with the pairs of its readings, where they were made.
+    fn into_kept(self, pairs: Option<Items<ReadingPairs>>) -> Kept
+        requires { IfSome pairs
+            (λ ss. IsKeptPairs (record { readings = self.readings; pairs = ss })) }
+        ensures { (d : Specification) (ob : Obligation) → IsFront d ob self → IsKept d result }
+    {
+        let Front {
+            named,
+            atoms,
+            formulas,
+            readings,
+            part,
+        } = self;
+        let Named {
+            sorts,
+            calls,
+            chosen,
+            elements,
+        } = named;
+        drop(calls);
+        drop(chosen);
+        drop(elements);
+        Kept {
+            entry: entry_of(sorts, atoms, formulas, part),
+            pairs: kept_with(readings, pairs),
+        }
+    }
+}
+
 impl LazyGround {
     /// What it leaves for the next obligation.
     pub fn into_kept(self) -> Kept
@@ -130,19 +178,8 @@ impl EitherGround {
                 pairs: None,
             },
             EitherGround::Lazy(ground) => ground.into_kept(),
+            EitherGround::TooMany(kept) => kept,
         }
-    }
-}
-
-// The whole ground problem, made anew.
-fn anew(alloc: Global, spec: &Spec, ob: &Obligation) -> Result<EitherGround, GroundRefused>
-    requires { IsObligation spec.now ob.now }
-    ensures ground { IsGroundEither spec.now ob.now result }
-    ensures kept { IfOk result (HasKept spec.now) }
-{
-    match ground_from(alloc, spec, ob, None) {
-        Ok(ground) => Ok(EitherGround::Whole(ground)),
-        Err(refused) => Err(refused),
     }
 }
 
@@ -194,50 +231,24 @@ fn whole(
     }))
 }
 
-// The formulas on equal readings of these things, where they are at most so many.
-fn made_within(
-    atoms: &mut Atoms,
-    alloc: Global,
-    spec: &Spec,
-    readings: &[NamedReading],
-    counters: &[Thing],
-    room: usize,
-) -> Result<Option<Items<GroundFormula>>, AllocError>
-    ensures { IfOk result (λ found. IfSome found
-        (IsMadeWithin atoms.old (equality.congruence (map reading_of readings.now) counters.now)
-        atoms.new room)) }
-{
-    let mut out = Items::new(alloc);
-    match add_congruence(atoms, alloc, spec, readings, counters, &mut out) {
-        Ok(()) if out.len() <= room => Ok(Some(out)),
-        Err(GroundRefused::Memory) => {
-            drop(out);
-            Err(AllocError)
-        }
-        _ => {
-            drop(out);
-            Ok(None)
-        }
-    }
-}
-
-// The lazy ground problem, of which the front and the pairs are made; the whole one where it has too many formulas.
+// The lazy ground problem, of which the front and the pairs are made.
 fn lazily(
     alloc: Global,
     spec: &Spec,
     ob: &Obligation,
     front: Front,
-    chosen: Chosen,
+    pairs: Items<ReadingPairs>,
     relations: &[Thing],
     counters: &[Thing],
 ) -> Result<EitherGround, GroundRefused>
-    requires member { IsObligation spec.now ob.now }
+    requires few { length (formulas_of spec.now ob.now) ≤ most_formulas }
     requires front { IsFront spec.now ob.now front }
-    requires chosen { IsChosen front relations.now chosen }
+    requires pairs { AreFound front.atoms.table (map reading_of front.readings) relations.now pairs }
     requires things { relations.now ++ counters.now ≡ things spec.now }
     ensures ground { IsGroundEither spec.now ob.now result }
     ensures kept { IfOk result (HasKept spec.now) }
 {
+    let _ob = ob;
     let _relations = relations;
     let Front {
         named,
@@ -246,45 +257,78 @@ fn lazily(
         readings,
         part,
     } = front;
-    let Chosen { pairs, room } = chosen;
-    let made = made_within(&mut atoms, alloc, spec, readings.as_slice(), counters, room);
-    let is_refused = match made {
-        Ok(Some(behind)) => {
-            let Named {
-                sorts,
-                calls,
-                chosen,
-                elements,
-            } = named;
-            drop(chosen);
-            return Ok(EitherGround::Lazy(LazyGround {
-                atoms,
-                front: formulas,
-                pairs,
-                behind,
-                sorts,
-                calls,
-                elements,
-                readings,
-                part,
-            }));
-        }
-        Ok(None) => false,
-        Err(AllocError) => true,
-    };
-    drop(named);
-    drop(readings);
-    drop(part);
-    drop(atoms);
-    drop(formulas);
-    drop(pairs);
-    if is_refused {
-        return Err(GroundRefused::Memory);
-    }
-    anew(alloc, spec, ob)
+    let mut behind = Items::new(alloc);
+    let added = add_congruence(
+        &mut atoms,
+        alloc,
+        spec,
+        readings.as_slice(),
+        counters,
+        &mut behind,
+    );
+    or_drop!(added; behind, pairs, part, readings, formulas, named, atoms);
+    let Named {
+        sorts,
+        calls,
+        chosen,
+        elements,
+    } = named;
+    drop(chosen);
+    Ok(EitherGround::Lazy(LazyGround {
+        atoms,
+        front: formulas,
+        pairs,
+        behind,
+        sorts,
+        calls,
+        elements,
+        readings,
+        part,
+    }))
 }
 
-// The same, of which the front is made: whole or lazy, as is chosen.
+// The lazy ground problem, of which the front and the pairs are made; or that there are too many formulas.
+fn lazily_within(
+    alloc: Global,
+    spec: &Spec,
+    ob: &Obligation,
+    front: Front,
+    pairs: Items<ReadingPairs>,
+    relations: &[Thing],
+    counters: &[Thing],
+) -> Result<EitherGround, GroundRefused>
+    requires front { IsFront spec.now ob.now front }
+    requires pairs { AreFound front.atoms.table (map reading_of front.readings) relations.now pairs }
+    requires things { relations.now ++ counters.now ≡ things spec.now }
+    ensures ground { IsGroundEither spec.now ob.now result }
+    ensures kept { IfOk result (HasKept spec.now) }
+{
+    if has_too_many_beside(spec, ob, &front, pairs.as_slice(), relations, counters) {
+        return Ok(EitherGround::TooMany(front.into_kept(Some(pairs))));
+    }
+    lazily(alloc, spec, ob, front, pairs, relations, counters)
+}
+
+// The whole ground problem, of which the front is made; or that there are too many formulas.
+fn whole_within(
+    alloc: Global,
+    spec: &Spec,
+    ob: &Obligation,
+    front: Front,
+    all: &[Thing],
+) -> Result<EitherGround, GroundRefused>
+    requires front { IsFront spec.now ob.now front }
+    requires things { all.now ≡ things spec.now }
+    ensures ground { IsGroundEither spec.now ob.now result }
+    ensures kept { IfOk result (HasKept spec.now) }
+{
+    if has_too_many(spec, ob, &front, all) {
+        return Ok(EitherGround::TooMany(front.into_kept(None)));
+    }
+    whole(alloc, spec, ob, front, all)
+}
+
+// The ground problem, of which the front is made: whole or lazy, as is chosen; or that there are too many formulas.
 fn as_chosen(
     alloc: Global,
     spec: &Spec,
@@ -293,7 +337,6 @@ fn as_chosen(
     all: &[Thing],
     kept: Option<KeptPairs>,
 ) -> Result<EitherGround, GroundRefused>
-    requires member { IsObligation spec.now ob.now }
     requires front { IsFront spec.now ob.now front }
     requires things { all.now ≡ things spec.now }
     requires kept { IfSome kept IsKeptPairs }
@@ -303,8 +346,8 @@ fn as_chosen(
     let count = spec.relations.len().min(all.len());
     let (relations, counters) = all.split_at(count);
     match choose(alloc, &front, relations, kept) {
-        Ok(Some(chosen)) => lazily(alloc, spec, ob, front, chosen, relations, counters),
-        Ok(None) => whole(alloc, spec, ob, front, all),
+        Ok(Some(pairs)) => lazily_within(alloc, spec, ob, front, pairs, relations, counters),
+        Ok(None) => whole_within(alloc, spec, ob, front, all),
         Err(AllocError) => {
             drop(front);
             Err(GroundRefused::Memory)
@@ -340,7 +383,9 @@ pub fn ground_lazily_from(
 }
 
 /// The ground problem of an obligation of the specification. It is whole where there are few pairs of readings, or where a pair names an
-/// equality that no formula in front of it names. It has too many formulas exactly where the list has more than 20,000.
+/// equality that no formula in front of it names. It has too many formulas exactly where the list has more than 20,000: those on equal
+/// readings are counted before any of them is made, and what was made of the entry is left then; a list that is too long without them is
+/// refused, and leaves nothing.
 pub fn ground_lazily(
     alloc: Global,
     spec: &Spec,

@@ -4,7 +4,8 @@
 // relation that any invariant names, and a search needs few of them. Here a relation's tuples stand for all these formulas, and the one
 // of two tuples is made when it is asked for (src/pairs.rt). They name nothing that isn't named before them, which is tested; so the
 // formulas before and behind them have the numbers that they have in the whole problem (src/grounding.rt). Where a search needs all
-// of them, they are made and put between, and that is the whole problem (src/completing.rt).
+// of them, they are made and put between, and that is the whole problem (src/completing.rt). All formulas on equal tuples are counted
+// before any of them is made: a list with too many ends there (src/choosing.rt).
 //
 // Obligations of a specification mostly share their entry and its readings. What is made of the entry is cut back for the next
 // obligation, and the pairs are taken over where that one's readings are the same; only what depends on numbers is tested anew

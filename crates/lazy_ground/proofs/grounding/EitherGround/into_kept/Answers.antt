@@ -1,4 +1,4 @@
-use Rattle.lazy_ground.proofs.Entries.{either_whole, either_lazy}
+use Rattle.lazy_ground.proofs.Entries.{either_whole, either_lazy, either_left}
 use Rattle.lazy_ground.proofs.grounding.EitherGround.into_kept.Goals as goal
 
 pub returns-in-Whole : goal.returns-in-Whole
@@ -6,3 +6,6 @@ returns-in-Whole c = λ d h. record { entry = c.into_entry.ensures d (either_who
 
 pub returns-in-Lazy : goal.returns-in-Lazy
 returns-in-Lazy c = λ d h. c.into_kept.ensures d (either_lazy d c.args.self c.in-Lazy.ground c.in-Lazy.is h)
+
+pub returns-in-TooMany : goal.returns-in-TooMany
+returns-in-TooMany c = λ d h. either_left d c.args.self c.in-TooMany.kept c.in-TooMany.is h
