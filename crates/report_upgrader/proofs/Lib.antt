@@ -3,7 +3,7 @@ mod Passes
 mod Follows
 mod FirstWords
 mod LineKinds
-mod LastLines
+mod Plans
 mod Gathered
 mod LogBytes
 mod Texts

@@ -7,7 +7,6 @@ use Rattle.std.proofs.lemmas.Bool.{and_parts, leb-true}
 use Rattle.std.proofs.lemmas.Option.{some_pair_parts}
 use Rattle.proof_lines.specs.declared.line.Line.{Line}
 use Rattle.proof_lines.specs.declared.line.Line.TheVariants.{Resolve, Farkas, Split, Drop}
-use Rattle.log_drops.specs.Upgraded.{rising}
 use Rattle.report_words.specs.Fields.{most_count, count_format}
 use Rattle.report_lines.specs.Logs.{line_format}
 use Rattle.report_words.proofs.NumberFields.{count_exact}
@@ -15,7 +14,7 @@ use Rattle.report_verifier.specs.declared.notes.ResolvedPair.{ResolvedPair}
 use Rattle.report_verifier.specs.Notes.{IsPair}
 use Rattle.report_upgrader.specs.Passing.{IsText}
 use Rattle.report_upgrader.specs.declared.log_bytes.LogLine.TheVariants as kinds
-use Rattle.report_upgrader.specs.LastLines.{IsKind}
+use Rattle.report_upgrader.specs.Plans.{IsKind}
 
 head_is : {A : Type 0} (x y : A) (xs ys : List A) → (x ∷ xs) ≡ (y ∷ ys) → x ≡ y
 head_is x y xs ys e = cc
@@ -31,21 +30,21 @@ behind_number : (n m : ℕ) (more ws rest : List (List ℕ)) → (decimal n ∷ 
 behind_number n m more ws rest is h = tail_is _ _ _ _ (is ∙ (count_exact.ok ws m rest h).0)
 
 -- a line that resolves two clauses names them
-resolves : (x y p a b : ℕ) (ws ws2 ws3 : List (List ℕ)) → ws ≡ (decimal x ∷ decimal y ∷ decimal p ∷ []) → line_format.fits (Resolve x y p) ≡ true → count_format.get ws ≡ Some (a, ws2) → count_format.get ws2 ≡ Some (b, ws3) → rising x y ≡ rising a b
+resolves : (x y p a b : ℕ) (ws ws2 ws3 : List (List ℕ)) → ws ≡ (decimal x ∷ decimal y ∷ decimal p ∷ []) → line_format.fits (Resolve x y p) ≡ true → count_format.get ws ≡ Some (a, ws2) → count_format.get ws2 ≡ Some (b, ws3) → (x ≡ a) × (y ≡ b)
 resolves x y p a b ws ws2 ws3 is f c k =
     let one = and_parts (nat_le x most_count) (nat_le y most_count && nat_le p most_count) f in
     let two = and_parts (nat_le y most_count) (nat_le p most_count) one.1 in
     let left : x ≡ a = number_is x a _ ws ws2 (leb-true x most_count one.0) (sym is) c in
     let behind = behind_number x a _ ws ws2 (sym is) c in
     let right : y ≡ b = number_is y b _ ws2 ws3 (leb-true y most_count two.0) behind k in
-    (λ i. rising (left i) (right i))
+    (left, right)
 
 not_first : (w k : List ℕ) → w ≡ k → bytes_eq k (codes "r") ≡ false → bytes_eq w (codes "r") ≡ true → ⊥
 not_first w k is other same = let e : false ≡ true = sym other ∙ ap (λ (x : List ℕ). bytes_eq x (codes "r")) (sym is) ∙ same in absurd cc
 
 pub resolve_kind : (l : Line) (w : List ℕ) (ws ws2 ws3 : List (List ℕ)) (a b : ℕ) → (w ∷ ws) ≡ line_format.put l → line_format.fits l ≡ true → bytes_eq w (codes "r") ≡ true → count_format.get ws ≡ Some (a, ws2) → count_format.get ws2 ≡ Some (b, ws3)
     → IsKind (kinds.Resolve a b) l
-resolve_kind (Resolve x y p) w ws ws2 ws3 a b is f same c k = (resolves x y p a b ws ws2 ws3 (tail_is _ _ _ _ is) f c k, refl)
+resolve_kind (Resolve x y p) w ws ws2 ws3 a b is f same c k = let r = resolves x y p a b ws ws2 ws3 (tail_is _ _ _ _ is) f c k in (p, λ i. Resolve (r.0 i) (r.1 i) p)
 resolve_kind (Farkas used steps) w ws ws2 ws3 a b is f same c k = absurd (not_first w (codes "f") (head_is _ _ _ _ is) refl same)
 resolve_kind (Split place at used steps low high values) w ws ws2 ws3 a b is f same c k = absurd (not_first w (codes "s") (head_is _ _ _ _ is) refl same)
 resolve_kind (Drop clauses) w ws ws2 ws3 a b is f same c k = absurd (not_first w (codes "d") (head_is _ _ _ _ is) refl same)

@@ -1,4 +1,4 @@
 pub mod Reports
-pub mod LastLines
+pub mod Plans
 pub mod Passing
 pub mod Upgrading

@@ -1,7 +1,7 @@
 -- How a report that stands is upgraded line by line: what is held of the log of a proved verdict, and
 -- what is written behind each line. It mirrors the code.
 use Rattle.std.specs.Prelude.{◌≡◌, ℕ, ◌≤◌, nat_lt, Bool, true, false, if◌then◌else◌, List, [], ◌∷◌}
-use Rattle.std.specs.Prelude.{◌++◌, map, length, slice_index_or, Option, Some, None}
+use Rattle.std.specs.Prelude.{◌++◌, map, length, Option, Some, None}
 use Rattle.std.specs.Io.KnownBytes.{Appends}
 use Rattle.std.specs.List.{flat_map, list_all}
 use Rattle.spec_core.specs.Specification.{Specification}
@@ -20,7 +20,8 @@ use Rattle.report_reader.specs.Reader.{begin_of, log_of_event}
 use Rattle.proof_report.specs.Texts.{log_text}
 use Rattle.report_bytes.specs.Bytes.{lines_of}
 use Rattle.log_drops.specs.Upgraded.{upgraded}
-use Rattle.report_upgrader.specs.LastLines.{last_naming}
+use Rattle.report_upgrader.specs.declared.planning.Rewritten.{Rewritten}
+use Rattle.report_upgrader.specs.Plans.{AreWritten}
 
 -- ---- the log that is held
 
@@ -92,12 +93,11 @@ say_log [] texts = Unit {0}
 say_log (l ∷ ls) [] = ⊥
 say_log (l ∷ ls) (text ∷ texts) = IsText l text × say_log ls texts
 
--- Lines between line feeds begin with those of this log, so many, and a table has for each clause the
--- last of them that names it.
-pub record IsTabled (ls : List Line) (count : ℕ) (texts : List (List ℕ)) (last : List ℕ) : Type 0 where
+-- Lines between line feeds begin with those of this log, so many, and a plan says what is written for each.
+pub record IsPlanned (ls : List Line) (count : ℕ) (texts : List (List ℕ)) (plan : List Rewritten) : Type 0 where
   pub long : length ls ≡ count
   pub says : say_log ls texts
-  pub named_last : (n : ℕ) → slice_index_or last n 0 ≡ last_naming ls n
+  pub written : AreWritten plan ls
 
 -- The lines of a log, so many, come first, and these behind them.
 pub record IsLogAhead (n : ℕ) (es : List Event) : Type 0 where

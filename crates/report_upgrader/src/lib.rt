@@ -5,11 +5,11 @@
 // read once, and nothing may be written of a report that is refused; so the bytes are held, of which there are at most 64 MiB, and gone
 // through twice: they are verified, with a note of each line, and then written line by line. A report that stands needs no second reader:
 // the first word of a line tells a proved verdict, and the notes of its log what upgrading has to know of most lines. Each line is passed on
-// as it is but for the first one and those of proved verdicts. A proved log is gone through three times: for the last line that names each
-// clause, for the number of its lines, which stands before it, and to be written. What is gathered of it is written at every 64 KiB.
+// as it is but for the first one and those of proved verdicts. A proved log is gone through twice: from its last line on it is found what
+// is written for each line, and then it is written. What is gathered of it is written at every 64 KiB.
 //
 // Definitions, in the order in which a reader needs them: specs/Reports (the upgraded report), specs/Upgrading (what is answered, and what
-// is written). specs/LastLines and specs/Passing mirror the code.
+// is written). specs/Plans and specs/Passing mirror the code.
 #![tactic(auto)]
 
 mod gathering;
@@ -17,6 +17,7 @@ mod laws;
 mod log_bytes;
 mod log_writing;
 mod passing;
+mod planning;
 mod refused;
 mod report_laws;
 mod rewriting;

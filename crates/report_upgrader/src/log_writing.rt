@@ -1,9 +1,9 @@
 // The log of a proved verdict, upgraded from its bytes.
 //
-// Lines for which only themselves are written are copied together: a line that a table says names a clause
-// last ends such a run, and so do 64 KiB. What is gathered is written as soon as it is so much, so that no
+// Lines for which only themselves are written are copied together: any other line ends such a run, and so do
+// 64 KiB. What is gathered is written as soon as it is so much, so that no
 // more than that is held of a log that has millions of lines.
-ghost use Rattle.std.specs.Prelude.{◌≡◌, ℕ, ◌+◌, ◌<◌, ◌≤◌, ◌++◌, List, Option, drop, length, take};
+ghost use Rattle.std.specs.Prelude.{◌≡◌, ℕ, ◌+◌, ◌<◌, ◌≤◌, ◌++◌, [], List, Option, drop, length, take};
 ghost use Rattle.std.specs.Prelude.{IfErr, IfOk, OnErr, OnOk};
 ghost use Rattle.byte_ports.specs.Faults.{IsFault};
 ghost use Rattle.byte_ports.specs.Written.{IsFrontWritten};
@@ -13,16 +13,16 @@ ghost use Rattle.proof_report.specs.Texts.{log_text};
 ghost use Rattle.log_drops.specs.Upgraded.{upgraded};
 ghost use Rattle.report_bytes.specs.Bytes.{pieces};
 ghost use Rattle.report_verifier.specs.Notes.{IsLong, IsPair, AreNoted};
-ghost use Rattle.report_upgrader.specs.LastLines.{with_drops};
-ghost use Rattle.report_upgrader.specs.Passing.{proved_text, say_log, IsText, IsTabled, IsGathered};
-ghost use Rattle.report_upgrader.specs.Passing.{verdict_text};
+ghost use Rattle.report_upgrader.specs.Plans.{written_for};
+ghost use Rattle.report_upgrader.specs.Passing.{proved_text, say_log, IsText, IsPlanned, IsGathered};
 
 use crate::gathering::write_much;
-use crate::log_bytes::{behind_line, count_lines, is_copied, last_lines, put_line};
+use crate::log_bytes::{behind_line, is_copied, put_line};
+use crate::planning::{Rewritten, plan_log, planned};
 use byte_ports::{Sink, WriteOut};
 use report_lines::verdict::{VerdictWord, write_verdict_word};
 use report_verifier::LineNote;
-use std::alloc::{AllocError, Global};
+use std::alloc::Global;
 
 /// The bytes of a report that are left to pass on, and the notes of their lines.
 #[derive(Clone, Copy)]
@@ -44,9 +44,9 @@ pub fn behind(notes: &[LineNote], count: u32) -> &[LineNote]
 
 // Adds so many bytes as they are, and what comes for the line behind them; and writes what is gathered
 // where it is much.
+#[inline(never)]
 fn write_next<K: Sink>(
-    last: &[u32],
-    at: u32,
+    rewritten: Rewritten,
     note: &LineNote,
     from: &[u8],
     run: usize,
@@ -58,19 +58,19 @@ fn write_next<K: Sink>(
         → IsPair note.now.pair h.line → IsText l h.line
         → (whole rest : List ℕ) (before : Option (List ℕ))
         → IsGathered whole before (K.held out.old) (text.old.items ++ take run from.now)
-        (log_text (with_drops last.now at l) ++ rest)
+        (log_text (written_for rewritten l) ++ rest)
         → OnOk result (IsGathered whole before (K.held out.new) text.new.items rest) }
     ensures front { (h : IsLong note.now.len (drop run from.now)) (l : Given)
         → IsPair note.now.pair h.line → IsText l h.line
         → (whole rest : List ℕ) (before : Option (List ℕ))
         → IsGathered whole before (K.held out.old) (text.old.items ++ take run from.now)
-        (log_text (with_drops last.now at l) ++ rest)
+        (log_text (written_for rewritten l) ++ rest)
         → OnErr result (IsFrontWritten whole before (K.held out.new)) }
     ensures fault { IfErr result
         (λ why. why ≡ Fault → IsFault (K.faults out.old) (K.faults out.new)) }
     ensures never_falls { K.faults out.old ≤ K.faults out.new }
 {
-    match put_line(last, at, note, from, run, text) {
+    match put_line(rewritten, note, from, run, text) {
         Ok(()) => write_much(text, out),
         Err(_) => Err(WriteOut::Memory),
     }
@@ -81,8 +81,7 @@ fn write_next<K: Sink>(
 // how many these are.
 #[inline(always)]
 fn take_next<'a, K: Sink>(
-    last: &[u32],
-    at: u32,
+    rewritten: Rewritten,
     note: &LineNote,
     from: &'a [u8],
     run: usize,
@@ -94,14 +93,14 @@ fn take_next<'a, K: Sink>(
         → IsPair note.now.pair h.line → IsText l h.line
         → (whole rest : List ℕ) (before : Option (List ℕ))
         → IsGathered whole before (K.held out.old) (text.old.items ++ take run from.now)
-        (log_text (with_drops last.now at l) ++ rest)
+        (log_text (written_for rewritten l) ++ rest)
         → IfOk result (λ x. IsGathered whole before (K.held out.new)
         (text.new.items ++ take x.1 x.0.now) rest) }
     ensures front { (h : IsLong note.now.len (drop run from.now)) (l : Given)
         → IsPair note.now.pair h.line → IsText l h.line
         → (whole rest : List ℕ) (before : Option (List ℕ))
         → IsGathered whole before (K.held out.old) (text.old.items ++ take run from.now)
-        (log_text (with_drops last.now at l) ++ rest)
+        (log_text (written_for rewritten l) ++ rest)
         → OnErr result (IsFrontWritten whole before (K.held out.new)) }
     ensures fault { IfErr result
         (λ why. why ≡ Fault → IsFault (K.faults out.old) (K.faults out.new)) }
@@ -112,10 +111,10 @@ fn take_next<'a, K: Sink>(
     ensures never_falls { K.faults out.old ≤ K.faults out.new }
 {
     let len = note.len();
-    if is_copied(last, at, note, run) {
+    if is_copied(rewritten, run) {
         return Ok((from, run + len + 1));
     }
-    match write_next(last, at, note, from, run, text, out) {
+    match write_next(rewritten, note, from, run, text, out) {
         Ok(()) => Ok((behind_line(from, run, len), 0)),
         Err(why) => Err(why),
     }
@@ -145,22 +144,25 @@ fn copy_run<'a>(
     })
 }
 
-// Writes the upgraded log of so many lines, by a table that has for each clause the last of them that
-// names it. Answers the lines behind the log.
+// Writes the upgraded log of so many lines, by a plan of what is written for each. Answers the lines behind
+// the log.
+#[inline(never)]
 fn write_lines<'a, K: Sink>(
-    last: &[u32],
+    plan: &[Rewritten],
     count: u32,
     lines: LeftLines<'a>,
     text: &mut Vec<u8>,
     out: &mut K,
 ) -> Result<LeftLines<'a>, WriteOut>
-    requires { AreNoted lines.notes.now lines.bytes.now }
-    ensures ok { (ls : List Given) → IsTabled ls count (pieces lines.entry.bytes.now) last.now
+    requires noted { AreNoted lines.notes.now lines.bytes.now }
+    requires planned { count ≤ length plan.now }
+    requires many { count ≤ length lines.notes.now }
+    ensures ok { (ls : List Given) → IsPlanned ls count (pieces lines.entry.bytes.now) plan.now
         → (whole rest : List ℕ) (before : Option (List ℕ))
         → IsGathered whole before (K.held out.old) text.old.items
         (log_text (upgraded ls) ++ rest)
         → OnOk result (IsGathered whole before (K.held out.new) text.new.items rest) }
-    ensures front { (ls : List Given) → IsTabled ls count (pieces lines.entry.bytes.now) last.now
+    ensures front { (ls : List Given) → IsPlanned ls count (pieces lines.entry.bytes.now) plan.now
         → (whole rest : List ℕ) (before : Option (List ℕ))
         → IsGathered whole before (K.held out.old) text.old.items
         (log_text (upgraded ls) ++ rest)
@@ -176,10 +178,9 @@ fn write_lines<'a, K: Sink>(
     let mut from = lines.bytes;
     let mut run: usize = 0;
     'lines: for taken in 0..count {
-        let Some(note) = lines.notes.get(taken as usize) else {
-            return Err(WriteOut::Memory);
-        };
-        match take_next(last, taken + 1, note, from, run, text, out) {
+        let rewritten = planned(plan, taken);
+        let note = &lines.notes[taken as usize];
+        match take_next(rewritten, note, from, run, text, out) {
             Ok((next, more)) => {
                 from = next;
                 run = more;
@@ -190,36 +191,25 @@ fn write_lines<'a, K: Sink>(
     copy_run(from, run, lines.notes, count, text)
 }
 
-// Adds a proved verdict with the number of lines that the upgraded log has.
-fn put_verdict(
-    last: &[u32],
-    count: u32,
-    lines: LeftLines<'_>,
-    text: &mut Vec<u8>,
-) -> Result<(), AllocError>
-    requires { AreNoted lines.notes.now lines.bytes.now }
-    ensures { (ls : List Given) → IsTabled ls count (pieces lines.entry.bytes.now) last.now
-        → OnOk result (text.new.items ≡ text.old.items ++ verdict_text (upgraded ls)) }
-{
-    let written = count_lines(last, count, lines.bytes, lines.notes)?;
-    write_verdict_word(text, VerdictWord::Proved(written))
-}
-
-// Writes a proved verdict with the upgraded log of so many lines, by such a table.
+// Writes a proved verdict with the upgraded log of so many lines, by a plan that is empty yet. Answers the
+// lines behind the log.
 fn write_log<'a, K: Sink>(
-    last: &[u32],
+    alloc: Global,
+    plan: &mut Vec<Rewritten>,
     count: u32,
     lines: LeftLines<'a>,
     text: &mut Vec<u8>,
     out: &mut K,
 ) -> Result<LeftLines<'a>, WriteOut>
-    requires { AreNoted lines.notes.now lines.bytes.now }
-    ensures ok { (ls : List Given) → IsTabled ls count (pieces lines.entry.bytes.now) last.now
+    requires noted { AreNoted lines.notes.now lines.bytes.now }
+    requires empty { plan.old.items ≡ [] }
+    ensures ok { (ls : List Given) → length ls ≡ count → say_log ls (pieces lines.entry.bytes.now)
         → (whole rest : List ℕ) (before : Option (List ℕ))
         → IsGathered whole before (K.held out.old) text.old.items
         (proved_text (upgraded ls) ++ rest)
         → OnOk result (IsGathered whole before (K.held out.new) text.new.items rest) }
-    ensures front { (ls : List Given) → IsTabled ls count (pieces lines.entry.bytes.now) last.now
+    ensures front { (ls : List Given) → length ls ≡ count
+        → say_log ls (pieces lines.entry.bytes.now)
         → (whole rest : List ℕ) (before : Option (List ℕ))
         → IsGathered whole before (K.held out.old) text.old.items
         (proved_text (upgraded ls) ++ rest)
@@ -232,8 +222,11 @@ fn write_log<'a, K: Sink>(
     ensures noted { IfOk result (λ left. AreNoted left.notes.now left.bytes.now) }
     ensures never_falls { K.faults out.old ≤ K.faults out.new }
 {
-    match put_verdict(last, count, lines, text) {
-        Ok(()) => write_lines(last, count, lines, text, out),
+    let Ok(written) = plan_log(alloc, plan, count, lines.bytes, lines.notes) else {
+        return Err(WriteOut::Memory);
+    };
+    match write_verdict_word(text, VerdictWord::Proved(written)) {
+        Ok(()) => write_lines(plan.as_slice(), count, lines, text, out),
         Err(_) => Err(WriteOut::Memory),
     }
 }
@@ -267,10 +260,8 @@ pub fn pass_log<'a, K: Sink>(
     ensures noted { IfOk result (λ left. AreNoted left.notes.now left.bytes.now) }
     ensures never_falls { K.faults out.old ≤ K.faults out.new }
 {
-    let Ok(last) = last_lines(alloc, count, lines.bytes, lines.notes) else {
-        return Err(WriteOut::Memory);
-    };
-    let answer = write_log(last.as_slice(), count, lines, text, out);
-    drop(last);
+    let mut plan = Vec::new(alloc);
+    let answer = write_log(alloc, &mut plan, count, lines, text, out);
+    drop(plan);
     answer
 }

@@ -73,7 +73,9 @@ fn upgrade_held<K: Sink>(
         → IsFault (K.faults out.old) (K.faults out.new) }
     ensures never_falls { K.faults out.old ≤ K.faults out.new }
 {
-    let mut notes = Vec::new(alloc);
+    let Ok(mut notes) = Vec::with_capacity(alloc, bytes.len() / 8) else {
+        return Err(UpgradeRefused::Memory);
+    };
     let answer = upgrade_noted(alloc, spec, bytes, &mut notes, out);
     drop(notes);
     answer

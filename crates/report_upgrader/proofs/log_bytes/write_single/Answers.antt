@@ -1,4 +1,4 @@
-use Rattle.report_upgrader.proofs.LastLines.{single_written}
+use Rattle.report_upgrader.proofs.Plans.{single_written}
 use Rattle.report_upgrader.proofs.log_bytes.write_single.Goals as goal
 
 pub returns : goal.returns

@@ -13,7 +13,7 @@ returns-then-is_copied-clause-ok g c = λ h l pair text whole rest before so.
     let len = c.args.note.now.len in
     let more = take (run + c.len-len.result + 1) from in
     let ended : more ≡ take run from ++ (h.line ++ 10 ∷ []) = ap (λ (k : ℕ). take (run + k + 1) from) c.len-len.ensures ∙ ended_at run len from h in
-    copied_next c.args.last.now c.args.at l h.line (take run from) more c.args.text.now.items whole rest before (g.K.Sink.held c.args.out.now) text (c.is_copied.ensures c.if-is_copied.true l h.line pair text) ended so
+    copied_next c.args.rewritten l h.line (take run from) more c.args.text.now.items whole rest before (g.K.Sink.held c.args.out.now) text (c.is_copied.ensures c.if-is_copied.true l) ended so
 
 pub returns-then-is_copied-clause-behind : goal.returns-then-is_copied-clause-behind
 returns-then-is_copied-clause-behind g c = λ h. ap (λ (k : ℕ). drop (c.args.run + k + 1) c.args.from.now) c.len-len.ensures ∙ behind_at c.args.run c.args.note.now.len c.args.from.now h

@@ -4,15 +4,15 @@ use Rattle.proof_report.specs.Texts.{log_text}
 use Rattle.log_drops.specs.Upgraded.{upgraded}
 use Rattle.report_bytes.specs.Bytes.{pieces}
 use Rattle.report_verifier.specs.Notes.{AreNotedTo}
-use Rattle.report_upgrader.specs.Passing.{IsTabled, IsGathered}
+use Rattle.report_upgrader.specs.Passing.{IsPlanned, IsGathered}
 use Rattle.report_upgrader.proofs.LogBytes.{IsWriting}
 use Rattle.report_upgrader.proofs.log_writing.write_lines.Given as goal
 
 abbrev pub invariant-lines : goal.invariant-lines
 invariant-lines g l = record {
-  lines : (ls : List Line) → IsTabled ls l.count (pieces l.lines.bytes.now) l.last → (whole rest : List ℕ) (before : Option (List ℕ))
+  lines : (ls : List Line) → IsPlanned ls l.count (pieces l.lines.bytes.now) l.plan → (whole rest : List ℕ) (before : Option (List ℕ))
       → IsGathered whole before (g.K.Sink.held l.initial.out) l.initial.text.items (log_text (upgraded ls) ++ rest)
-      → IsWriting ls l.taken (pieces (drop l.run l.from)) whole before (g.K.Sink.held l.out) (l.text.items ++ take l.run l.from) rest;
+      → IsWriting l.plan ls l.taken (pieces (drop l.run l.from)) whole before (g.K.Sink.held l.out) (l.text.items ++ take l.run l.from) rest;
   within : l.run ≤ length l.from;
   behind : drop l.taken (pieces l.lines.bytes.now) ≡ pieces (drop l.run l.from);
   fewer : length l.from ≤ length l.lines.bytes.now;
