@@ -10,14 +10,14 @@ ghost use Rattle.std.specs.List.{Contains};
 ghost use Rattle.proof_report.specs.Verdicts.{obligation_count};
 ghost use Rattle.proof_report.specs.Texts.{head_text, end_text};
 ghost use Rattle.proof_report.specs.Events.{told};
-ghost use Rattle.lazy_ground.specs.Kept.{IsKept};
+ghost use Rattle.check_run.specs.Keeping.{AreKept};
 ghost use Rattle.check_run.specs.Reports.{written_version};
 ghost use Rattle.check_run.specs.Checking.{progress, IsBlock, AreBlocks, IsReport};
 
 use crate::counting::counted;
 use crate::deciding::decide_next;
+use crate::keeping::KeptCache;
 use byte_ports::{Sink, WriteOut, write_text};
-use lazy_ground::Kept;
 use obligation_list::{Obligation, list};
 use proof_report::{write_end, write_head, write_verdict};
 use report_lines::head::Tally;
@@ -30,22 +30,22 @@ fn check_one<K: Sink>(
     spec: &Spec,
     budget: u32,
     ob: &Obligation,
-    kept: &mut Kept,
+    cache: &mut KeptCache,
     tally: &mut Tally,
     out: &mut K,
 ) -> Result<(), WriteOut>
     requires member { IsObligation spec.now ob.now }
     requires budget { 1 ≤ budget }
-    requires kept { IsKept spec.now kept.old }
+    requires kept { AreKept spec.now cache.old }
     requires few { told tally.old < 2 ^ 31 }
     ensures block { IsBlock spec.now budget ob.now (progress tally.old (K.held out.old))
         (progress tally.new (K.held out.new)) result }
     ensures fault { IfErr result
         (λ why. why ≡ Fault → IsFault (K.faults out.old) (K.faults out.new)) }
     ensures never_falls { K.faults out.old ≤ K.faults out.new }
-    ensures kept { IsKept spec.now kept.new }
+    ensures kept { AreKept spec.now cache.new }
 {
-    let Ok(verdict) = decide_next(alloc, spec, ob, budget, kept) else {
+    let Ok(verdict) = decide_next(alloc, spec, ob, budget, cache) else {
         return Err(WriteOut::Memory);
     };
     let mut text = Vec::new(alloc);
@@ -73,14 +73,14 @@ fn check_from<K: Sink>(
     spec: &Spec,
     budget: u32,
     obligations: &[Obligation],
-    kept: &mut Kept,
+    cache: &mut KeptCache,
     out: &mut K,
 ) -> Result<Tally, WriteOut>
     requires listed { obligations.now ≡ obligations_of spec.now }
     requires members { (ob : Obligation) → Contains obligations.now ob → IsObligation spec.now ob }
     requires budget { 1 ≤ budget }
     requires few { length obligations.now ≤ 12208 }
-    requires kept { IsKept spec.now kept.old }
+    requires kept { AreKept spec.now cache.old }
     ensures blocks { AreBlocks spec.now budget (K.held out.old) (K.held out.new) result }
     ensures fault { IfErr result
         (λ why. why ≡ Fault → IsFault (K.faults out.old) (K.faults out.new)) }
@@ -92,7 +92,7 @@ fn check_from<K: Sink>(
         undecided: 0,
     };
     for ob in obligations {
-        match check_one(alloc, spec, budget, ob, kept, &mut tally, out) {
+        match check_one(alloc, spec, budget, ob, cache, &mut tally, out) {
             Ok(()) => {}
             Err(why) => return Err(why),
         }
@@ -117,9 +117,9 @@ fn check_each<K: Sink>(
         (λ why. why ≡ Fault → IsFault (K.faults out.old) (K.faults out.new)) }
     ensures never_falls { K.faults out.old ≤ K.faults out.new }
 {
-    let mut kept = Kept::none();
-    let result = check_from(alloc, spec, budget, obligations, &mut kept, out);
-    drop(kept);
+    let mut cache = KeptCache::new(alloc);
+    let result = check_from(alloc, spec, budget, obligations, &mut cache, out);
+    drop(cache);
     result
 }
 
@@ -191,7 +191,7 @@ fn check_listed<K: Sink>(
 }
 
 /// Checks a specification, with logs of at most `budget` lines: decides each of its obligations, and writes the report, block by
-/// block. Answers how many verdicts of each kind there are. One obligation's problem is kept at a time, and what it shares with the next.
+/// block. Answers how many verdicts of each kind there are. One obligation's problem is kept at a time, and what others share.
 pub fn check_all<K: Sink>(
     alloc: Global,
     spec: &Spec,

@@ -8,10 +8,10 @@ ghost use Rattle.proof_report.specs.Events.{told, with_verdict};
 ghost use Rattle.report_bytes.specs.Showing.{shown_verdict};
 ghost use Rattle.check_run.specs.Reports.{AreDecided, IsDecided};
 ghost use Rattle.check_run.specs.Checking.{IsCounted};
-ghost use Rattle.lazy_ground.specs.Kept.{IsKept};
+ghost use Rattle.check_run.specs.Keeping.{AreKept};
 
 use crate::deciding::decide_next;
-use lazy_ground::Kept;
+use crate::keeping::KeptCache;
 use obligation_list::{Obligation, list};
 use proof_report::Verdict;
 use report_lines::head::Tally;
@@ -38,17 +38,17 @@ fn decide_one(
     spec: &Spec,
     budget: u32,
     ob: &Obligation,
-    kept: &mut Kept,
+    cache: &mut KeptCache,
     tally: Tally,
 ) -> Result<Tally, AllocError>
     requires member { IsObligation spec.now ob.now }
     requires budget { 1 ≤ budget }
-    requires kept { IsKept spec.now kept.old }
+    requires kept { AreKept spec.now cache.old }
     requires few { told tally < 2 ^ 31 }
-    ensures kept { IsKept spec.now kept.new }
+    ensures kept { AreKept spec.now cache.new }
     ensures counted { IfOk result (λ counted. IsCounted spec.now budget ob.now tally counted) }
 {
-    let verdict = decide_next(alloc, spec, ob, budget, kept)?;
+    let verdict = decide_next(alloc, spec, ob, budget, cache)?;
     let counted = counted(tally, &verdict);
     drop(verdict);
     Ok(counted)
@@ -60,12 +60,12 @@ fn decide_from(
     spec: &Spec,
     budget: u32,
     obligations: &[Obligation],
-    kept: &mut Kept,
+    cache: &mut KeptCache,
 ) -> Result<Tally, AllocError>
     requires members { (ob : Obligation) → Contains obligations.now ob → IsObligation spec.now ob }
     requires budget { 1 ≤ budget }
     requires few { length obligations.now ≤ 12208 }
-    requires kept { IsKept spec.now kept.old }
+    requires kept { AreKept spec.now cache.old }
     ensures { IfOk result (λ tally. AreDecided spec.now budget obligations.now tally) }
 {
     let mut tally = Tally {
@@ -74,7 +74,7 @@ fn decide_from(
         undecided: 0,
     };
     for ob in obligations {
-        tally = decide_one(alloc, spec, budget, ob, kept, tally)?;
+        tally = decide_one(alloc, spec, budget, ob, cache, tally)?;
     }
     Ok(tally)
 }
@@ -91,9 +91,9 @@ fn decide_each(
     requires few { length obligations.now ≤ 12208 }
     ensures { IfOk result (λ tally. AreDecided spec.now budget obligations.now tally) }
 {
-    let mut kept = Kept::none();
-    let result = decide_from(alloc, spec, budget, obligations, &mut kept);
-    drop(kept);
+    let mut cache = KeptCache::new(alloc);
+    let result = decide_from(alloc, spec, budget, obligations, &mut cache);
+    drop(cache);
     result
 }
 

@@ -10,6 +10,7 @@ ghost use Rattle.report_bytes.specs.Showing.{shown_verdict, IsFit};
 ghost use Rattle.check_run.specs.Good.{HasFew, HasMany, IsGood};
 ghost use Rattle.check_run.specs.Fitting.{HasShown};
 ghost use Rattle.check_run.specs.Decided.{IsDecided};
+ghost use Rattle.check_run.specs.Keeping.{AreKept};
 ghost use Rattle.diff_bounds.specs.Differences.{problem_fits};
 ghost use Rattle.check_run.specs.Reports.{written_version};
 ghost use Rattle.instances.specs.Ground.{IsGrounded};
@@ -18,6 +19,7 @@ ghost use Rattle.lazy_ground.specs.Lazy.{IsLazyGround};
 ghost use Rattle.lazy_ground.specs.Kept.{IsKept, HasClauses, HasLazyKept};
 
 use crate::fitting::numbered;
+use crate::keeping::KeptCache;
 use clausify::problem_of;
 use ground_atoms::GroundFormula;
 use ground_numbers::{law_clauses_make_formulas_true, law_obligation_fits};
@@ -280,8 +282,8 @@ fn decide_lazily(
     }
 }
 
-/// Decides an obligation as `decide` does. What other obligations of the specification share with it is kept, for the next of them.
-pub fn decide_next(
+// Decides an obligation from what another one left, and leaves what serves others.
+fn decide_from(
     alloc: Global,
     spec: &Spec,
     ob: &Obligation,
@@ -311,6 +313,30 @@ pub fn decide_next(
     }
 }
 
+/// Decides an obligation as `decide` does. What other obligations of the specification share with it is kept, for those to come.
+pub fn decide_next(
+    alloc: Global,
+    spec: &Spec,
+    ob: &Obligation,
+    budget: u32,
+    cache: &mut KeptCache,
+) -> Result<Verdict, AllocError>
+    requires member { IsObligation spec.now ob.now }
+    requires budget { 1 ≤ budget }
+    requires kept { AreKept spec.now cache.old }
+    ensures good { IfOk result (λ v. IsGood spec.now budget ob.now (shown_verdict spec.now v)) }
+    ensures fit { IfOk result (λ v. IsFit spec.now written_version ob.now v) }
+    ensures many { HasMany spec.now ob.now → IfOk result (λ v. v ≡ Undecided Instances) }
+    ensures decided { HasFew spec.now ob.now → problem_fits (problem_of spec.now ob.now) ≡ true
+        → IfOk result (λ v. IsDecided (length (problem_of spec.now ob.now).atoms) budget v) }
+    ensures kept { AreKept spec.now cache.new }
+{
+    let mut kept = cache.take(alloc, spec, ob);
+    let verdict = decide_from(alloc, spec, ob, budget, &mut kept);
+    cache.put(spec, kept);
+    verdict
+}
+
 /// Decides an obligation of the specification, with logs of at most `budget` lines: it is proved, with a log that the kernel accepts
 /// on its problem; or refuted, with values that break it; or undecided, with evidence of the cause. That there are too many formulas is
 /// the cause exactly where there are. The verdict can stand in a report. Where all rows of its problem are differences, it is proved or
@@ -330,7 +356,7 @@ pub fn decide(
         → IfOk result (λ v. IsDecided (length (problem_of spec.now ob.now).atoms) budget v) }
 {
     let mut kept = Kept::none();
-    let verdict = decide_next(alloc, spec, ob, budget, &mut kept);
+    let verdict = decide_from(alloc, spec, ob, budget, &mut kept);
     drop(kept);
     verdict
 }

@@ -1,6 +1,6 @@
 -- What obligations share whose constants are of the same sorts and whose calls have the same whole numbers among their arguments: the
 -- invariants at these constants, made and numbered, and their clauses.
-use Rattle.std.specs.Prelude.{◌≡◌, ℕ, Some, None, Result, Ok, Err, IfSome, List, [], length, map, take}
+use Rattle.std.specs.Prelude.{◌≡◌, ℕ, true, false, Option, Some, None, Result, Ok, Err, IfSome, All, List, [], length, map, take}
 use Rattle.spec_core.specs.Specification.{Specification}
 use Rattle.obligation_list.specs.declared.obligation.Obligation.{Obligation}
 use Rattle.ground_problem.specs.Symbols.{Integer, Symbolic}
@@ -17,6 +17,7 @@ use Rattle.ground_groups.specs.Limited.{make_upto}
 use Rattle.ground_groups.specs.declared.refused.GroundRefused.{GroundRefused}
 use Rattle.ground_groups.specs.declared.refused.GroundRefused.TheVariants.{TooMany, Memory}
 use Rattle.instances.specs.declared.entry.Entry.{Entry}
+use Rattle.instances.specs.declared.caching.EntryCache.{EntryCache}
 use Rattle.instances.specs.declared.entry.EntryPart.{EntryPart}
 use Rattle.instances.specs.declared.entry.Begun.{Begun}
 use Rattle.instances.specs.declared.grounding.Grounded.{Grounded}
@@ -43,6 +44,10 @@ pub record IsEntry (d : Specification) (e : Entry) : Type 0 where
         forms = take e.part.size.formulas (map form_of e.formulas);
       })
   pub clauses : HasClausesOf (map form_of e.formulas) e.part
+
+-- each is an entry of the specification
+abbrev pub AreEntries : Specification → EntryCache → Type 0
+AreEntries d c = All (IsEntry d) c.entries.items
 
 -- a part of this size, with the clauses of these formulas, which are all that there are
 pub record IsPart (ints : List Integer) (k : Known) (fs : List Numbered)
@@ -78,6 +83,11 @@ IsBegunOr d ob (Ok b) = IsBegun d ob b
 IsBegunOr d ob (Err TooMany) =
     make_upto [] (numbered_arguments d ob) (entry d ob (constants_of d ob)) ≡ None
 IsBegunOr d ob (Err Memory) = Unit {0}
+
+-- Where it was cut back, what is known is what was known when the entry that was kept had been made.
+abbrev pub IsCutBack : Option Entry → Begun → Type 0
+IsCutBack (Some e) b = b.is_cut ≡ true → b.atoms ≡ cut_back e.part.size.known e.atoms
+IsCutBack None b = b.is_cut ≡ false
 
 -- the entry in what was made of it and more
 abbrev pub entry_with : List ℕ → Known → List GroundFormula → EntryPart → Entry

@@ -2,7 +2,7 @@
 //
 // The obligations of one operation, of two, or of any whose parameters are alike, begin with the same invariants at the same constants,
 // under the same numbers. What was made of them is cut back to where an obligation's own formulas begin, and goes on from there.
-ghost use Rattle.std.specs.Prelude.{◌≡◌, [], true, length, map, take, List, Some, None, IfOk, IfSome, IsTrue};
+ghost use Rattle.std.specs.Prelude.{◌≡◌, [], true, false, length, map, take, List, Some, None, IfOk, IfSome, IsTrue};
 ghost use Rattle.std.specs.List.{list_all};
 ghost use Rattle.obligation_list.specs.Obligations.{IsObligation};
 ghost use Rattle.ground_problem.specs.Constants.{constants_of};
@@ -13,7 +13,7 @@ ghost use Rattle.ground_atoms.specs.Sizes.{size_of, cut_back};
 ghost use Rattle.ground_constants.specs.Calls.{constants_in, numbered_arguments};
 ghost use Rattle.ground_groups.specs.Limited.{Appends};
 ghost use Rattle.clausify.specs.Kept.{AreClausesOf};
-ghost use Rattle.instances.specs.Entry.{known_from, HasClausesOf, IsEntry, IsSharedOr, IsBegunOr};
+ghost use Rattle.instances.specs.Entry.{known_from, HasClausesOf, IsEntry, IsSharedOr, IsBegunOr, IsCutBack};
 
 use clausify::{KeptClauses, keep_clauses};
 use ground_atoms::{Atoms, GroundFormula, KnownSize};
@@ -61,16 +61,17 @@ pub struct Entry {
 }
 
 /// What is known, and the formulas, once what is true at the entry of an obligation is made; nothing of it is shared in the initial
-/// state.
+/// state. It is cut where it was cut back from an entry that was kept.
 #[derive(Drop)]
 pub struct Begun {
     pub atoms: Atoms,
     pub formulas: Items<GroundFormula>,
     pub part: Option<EntryPart>,
+    pub is_cut: bool,
 }
 
-// Whether an entry is for constants of these sorts and for calls with these whole numbers among their arguments.
-fn is_alike(entry: &Entry, sorts: &[u8], arguments: &Atoms) -> bool
+/// Whether an entry is for constants of these sorts and for calls with these whole numbers among their arguments.
+pub fn is_alike(entry: &Entry, sorts: &[u8], arguments: &Atoms) -> bool
     ensures sorts { IsTrue result → entry.now.sorts ≡ sorts.now }
     ensures count { IsTrue result
         → entry.now.part.size.arguments ≡ length arguments.now.table.ints }
@@ -121,6 +122,7 @@ fn cut(entry: Entry) -> Begun
         atoms,
         formulas: Items::from_vec(list),
         part: Some(EntryPart { size, clauses }),
+        is_cut: true,
     }
 }
 
@@ -142,7 +144,8 @@ fn clauses_of(
 
 // The invariants at some constants, made of what is known.
 fn made(alloc: Global, spec: &Spec, named: &Named, arguments: Atoms) -> Result<Begun, GroundRefused>
-    ensures { IsSharedOr spec.now arguments named.now.sorts result }
+    ensures shared { IsSharedOr spec.now arguments named.now.sorts result }
+    ensures cut { IfOk result (λ b. b.is_cut ≡ false) }
 {
     let mut atoms = arguments;
     let count = atoms.size().ints;
@@ -159,6 +162,7 @@ fn made(alloc: Global, spec: &Spec, named: &Named, arguments: Atoms) -> Result<B
         atoms,
         formulas,
         part: Some(EntryPart { size, clauses }),
+        is_cut: false,
     })
 }
 
@@ -172,7 +176,8 @@ fn shared(
 ) -> Result<Begun, GroundRefused>
     requires arguments { arguments ≡ known_from arguments.table.ints }
     requires kept { IfSome kept (IsEntry spec.now) }
-    ensures { IsSharedOr spec.now arguments named.now.sorts result }
+    ensures shared { IsSharedOr spec.now arguments named.now.sorts result }
+    ensures cut { IfOk result (IsCutBack kept) }
 {
     match kept {
         Some(entry) => {
@@ -201,7 +206,8 @@ pub fn begin(
     requires constants { constants_in named.now ≡ constants_of spec.now ob.now }
     requires arguments { arguments ≡ numbered_arguments spec.now ob.now }
     requires kept { IfSome kept (IsEntry spec.now) }
-    ensures { IsBegunOr spec.now ob.now result }
+    ensures begun { IsBegunOr spec.now ob.now result }
+    ensures cut { IfOk result (IsCutBack kept) }
 {
     match ob {
         Obligation::Init { .. } => {
@@ -210,6 +216,7 @@ pub fn begin(
                 atoms: arguments,
                 formulas: Items::new(alloc),
                 part: None,
+                is_cut: false,
             })
         }
         Obligation::Safety { .. } => shared(alloc, spec, named, arguments, kept),

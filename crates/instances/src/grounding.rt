@@ -71,7 +71,8 @@ impl Grounded {
 
     /// The entry of the problem, for other obligations that share it; nothing where there is none.
     pub fn into_entry(self) -> Option<Entry>
-        ensures { (d : Specification) → HasEntry d self → IfSome result (IsEntry d) }
+        ensures entry { (d : Specification) → HasEntry d self → IfSome result (IsEntry d) }
+        ensures atoms { IfSome result (λ e. e.atoms ≡ self.atoms) }
     {
         let Grounded {
             consts,
@@ -197,6 +198,7 @@ fn finish(
         mut atoms,
         mut formulas,
         part,
+        ..
     } = begun;
     let added = add_all(&mut atoms, alloc, spec, ob, ops, &named, &mut formulas);
     or_drop!(added; part, formulas, named, atoms);

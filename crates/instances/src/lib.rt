@@ -2,7 +2,7 @@
 //
 // It stands on `ground_groups`, which makes each group of the list. Here the groups stand one after another: what is true at the entry,
 // that the conclusion fails, the definitions of later readings, and equality. What obligations share at the entry is
-// made once (src/entry.rt). Definitions: specs/Ground (what the ground problem is, as a program holds it), specs/Entry (what is shared).
+// made once (src/entry.rt) and kept for a few kinds of constants (src/caching.rt). Definitions: specs/Ground (what the ground problem is, as a program holds it), specs/Entry (what is shared).
 #![tactic(auto)]
 
 /// The value of a call; where it fails, lets go of these values and ends with its error. Values that are let go by name are let go
@@ -19,12 +19,16 @@ macro_rules! or_drop {
     };
 }
 
+pub mod caching;
 mod concluding;
 pub mod entry;
 pub mod grounding;
+mod keys;
 pub mod listing;
 
+pub use caching::EntryCache;
 pub use clausify::KeptClauses;
 pub use entry::{Entry, EntryPart, EntrySize, kept_clauses};
 pub use ground_groups::GroundRefused;
 pub use grounding::{Grounded, ground, ground_from};
+pub use keys::EntryKey;

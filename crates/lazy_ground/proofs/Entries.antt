@@ -14,6 +14,7 @@ use Rattle.ground_atoms.specs.Formulas.{form_of}
 use Rattle.ground_atoms.specs.Symbols.{reading_of}
 use Rattle.ground_atoms.specs.declared.formula.GroundFormula.{GroundFormula}
 use Rattle.ground_atoms.proofs.Cutting.{Begins, same_list, then_more, Grows, stays, grows_then}
+use Rattle.ground_numbers.proofs.Growing.{Extends}
 use Rattle.ground_constants.specs.Calls.{numbered_arguments}
 use Rattle.ground_groups.specs.Limited.{make_upto}
 use Rattle.ground_groups.specs.declared.refused.GroundRefused.{GroundRefused}
@@ -30,10 +31,12 @@ use Rattle.lazy_ground.specs.declared.grounding.LazyGround.{LazyGround}
 use Rattle.lazy_ground.specs.declared.grounding.EitherGround.{EitherGround}
 use Rattle.lazy_ground.specs.declared.grounding.EitherGround.TheVariants as either
 use Rattle.lazy_ground.specs.declared.grounding.Kept.{Kept}
-use Rattle.lazy_ground.specs.Front.{front_of, HasPart, IsFront, IsFrontOr}
+use Rattle.lazy_ground.specs.Front.{front_of, HasPart, IsFront, ArePairsFor, IsFrontOr}
+use Rattle.lazy_ground.specs.Pairs.{AllNumbered}
 use Rattle.lazy_ground.specs.Named.{AreFound}
-use Rattle.lazy_ground.specs.Kept.{IsKept, HasLazyKept, HasKept, HasClauses, HasEitherClauses}
-use Rattle.lazy_ground.proofs.Parts.{lazy_of}
+use Rattle.lazy_ground.specs.Kept.{AllBuilt, IsKept, HasLazyKept, HasKept, HasClauses, HasEitherClauses}
+use Rattle.lazy_ground.proofs.Parts.{lazy_of, made_extends, numbered_stay}
+use Rattle.lazy_ground.proofs.Serving.{named_have_numbers}
 
 -- ---- the front
 
@@ -67,6 +70,28 @@ front_shared d ob b now new is e = by_part b.part is.shared
       grows = upto_grows (map form_of b.formulas) b.atoms begins.more (record { known = now; forms = map form_of new }) on;
       begins = upto_begins (map form_of b.formulas) b.atoms begins.more (record { known = now; forms = map form_of new }) on;
     }
+
+-- What is made of the front has the numbers that there were at the entry.
+pub front_extends : (d : Specification) (ob : Obligation) (b : Begun) (now : Known) (new : List GroundFormula) → IsBegun d ob b
+    → make_upto [] (numbered_arguments d ob) (front_of d ob) ≡ Some (record { known = now; forms = map form_of new })
+    → Extends b.atoms.table now.table
+front_extends d ob b now new is e =
+    let begins = front_begins d ob in
+    made_extends (map form_of b.formulas) b.atoms now begins.more (map form_of new)
+    (sym (upto_then [] (map form_of b.formulas) (numbered_arguments d ob) b.atoms (entry d ob (constants_of d ob)) begins.more is.made) ∙ ap (make_upto [] (numbered_arguments d ob)) (sym begins.is) ∙ e)
+
+-- pairs of these readings, with their numbers
+pub pairs_for : (f : Front) (found : Option (List ReadingPairs)) → IfSome found (AllBuilt (map reading_of f.readings)) → IfSome found (AllNumbered f.atoms.table) → IfSome found (ArePairsFor f)
+pairs_for f None h k = tt
+pairs_for f (Some ss) h k = (h, k)
+
+pub built_for : (f : Front) (found : Option (List ReadingPairs)) → IfSome found (ArePairsFor f) → IfSome found (λ ss. AllBuilt (map reading_of f.readings) ss)
+built_for f None h = tt
+built_for f (Some ss) h = h.0
+
+pub numbers_for : (f : Front) (found : Option (List ReadingPairs)) → IfSome found (ArePairsFor f) → IfSome found (AllNumbered f.atoms.table)
+numbers_for f None h = tt
+numbers_for f (Some ss) h = h.1
 
 pub front_begun_refused : (d : Specification) (ob : Obligation) (why : GroundRefused) → IsBegunOr d ob (Err why) → IsFrontOr d ob (Err why)
 front_begun_refused d ob TooMany h = begun_refused d ob TooMany h
@@ -112,6 +137,7 @@ lazy_kept d ob f ss xs fs now behind is found made = record {
   entry = parts_entry d ob f.named.sorts f.atoms now f.formulas f.formulas f.part (front_sorts d ob f is) is.shared
       (upto_grows [] f.atoms fs (record { known = now; forms = map form_of behind }) made) (same_list (map form_of f.formulas));
   pairs = found.built;
+  numbers = numbered_stay f.atoms.table now.table ss (made_extends [] f.atoms now fs (map form_of behind) made) (named_have_numbers f.atoms.table ss found.named);
 }
 
 -- ---- what is left

@@ -37,10 +37,10 @@ use Rattle.instances.proofs.Whole.{many_made}
 use Rattle.lazy_ground.specs.declared.pairs.ReadingPairs.{ReadingPairs}
 use Rattle.lazy_ground.specs.declared.front.Front.{Front}
 use Rattle.lazy_ground.specs.declared.grounding.LazyGround.{LazyGround}
-use Rattle.lazy_ground.specs.Pairs.{pairs_of, pair_forms}
+use Rattle.lazy_ground.specs.Pairs.{pairs_of, pair_forms, readings_known, AllNumbered}
 use Rattle.lazy_ground.specs.Lazy.{IsLazyGround, ArePairs, IsGroundEither}
 use Rattle.lazy_ground.specs.Kept.{thing_of, AllBuilt}
-use Rattle.lazy_ground.specs.Named.{readings_known, AllNamed, AreFound}
+use Rattle.lazy_ground.specs.Named.{AllNamed, AreFound}
 use Rattle.lazy_ground.specs.Front.{front_of, entry_readings, HasPart, IsFront, IsFrontOr}
 use Rattle.lazy_ground.proofs.Stays.{naming_all-append, all_names_there, all_numbered-stay, all_names-stay, all_names_in}
 
@@ -80,8 +80,15 @@ front_seq d ob r mid new l now ss e made h =
 
 -- ---- what is made of it
 
+made_on : (so_far : List Numbered) (k l : Known) (fs : List Symbolic) (gs : List Numbered) → make_upto so_far k fs ≡ Some (record { known = l; forms = gs }) → l.table ≡ naming_all k.table fs
+made_on so_far k l fs gs e = ap (λ (m : MadeList). m.known.table) (sym (upto_made so_far k fs (record { known = l; forms = gs }) e) ∙ make_all-is so_far k fs)
+
 made_table : (k l : Known) (fs : List Symbolic) (gs : List Numbered) → make_upto [] k fs ≡ Some (record { known = l; forms = gs }) → l.table ≡ naming_all k.table fs
-made_table k l fs gs e = ap (λ (m : MadeList). m.known.table) (sym (upto_made [] k fs (record { known = l; forms = gs }) e) ∙ make_all-is [] k fs)
+made_table k l fs gs e = made_on [] k l fs gs e
+
+-- What is made on has the numbers that there were.
+pub made_extends : (so_far : List Numbered) (k l : Known) (fs : List Symbolic) (gs : List Numbered) → make_upto so_far k fs ≡ Some (record { known = l; forms = gs }) → Extends k.table l.table
+made_extends so_far k l fs gs e = subst (Extends k.table) (sym (made_on so_far k l fs gs e)) (naming_all-extends k.table fs)
 
 made_forms : (k l : Known) (fs : List Symbolic) (gs : List Numbered) → make_upto [] k fs ≡ Some (record { known = l; forms = gs }) → gs ≡ map (numbered l.table) fs
 made_forms k l fs gs e =
@@ -142,6 +149,20 @@ readings_stay t o r [] e h = refl
 readings_stay t o r (u ∷ us) e h =
     let p = and_parts (has_number t (has_atom [] r u)) (readings_known t r us) h in
     and_from (has_number o (has_atom [] r u)) (readings_known o r us) (e.atoms (has_atom [] r u) p.0).0 (readings_stay t o r us e p.1)
+
+pub numbered_stay : (t o : Table) (ss : List ReadingPairs) → Extends t o → AllNumbered t ss → AllNumbered o ss
+numbered_stay t o [] e h = tt
+numbered_stay t o (s ∷ ss) e h = (
+  record {
+    known = readings_stay t o s.relation s.tuples e h.0.known;
+    numbers = h.0.numbers ∙ numbers_stay t o s.relation s.tuples e h.0.known;
+  },
+  numbered_stay t o ss e h.1,
+)
+
+pub numbered_stay_in : (t o : Table) (found : Option (List ReadingPairs)) → Extends t o → IfSome found (AllNumbered t) → IfSome found (AllNumbered o)
+numbered_stay_in t o None e h = tt
+numbered_stay_in t o (Some ss) e h = numbered_stay t o ss e h
 
 named_stay : (t o : Table) (ss : List ReadingPairs) → Extends t o → AllNamed t ss → AllNamed o ss
 named_stay t o [] e h = tt

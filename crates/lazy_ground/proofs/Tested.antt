@@ -15,9 +15,9 @@ use Rattle.ground_problem.specs.Equality.{tuples_same, congruent, congruent_pair
 use Rattle.ground_numbers.specs.Numbers.{Table, same_atom, has_atom, has_number, naming_all}
 use Rattle.ground_numbers.proofs.Growing.{NamesIn, AllNamesIn}
 use Rattle.lazy_ground.specs.declared.pairs.ReadingPairs.{ReadingPairs}
-use Rattle.lazy_ground.specs.Pairs.{DiffersFrom, AreDifferent}
+use Rattle.lazy_ground.specs.Pairs.{DiffersFrom, AreDifferent, readings_known, AreNumbers}
 use Rattle.lazy_ground.specs.Equal.{equality_known, all_known, fits}
-use Rattle.lazy_ground.specs.Named.{rise_from, all_rise, readings_known, HasKnownEqualities, AreNumbers, AreNumbersOfPairs, IsNamed, IsSettled}
+use Rattle.lazy_ground.specs.Named.{rise_from, all_rise, HasKnownEqualities, AreNumbersOfPairs, IsNamed}
 use Rattle.lazy_ground.proofs.Stays.{all_names_there, all_names-append}
 
 -- ---- equalities
@@ -180,17 +180,18 @@ rising_different columns (t ∷ us) h k = (let b = and_parts (fits columns t) (l
 -- ---- a relation whose tests succeed
 
 -- different tuples that fit columns whose equalities are known, with the numbers of their readings
-pub named_settled : (o : Table) (s : ReadingPairs) → AreDifferent s.tuples → list_all (fits s.columns) s.tuples ≡ true → IsSettled o s → IsNamed o s
-named_settled o s different fit settled = record {
+pub named_numbered : (o : Table) (s : ReadingPairs) → AreDifferent s.tuples → list_all (fits s.columns) s.tuples ≡ true → list_all (all_known o) s.columns ≡ true
+    → AreNumbers o s.relation s.tuples s.atoms → IsNamed o s
+named_numbered o s different fit known numbers = record {
   different = different;
-  atoms = settled.numbers.numbers;
-  known = settled.numbers.known;
-  names = pairs_there o s.relation s.columns s.tuples settled.known fit settled.numbers.known;
+  atoms = numbers.numbers;
+  known = numbers.known;
+  names = pairs_there o s.relation s.columns s.tuples known fit numbers.known;
 }
 
 named_from : (o : Table) (r : ℕ) (ts columns : List (List ℕ)) (ns : List ℕ) → all_rise ts ≡ true → HasKnownEqualities o columns ts → AreNumbers o r ts ns → AreNumbersOfPairs o r ts columns ns
 named_from o r ts columns ns rise known numbers = record {
-  named = named_settled o (record { relation = r; tuples = ts; columns = columns; atoms = ns }) (rising_different columns ts rise known.fit) known.fit (record { known = known.known; numbers = numbers });
+  named = named_numbered o (record { relation = r; tuples = ts; columns = columns; atoms = ns }) (rising_different columns ts rise known.fit) known.fit known.known numbers;
   fit = known.fit;
 }
 

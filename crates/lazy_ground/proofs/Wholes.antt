@@ -21,7 +21,7 @@ use Rattle.instances.specs.declared.entry.EntryPart.{EntryPart}
 use Rattle.instances.specs.Entry.{IsEntry, entry_with}
 use Rattle.lazy_ground.specs.declared.pairs.ReadingPairs.{ReadingPairs}
 use Rattle.lazy_ground.specs.declared.grounding.LazyGround.{LazyGround}
-use Rattle.lazy_ground.specs.Pairs.{pairs_of}
+use Rattle.lazy_ground.specs.Pairs.{pairs_of, AllNumbered}
 use Rattle.lazy_ground.specs.Lazy.{lazy_forms, IsLazyGround}
 use Rattle.lazy_ground.specs.Named.{IsNamed}
 use Rattle.lazy_ground.specs.Kept.{HasLazyKept, HasWholeKept}
@@ -79,7 +79,11 @@ entry_longer d sorts atoms now front new p same q h =
 
 pub completed_kept : (d : Specification) (ob : Obligation) (g : LazyGround) (now : Known) (new : List GroundFormula) → IsLazyGround d ob g → now ≡ g.atoms → map form_of new ≡ lazy_forms g → HasLazyKept d g
     → HasWholeKept d (record { ground = record { consts = g.sorts; calls = g.calls; elements = g.elements; atoms = now; formulas = new; part = g.part }; pairs = record { readings = g.readings; pairs = g.pairs } })
-completed_kept d ob g now new is same forms kept = record { entry = by_part g.part is.entry kept.entry; pairs = kept.pairs }
+completed_kept d ob g now new is same forms kept = record {
+  entry = by_part g.part is.entry kept.entry;
+  pairs = kept.pairs;
+  numbers = subst (λ (k : Known). AllNumbered k.table g.pairs) (sym same) kept.numbers;
+}
   where
     by_part : (found : Option EntryPart) → IfSome found (λ p. p.size.formulas ≤ length g.front) → IfSome found (λ p. IsEntry d (entry_with g.sorts g.atoms g.front p))
         → IfSome found (λ p. IsEntry d (entry_with g.sorts now new p))

@@ -21,6 +21,10 @@ use Rattle.instances.specs.declared.entry.EntryPart.{EntryPart}
 use Rattle.ground_groups.specs.declared.refused.GroundRefused.{GroundRefused}
 use Rattle.ground_groups.specs.declared.refused.GroundRefused.TheVariants.{TooMany, Memory}
 use Rattle.lazy_ground.specs.declared.front.Front.{Front}
+use Rattle.lazy_ground.specs.declared.front.FrontAndPairs.{FrontAndPairs}
+use Rattle.lazy_ground.specs.declared.pairs.ReadingPairs.{ReadingPairs}
+use Rattle.lazy_ground.specs.Pairs.{AllNumbered}
+use Rattle.lazy_ground.specs.Kept.{AllBuilt}
 
 -- what is stated and defined, and that equality goes over constants
 abbrev pub front_of : Specification → Obligation → List Symbolic
@@ -48,9 +52,13 @@ pub record IsFront (d : Specification) (ob : Obligation) (f : Front) : Type 0 wh
       ≡ Some (record { known = f.atoms; forms = map form_of f.formulas })
   pub shared : IfSome f.part (HasPart d ob f.atoms f.formulas)
 
--- They are made, or the whole list has too many.
-abbrev pub IsFrontOr : Specification → Obligation → Result Front GroundRefused → Type 0
-IsFrontOr d ob (Ok f) = IsFront d ob f
+-- pairs of the readings that the front names, with their numbers
+abbrev pub ArePairsFor : Front → List ReadingPairs → Type 0
+ArePairsFor f ss = AllBuilt (map reading_of f.readings) ss × AllNumbered f.atoms.table ss
+
+-- They are made, with pairs of their readings, if any; or the whole list has too many.
+abbrev pub IsFrontOr : Specification → Obligation → Result FrontAndPairs GroundRefused → Type 0
+IsFrontOr d ob (Ok f) = IsFront d ob f.front × IfSome f.pairs (ArePairsFor f.front)
 IsFrontOr d ob (Err TooMany) = most_formulas < length (formulas_of d ob)
 IsFrontOr d ob (Err Memory) = Unit {0}
 

@@ -1,14 +1,14 @@
 -- Readings of relations whose pairs name nothing new. It mirrors the code.
-use Rattle.std.specs.Prelude.{◌≡◌, ℕ, true, Bool, ◌&&◌, List, [], ◌∷◌, map}
+use Rattle.std.specs.Prelude.{◌≡◌, ℕ, ltb, true, Bool, ◌&&◌, List, [], ◌∷◌, map}
 use Rattle.std.specs.List.{list_all}
 use Rattle.std.specs.Ordering.{nat_cmp, is_lt}
 use Rattle.std.specs.Cmp.Lexicographic.{slice_cmp}
 use Rattle.spec_core.specs.declared.update.Thing.{Thing}
 use Rattle.ground_problem.specs.Definitions.{Reading}
-use Rattle.ground_numbers.specs.Numbers.{Table, has_atom, has_number, number_of, naming_all}
+use Rattle.ground_numbers.specs.Numbers.{Table, naming_all}
 use Rattle.lazy_ground.specs.declared.pairs.ReadingPairs.{ReadingPairs}
 use Rattle.lazy_ground.specs.Equal.{all_known, fits}
-use Rattle.lazy_ground.specs.Pairs.{pairs_of, AreDifferent, HasAtoms}
+use Rattle.lazy_ground.specs.Pairs.{pairs_of, AreDifferent, HasAtoms, readings_known}
 use Rattle.lazy_ground.specs.Kept.{thing_of, IsBuilt, AllBuilt}
 
 -- a tuple is before the first of these, and each of these before the next
@@ -21,19 +21,10 @@ abbrev pub all_rise : List (List ℕ) → Bool
 all_rise [] = true
 all_rise (t ∷ ts) = rise_from t ts
 
--- the relation's readings at these tuples have numbers
-abbrev pub readings_known : Table → ℕ → List (List ℕ) → Bool
-readings_known o r ts = list_all (λ t. has_number o (has_atom [] r t)) ts
-
 -- The constants of these tuples stand, place by place, in these lists, and the equality of every two of a list has a number.
 pub record HasKnownEqualities (o : Table) (columns ts : List (List ℕ)) : Type 0 where
   pub known : list_all (all_known o) columns ≡ true
   pub fit : list_all (fits columns) ts ≡ true
-
--- these are the numbers of the relation's readings at the tuples
-pub record AreNumbers (o : Table) (r : ℕ) (ts : List (List ℕ)) (ns : List ℕ) : Type 0 where
-  pub known : readings_known o r ts ≡ true
-  pub numbers : ns ≡ map (λ t. number_of o (has_atom [] r t)) ts
 
 -- the tuples are different, their readings have these numbers, and the formulas of their pairs name nothing new
 pub record IsNamed (o : Table) (s : ReadingPairs) : Type 0 where
@@ -65,15 +56,13 @@ abbrev pub AllNamed : Table → List ReadingPairs → Type 0
 AllNamed o [] = Unit {0}
 AllNamed o (s ∷ more) = IsNamed o s × AllNamed o more
 
--- the equalities of each two constants of its columns are known, and its readings have its numbers
-pub record IsSettled (o : Table) (s : ReadingPairs) : Type 0 where
-  pub known : list_all (all_known o) s.columns ≡ true
-  pub numbers : AreNumbers o s.relation s.tuples s.atoms
+-- the equalities of each two constants of each relation's columns have numbers
+abbrev pub columns_known : Table → List ReadingPairs → Bool
+columns_known o ss = list_all (λ s. list_all (all_known o) s.columns) ss
 
--- so it is with each of these
-abbrev pub AllSettled : Table → List ReadingPairs → Type 0
-AllSettled o [] = Unit {0}
-AllSettled o (s ∷ more) = IsSettled o s × AllSettled o more
+-- the numbers of each relation's readings are below a count
+abbrev pub numbers_below : ℕ → List ReadingPairs → Bool
+numbers_below n ss = list_all (λ s. list_all (λ m. ltb m n) s.atoms) ss
 
 -- they stand for the formulas on equal readings of these things, and name nothing new
 pub record AreFound (o : Table) (qs : List Reading) (xs : List Thing) (ss : List ReadingPairs) : Type 0 where

@@ -8,12 +8,11 @@ ghost use Rattle.ground_problem.specs.Problem.{formulas_of, most_formulas};
 ghost use Rattle.ground_equality.specs.Pairs.{pair_count};
 ghost use Rattle.ground_atoms.specs.Symbols.{reading_of};
 ghost use Rattle.lazy_ground.specs.Pairs.{pairs_of};
-ghost use Rattle.lazy_ground.specs.Front.{IsFront, IsCount};
+ghost use Rattle.lazy_ground.specs.Front.{IsFront, ArePairsFor, IsCount};
 ghost use Rattle.lazy_ground.specs.Named.{AreFound};
-ghost use Rattle.lazy_ground.specs.Kept.{IsKeptPairs};
 
 use crate::front::Front;
-use crate::keeping::{KeptPairs, serves};
+use crate::keeping::serves;
 use crate::naming::pairs_of_all;
 use crate::pairs::ReadingPairs;
 use effectors::is_thing;
@@ -26,7 +25,7 @@ use spec_core::{Spec, Thing};
 use std::alloc::{AllocError, Global};
 
 /// Where there are fewer pairs of tuples, all formulas are made.
-pub const FEWEST_PAIRS: usize = 40;
+pub const FEWEST_PAIRS: usize = 3;
 
 /// More tuples of one thing have more pairs than there may be formulas.
 pub const MOST_TUPLES: usize = 250;
@@ -164,31 +163,23 @@ fn made_pairs(
 }
 
 /// The pairs of the readings of these relations, where it is worthwhile to leave their formulas to them, and they name nothing new. Those
-/// that are kept are taken, where they serve.
+/// that were kept are taken, where they serve.
 pub fn choose(
     alloc: Global,
     front: &Front,
     relations: &[Thing],
-    kept: Option<KeptPairs>,
+    kept: Option<Items<ReadingPairs>>,
 ) -> Result<Option<Items<ReadingPairs>>, AllocError>
-    requires { IfSome kept IsKeptPairs }
+    requires { IfSome kept (ArePairsFor front.now) }
     ensures { IfOk result (λ found. IfSome found
         (AreFound front.now.atoms.table (map reading_of front.now.readings) relations.now)) }
 {
     match kept {
-        Some(kept) => {
-            if serves(
-                &front.atoms,
-                alloc,
-                front.readings.as_slice(),
-                relations,
-                &kept,
-            ) {
-                let KeptPairs { readings, pairs } = kept;
-                drop(readings);
+        Some(pairs) => {
+            if serves(&front.atoms, relations, pairs.as_slice()) {
                 return Ok(Some(pairs));
             }
-            drop(kept);
+            drop(pairs);
             made_pairs(alloc, front, relations)
         }
         None => made_pairs(alloc, front, relations),

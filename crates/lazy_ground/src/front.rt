@@ -1,26 +1,26 @@
 // The formulas of an obligation before those on equal readings, and the readings at the entry.
-ghost use Rattle.std.specs.Prelude.{◌≡◌, [], map, Some, IfOk, IfSome};
+ghost use Rattle.std.specs.Prelude.{◌≡◌, IfSome};
 ghost use Rattle.obligation_list.specs.Breaking as breaking;
 ghost use Rattle.obligation_list.specs.Obligations.{IsObligation};
 ghost use Rattle.ground_problem.specs.Constants.{constants_of};
-ghost use Rattle.ground_problem.specs.Entry.{entry};
-ghost use Rattle.ground_atoms.specs.Symbols.{reading_of};
 ghost use Rattle.ground_atoms.specs.Calls.{calls_of};
-ghost use Rattle.ground_atoms.specs.Formulas.{form_of};
-ghost use Rattle.ground_constants.specs.Calls.{constants_in, numbered_arguments};
-ghost use Rattle.ground_groups.specs.Limited.{Appends, make_upto};
-ghost use Rattle.instances.specs.Entry.{IsEntry, IsBegun};
-ghost use Rattle.lazy_ground.specs.Front.{front_of, entry_readings, IsFrontOr};
+ghost use Rattle.ground_constants.specs.Calls.{constants_in};
+ghost use Rattle.instances.specs.Entry.{IsBegun};
+ghost use Rattle.lazy_ground.specs.Pairs.{AllNumbered};
+ghost use Rattle.lazy_ground.specs.Kept.{IsKeptPairs, IsKept};
+ghost use Rattle.lazy_ground.specs.Front.{IsFrontOr};
 
+use crate::grounding::Kept;
+use crate::keeping::{EntryReadings, KeptPairs, entry_readings, standing};
+use crate::pairs::ReadingPairs;
 use ground_atoms::{Atoms, GroundFormula, NamedReading};
 use ground_constants::constants::{Named, constants, operations_of};
 use ground_equality::equating::add_equality;
 use ground_groups::GroundRefused;
-use ground_groups::defining::readings_after;
+use instances::EntryPart;
 use instances::entry::{Begun, begin};
 use instances::grounding::numbered;
 use instances::listing::add_all_defined;
-use instances::{Entry, EntryPart};
 use items::Items;
 use obligation_list::Obligation;
 use spec_core::Spec;
@@ -37,43 +37,15 @@ pub struct Front {
     pub part: Option<EntryPart>,
 }
 
-// Appends to what is true at the entry the rest of what is stated and defined, and then that equality goes over constants. The readings
-// are those before equality, which names none.
-fn add_front(
-    atoms: &mut Atoms,
-    alloc: Global,
-    spec: &Spec,
-    ob: &Obligation,
-    ops: &[u8],
-    named: &Named,
-    out: &mut Items<GroundFormula>,
-) -> Result<Items<NamedReading>, GroundRefused>
-    requires member { IsObligation spec.now ob.now }
-    requires ops { ops.now ≡ breaking.operations_of ob.now }
-    requires calls { named.now.calls ≡ calls_of spec.now ob.now }
-    requires constants { constants_in named.now ≡ constants_of spec.now ob.now }
-    requires begun { make_upto [] (numbered_arguments spec.now ob.now)
-        (entry spec.now ob.now (constants_of spec.now ob.now))
-        ≡ Some (record { known = atoms.now; forms = map form_of out.now }) }
-    ensures formulas { Appends result [] (numbered_arguments spec.now ob.now)
-        (front_of spec.now ob.now) out.new atoms.new }
-    ensures readings { IfOk result (λ qs. map reading_of qs ≡ entry_readings spec.now ob.now) }
-{
-    match add_all_defined(atoms, alloc, spec, ob, ops, named, out) {
-        Ok(()) => {}
-        Err(refused) => return Err(refused),
-    }
-    let readings = readings_after(alloc, atoms, 0)?;
-    match add_equality(atoms, alloc, named.sorts.as_slice(), out) {
-        Ok(()) => Ok(readings),
-        Err(refused) => {
-            drop(readings);
-            Err(refused)
-        }
-    }
+/// The front; and the pairs of its readings that were kept, where it has the readings that they were made of.
+#[derive(Drop)]
+pub struct FrontAndPairs {
+    pub front: Front,
+    pub pairs: Option<Items<ReadingPairs>>,
 }
 
-// These formulas, of which those that are true at the entry are made.
+// These formulas, of which those that are true at the entry are made: the rest of what is stated and defined, and then that equality goes
+// over constants. The readings are those before equality, which names none.
 fn after_entry(
     alloc: Global,
     spec: &Spec,
@@ -81,27 +53,44 @@ fn after_entry(
     ops: &[u8],
     named: Named,
     begun: Begun,
-) -> Result<Front, GroundRefused>
+    kept: Option<KeptPairs>,
+) -> Result<FrontAndPairs, GroundRefused>
     requires member { IsObligation spec.now ob.now }
     requires ops { ops.now ≡ breaking.operations_of ob.now }
     requires calls { named.calls ≡ calls_of spec.now ob.now }
     requires constants { constants_in named ≡ constants_of spec.now ob.now }
     requires begun { IsBegun spec.now ob.now begun }
+    requires kept { IfSome kept IsKeptPairs }
+    requires numbers { IfSome kept (λ k. AllNumbered begun.atoms.table k.pairs) }
     ensures { IsFrontOr spec.now ob.now result }
 {
     let Begun {
         mut atoms,
         mut formulas,
         part,
+        ..
     } = begun;
-    let added = add_front(&mut atoms, alloc, spec, ob, ops, &named, &mut formulas);
-    let readings = or_drop!(added; part, formulas, named, atoms);
-    Ok(Front {
-        named,
-        atoms,
-        formulas,
-        readings,
-        part,
+    let defined = add_all_defined(&mut atoms, alloc, spec, ob, ops, &named, &mut formulas);
+    or_drop!(defined; kept, part, formulas, named, atoms);
+    let Ok(read) = entry_readings(alloc, &atoms, kept) else {
+        drop(part);
+        drop(formulas);
+        drop(named);
+        drop(atoms);
+        return Err(GroundRefused::Memory);
+    };
+    let equated = add_equality(&mut atoms, alloc, named.sorts.as_slice(), &mut formulas);
+    or_drop!(equated; read, part, formulas, named, atoms);
+    let EntryReadings { readings, pairs } = read;
+    Ok(FrontAndPairs {
+        front: Front {
+            named,
+            atoms,
+            formulas,
+            readings,
+            part,
+        },
+        pairs,
     })
 }
 
@@ -111,41 +100,40 @@ fn front_at(
     spec: &Spec,
     ob: &Obligation,
     ops: &[u8],
-    kept: Option<Entry>,
-) -> Result<Front, GroundRefused>
+    kept: Kept,
+) -> Result<FrontAndPairs, GroundRefused>
     requires member { IsObligation spec.now ob.now }
     requires ops { ops.now ≡ breaking.operations_of ob.now }
-    requires kept { IfSome kept (IsEntry spec.now) }
+    requires kept { IsKept spec.now kept }
     ensures { IsFrontOr spec.now ob.now result }
 {
+    let Kept { entry, pairs } = kept;
     let Ok(arguments) = numbered(alloc, spec, ob, ops) else {
-        drop(kept);
+        drop(entry);
+        drop(pairs);
         return Err(GroundRefused::Memory);
     };
     let Ok(named) = constants(alloc, spec, ob) else {
-        drop(kept);
+        drop(entry);
+        drop(pairs);
         drop(arguments);
         return Err(GroundRefused::Memory);
     };
-    match begin(alloc, spec, ob, &named, arguments, kept) {
-        Ok(begun) => after_entry(alloc, spec, ob, ops, named, begun),
-        Err(refused) => {
-            drop(named);
-            Err(refused)
-        }
-    }
+    let begun = or_drop!(begin(alloc, spec, ob, &named, arguments, entry); pairs, named);
+    let pairs = standing(&begun, pairs);
+    after_entry(alloc, spec, ob, ops, named, begun, pairs)
 }
 
-/// These formulas of an obligation of the specification; too many where the whole list has too many. They go on from an entry that was
-/// kept, where this obligation has the same.
+/// These formulas of an obligation of the specification; too many where the whole list has too many. They go on from what was kept, where
+/// this obligation has the same entry.
 pub fn make_front(
     alloc: Global,
     spec: &Spec,
     ob: &Obligation,
-    kept: Option<Entry>,
-) -> Result<Front, GroundRefused>
+    kept: Kept,
+) -> Result<FrontAndPairs, GroundRefused>
     requires member { IsObligation spec.now ob.now }
-    requires kept { IfSome kept (IsEntry spec.now) }
+    requires kept { IsKept spec.now kept }
     ensures { IsFrontOr spec.now ob.now result }
 {
     let Ok(ops) = operations_of(alloc, ob) else {

@@ -5,7 +5,9 @@ ghost use Rattle.obligation_list.specs.Obligations.{IsObligation, things};
 ghost use Rattle.obligation_list.specs.declared.obligation.Obligation.{Obligation};
 ghost use Rattle.ground_problem.specs.Problem.{formulas_of, most_formulas};
 ghost use Rattle.ground_atoms.specs.Symbols.{reading_of};
-ghost use Rattle.lazy_ground.specs.Front.{IsFront};
+ghost use Rattle.ground_numbers.specs.Numbers.{Table};
+ghost use Rattle.lazy_ground.specs.Front.{IsFront, ArePairsFor};
+ghost use Rattle.lazy_ground.specs.Pairs.{AllNumbered};
 ghost use Rattle.lazy_ground.specs.Named.{AreFound};
 ghost use Rattle.spec_core.specs.Specification.{Specification};
 ghost use Rattle.instances.specs.Entry.{IsEntry, entry_with};
@@ -13,7 +15,7 @@ ghost use Rattle.lazy_ground.specs.Kept.{IsKeptPairs, IsKept, HasLazyKept, HasKe
 ghost use Rattle.lazy_ground.specs.Lazy.{IsGroundEither};
 
 use crate::choosing::{choose, has_too_many, has_too_many_beside};
-use crate::front::{Front, make_front};
+use crate::front::{Front, FrontAndPairs, make_front};
 use crate::keeping::KeptPairs;
 use crate::pairs::ReadingPairs;
 use ground_atoms::{Atoms, GroundCall, GroundFormula, NamedReading};
@@ -78,8 +80,9 @@ fn entry_of(
     formulas: Items<GroundFormula>,
     part: Option<EntryPart>,
 ) -> Option<Entry>
-    ensures { (d : Specification) → IfSome part (λ p. IsEntry d (entry_with sorts atoms formulas p))
+    ensures entry { (d : Specification) → IfSome part (λ p. IsEntry d (entry_with sorts atoms formulas p))
         → IfSome result (IsEntry d) }
+    ensures atoms { IfSome result (λ e. e.atoms ≡ atoms) }
 {
     match part {
         Some(part) => Some(Entry {
@@ -100,7 +103,9 @@ fn entry_of(
 // Pairs of readings, to be kept with these; nothing where none were made.
 fn kept_with(readings: Items<NamedReading>, pairs: Option<Items<ReadingPairs>>) -> Option<KeptPairs>
     requires { IfSome pairs (λ ss. IsKeptPairs (record { readings = readings; pairs = ss })) }
-    ensures { IfSome result IsKeptPairs }
+    ensures pairs { IfSome result IsKeptPairs }
+    ensures numbers { (o : Table) → IfSome pairs (AllNumbered o)
+        → IfSome result (λ k. AllNumbered o k.pairs) }
 {
     match pairs {
         Some(pairs) => Some(KeptPairs { readings, pairs }),
@@ -114,8 +119,7 @@ fn kept_with(readings: Items<NamedReading>, pairs: Option<Items<ReadingPairs>>) 
 impl Front {
     // What it leaves for the next obligation, with the pairs of its readings, where they were made.
     fn into_kept(self, pairs: Option<Items<ReadingPairs>>) -> Kept
-        requires { IfSome pairs
-            (λ ss. IsKeptPairs (record { readings = self.readings; pairs = ss })) }
+        requires { IfSome pairs (ArePairsFor self) }
         ensures { (d : Specification) (ob : Obligation) → IsFront d ob self → IsKept d result }
     {
         let Front {
@@ -335,11 +339,11 @@ fn as_chosen(
     ob: &Obligation,
     front: Front,
     all: &[Thing],
-    kept: Option<KeptPairs>,
+    kept: Option<Items<ReadingPairs>>,
 ) -> Result<EitherGround, GroundRefused>
     requires front { IsFront spec.now ob.now front }
     requires things { all.now ≡ things spec.now }
-    requires kept { IfSome kept IsKeptPairs }
+    requires kept { IfSome kept (ArePairsFor front) }
     ensures ground { IsGroundEither spec.now ob.now result }
     ensures kept { IfOk result (HasKept spec.now) }
 {
@@ -369,14 +373,12 @@ pub fn ground_lazily_from(
     ensures kept { IfOk result (HasKept spec.now) }
     ensures clauses { IfOk result HasEitherClauses }
 {
-    let Kept { entry, pairs } = kept;
     let Ok(all) = things_of(alloc, spec) else {
-        drop(entry);
-        drop(pairs);
+        drop(kept);
         return Err(GroundRefused::Memory);
     };
-    let made = make_front(alloc, spec, ob, entry);
-    let front = or_drop!(made; all, pairs);
+    let made = make_front(alloc, spec, ob, kept);
+    let FrontAndPairs { front, pairs } = or_drop!(made; all);
     let result = as_chosen(alloc, spec, ob, front, all.as_slice(), pairs);
     drop(all);
     result

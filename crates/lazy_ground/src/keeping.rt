@@ -1,30 +1,55 @@
 // The pairs of one obligation, kept for the next one.
 //
-// Obligations next to each other mostly have the same readings at the entry, and then the same pairs stand for the formulas on equal
-// readings. Only what a table says is tested anew: that the readings have the same numbers, and that the equalities of each two
-// constants of a place have numbers.
-ghost use Rattle.std.specs.Prelude.{◌≡◌, [], true, map, IsTrue};
+// Obligations next to each other mostly go on from the same entry and have the same readings at it. Then the same pairs stand for the
+// formulas on equal readings, and these readings have the numbers that they had. What is left to be tested is what the next obligation
+// names itself: that no reading came to those at the entry, and that the equalities of each two constants of a place have numbers.
+ghost use Rattle.std.specs.Prelude.{◌≡◌, ◌==◌, true, length, map, filter, ltb, Option, IfOk, IfSome, IsTrue, List};
 ghost use Rattle.std.specs.List.{list_all, list_any};
 ghost use Rattle.std.specs.Str.{bytes_eq};
-ghost use Rattle.ground_numbers.specs.Numbers.{has_atom, has_number, number_of};
+ghost use Rattle.ground_problem.specs.Definitions.{Reading};
+ghost use Rattle.ground_numbers.specs.Numbers.{Table};
+ghost use Rattle.ground_numbers.specs.Stages.{stage_of};
 ghost use Rattle.ground_atoms.specs.Symbols.{reading_of};
+ghost use Rattle.instances.specs.declared.entry.Entry.{Entry};
+ghost use Rattle.instances.specs.Entry.{IsCutBack};
 ghost use Rattle.lazy_ground.specs.Equal.{all_known};
-ghost use Rattle.lazy_ground.specs.Named.{AreNumbers, AreFound, IsSettled, AllSettled};
-ghost use Rattle.lazy_ground.specs.Kept.{thing_of, IsKeptPairs};
+ghost use Rattle.lazy_ground.specs.Pairs.{AllNumbered};
+ghost use Rattle.lazy_ground.specs.Named.{columns_known, numbers_below, AreFound};
+ghost use Rattle.lazy_ground.specs.Kept.{thing_of, AllBuilt, IsKeptPairs, HaveNumbers};
 
 use crate::equal::are_known;
 use crate::pairs::ReadingPairs;
 use effectors::is_thing;
-use ground_atoms::{Atom, Atoms, NamedReading, Tuple};
+use ground_atoms::{Atoms, NamedReading};
+use ground_groups::defining::readings_after;
+use instances::entry::Begun;
 use items::Items;
 use spec_core::Thing;
-use std::alloc::Global;
+use std::alloc::{AllocError, Global};
 
 /// The readings at the entry of an obligation, and the pairs of those of its relations.
 #[derive(Drop)]
 pub struct KeptPairs {
     pub readings: Items<NamedReading>,
     pub pairs: Items<ReadingPairs>,
+}
+
+/// The readings at the entry of an obligation; and the pairs of those of its relations, where they were kept.
+#[derive(Drop)]
+pub struct EntryReadings {
+    pub readings: Items<NamedReading>,
+    pub pairs: Option<Items<ReadingPairs>>,
+}
+
+// Whether a stage is the entry.
+fn is_entry(stage: u8) -> bool
+    ensures { result ≡ (length (stage_of stage) == 0) }
+{
+    match stage {
+        0 => true,
+        2 | 4 => false,
+        _ => false,
+    }
 }
 
 // Whether two readings are one.
@@ -36,19 +61,93 @@ fn is_same_reading(one: &NamedReading, other: &NamedReading) -> bool
         && one.tuple.consts() == other.tuple.consts()
 }
 
-// Whether these are those readings, in the same order.
-fn are_same_readings(these: &[NamedReading], those: &[NamedReading]) -> bool
-    ensures { IsTrue result → these.now ≡ those.now }
+// Whether these are the readings at the entry that are named so far, in their order.
+fn are_named(atoms: &Atoms, readings: &[NamedReading]) -> bool
+    ensures { IsTrue result
+        → map reading_of readings.now ≡ filter (λ q. length q.stage == 0) atoms.now.named }
 {
-    if these.len() != those.len() {
-        return false;
+    let mut count: usize = 0;
+    for reading in atoms.named() {
+        if is_entry(reading.stage) {
+            if count >= readings.len() || !is_same_reading(reading, &readings[count]) {
+                return false;
+            }
+            count += 1;
+        }
     }
-    for place in 0..these.len() {
-        if !is_same_reading(&these[place], &those[place]) {
+    count == readings.len()
+}
+
+/// The readings at the entry that are named so far. Where they are those that were kept, their pairs are kept too.
+pub fn entry_readings(
+    alloc: Global,
+    atoms: &Atoms,
+    kept: Option<KeptPairs>,
+) -> Result<EntryReadings, AllocError>
+    requires { IfSome kept IsKeptPairs }
+    ensures readings { IfOk result (λ r. map reading_of r.readings
+        ≡ filter (λ q. length q.stage == 0) atoms.now.named) }
+    ensures pairs { IfOk result (λ r. IfSome r.pairs (AllBuilt (map reading_of r.readings))) }
+    ensures numbers { (o : Table) → IfSome kept (λ k. AllNumbered o k.pairs)
+        → IfOk result (λ r. IfSome r.pairs (AllNumbered o)) }
+{
+    if let Some(kept) = kept {
+        if are_named(atoms, kept.readings.as_slice()) {
+            let KeptPairs { readings, pairs } = kept;
+            return Ok(EntryReadings {
+                readings,
+                pairs: Some(pairs),
+            });
+        }
+        drop(kept);
+    }
+    Ok(EntryReadings {
+        readings: readings_after(alloc, atoms, 0)?,
+        pairs: None,
+    })
+}
+
+// Whether each of these numbers is below a count.
+fn is_below(count: usize, numbers: &[u32]) -> bool
+    ensures { result ≡ list_all (λ m. ltb m count) numbers.now }
+{
+    for number in numbers {
+        if *number as usize >= count {
             return false;
         }
     }
     true
+}
+
+// Whether the numbers of each relation's readings are.
+fn are_below(count: usize, pairs: &[ReadingPairs]) -> bool
+    ensures { result ≡ numbers_below count pairs.now }
+{
+    for some in pairs {
+        if !is_below(count, some.atoms.as_slice()) {
+            return false;
+        }
+    }
+    true
+}
+
+/// The pairs that were kept with an entry, where what is true at the entry was cut back from it and their readings are among it.
+pub fn standing(begun: &Begun, kept: Option<KeptPairs>) -> Option<KeptPairs>
+    requires { IfSome kept IsKeptPairs }
+    ensures pairs { IfSome result IsKeptPairs }
+    ensures numbers { (entry : Option Entry) → HaveNumbers entry kept → IsCutBack entry begun.now
+        → IfSome result (λ k. AllNumbered begun.now.atoms.table k.pairs) }
+{
+    match kept {
+        Some(kept) => {
+            if begun.is_cut && are_below(begun.atoms.size().atoms, kept.pairs.as_slice()) {
+                return Some(kept);
+            }
+            drop(kept);
+            None
+        }
+        None => None,
+    }
 }
 
 // Whether these are the relations of the pairs, in their order.
@@ -60,53 +159,6 @@ fn are_relations_of(pairs: &[ReadingPairs], things: &[Thing]) -> bool
     }
     for place in 0..pairs.len() {
         if !is_thing(Thing::Relation(pairs[place].relation), things[place]) {
-            return false;
-        }
-    }
-    true
-}
-
-// Whether a relation's reading at a tuple has this number.
-fn is_number_at(atoms: &Atoms, alloc: Global, relation: u8, tuple: &[u32], number: u32) -> bool
-    ensures known { IsTrue result
-        → has_number atoms.now.table (has_atom [] relation tuple.now) ≡ true }
-    ensures number { IsTrue result
-        → number ≡ number_of atoms.now.table (has_atom [] relation tuple.now) }
-{
-    let Ok(tuple) = Tuple::of(alloc, tuple) else {
-        return false;
-    };
-    let atom = Atom::Has {
-        stage: 0,
-        relation,
-        tuple,
-    };
-    let is_its = atoms.is_number_of(number, &atom);
-    drop(atom);
-    is_its
-}
-
-// Whether the readings at these tuples have these numbers.
-fn are_numbers_at(
-    atoms: &Atoms,
-    alloc: Global,
-    relation: u8,
-    tuples: &[Items<u32>],
-    numbers: &[u32],
-) -> bool
-    ensures { IsTrue result → AreNumbers atoms.now.table relation tuples.now numbers.now }
-{
-    if tuples.len() != numbers.len() {
-        return false;
-    }
-    for place in 0..tuples.len() {
-        if !is_number_at(
-            atoms,
-            alloc,
-            relation,
-            tuples[place].as_slice(),
-            numbers[place],
-        ) {
             return false;
         }
     }
@@ -146,24 +198,13 @@ fn are_known_beside(atoms: &Atoms, before: &[Items<u32>], columns: &[Items<u32>]
     true
 }
 
-// Whether the pairs of a relation name nothing new, and its readings have the numbers that are kept.
-fn is_settled(atoms: &Atoms, alloc: Global, before: &[Items<u32>], some: &ReadingPairs) -> bool
-    requires { list_all (all_known atoms.now.table) before.now ≡ true }
-    ensures { IsTrue result → IsSettled atoms.now.table some.now }
-{
-    let tuples = some.tuples.as_slice();
-    let numbers = some.atoms.as_slice();
-    are_known_beside(atoms, before, some.columns.as_slice())
-        && are_numbers_at(atoms, alloc, some.relation, tuples, numbers)
-}
-
-// Whether it is so with those of each relation.
-fn are_settled(atoms: &Atoms, alloc: Global, pairs: &[ReadingPairs]) -> bool
-    ensures { IsTrue result → AllSettled atoms.now.table pairs.now }
+// Whether it is so with those at each place of each relation.
+fn are_columns_known(atoms: &Atoms, pairs: &[ReadingPairs]) -> bool
+    ensures { IsTrue result → columns_known atoms.now.table pairs.now ≡ true }
 {
     let mut before: &[Items<u32>] = &[];
     for some in pairs {
-        if !is_settled(atoms, alloc, before, some) {
+        if !are_known_beside(atoms, before, some.columns.as_slice()) {
             return false;
         }
         before = some.columns.as_slice();
@@ -171,23 +212,11 @@ fn are_settled(atoms: &Atoms, alloc: Global, pairs: &[ReadingPairs]) -> bool
     true
 }
 
-/// Whether what is kept are the pairs of these things among these readings, and names nothing new.
-pub fn serves(
-    atoms: &Atoms,
-    alloc: Global,
-    readings: &[NamedReading],
-    things: &[Thing],
-    kept: &KeptPairs,
-) -> bool
-    requires { IsKeptPairs kept.now }
-    ensures { IsTrue result
-        → AreFound atoms.now.table (map reading_of readings.now) things.now kept.now.pairs }
+/// Whether these are pairs of these things, and name nothing new.
+pub fn serves(atoms: &Atoms, things: &[Thing], pairs: &[ReadingPairs]) -> bool
+    ensures { IsTrue result → (qs : List Reading) → AllBuilt qs pairs.now
+        → AllNumbered atoms.now.table pairs.now
+        → AreFound atoms.now.table qs things.now pairs.now }
 {
-    if !are_same_readings(kept.readings.as_slice(), readings) {
-        return false;
-    }
-    if !are_relations_of(kept.pairs.as_slice(), things) {
-        return false;
-    }
-    are_settled(atoms, alloc, kept.pairs.as_slice())
+    are_relations_of(pairs, things) && are_columns_known(atoms, pairs)
 }

@@ -7,9 +7,8 @@
 // of them, they are made and put between, and that is the whole problem (src/completing.rt). All formulas on equal tuples are counted
 // before any of them is made: a list with too many ends there (src/choosing.rt).
 //
-// Obligations of a specification mostly share their entry and its readings. What is made of the entry is cut back for the next
-// obligation, and the pairs are taken over where that one's readings are the same; only what depends on numbers is tested anew
-// (src/keeping.rt).
+// Obligations of a specification mostly share their entry and its readings. What is made of the entry is cut back for another
+// obligation, and the pairs are taken over where that one goes on from it and has the same readings (src/keeping.rt).
 //
 // Definitions, in specs/: `Pairs` (what a relation's tuples stand for), `Lazy` (what the lazy ground problem is), `Kept` (what of it
 // serves the next obligation). `Equal`, `Named` and `Front` mirror the code: what is tested of constants and of tuples, and what is made

@@ -2,7 +2,8 @@
 ghost use Rattle.std.specs.Prelude.{◌≡◌, [], IfOk, IfSome, IsTrue, true, map};
 ghost use Rattle.ground_numbers.specs.Numbers.{has_atom, has_number, number_of};
 ghost use Rattle.ground_atoms.specs.Symbols.{reading_of};
-ghost use Rattle.lazy_ground.specs.Named.{rise_from, all_rise, AreNumbers, HasKnownEqualities, AreNumbersOfPairs, ArePairsAt, ArePairsOf, AreFound};
+ghost use Rattle.lazy_ground.specs.Pairs.{AreNumbers};
+ghost use Rattle.lazy_ground.specs.Named.{rise_from, all_rise, HasKnownEqualities, AreNumbersOfPairs, ArePairsAt, ArePairsOf, AreFound};
 
 use crate::columns::columns_of;
 use crate::equal::{are_all_known, are_within};

@@ -1,6 +1,6 @@
 // What is kept of the verdicts of a report, line by line.
-ghost use Rattle.std.specs.Prelude.{◌≡◌, suc, Some, IfOk, IfSome, OnOk, slice_get};
-ghost use Rattle.instances.specs.Entry.{IsEntry};
+ghost use Rattle.std.specs.Prelude.{◌≡◌, suc, Some, IfOk, OnOk, slice_get};
+ghost use Rattle.instances.specs.Entry.{AreEntries};
 ghost use Rattle.std.specs.List.{Contains};
 ghost use Rattle.obligation_list.specs.Obligations.{IsObligation, obligations_of};
 ghost use Rattle.proof_report.specs.Events.{told};
@@ -104,8 +104,8 @@ fn begin_on(
     judgement: &mut Judgement,
 ) -> Result<(), AllocError>
     requires member { IsObligation spec.now ob.now }
-    requires kept { IfSome poser.old.entry (IsEntry spec.now) }
-    ensures kept { IfSome poser.new.entry (IsEntry spec.now) }
+    requires kept { AreEntries spec.now poser.old.cache }
+    ensures kept { AreEntries spec.now poser.new.cache }
     ensures begun { OnOk result (judgement.new ≡ begun_in spec.now ob.now number logs judgement.old) }
 {
     let posed = poser.pose(spec, ob)?;
@@ -134,8 +134,8 @@ fn begin(
 ) -> Result<(), AllocError>
     requires list { obligations.now ≡ obligations_of spec.now }
     requires members { (ob : Obligation) → Contains obligations.now ob → IsObligation spec.now ob }
-    requires kept { IfSome poser.old.entry (IsEntry spec.now) }
-    ensures kept { IfSome poser.new.entry (IsEntry spec.now) }
+    requires kept { AreEntries spec.now poser.old.cache }
+    ensures kept { AreEntries spec.now poser.new.cache }
     ensures begun { OnOk result (judgement.new ≡ begun spec.now number (Some word.now) judgement.old) }
 {
     if judgement.fault.is_some() {
@@ -230,8 +230,8 @@ pub fn take(
 ) -> Result<(), AllocError>
     requires list { obligations.now ≡ obligations_of spec.now }
     requires members { (ob : Obligation) → Contains obligations.now ob → IsObligation spec.now ob }
-    requires kept { IfSome poser.old.entry (IsEntry spec.now) }
-    ensures kept { IfSome poser.new.entry (IsEntry spec.now) }
+    requires kept { AreEntries spec.now poser.old.cache }
+    ensures kept { AreEntries spec.now poser.new.cache }
     ensures taken { OnOk result (judgement.new ≡ taken_as spec.now budget number fed.now judgement.old) }
 {
     if let Some(word) = &fed.begin {

@@ -22,9 +22,8 @@ use spec_core::Spec;
 use std::alloc::{AllocError, Global};
 use std::marker::Model;
 
-/// Verifies a report line by line. It keeps one block, of its log the clauses that weren't dropped, and what the problem of the next
-/// block shares with its. Contracts see it as a
-/// `VerifierForm`.
+/// Verifies a report line by line. It keeps one block, of its log the clauses that weren't dropped, and what problems of
+/// other blocks share with its. Contracts see it as a `VerifierForm`.
 #[derive(Drop)]
 pub struct Verifier<'a> {
     poser: Poser,
@@ -42,8 +41,7 @@ impl<'a> Model for Verifier<'a> {
     ghost use Rattle.spec_core.specs.Code.{coded_form};
     ghost use Rattle.obligation_list.specs.declared.obligation.Obligation.{Obligation};
     ghost use Rattle.obligation_list.specs.Obligations.{obligations_of, IsObligation};
-    ghost use Rattle.std.specs.Prelude.{IfSome};
-    ghost use Rattle.instances.specs.Entry.{IsEntry};
+    ghost use Rattle.instances.specs.Entry.{AreEntries};
     ghost use Rattle.report_verifier.specs.Verifier.{VerifierForm, IsWithin};
 
     ghost Value = { VerifierForm };
@@ -52,7 +50,7 @@ impl<'a> Model for Verifier<'a> {
 
     ghost view = { λ a. record { reader = a.reader; judgement = a.judgement; failed = a.failed } };
 
-    ghost invariant = { λ a. (a.obligations ≡ obligations_of a.spec.now) × (a.reader.spec ≡ a.spec.now) × ((ob : Obligation) → Contains a.obligations ob → IsObligation a.spec.now ob) × IsWithin a.spec.now a.judgement × IfSome a.poser.entry (IsEntry a.spec.now) };
+    ghost invariant = { λ a. (a.obligations ≡ obligations_of a.spec.now) × (a.reader.spec ≡ a.spec.now) × ((ob : Obligation) → Contains a.obligations ob → IsObligation a.spec.now ob) × IsWithin a.spec.now a.judgement × AreEntries a.spec.now a.poser.cache };
 }
 
 // The budget of log lines, where it was stated.
@@ -75,7 +73,7 @@ impl<'a> Verifier<'a> {
             drop(obligations);
             return Err(AllocError);
         };
-        let poser = Poser { alloc, entry: None };
+        let poser = Poser::new(alloc, spec);
         Ok(Verifier {
             poser,
             spec,

@@ -4,8 +4,8 @@ use Rattle.instances.specs.Entry.{IsEntry}
 use Rattle.instances.proofs.Shared.{cut_shared}
 use Rattle.instances.proofs.entry.shared.Goals as goal
 
-pub returns-then-is_alike : goal.returns-then-is_alike
-returns-then-is_alike c =
+pub returns-then-is_alike-clause-shared : goal.returns-then-is_alike-clause-shared
+returns-then-is_alike-clause-shared c =
     let d = c.args.spec.now in
     let e = c.in-Some.entry in
     let is : IsEntry d e = subst (λ z. IfSome z (IsEntry d)) c.in-Some.is c.requires.kept in

@@ -1,6 +1,6 @@
 use Rattle.std.proofs.Common.{◌≡◌, ◌++◌, [], drop, map}
 use Rattle.ground_numbers.specs.Numbers.{has_atom, number_of}
-use Rattle.lazy_ground.specs.Named.{readings_known}
+use Rattle.lazy_ground.specs.Pairs.{readings_known}
 use Rattle.lazy_ground.proofs.naming.numbers_at.Given as goal
 
 abbrev pub invariant-loop-tuple : goal.invariant-loop-tuple

@@ -1,5 +1,15 @@
-use Rattle.lazy_ground.proofs.Entries.{front_entry}
+use Rattle.lazy_ground.proofs.Entries.{front_entry, built_for, numbers_for}
+use Rattle.lazy_ground.proofs.Serving.{have_numbers}
 use Rattle.lazy_ground.proofs.front.Front.into_kept.Goals as goal
 
+pub kept_with-requires : goal.kept_with-requires
+kept_with-requires c = built_for c.args.self c.args.pairs c.requires
+
 pub returns : goal.returns
-returns c = λ d ob is. record { entry = c.entry_of.ensures d (front_entry d ob c.args.self is); pairs = c.kept_with.ensures }
+returns c =
+    let f = c.args.self in
+    λ d ob is. record {
+      entry = c.entry_of.ensures.entry d (front_entry d ob f is);
+      pairs = c.kept_with.ensures.pairs;
+      numbers = have_numbers c.entry_of.result c.kept_with.result f.atoms c.entry_of.ensures.atoms (c.kept_with.ensures.numbers f.atoms.table (numbers_for f c.args.pairs c.requires));
+    }

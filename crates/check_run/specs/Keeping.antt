@@ -1,0 +1,9 @@
+-- What decided obligations leave for others.
+use Rattle.std.specs.Prelude.{All}
+use Rattle.spec_core.specs.Specification.{Specification}
+use Rattle.lazy_ground.specs.Kept.{IsKept}
+use Rattle.check_run.specs.declared.keeping.KeptCache.{KeptCache}
+
+-- each serves any obligation of the specification
+abbrev pub AreKept : Specification → KeptCache → Type 0
+AreKept d c = All (IsKept d) c.kept.items
