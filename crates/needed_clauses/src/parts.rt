@@ -38,11 +38,7 @@ pub fn place_of(places: &[u32], atom: u32) -> u32 {
 
 /// So many places of atoms that nothing names yet.
 pub fn no_places(alloc: Global, many: usize) -> Result<Vec<u32>, AllocError> {
-    let mut places = Vec::with_capacity(alloc, many)?;
-    for _ in 0..many {
-        places.push(NOWHERE)?;
-    }
-    Ok(places)
+    vec![in alloc; NOWHERE; many]
 }
 
 /// Marks the atoms of a clause with the place 0.
