@@ -3,25 +3,38 @@
 
 Run at the top of the repository, once `./cise` has built the program, with `z3` on the path:
 
-    checks/z3.py examples/bank/refuted.cise examples/bank/accepted.cise 12
+    checks/z3.py examples/bank/refuted.cise examples/bank/accepted.cise 12 r7
 
-    checks/z3.py --table [FILE..]
+    checks/z3.py --table [--all] [FILE..]
 
-The second prints a table of processor seconds, of one run for a whole specification, where Z3 is the fastest in comparison first: of all
-specifications of examples/ and cases/ and of the one that `sample 12` checks, or of those that are given. The checker and Z3 take turns, and
-of some runs the least counts. Where Z3 takes more than 20 seconds, the specification is left out and named.
+The second prints a table of processor seconds, of one run for a whole specification: of all specifications of examples/ and cases/, of the one
+that `sample 12` checks and of 30 generated ones, or of those that are given. A row has two ratios, of Z3 by the encoding `alone` and by the
+fastest of all; where the second is the least stands first. Twelve rows are printed and the rest is told in a line; with `--all` all rows are
+printed. Below, a line for each ratio says on how many files Z3 is faster, and the geometric mean, with and without the starts of both: of all
+files, and of the generated ones and the others apart. `sample 12` is one of the others.
 
-A word that is a number N stands for the specification that `sample N` checks. Each obligation becomes one SMT-LIB problem,
-which can be satisfied where something breaks the obligation as docs/RULE.md says: sorts are uninterpreted sorts, relations predicates,
-counters functions to the integers, quantifiers stand as they are, and what is read after a call is a defined function of what was read
-before it. z3 gets all problems of a specification in one run, and then each in a run of its own. This isn't part of any proof. A sort of
-z3 is never empty, so what breaks only with an empty sort isn't found.
+The checker and Z3 take turns, and of some runs the least counts. `alone` runs as often as the checker, and other encodings until they have
+taken more than twice as long as the fastest. None runs again that has taken more than 20 seconds by the clock. Where that was the first run of
+`alone`, the row has the second ratio only; where it was that of each, the specification is left out and named. Both commands end with status 1
+where two verdicts contradict.
+
+A word that is a number N stands for the specification that `sample N` checks, and `rN` for the one that is generated from the seed N: `r1` to
+`r30` are those of the table. They have 275 to 1,717 obligations over one to three sorts, some relations and counters, with up to 14 operations.
+
+Each obligation becomes one SMT-LIB problem, which can be satisfied where something breaks the obligation as docs/RULE.md says: sorts are
+uninterpreted sorts, relations predicates, counters functions to the integers, quantifiers stand as they are, and what is read after a call is a
+defined function of what was read before it. No encoding has predicates for sorts. z3 gets all problems of a specification in one run, by several
+encodings (ENCODINGS); and where there is no table, each problem in a run of its own too. This isn't part of any proof. A sort of z3 is never
+empty, so what breaks only with an empty sort isn't found.
 """
+import collections
 import glob
-import math
+import itertools
 import os
+import random
 import re
 import resource
+import statistics
 import subprocess
 import sys
 import tempfile
@@ -29,10 +42,13 @@ import tempfile
 sys.path.insert(0, os.path.dirname(os.path.dirname(os.path.realpath(__file__))))
 from launch import allocator  # noqa: E402
 from view import program  # noqa: E402
+from view.report import Report  # noqa: E402
 from view.tree import UPDATES, Spec  # noqa: E402
 from view.words import text_of  # noqa: E402
 
 CONNECTIVES = {"and": "and", "or": "or", "implies": "=>"}
+ASK = "(check-sat)"
+VERDICTS = {"unsat": "proved", "sat": "refuted"}
 
 
 def written(value):
@@ -51,9 +67,26 @@ def joined(connective, parts, none):
     return f"({connective} {' '.join(parts)})" if len(parts) > 1 else parts[0] if parts else none
 
 
+def declared(term, sort):
+    return f"(declare-const {term} {'Int' if sort == 'int' else f'|s.{sort}|'})"
+
+
+def variables(letter, sorts):
+    """A variable for each of these sorts: the sorts by the variables."""
+    return {f"|{letter}{i}|": sort for i, sort in enumerate(sorts)}
+
+
+def heads(variables):
+    return " ".join(f"({variable} |s.{sort}|)" for variable, sort in variables.items())
+
+
+def quantified(prefix, variables, body):
+    return f"({prefix} ({heads(variables)}) {body})" if variables else body
+
+
 class Problems:
     """The problems of a specification. A scope gives the term and the sort of each parameter and variable; a state the name of the
-    function by which a thing is read, where it isn't the first one."""
+    function by which a thing is read, where it isn't the first one. `lines` are those of the obligation that is being written."""
 
     def __init__(self, spec):
         self.spec, self.lines = spec, []
@@ -63,11 +96,14 @@ class Problems:
     def element(self, scope, word):
         return scope[word][0] if word in scope else f"|c.{word}|"
 
+    def before(self, state, name, args):
+        return applied(state.get(name, f"t.{name}"), args)
+
     def read(self, state, scope, reading):
         _, name, args = reading
         if not args and name in scope:
             return scope[name][0]
-        return applied(state.get(name, f"t.{name}"), [self.element(scope, a) for a in args])
+        return self.before(state, name, [self.element(scope, a) for a in args])
 
     def is_element(self, scope, term):
         coefficient, reading = term[0]
@@ -92,50 +128,38 @@ class Problems:
         return f"(not (= {' '.join(sides)}))" if sign == "!=" else f"({sign} {' '.join(sides)})"
 
     def line(self, state, scope, line):
-        inner = {**scope, **{v: (f"|v.{v}|", sort) for v, sort in line.vars}}
-        body = self.formula(state, inner, line.tree())
-        heads = " ".join(f"(|v.{v}| |s.{sort}|)" for v, sort in line.vars)
-        return f"({line.prefix} ({heads}) {body})" if heads else body
+        own = {name: (f"|v.{name}|", sort) for name, sort in line.vars}
+        return quantified(line.prefix, dict(own.values()), self.formula(state, {**scope, **own}, line.tree()))
 
-    def declare(self):
-        self.lines = [f"(declare-sort |s.{sort}| 0)" for sort in self.spec.sorts]
-        self.lines += [f"(declare-const |c.{name}| |s.{sort}|)" for name, sort in self.spec.consts.items()]
+    def declarations(self):
+        lines = [f"(declare-sort |s.{sort}| 0)" for sort in self.spec.sorts]
+        lines += [declared(f"|c.{name}|", sort) for name, sort in self.spec.consts.items()]
         for name, places in self.places.items():
-            self.lines.append(f"(declare-fun |t.{name}| ({' '.join(f'|s.{s}|' for s in places)}) {self.kind[name]})")
+            lines.append(f"(declare-fun |t.{name}| ({' '.join(f'|s.{s}|' for s in places)}) {self.kind[name]})")
+        return lines
 
-    def call(self, op, which):
-        """The scope of a call, whose arguments may be any."""
-        self.lines += [f"(declare-const |{which}.{name}| {'Int' if sort == 'int' else f'|s.{sort}|'})" for name, sort in op.params]
-        return {name: (f"|{which}.{name}|", sort) for name, sort in op.params}
+    def invariants(self):
+        """All invariants are true in the first state."""
+        return [asserted(self.init(line)) for line in self.spec.invariants.values()]
 
-    def after(self, state, call, mark):
-        """The state after a call: guards and amounts read the state before it."""
-        op, scope = call
-        found, updates = dict(state), op.of(*UPDATES)
-        for name in dict.fromkeys(line.thing()[0] for line in updates):
-            keys = [f"|x{i}|" for i in range(len(self.places[name]))]
-            value = applied(state.get(name, f"t.{name}"), keys)
-            for line in updates:
-                thing, spots = line.thing()
-                if thing == name:
-                    acts = [f"(= {x} {self.element(scope, s)})" for x, s in zip(keys, spots) if s != "*"]
-                    acts += [] if line.guard() is None else [self.formula(state, scope, line.guard())]
-                    new = {"insert": "true", "remove": "false"}.get(line.head) or self.term(state, scope, line.amount())
-                    value = f"(ite {joined('and', acts, 'true')} {f'(+ {value} {new})' if line.head == 'add' else new} {value})"
-            heads = " ".join(f"({x} |s.{s}|)" for x, s in zip(keys, self.places[name]))
-            self.lines.append(f"(define-fun |{mark}.{name}| ({heads}) {self.kind[name]} {value})")
-            found[name] = f"{mark}.{name}"
-        return found
+    def initial(self):
+        """The first state is the initial one."""
+        lines = []
+        for name, places in self.places.items():
+            keys, value = variables("x", places), self.spec.initially.get(name)
+            value = value or "false" if self.kind[name] == "Bool" else written(int(value or 0))
+            lines.append(asserted(quantified("forall", keys, f"(= {self.before({}, name, keys)} {value})")))
+        return lines
 
-    def ready(self, *calls):
-        """All invariants and the preconditions of the calls are true, and two calls don't conflict."""
-        for line in self.spec.invariants.values():
-            self.lines.append(asserted(self.line({}, {}, line)))
-        for op, scope in calls:
-            for line in op.of("requires"):
-                self.lines.append(asserted(self.line({}, scope, line)))
+    def calls(self, *ops):
+        """Calls of one or two operations with any arguments, each as the operation and the scope of its parameters. Their preconditions are
+        true, and two calls don't conflict."""
+        calls = [(op, {name: (f"|{mark}.{name}|", sort) for name, sort in op.params}) for op, mark in zip(ops, "ab")]
+        self.lines += [declared(*it) for _, scope in calls for it in scope.values()]
+        self.lines += [asserted(self.line({}, scope, line)) for op, scope in calls for line in op.of("requires")]
         if len(calls) == 2:
             self.lines.append(asserted(f"(not {joined('or', self.matches(*calls) + self.matches(*reversed(calls)), 'false')})"))
+        return calls
 
     def matches(self, first, second):
         found = []
@@ -151,31 +175,40 @@ class Problems:
                         found.append(joined("and", [f"(= {' '.join(v)})" for v in values.values() if len(v) > 1], "true"))
         return found
 
+    def after(self, state, call, mark):
+        """The state after a call: guards and amounts read the state before it."""
+        op, scope = call
+        found, updates = dict(state), op.of(*UPDATES)
+        for name in dict.fromkeys(line.thing()[0] for line in updates):
+            keys = variables("x", self.places[name])
+            value = self.before(state, name, keys)
+            for line in updates:
+                thing, spots = line.thing()
+                if thing == name:
+                    acts = [f"(= {x} {self.element(scope, s)})" for x, s in zip(keys, spots) if s != "*"]
+                    acts += [] if line.guard() is None else [self.formula(state, scope, line.guard())]
+                    new = {"insert": "true", "remove": "false"}.get(line.head) or self.term(state, scope, line.amount())
+                    value = f"(ite {joined('and', acts, 'true')} {f'(+ {value} {new})' if line.head == 'add' else new} {value})"
+            self.lines.append(f"(define-fun |{mark}.{name}| ({heads(keys)}) {self.kind[name]} {value})")
+            found[name] = f"{mark}.{name}"
+        return found
+
     def init(self, line):
-        for name, places in self.places.items():
-            keys = [f"|x{i}|" for i in range(len(places))]
-            value = self.spec.initially.get(name, "false" if self.kind[name] == "Bool" else "0")
-            equal = f"(= {applied(f't.{name}', keys)} {value if self.kind[name] == 'Bool' else written(int(value))})"
-            heads = " ".join(f"({x} |s.{s}|)" for x, s in zip(keys, places))
-            self.lines.append(asserted(f"(forall ({heads}) {equal})" if heads else equal))
         return self.line({}, {}, line)
 
     def safety(self, op, line):
-        call = op, self.call(op, "a")
-        self.ready(call)
+        call, = self.calls(op)
         return self.line(self.after({}, call, "a"), {}, line)
 
     def commute(self, op, other, thing):
-        first, second = (op, self.call(op, "a")), (other, self.call(other, "b"))
-        self.ready(first, second)
+        first, second = self.calls(op, other)
         states = self.after(self.after({}, first, "a"), second, "ab"), self.after(self.after({}, second, "b"), first, "ba")
-        keys = [f"|e{i}|" for i in range(len(self.places[thing]))]
-        self.lines += [f"(declare-const {key} |s.{sort}|)" for key, sort in zip(keys, self.places[thing])]
+        keys = variables("e", self.places[thing])
+        self.lines += [declared(*it) for it in keys.items()]
         return f"(= {' '.join(applied(state[thing], keys) for state in states)})"
 
     def stable(self, op, line, other):
-        first, second = (op, self.call(op, "a")), (other, self.call(other, "b"))
-        self.ready(first, second)
+        first, second = self.calls(op, other)
         return self.line(self.after({}, second, "b"), first[1], line)
 
     def obligations(self):
@@ -191,11 +224,84 @@ class Problems:
             for k, line in enumerate(op.of("requires"), 1):
                 yield from ((f"stable {op.name} {k} {other.name}", self.stable, op, line, other) for other in ops)
 
-    def all(self):
+    def groups(self):
+        """The obligations of the initial state and the others: for each of the two the lines that all of them need, and a list of their names,
+        each with the lines that its obligation needs besides."""
+        inits, others = [], []
         for name, conclusion, *parts in self.obligations():
-            self.declare()
-            self.lines.append(asserted(f"(not {conclusion(*parts)})"))
-            yield name, "\n".join(["(push)", *self.lines, "(check-sat)", "(pop)", ""])
+            self.lines = []
+            failing = asserted(f"(not {conclusion(*parts)})")
+            (inits if conclusion == self.init else others).append((name, [*self.lines, failing]))
+        return (self.initial(), inits), (self.invariants(), others)
+
+
+# Encodings. Each gives the names of the obligations in the order in which they are asked, and the lines.
+
+
+def scoped(lines):
+    return ["(push)", *lines, "(pop)"]
+
+
+def each(obligations):
+    """A scope for each of these obligations, which are given by names and lines."""
+    return [name for name, _ in obligations], [line for _, own in obligations for line in scoped([*own, ASK])]
+
+
+def within(obligations):
+    """A scope for each group of these obligations that begin with the same lines, with scopes for the lines that follow."""
+    groups, names, lines = {}, [], []
+    for name, own in obligations:
+        groups.setdefault(own[0], []).append((name, own))
+    for group in groups.values():
+        common = [at[0] for at in itertools.takewhile(lambda at: len(set(at)) == 1, zip(*(own for _, own in group)))]
+        ended = [name for name, own in group if len(own) == len(common)]
+        found, inner = within([(name, own[len(common):]) for name, own in group if len(own) > len(common)])
+        names += ended + found
+        lines += scoped([*common, *[ASK] * len(ended), *inner])
+    return names, lines
+
+
+def separate(problems):
+    """Each obligation with all lines that it needs."""
+    declarations = problems.declarations()
+    return [(name, [*declarations, *entry, *own]) for entry, obligations in problems.groups() for name, own in obligations]
+
+
+def alone(problems):
+    """Each obligation in a scope of its own, with all declarations and all that it needs."""
+    return each(separate(problems))
+
+
+def shared(problems, scopes=each):
+    """Declarations, the initial state and the invariants once, and what else each obligation needs in a scope of its own, or as `scopes` says."""
+    (initial, inits), (invariants, others) = problems.groups()
+    (first, start), (second, rest) = scopes(inits), scopes(others)
+    return first + second, [*problems.declarations(), *scoped([*initial, *start]), *invariants, *rest]
+
+
+def nested(problems):
+    """The same, but lines with which several obligations begin stand once too, in a scope around those."""
+    return shared(problems, within)
+
+
+# By these titles the encodings, and the logics that are set. The two are the settings that helped where they were tried: UFLIA, `auto_config`,
+# `smt.mbqi`, `smt.arith.solver`, `smt.relevancy` and `smt.case_split` didn't. `(reset)` in place of `(pop)` takes about ten times as long.
+ENCODINGS = {
+    "alone": (alone, None),
+    "shared": (shared, None),
+    "nested": (nested, None),
+    "nested AUFLIA": (nested, "AUFLIA"),
+    "nested UFNIA": (nested, "UFNIA"),
+}
+
+
+def encoded(problems):
+    """What z3 is asked by each encoding: the names of the obligations, in its order, and the lines."""
+    found = {}
+    for title, (encoding, logic) in ENCODINGS.items():
+        names, lines = encoding(problems)
+        found[title] = names, [f"(set-logic {logic})"] * (logic is not None) + lines
+    return found
 
 
 def run(words, text=None, seconds=None):
@@ -204,6 +310,10 @@ def run(words, text=None, seconds=None):
     done = subprocess.run(words, input=text, capture_output=True, text=True, timeout=seconds)
     after = resource.getrusage(resource.RUSAGE_CHILDREN)
     return done.stdout, after.ru_utime - before.ru_utime + after.ru_stime - before.ru_stime
+
+
+def z3(lines, seconds=None):
+    return run(["z3", "-in"], "".join(f"{line}\n" for line in lines), seconds)
 
 
 def sample(n):
@@ -216,78 +326,360 @@ def sample(n):
     return "\n".join(lines) + "\n"
 
 
-def compare(title, text):
-    problems = list(Problems(Spec(text)).all())
-    with tempfile.NamedTemporaryFile("w", suffix=".cise") as spec:
-        spec.write(text)
-        spec.flush()
-        report, ours = min((run([program.path, "check", spec.name, "--budget", "1000000"]) for _ in range(3)), key=lambda found: found[1])
-    answers, theirs = min((run(["z3", "-in"], "".join(p for _, p in problems)) for _ in range(3)), key=lambda found: found[1])
-    alone = sum(run(["z3", "-in"], p)[1] for _, p in problems)
-    verdicts = re.findall(r"^((?:init|safety|commute|stable) .*)\n(proved|refuted|undecided)", report, re.M)
-    pairs = [(name, verdict, {"unsat": "proved", "sat": "refuted"}.get(answer, answer)) for (name, verdict), answer in zip(verdicts, answers.split())]
-    alike = [name for name, _ in problems] == [name for name, _ in verdicts] and len(pairs) == len(problems)
-    print(f"{title}: {len(problems)} obligations, {sum(mine == other for _, mine, other in pairs)} with the same verdict")
-    print(f"  the checker {ours:.3f} s, z3 {theirs:.3f} s ({theirs / ours:.1f} times), in a run for each {alone:.2f} s ({alone / ours:.0f} times)")
-    for name, mine, other in pairs:
-        if mine != other:
-            print(f"  {name}: {mine} here, {other} by z3")
-    return alike and not any({mine, other} == {"proved", "refuted"} for _, mine, other in pairs)
+class Draft:
+    """A specification that is drawn by chance. The operations ask for what the invariants need, and take tokens, as often as `care` says.
+
+    places      relation or counter: the sorts of its places
+    invariants  (kind, thing, other, positions, bound): positions are those of the thing's places that stand at the other's, and bound is
+                a number or a second other with its positions
+    """
+
+    def __init__(self, chance):
+        self.chance, self.care, self.most_updates = chance, chance.uniform(0.75, 1), chance.choice((2, 3, 5))
+        self.sorts = [f"S{i}" for i in range(chance.randint(1, 3))]
+        self.consts = {f"k{i}": chance.choice(self.sorts) for i in range(chance.choice((0, 0, 0, 1, 2)))}
+        self.relations = {f"r{i}": chance.choices(self.sorts, k=chance.choice((1, 1, 2))) for i in range(chance.randint(3, 8))}
+        self.counters = {f"c{i}": chance.choices(self.sorts, k=chance.choice((0, 1, 1))) for i in range(chance.randint(0, 3))}
+        self.places = {**self.relations, **self.counters}
+        self.tokens = chance.choice(("none", "sorts", "things", "things", "shared"))
+        self.invariants, self.requires = [], []
+        wanted = chance.randint(2, 10)
+        for _ in range(40):
+            if len(self.invariants) < wanted:
+                self.draw_invariant()
+
+    def often(self):
+        return self.chance.random() < self.care
+
+    def positions(self, thing, other):
+        """Some places of a thing that have the sorts of another's places, or None."""
+        found = [it for it in itertools.permutations(range(len(self.places[thing])), len(self.places[other]))
+                 if [self.places[thing][i] for i in it] == self.places[other]]
+        return self.chance.choice(found) if found else None
+
+    def draw_invariant(self):
+        """Draws an invariant, and keeps it where places fit and no other is on the same things."""
+        chance, relations, counters = self.chance, list(self.relations), list(self.counters)
+        kind = chance.choice(["needs", "needs", "excludes", "chooses", "unique"] + ["positive", "bounded", "counted"] * bool(counters))
+        thing = chance.choice(counters if kind in ("positive", "bounded") else relations)
+        other, positions, bound, fits = None, None, None, kind != "unique" or len(self.places[thing]) == 2
+        if kind in ("needs", "excludes", "chooses", "counted"):
+            other = chance.choice(counters if kind == "counted" else relations)
+            positions = self.positions(thing, other)
+            fits = positions is not None and (other < thing if kind in ("needs", "chooses") else other != thing)
+        if kind == "bounded":
+            bound = chance.choice((5, 10, 100))
+        if kind == "chooses":
+            second = chance.choice(relations)
+            bound = second, self.positions(thing, second)
+            fits = fits and bound[1] is not None and second not in (thing, other)
+        if fits and all({thing, other or kind} != {it[1], it[2] or it[0]} for it in self.invariants):
+            self.invariants.append((kind, thing, other, positions, bound))
+
+    def reading(self, thing, args):
+        return f"{thing} ( {' , '.join(args)} )" if args else thing
+
+    def quantified(self, head, thing, args, body):
+        """A line with a reading of a thing in its body, which holds for all elements where an argument is `*`."""
+        names = [f"v{i}" if it == "*" else it for i, it in enumerate(args)]
+        variables = " , ".join(f"v{i} : {self.places[thing][i]}" for i, it in enumerate(args) if it == "*")
+        return f"{head} " + (f"forall {variables} . " if variables else "") + body(names)
+
+    def invariant_line(self, number, kind, thing, other, positions, bound):
+        def body(names):
+            first = self.reading(thing, names)
+            second = self.reading(other, [names[i] for i in positions]) if other else None
+            if kind == "chooses":
+                return f"( {first} implies ( {second} or {self.reading(bound[0], [names[i] for i in bound[1]])} ) )"
+            return {"needs": f"( {first} implies {second} )", "excludes": f"not ( {first} and {second} )", "counted": f"( {first} implies ( {second} >= 1 ) )",
+                    "positive": f"( {first} >= 0 )", "bounded": f"( {first} <= {bound} )"}[kind]
+
+        head = f"invariant i{number}"
+        if kind != "unique":
+            return self.quantified(head, thing, ["*"] * len(self.places[thing]), body)
+        one, two = self.places[thing]
+        return f"{head} forall x : {one} , y : {two} , z : {two} . ( ( {thing} ( x , y ) and {thing} ( x , z ) ) implies ( y = z ) )"
+
+    def filled(self, thing, params):
+        """Arguments for a thing from these parameters and the constants, or None."""
+        found = []
+        for sort in self.places[thing]:
+            fitting = [name for name, it in params.items() if it == sort]
+            constants = [name for name, it in self.consts.items() if it == sort]
+            if not fitting + constants:
+                return None
+            found.append(self.chance.choice(constants if constants and (not fitting or self.chance.random() < 0.1) else fitting))
+        return found
+
+    def need(self, thing, args, positions, other, formula):
+        """Asks for a formula on a thing, of which places at these positions are the arguments of the other, and the rest any."""
+        spots = ["*"] * len(self.places[thing])
+        for position, arg in zip(positions, args):
+            spots[position] = arg
+        self.requires.append((thing, spots, self.quantified("requires", thing, spots, lambda names: formula.format(self.reading(thing, names)))))
+
+    def ask(self, change, thing, args, amount):
+        """Asks for what an update needs so that the invariants stay true."""
+        for kind, one, other, positions, bound in self.invariants:
+            if thing == one and change == "insert":
+                at = [args[i] for i in positions] if other else None
+                if kind == "chooses":
+                    second = self.reading(bound[0], [args[i] for i in bound[1]])
+                    self.requires.append((other, at, f"requires ( {self.reading(other, at)} or {second} )"))
+                elif kind == "unique":
+                    self.requires.append((thing, args, f"requires forall z : {self.places[thing][1]} . ( {thing} ( {args[0]} , z ) implies ( z = {args[1]} ) )"))
+                elif other:
+                    whole = {"needs": "{}", "excludes": "not {}", "counted": "( {} >= 1 )"}[kind]
+                    self.requires.append((other, at, f"requires {whole.format(self.reading(other, at))}"))
+            elif kind == "excludes" and (thing, change) == (other, "insert") or kind == "needs" and (thing, change) == (other, "remove"):
+                self.need(one, args, positions, other, "not {}")
+            elif kind == "chooses" and change == "remove" and thing in (other, bound[0]):
+                self.need(one, args, positions if thing == other else bound[1], other, "not {}")
+            elif kind == "positive" and thing == one:
+                low = f"( {self.reading(thing, args)} >= {amount} )" if change == "lower" else f"( {amount} >= 0 )"
+                self.requires.append((thing, args, f"requires {low}"))
+            elif kind == "bounded" and thing == one and change != "lower":
+                value = f"{self.reading(thing, args)} + {amount}" if change == "raise" else amount
+                self.requires.append((thing, args, f"requires ( {value} <= {bound} )"))
+            elif kind == "counted" and thing == other and change in ("lower", "set"):
+                value = f"{self.reading(thing, args)} - {amount}" if change == "lower" else amount
+                self.requires.append((thing, args, f"requires ( {value} >= 1 )"))
+
+    def guard(self, params):
+        thing = self.chance.choice(list(self.places))
+        args = self.filled(thing, params) if self.chance.random() < 0.12 else None
+        if args is None:
+            return ""
+        reading = self.reading(thing, args)
+        return f" when ( {reading} >= 1 )" if thing in self.counters else f" when {self.chance.choice(('', 'not '))}{reading}"
+
+    def operation(self, number):
+        """The lines of an operation. Its first update is on all of its parameters."""
+        chance, self.requires = self.chance, []
+        main = chance.choice(list(self.places))
+        params = {f"p{i}": sort for i, sort in enumerate(self.places[main])}
+        if not params or len(params) < 3 and chance.random() < 0.3:
+            params[f"p{len(params)}"] = chance.choice(self.sorts)
+        things = [main] + [it for it in chance.sample(list(self.places), min(len(self.places), chance.randint(0, self.most_updates - 1))) if it != main]
+        whole = any(it in self.counters for it in things) and len(params) < 3 and chance.random() < 0.6
+        written, updates = [], []
+        for thing in things:
+            args = list(params)[:len(self.places[main])] if thing == main else self.filled(thing, params)
+            if args is None:
+                continue
+            amount = "n" if whole and chance.random() < 0.8 else str(chance.randint(1, 3))
+            change = chance.choice(("insert", "insert", "remove") if thing in self.relations else ("raise", "raise", "lower", "lower", "set"))
+            if change == "remove" and len(args) == 2 and chance.random() < 0.2:
+                args[chance.randrange(2)] = "*"
+            if self.often():
+                self.ask(change, thing, args, amount)
+                self.requires += [(thing, args, "requires ( n >= 0 )")] * (amount == "n")
+            head, end = {"raise": ("add", f" {amount}"), "lower": ("add", f" - {amount}"), "set": ("set", f" {amount}")}.get(change, (change, ""))
+            updates.append(f"{head} {self.reading(thing, args)}{end}{self.guard(params)}")
+            written.append((thing, args))
+        heads = " , ".join(f"{name} : {sort}" for name, sort in [*params.items(), *[("n", "int")] * whole])
+        requires = list(dict.fromkeys(line for *_, line in self.requires))[:8]
+        takes = self.takes(params, written, [(thing, args) for thing, args, _ in self.requires])
+        return [f"operation o{number} ( {heads} )", *requires, *updates, *takes, "end"]
+
+    def takes(self, params, written, read):
+        """The tokens that an operation takes: for the elements of its parameters, or for what it writes and asks for."""
+        if self.tokens == "sorts":
+            return [f"takes t{sort} ( {name} )" for name, sort in params.items() if self.often()]
+        if self.tokens == "none":
+            return []
+        found = {}
+        for things, mode in ((written, " exclusive"), (read, " shared")):
+            for thing, args in things:
+                if args[:1] != ["*"] and self.often():
+                    found.setdefault(f"takes {self.reading(f't{thing}', args[:1])}", mode)
+        return [line + mode * (self.tokens == "shared") for line, mode in list(found.items())[:4]]
+
+    def text(self):
+        chance = self.chance
+        lines = [f"cise {1 + (self.tokens == 'shared')}", *(f"sort {it}" for it in self.sorts), *(f"const {name} : {sort}" for name, sort in self.consts.items())]
+        for head, things in (("relation", self.relations), ("counter", self.counters)):
+            lines += [f"{head} {self.reading(name, places)}" for name, places in things.items()]
+        lines += [f"initially {it} {chance.randint(1, 5)}" for it in self.counters if chance.random() < 0.15]
+        kinds = {"none": {}, "sorts": {it: [it] for it in self.sorts}}.get(self.tokens, {it: places[:1] for it, places in self.places.items()})
+        for name, places in kinds.items():
+            one = self.reading(f"t{name}", ["x"] * len(places))
+            lines += [f"token {self.reading(f't{name}', places)}", f"conflict {one} {one}"]
+        lines += [self.invariant_line(number, *it) for number, it in enumerate(self.invariants)]
+        for number in range(chance.randint(4, 14)):
+            lines += self.operation(number)
+        return "\n".join(lines) + "\n"
 
 
-def least(text, runs):
-    """The least processor seconds of the checker and of Z3 for a specification, and how many obligations it has; no seconds of Z3 where
-    they are too many."""
-    problems = list(Problems(Spec(text)).all())
-    theirs = "".join(problem for _, problem in problems)
-    mine, others = [], []
-    with tempfile.NamedTemporaryFile("w", suffix=".cise") as spec:
-        spec.write(text)
-        spec.flush()
-        try:
+def generated(seed):
+    """The specification that is drawn from a seed: the first draft with as many obligations as are wanted, which are fewer after each draft."""
+    chance = random.Random(seed)
+    wanted = LEAST_OBLIGATIONS * 4.5 ** chance.random()
+    while True:
+        text = Draft(chance).text()
+        if wanted <= len(list(Problems(Spec(text)).obligations())) <= MOST_OBLIGATIONS:
+            return text
+        wanted = max(wanted * 0.97, LEAST_OBLIGATIONS)
+
+
+def is_seed(word):
+    return re.fullmatch("r[0-9]+", word) is not None
+
+
+def given(word):
+    """The text that a word of the command line stands for."""
+    if word.isdigit():
+        return sample(int(word))
+    return generated(int(word[1:])) if is_seed(word) else text_of(word)
+
+
+class Compared:
+    """What the checker and z3 say of a specification, and take for it, as the least of some runs in turn.
+
+    blocks    the blocks of the checker's report; `mine` are its seconds
+    verdicts  encoding: what z3 answers, by the name of the obligation, as a verdict or `unknown`
+    seconds   encoding: the seconds of z3, but of those that never ended within MOST_SECONDS
+    fastest   the encoding with the least seconds, or None where each takes too long; `least` are its seconds
+    wrong     what contradicts
+    """
+
+    def __init__(self, text, runs, *options):
+        self.problems, self.verdicts, self.seconds, self.wrong, mine = Problems(Spec(text)), {}, {}, [], []
+        left = encoded(self.problems)
+        with tempfile.NamedTemporaryFile("w", suffix=".cise") as spec:
+            spec.write(text)
+            spec.flush()
             for _ in range(runs):
-                mine.append(run([program.path, "check", spec.name])[1])
-                others.append(run(["z3", "-in"], theirs, MOST_SECONDS)[1])
+                report, seconds = run([program.path, "check", spec.name, *options])
+                mine.append(seconds)
+                left = {title: asked for title, asked in left.items() if self.has_run(title, *asked)}
+                left = {title: asked for title, asked in left.items() if title == "alone" or self.seconds[title] <= 2 * self.least}
+        self.blocks, self.mine = Report(report).blocks, min(mine)
+        self.contradict()
+
+    def has_run(self, title, names, lines):
+        try:
+            said, seconds = z3(lines, MOST_SECONDS)
         except subprocess.TimeoutExpired:
-            return len(problems), min(mine), None
-    return len(problems), min(mine), min(others)
+            return False
+        words = said.split()
+        if len(words) != len(names):
+            self.wrong.append(f"{title}: z3 doesn't answer one word for each obligation")
+        self.verdicts[title] = {name: VERDICTS.get(word, word) for name, word in zip(names, words)}
+        self.seconds[title] = min(seconds, self.seconds.get(title, seconds))
+        return True
+
+    @property
+    def fastest(self):
+        return min(self.seconds, key=self.seconds.get, default=None)
+
+    @property
+    def least(self):
+        return self.seconds.get(self.fastest)
+
+    def contradict(self):
+        """Puts into `wrong` what contradicts: two answers of z3, or one of them and the checker. Where a refutation has a sort without elements,
+        z3 may say `unsat`."""
+        names, both = sorted(block.words() for block in self.blocks), {"proved", "refuted"}
+        if any(sorted(verdicts) != names for verdicts in self.verdicts.values()):
+            self.wrong.append("z3 was asked of other obligations than the report has")
+        for block in self.blocks:
+            said = {verdicts[block.words()] for verdicts in self.verdicts.values() if block.words() in verdicts}
+            is_empty = block.verdict == "refuted" and 0 in block.witness.sizes.values()
+            if both <= said or both <= {block.verdict, *said} and not is_empty:
+                self.wrong.append(f"{block.words()}: {block.verdict} here, {' and '.join(sorted(said))} by z3")
 
 
-def mean(ratios):
-    return math.exp(sum(map(math.log, ratios)) / len(ratios))
+def compare(title, text):
+    """Prints the verdicts that differ, and the times, of one specification. Whether nothing contradicts."""
+    found = Compared(text, 3, "--budget", "1000000")
+    if found.fastest is None:
+        print(f"{title}: z3 takes more than {MOST_SECONDS} seconds")
+        return True
+    apart = sum(z3(each([it])[1])[1] for it in separate(found.problems))
+    said = found.verdicts[found.fastest]
+    differing = [block for block in found.blocks if said.get(block.words()) != block.verdict]
+    print(f"{title}: {len(found.blocks)} obligations, {len(found.blocks) - len(differing)} with the same verdict")
+    print(f"  the checker {found.mine:.3f} s, z3 {found.least:.3f} s ({found.least / found.mine:.1f} times),", end=" ")
+    print(f"in a run for each {apart:.2f} s ({apart / found.mine:.0f} times)")
+    print(f"  z3 by encoding: {', '.join(f'{name} {seconds:.3f} s' for name, seconds in found.seconds.items())}")
+    for block in differing:
+        print(f"  {block.words()}: {block.verdict} here, {said.get(block.words(), 'nothing')} by z3")
+    for line in found.wrong:
+        print(f"  contradiction: {line}")
+    return not found.wrong
+
+
+# What a table has of a specification: how many obligations, and the seconds of the checker, of Z3 by `alone`, or None, and by its fastest encoding.
+Row = collections.namedtuple("Row", "name obligations mine alone least")
 
 
 def table(words):
-    """Prints the table of these specifications, or of all."""
-    words = words or sorted([*glob.glob("examples/**/*.cise", recursive=True), *glob.glob("cases/**/*.cise", recursive=True)]) + ["12"]
-    rows, slow = [], []
+    """Prints the table of these specifications, or of all. Whether nothing contradicts."""
+    whole, words = "--all" in words, [word for word in words if word != "--all"]
+    words = words or sorted([*glob.glob("examples/**/*.cise", recursive=True), *glob.glob("cases/**/*.cise", recursive=True)]) + ["12", *GENERATED]
+    rows, slow, wrong, fastest, undecided, unknown = [], [], [], dict.fromkeys(ENCODINGS, 0), 0, 0
     for word in words:
-        count, mine, other = least(sample(int(word)) if word.isdigit() else text_of(word), RUNS)
+        found = Compared(given(word), RUNS)
         name = f"sample {word}" if word.isdigit() else word
-        if other is None:
-            slow.append(f"`{name}` ({mine:.3f})")
+        wrong += [f"`{name}`: {line}" for line in found.wrong]
+        if found.fastest is None:
+            slow.append(f"`{name}` ({found.mine:.3f})")
         else:
-            rows.append((other / mine, name, count, mine, other))
-    start = min(run(["z3", "-in"], "")[1] for _ in range(RUNS))
-    own_start = min(run([program.path])[1] for _ in range(RUNS))
-    print("| File | Obligations | Checker, seconds | Z3, seconds | Ratio |\n|---|---|---|---|---|")
-    for ratio, name, count, mine, other in sorted(rows):
-        print(f"| `{name}` | {count:,} | {mine:.3f} | {other:.3f} | {ratio:.1f} |")
-    net = [max(other - start, 0.001) / max(mine - own_start, 0.001) for _, _, _, mine, other in rows]
-    print(f"\nZ3 is faster on {sum(ratio < 1 for ratio, *_ in rows)} of {len(rows)}. Geometric mean {mean([row[0] for row in rows]):.1f}, and {mean(net):.1f} without")
-    print(f"the starts of both, {own_start:.4f} and {start:.4f} seconds (what is left of a run counts as a thousandth at least).")
+            fastest[found.fastest] += 1
+            undecided += sum(block.verdict == "undecided" for block in found.blocks)
+            unknown += list(found.verdicts[found.fastest].values()).count("unknown")
+            rows.append(Row(name, len(found.blocks), found.mine, found.seconds.get("alone"), found.least))
+    print_rows(sorted(rows, key=lambda row: row.least / row.mine), len(rows) if whole else MOST_ROWS)
+    starts = [min(run(it, text)[1] for _ in range(RUNS)) for it, text in (([program.path], None), (["z3", "-in"], ""))]
+    print("\nThe ratios of all files, and in brackets of the generated ones and of the others:")
+    print_means("Z3 alone", [(row.name, row.mine, row.alone) for row in rows if row.alone], *starts)
+    print_means("Z3 fastest", [(row.name, row.mine, row.least) for row in rows], *starts)
+    print("The starts take {:.4f} and {:.4f} seconds; what is left of a run counts as a thousandth at least.".format(*starts))
+    print("Files by the encoding that was the fastest of Z3:", ", ".join(f"{title} {count}" for title, count in fastest.items()))
+    print(f"Obligations of these that were left undecided: {undecided} by the checker, {unknown} by Z3.")
     print("Left out, with the seconds of the checker:", ", ".join(slow) or "none")
+    print("\n".join(["Contradictions:", *wrong]) if wrong else "No verdict contradicts another.")
+    return not wrong
 
 
-# How often the checker and Z3 run for a table, and after how many seconds Z3 is stopped.
+def print_rows(rows, most):
+    """Prints so many rows, and of the rest one line."""
+    print("| File | Obligations | Checker, seconds | Z3 alone, seconds | Ratio | Z3 fastest, seconds | Ratio |\n|---|---|---|---|---|---|---|")
+    for row in rows[:most]:
+        by_alone = f"{row.alone:.3f} | {row.alone / row.mine:.1f}" if row.alone else f"more than {MOST_SECONDS} |"
+        print(f"| `{row.name}` | {row.obligations:,} | {row.mine:.3f} | {by_alone} | {row.least:.3f} | {row.least / row.mine:.1f} |")
+    rest = [row.least / row.mine for row in rows[most:]]
+    if rest:
+        print(f"\nOf the other {len(rest)} files Z3 takes {rest[0]:.1f} to {rest[-1]:.1f} times as long as the checker by its fastest encoding.")
+
+
+def print_means(title, times, own_start, start):
+    """Prints a line on files, which are given by name, with the seconds of the checker and of Z3: on all, and in brackets on the generated ones
+    and the others."""
+    groups = [times, [it for it in times if is_seed(it[0])], [it for it in times if not is_seed(it[0])]]
+    faster = [f"{sum(other < mine for _, mine, other in group)} of {len(group)}" for group in groups]
+    means = [mean([other / mine for _, mine, other in group]) for group in groups]
+    net = [mean([max(other - start, 0.001) / max(mine - own_start, 0.001) for _, mine, other in group]) for group in groups]
+    told = "{} ({}, {})".format
+    print(f"{title}: faster on {told(*faster)}; geometric mean {told(*means)}, without the starts {told(*net)}.")
+
+
+def mean(ratios):
+    return f"{statistics.geometric_mean(ratios):.1f}" if ratios else "-"
+
+
+# How often the checker and Z3 run for a table, after how many seconds Z3 is stopped, and how many rows are printed.
 RUNS = 5
 MOST_SECONDS = 20
+MOST_ROWS = 12
+# How many obligations a generated specification has, and the words of those of the table.
+LEAST_OBLIGATIONS, MOST_OBLIGATIONS = 275, 1717
+GENERATED = [f"r{seed}" for seed in range(1, 31)]
 
 
 if __name__ == "__main__":
     allocator.set_for_programs()
     if sys.argv[1:2] == ["--table"]:
-        table(sys.argv[2:])
-        sys.exit(0)
-    GIVEN = [(word, sample(int(word)) if word.isdigit() else text_of(word)) for word in sys.argv[1:]]
-    sys.exit(0 if all([compare(*given) for given in GIVEN]) else 1)
+        sys.exit(0 if table(sys.argv[2:]) else 1)
+    sys.exit(0 if all([compare(word, given(word)) for word in sys.argv[1:]]) else 1)
