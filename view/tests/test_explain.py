@@ -56,7 +56,7 @@ STORIES = {
      14 | remove in_cart ( c , i )
 """,
     ("examples/seats/refuted.cise", "stable book 1 book"): """1. another book takes away what book requires
-   [stable book 1 book, report line 208]
+   [stable book 1 book, report line 204]
 
   Both replicas hold:
       (nothing: every fact is false, every counter 0)
