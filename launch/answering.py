@@ -1,53 +1,109 @@
 """Answers a call of `./cise`: finds the program, runs it on the words, and says on standard error what people should know of its status."""
 import os
-import sys
 
-# (the module `signal` is made over this one, and takes longer to import than all else that a call needs)
 import _signal as signal
 
-from launch import allocator, seen
-from launch.paths import BAD_WORDS, HOME_PROGRAM, KEPT_PROGRAM, NO_PROGRAM, TOP, at, say
+from launch import allocator, seen, stopping
+from launch.paths import BAD_WORDS, BY_SIGNAL, HOME_PROGRAM, KEPT_PROGRAM, NAME, NO_PROGRAM, TOP, at, say
+from launch.saying import printable
 
 PROGRAMS = {"home": HOME_PROGRAM, "kept": KEPT_PROGRAM}
-# The commands that view/ answers, for people.
-VIEWS = ("explain", "mend", "order", "page", "json")
-VIEW = f"{TOP}/view/main.py"
-COMMANDS = (
-    "check SPEC [--budget N], verify SPEC REPORT, upgrade SPEC REPORT, replay SPEC SCHEDULE, simulate SPEC SCHEDULE, "
-    "suggest SPEC, spell SPEC, sample N"
+# The commands that view/ answers, for people: the words of view/commands.py, which a call of the program has no time to import.
+VIEWS = (
+    "audit",
+    "ci",
+    "drive",
+    "example",
+    "explain",
+    "format",
+    "json",
+    "lsp",
+    "mend",
+    "order",
+    "page",
+    "pattern",
+    "plan",
+    "reach",
+    "review",
+    "tests",
+    "watch",
 )
+# What asks for help, for which no program is needed.
+HELP = frozenset(("help", "--help", "-h", "--version"))
+# A command of the program that view/ answers where this option is among so many words; the program's own has never so many.
+OPTIONS = {"verify": ("--second", 4)}
 # How many of the words behind a command are paths. Each command has one word behind it at least.
 PATHS = {"check": 1, "suggest": 1, "spell": 1, "verify": 2, "upgrade": 2, "replay": 2, "simulate": 2, "sample": 0}
 # What these statuses of the program mean, which it doesn't say itself.
 MEANINGS = {6: "an input couldn't be read", 9: "the words couldn't be had from the system, or one of them isn't UTF-8"}
-REFUSED_INPUT, NOT_READ = (3, 4), 6
+REFUSED_INPUT, NOT_READ, NOT_WRITTEN = (3, 4), 6, 7
+# A path at which nothing is.
+NOWHERE = "/proc/self/fd/none"
 
 
 def main(words):
+    status = helped(words) if not HELP.isdisjoint(words) else None
+    if status is not None:
+        return status
     if words[:1] == ["prove"]:
         from launch import proving
 
         return proving.main(words[1:])
+    if words == ["about"]:
+        from launch import about
+
+        return about.main()
     choice, reasons = seen.chosen(), []
     if choice not in PROGRAMS:
-        from launch import choosing
+        from launch import choosing, packed
 
+        if packed.is_so():
+            return packed.answered(words)
         choice, reasons = choosing.choose()
     if choice is None:
         from launch import unproved
 
-        return unproved.answer(words, reasons, list_commands)
+        return unproved.answer(words, reasons, lambda: tell_words(words))
     return answer(at(PROGRAMS[choice]), words)
+
+
+def helped(words):
+    """Shows what words ask for, and returns the status; None where they ask for no help."""
+    from launch import help as helping
+    from view.output import written
+
+    text = helping.text_for(words)
+    return None if text is None else 0 if written(text) else NOT_WRITTEN
 
 
 def answer(program, words):
     """Answers by a program, and returns the status."""
     allocator.set_for_programs()
-    if words and words[0] in VIEWS and os.path.isfile(VIEW):
+    if is_view(words):
         return view().main(program, words)
+    marks = marks_of(words)
     status = run(program, words)
-    tell(program, words, status)
+    try:
+        tell(program, words, status, marks)
+    except Exception:  # The program has answered, and nothing that is said behind it may change that.
+        pass
     return status
+
+
+def inputs_of(words):
+    """The inputs of a command, which are paths."""
+    return words[1 : PATHS.get(words[0], 0) + 1] if words else []
+
+
+def marks_of(words):
+    """What tells of each input whether it has been changed."""
+    return [seen.mark_at(it) for it in inputs_of(words)]
+
+
+def is_view(words):
+    """Whether view/ answers these words."""
+    option, count = OPTIONS.get(words[0], ("", 0)) if words else ("", 0)
+    return bool(words) and (words[0] in VIEWS or len(words) == count and option in words[1:])
 
 
 def view():
@@ -56,34 +112,36 @@ def view():
     return main
 
 
-def tell(program, words, status):
-    """Says what the program doesn't say of its status."""
+def tell(program, words, status, marks):
+    """Says what the program doesn't say of its status; of inputs, only where they are what they were for the program."""
     if status == BAD_WORDS:
-        list_commands()
+        tell_words(words)
     elif status in MEANINGS:
         found = unread(words) if status == NOT_READ else []
         say(MEANINGS[status] + (": " if found else "") + ", ".join(found))
-    elif status in REFUSED_INPUT and os.path.isfile(VIEW):
-        view().places(program, words, status)
+    elif status in REFUSED_INPUT:
+        view().places(program, words, status, lambda: marks_of(words) == marks)
 
 
 def unread(words):
     """The inputs of a command that can't be read, each with the reason."""
     found = []
-    for it in words[1 : PATHS.get(words[0], 0) + 1]:
+    for it in inputs_of(words):
         try:
             os.close(os.open(it, os.O_RDONLY | os.O_NONBLOCK))
             if os.path.isdir(it):
-                found.append(f"{it} (it is a folder)")
+                found.append(f"{printable(it)} (it is a folder)")
         except OSError as error:
-            found.append(f"{it} ({error.strerror})")
+            found.append(f"{printable(it)} ({error.strerror})")
     return found
 
 
-def list_commands():
-    say(f"the program's commands are: {COMMANDS}; README.md says what each does")
-    own = ["prove", *([view().USAGE] if os.path.isfile(VIEW) else [])]
-    say(f"the script's own are: {', '.join(own)}")
+def tell_words(words):
+    """Says what is wrong with words that the program refuses, and where all are listed."""
+    from launch.help import said_of
+    from view.output import say as said
+
+    said(said_of(words))
 
 
 def run(program, words):
@@ -92,23 +150,50 @@ def run(program, words):
     started = []
 
     def pass_on(number, _):
-        if not started:
-            os._exit(128 + number)
-        os.kill(started[0], number)
+        if started:
+            os.kill(started[0], number)
+        else:
+            stopping.end_by(number)
 
-    ending = (signal.SIGINT, signal.SIGTERM, signal.SIGHUP)
-    for it in ending:
-        if signal.getsignal(it) != signal.SIG_IGN:
-            signal.signal(it, pass_on)
+    stopping.handle_by(pass_on)
     # (a signal that comes while the program is started waits until it is known whom to pass it on to)
-    mask = signal.pthread_sigmask(signal.SIG_BLOCK, ending)
+    mask = signal.pthread_sigmask(signal.SIG_BLOCK, stopping.ENDING)
     try:
-        # (Python has these two ignored, which the program would inherit)
-        started.append(os.posix_spawn(program, [program, *words], os.environ, setsigmask=mask, setsigdef=[signal.SIGPIPE, signal.SIGXFSZ]))
+        # (Python has these two ignored, which the program would inherit; its own path may be of any bytes, which its words may not)
+        defaults = [signal.SIGPIPE, signal.SIGXFSZ]
+        started.append(os.posix_spawn(program, [NAME, *readable(words)], os.environ, setsigmask=mask, setsigdef=defaults))
     except OSError as error:
         say(f"{os.path.relpath(program, TOP)} can't be run: {error.strerror}")
         return NO_PROGRAM
     finally:
         signal.pthread_sigmask(signal.SIG_SETMASK, mask)
+    # (until its status is taken, the program's number is no other one's: so that is taken where no signal is passed on to it)
+    os.waitid(os.P_PID, started[0], os.WEXITED | os.WNOWAIT)
+    stopping.end_at_once()
     status = os.waitpid(started[0], 0)[1]
-    return status >> 8 if not status & 127 else 128 + (status & 127)
+    return status >> 8 if not status & 127 else BY_SIGNAL + (status & 127)
+
+
+def readable(words):
+    """The words with a path that the program takes for each input whose own isn't UTF-8: that of the open file. The program, which inherits
+    that, refuses other words of this kind."""
+    last = len(inputs_of(words))
+    return [path_of_open(it) if 1 <= place <= last and not is_utf_8(it) else it for place, it in enumerate(words)]
+
+
+def is_utf_8(word):
+    try:
+        os.fsencode(word).decode()
+        return True
+    except UnicodeDecodeError:
+        return False
+
+
+def path_of_open(path):
+    """A path in plain letters of a file; where it can't be opened, one that can't be either."""
+    try:
+        number = os.open(path, os.O_RDONLY)
+    except OSError:
+        return NOWHERE
+    os.set_inheritable(number, True)
+    return f"/proc/self/fd/{number}"

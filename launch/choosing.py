@@ -3,15 +3,21 @@ exactly the sources that stand here. Where there is neither, it says why."""
 import os
 import subprocess
 
-from launch import record
-from launch.paths import HOME_PROGRAM, HOME_RECORD, KEPT_PROGRAM, KEPT_RECORD, at, say
+from launch import needs, record
+from launch.paths import HOME_PROGRAM, HOME_RECORD, KEPT_PROGRAM, KEPT_RECORD, NAME, TOP, at, say
 from launch.seen import Looks
 from launch.sources import Sources
+from launch.told import is_news
 
 HOME, KEPT = "home", "kept"
 PROGRAMS = {HOME: HOME_PROGRAM, KEPT: KEPT_PROGRAM}
 RECORDS = {HOME: HOME_RECORD, KEPT: KEPT_RECORD}
 SECONDS = 20
+NOTHING = "nothing of these sources is proved here"
+TOLD = (
+    f"{KEPT_PROGRAM} answers, a program that was proved and built of exactly these sources; "
+    "./cise about says by whom, and ./cise prove does it here (said once)"
+)
 
 
 def choose():
@@ -21,10 +27,11 @@ def choose():
     for choice in (HOME, KEPT):
         reason = why_not(choice, sources, looks)
         if not reason:
-            if choice == KEPT and not was_told(looks):
-                by = record.read(KEPT_RECORD, KEPT_PROGRAM).proved_by
-                say(f"{reasons[0]}. So {KEPT_PROGRAM} answers, which is proved of these very sources, by {by}; ./cise prove proves and builds it here")
-            looks.keep(choice)
+            is_told = choice == HOME or was_told(looks)
+            # (in a folder that can't be written to what was said is noted elsewhere)
+            is_noted = looks.keep(choice)
+            if not is_told and (is_noted or is_news(f"{TOP} {looks.sum_of(KEPT_PROGRAM)}")):
+                say(TOLD if reasons[0] == NOTHING else f"{reasons[0]}, so {TOLD}")
             return choice, reasons
         reasons.append(reason)
     return None, reasons
@@ -40,7 +47,7 @@ def why_not(choice, sources, looks):
     program = PROGRAMS[choice]
     is_recorded = looks.sum_of(RECORDS[choice])
     if not is_recorded:
-        return "nothing of these sources is proved here" if choice == HOME else f"no program is kept, since there is no {KEPT_RECORD}"
+        return NOTHING if choice == HOME else f"no program is kept, since there is no {KEPT_RECORD}"
     try:
         found = record.read(RECORDS[choice], program)
     except record.Damaged as damage:
@@ -61,14 +68,15 @@ def named(crates, most=4):
 def why_it_does_not_run(program):
     """Why the machine can't run a program, or None. Without words it refuses them with status 2."""
     try:
-        ran = subprocess.run([at(program)], stdin=subprocess.DEVNULL, capture_output=True, timeout=SECONDS)
+        ran = subprocess.run([NAME], executable=at(program), stdin=subprocess.DEVNULL, capture_output=True, timeout=SECONDS)
     except (OSError, subprocess.TimeoutExpired) as error:
-        return f"{program} doesn't run on this machine ({getattr(error, 'strerror', None) or error}); {needs()}"
+        return f"{program} doesn't run on this machine ({getattr(error, 'strerror', None) or error}); {needed()}"
     if ran.returncode != 2 or ran.stdout != b"refused words\n":
         said = ran.stderr.decode(errors="replace").strip().split("\n")[0] or f"it ended with status {ran.returncode}"
-        return f"{program} doesn't run on this machine ({said}); {needs()}"
+        return f"{program} doesn't run on this machine ({said}); {needed()}"
     return None
 
 
-def needs():
-    return f"what it needs stands in {os.path.dirname(KEPT_PROGRAM)}/README.md"
+def needed():
+    """What the machine lacks, or where all stands that the program needs."""
+    return needs.lacking() or f"what it needs stands in {os.path.dirname(KEPT_PROGRAM)}/README.md"

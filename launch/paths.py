@@ -1,6 +1,7 @@
 """Where things stand. Paths are of the repository's top; `at` gives one that can be opened from any folder."""
 import os
-import sys
+
+from launch import saying
 
 TOP = os.path.dirname(os.path.dirname(os.path.realpath(__file__)))
 CRATES = "crates.txt"
@@ -15,16 +16,27 @@ KEPT_TIMES = "prebuilt/times"
 # What was looked at when a program was last chosen.
 SEEN = f"{OUT}/seen"
 
+# What the program is called, whatever its path.
+NAME = "cise"
+
 # The statuses of the script itself, beside those of the program.
 OTHER_THAN_KEPT = 1
 BAD_WORDS = 2
 NO_PROGRAM = 10
-INTERRUPTED = 130
+# Behind it stands the number of the signal that ended the script or the program, as a shell has it.
+BY_SIGNAL = 128
 
 
-def at(path):
+def at(path: str) -> str:
     return f"{TOP}/{path}"
 
 
-def say(text):
-    print(f"cise: {text}", file=sys.stderr, flush=True)
+def bytes_of(path: str) -> bytes:
+    """What a file has, also where this is run from an archive and the file stands in it."""
+    data: bytes = __spec__.loader.get_data(at(path))  # type: ignore[name-defined]
+    return data
+
+
+def say(text: str) -> None:
+    """Says a line on standard error."""
+    saying.say(f"cise: {text}\n")

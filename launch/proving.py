@@ -4,9 +4,9 @@ import os
 import subprocess
 import time
 
-from launch import kit, lanes, record
+from launch import kit, lanes, packed, record
 from launch.choosing import HOME, named, why_not
-from launch.paths import BAD_WORDS, CRATES, HOME_PROGRAM, HOME_RECORD, INTERRUPTED, KEPT_PROGRAM, KEPT_RECORD, NO_PROGRAM, OTHER_THAN_KEPT, OUT, TOP, at, say
+from launch.paths import BAD_WORDS, BY_SIGNAL, CRATES, HOME_PROGRAM, HOME_RECORD, KEPT_PROGRAM, KEPT_RECORD, NO_PROGRAM, OTHER_THAN_KEPT, OUT, TOP, at, say
 from launch.seen import Looks
 from launch.sources import PROGRAM_CRATE, Sources, below
 from launch.stopping import Stopped, end_all, stop_by_signals
@@ -21,6 +21,9 @@ def main(words):
     if words:
         say("prove takes no words")
         return BAD_WORDS
+    if packed.is_so():
+        say("there are no sources here to be proved: they stand in the repository, whose ./cise prove proves them")
+        return NO_PROGRAM
     if not kit.is_here():
         say(kit.LACKING)
         return NO_PROGRAM
@@ -28,9 +31,9 @@ def main(words):
     try:
         with Alone():
             return prove()
-    except Stopped:
+    except Stopped as stopped:
         say("stopped; what is proved stays, and ./cise prove goes on from there")
-        return INTERRUPTED
+        return BY_SIGNAL + stopped.number
     except kit.Broken as broken:
         say(str(broken))
     except OSError as error:

@@ -2,6 +2,7 @@
 program and of each source. From its first sum on it is what `sha256sum --check` reads, and the lines before it are comments to that."""
 import os
 import re
+from typing import Dict
 
 from launch.paths import at
 
@@ -13,10 +14,12 @@ class Damaged(Exception):
 
 
 class Record:
-    def __init__(self, kit, proved_by, rows, program_sum, sums):
+    def __init__(
+        self, kit: str, proved_by: str, rows: Dict[str, str], program_sum: str, sums: Dict[str, str]
+    ) -> None:
         self.kit, self.proved_by, self.rows, self.program_sum, self.sums = kit, proved_by, rows, program_sum, sums
 
-    def write(self, path, program):
+    def write(self, path: str, program: str) -> None:
         lines = [f"# kit: {self.kit}", f"# proved by: {self.proved_by}", f"# sources: {len(self.sums)}"]
         lines += [f"# row: {it}" for it in self.rows.values()]
         lines += [f"{self.program_sum}  {program}", *(f"{total}  {it}" for it, total in self.sums.items())]
@@ -25,16 +28,23 @@ class Record:
         os.replace(at(f"{path}.new"), at(path))
 
 
-def read(path, program):
+def read(path: str, program: str) -> Record:
     """The record at a path, of a program at another."""
     try:
         with open(at(path), encoding="utf-8", errors="surrogateescape") as file:
-            lines = file.read().split("\n")
+            text = file.read()
     except OSError as error:
         raise Damaged(f"{path} can't be read: {error.strerror}") from error
+    return parsed(text, path, program)
+
+
+def parsed(text: str, path: str, program: str) -> Record:
+    """The record that a text is; the text is of the path, and the record of the program."""
+    lines = text.split("\n")
     said = {key: [it[len(key) + 4 :] for it in lines if it.startswith(f"# {key}: ")] for key in ("kit", "proved by", "sources", "row")}
-    found = [SUM.fullmatch(it) for it in lines if it and not it.startswith("#")]
-    is_one = all(found) and found and found[0][2] == program and said["sources"] == [str(len(found) - 1)]
+    sums = [it for it in lines if it and not it.startswith("#")]
+    found = [match for match in map(SUM.fullmatch, sums) if match]
+    is_one = found and len(found) == len(sums) and found[0][2] == program and said["sources"] == [str(len(found) - 1)]
     if not (is_one and len(said["kit"]) == len(said["proved by"]) == 1 and said["row"]):
         raise Damaged(f"{path} is no record of {program}")
     rows = {it.split()[0].rstrip(":"): it for it in said["row"]}

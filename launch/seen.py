@@ -1,25 +1,39 @@
-"""What was looked at when a program was last chosen, so that a call needs no sums of files that haven't changed since.
+"""What was looked at when a program was last chosen, so that a call needs no sums of files that
+haven't changed since.
 
-The file's first line says what was chosen, and how many lines follow. There is one for each file and folder that had a part in it: its mark,
-its sum (`-` for a folder, and for what isn't there) and its path. A mark is of the size, the time of the last change of the content, that of
-the last change of any kind, and the number of the file in its file system. A folder's mark changes with the names in it. What changed less
-than a quarter of a second before it was looked at gets no mark, since a further change could leave its times as they are; so its sum is taken
-again at the next call.
-"""
+The file's first line says what was chosen, and how many lines follow. There is one for each file
+and folder that had a part in it: its mark, its sum (`-` for a folder, and for what isn't there)
+and its path. A mark is of the size, the time of the last change of the content, that of the last
+change of any kind, and the number of the file in its file system. A folder's mark changes with the
+names in it. What changed less than a quarter of a second before it was looked at gets no mark,
+since a further change could leave its times as they are; so its sum is taken again at the next
+call.
+
+A second file has the same for the common case, in which nothing has changed: a line with the
+choice and the folder, the paths, and all marks as one piece of bytes, which is compared with that
+of the marks as they are now."""
+import marshal
 import os
 import time
 
-from launch.paths import SEEN, at
+from launch.paths import SEEN, TOP, at
 
+QUICK = f"{SEEN}.quick"
 NOT_THERE = "absent"
 NO_MARK = "none"
 SETTLED_NANOSECONDS = 250_000_000
 
 
 def mark_of(path):
+    """The mark of a file or folder of the repository."""
+    return mark_at(at(path))
+
+
+def mark_at(path):
+    """The mark of a file or folder anywhere."""
     try:
-        it = os.stat(at(path))
-    except OSError:
+        it = os.stat(path)
+    except (OSError, ValueError):
         return NOT_THERE
     return f"{it.st_size}.{it.st_mtime_ns}.{it.st_ctime_ns}.{it.st_ino}"
 
@@ -32,7 +46,8 @@ def settled_mark_of(path):
 
 
 def read():
-    """What was chosen last, and the lines; None and nothing where the file isn't there, or not whole."""
+    """What was chosen last, and the lines; None and nothing where the file isn't there, or not
+    whole."""
     try:
         with open(at(SEEN), encoding="utf-8", errors="surrogateescape") as file:
             first, *lines = file.read().splitlines()
@@ -49,19 +64,31 @@ def parts_of(line):
 
 def chosen():
     """What was chosen last, where all that had a part in it is as it was, else None."""
-    choice, lines = read()
     try:
-        for line in lines:
-            mark, _, path = parts_of(line)
-            if mark != mark_of(path):
-                return None
-    except ValueError:
+        with open(at(QUICK), "rb") as file:
+            head, paths, marks = file.read().split(b"\0", 2)
+        choice, folder = os.fsdecode(head).split(" ", 1)
+        is_same = folder == TOP and marks_now(os.fsdecode(paths).split("\n")) == marks
+        return choice if is_same else None
+    except (OSError, ValueError):
         return None
-    return choice
+
+
+def marks_now(paths):
+    """The marks of whole paths as bytes; those of what isn't there are left out."""
+    found, stat = [len(paths)], os.stat
+    for at_path in paths:
+        try:
+            it = stat(at_path)
+            found += it.st_size, it.st_mtime_ns, it.st_ctime_ns, it.st_ino
+        except OSError:
+            found.append(at_path)
+    return marshal.dumps(found, 2)
 
 
 class Looks:
-    """Looks at files and folders, and takes the sums of files: from the last time, where their marks are the same."""
+    """Looks at files and folders, and takes the sums of files: from the last time, where their
+    marks are the same."""
 
     def __init__(self):
         self.last_choice, lines = read()
@@ -87,16 +114,44 @@ class Looks:
         self.seen[path] = (settled_mark_of(path), "-")
 
     def keep(self, choice):
-        """Writes down what was chosen. Where the folder can't be written to, the next call looks at all again."""
-        text = "".join(f"{mark} {total} {path}\n" for path, (mark, total) in self.seen.items())
-        new = at(f"{SEEN}.{os.getpid()}")
+        """Writes down what was chosen, and says whether it could. Where the folder can't be
+        written to, the next call looks at all again."""
+        lines = "".join(f"{mark} {total} {path}\n" for path, (mark, total) in self.seen.items())
+        is_kept = put(SEEN, os.fsencode(f"{choice} {len(self.seen)}\n{lines}"))
+        if is_kept and NO_MARK not in {mark for mark, _ in self.seen.values()}:
+            is_kept = self.keep_quick(choice)
+        return is_kept
+
+    def keep_quick(self, choice):
+        """Writes the second file, where nothing has changed since it was looked at."""
+        paths = [at(it) for it in self.seen]
+        marks = marks_now(paths)
+        is_same = all(mark_of(path) == mark for path, (mark, _) in self.seen.items())
+        return (
+            put(
+                QUICK,
+                b"\0".join([os.fsencode(f"{choice} {TOP}"), os.fsencode("\n".join(paths)), marks]),
+            )
+            if is_same
+            else True
+        )
+
+
+def put(path, data):
+    """Writes a file whole or not at all, and says whether it could."""
+    new = at(f"{path}.{os.getpid()}")
+    try:
+        os.makedirs(os.path.dirname(new), exist_ok=True)
+        with open(new, "wb") as file:
+            file.write(data)
+        os.replace(new, at(path))
+        return True
+    except OSError:
         try:
-            os.makedirs(os.path.dirname(new), exist_ok=True)
-            with open(new, "w", encoding="utf-8", errors="surrogateescape") as file:
-                file.write(f"{choice} {len(self.seen)}\n{text}")
-            os.replace(new, at(SEEN))
+            os.remove(new)
         except OSError:
             pass
+        return False
 
 
 def sum_now(path):

@@ -1,26 +1,60 @@
-"""What ends the script while others work for it: they are ended first, in order, so that they remove what they made."""
-import signal
+"""How the script ends by a signal: whoever called it sees by which one, and no status of an
+answer."""
+import os
+
+# (the module `signal` is made over this one, and takes longer to import than all else that a call
+# needs)
+import _signal as signal
+
+ENDING = (signal.SIGINT, signal.SIGTERM, signal.SIGHUP)
 
 
-class Stopped(Exception):
+class Stopped(BaseException):
     """A signal came that ends the script."""
 
+    def __init__(self, number: int) -> None:
+        super().__init__(number)
+        self.number = number
 
-def stop_by_signals():
-    """Has the signals that end a process raise `Stopped`, but those that are ignored."""
 
-    def stop(*_):
-        raise Stopped
-
-    for it in (signal.SIGINT, signal.SIGTERM, signal.SIGHUP):
+def handle_by(handler) -> None:
+    """Has this called for the signals that end a process, but for those that who called has
+    ignored."""
+    for it in ENDING:
         if signal.getsignal(it) != signal.SIG_IGN:
-            signal.signal(it, stop)
+            signal.signal(it, handler)
 
 
-def end_all(processes):
+def stop_by_signals() -> None:
+    """Has the first of these signals raise `Stopped`; the next one ends the script at once."""
+
+    def stop(number, _):
+        end_at_once()
+        raise Stopped(number)
+
+    handle_by(stop)
+
+
+def end_at_once() -> None:
+    """Has these signals end the script as they would any process."""
+    handle_by(signal.SIG_DFL)
+
+
+def end_by(number: int) -> int:
+    """Ends the script by a signal. The status is for a signal that doesn't end it."""
+    try:
+        signal.signal(number, signal.SIG_DFL)
+        signal.pthread_sigmask(signal.SIG_UNBLOCK, [number])
+        os.kill(os.getpid(), number)
+    except (OSError, ValueError):
+        # (SIGKILL can't be handled, and needn't be)
+        os.kill(os.getpid(), number)
+    return 128 + number
+
+
+def end_all(processes) -> None:
     """Ends processes and waits for them, whatever signals still come."""
-    for it in (signal.SIGINT, signal.SIGTERM, signal.SIGHUP):
-        signal.signal(it, signal.SIG_IGN)
+    handle_by(signal.SIG_IGN)
     for it in processes:
         it.terminate()
     for it in processes:

@@ -7,8 +7,8 @@ import subprocess
 import tempfile
 
 from launch import kit
-from launch.paths import BAD_WORDS, INTERRUPTED, NO_PROGRAM, at, say
-from launch.answering import MEANINGS, NOT_READ, PATHS, VIEWS
+from launch.paths import BAD_WORDS, BY_SIGNAL, NO_PROGRAM, at, say
+from launch.answering import MEANINGS, NOT_READ, PATHS, is_view
 from launch.stopping import Stopped, end_all, stop_by_signals
 
 # The program reads no more than this of any input, and one byte to see whether there is more.
@@ -22,7 +22,7 @@ PROVE = "./cise prove proves the program and builds it"
 def answer(words, reasons, list_commands):
     """Answers, and returns the program's status, or the script's where there is no answer."""
     say("; ".join(reasons))
-    if words and words[0] in VIEWS:
+    if is_view(words):
         say(f"no program was run, since {words[0]} needs a proved one")
     elif not is_command(words):
         list_commands()
@@ -32,8 +32,8 @@ def answer(words, reasons, list_commands):
             stop_by_signals()
             try:
                 return answer_unproved(words, room, list_commands)
-            except Stopped:
-                return INTERRUPTED
+            except Stopped as stopped:
+                return BY_SIGNAL + stopped.number
     say(PROVE if kit.is_here() else f"{PROVE}; {kit.LACKING}")
     return NO_PROGRAM
 
