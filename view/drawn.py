@@ -2,11 +2,11 @@
 import json
 
 from view import lanes, program
-from view.steps import Steps
+from view.inputs import text_of
 from view.parts import banner, code, foot, head, listed, scrolling, sheet, shown, title_of, user_lines, whole_text, with_code
 from view.picture import short_names
+from view.steps import Steps
 from view.tree import Spec
-from view.words import text_of
 
 STATES = {"done": "proved", "broken": "refuted", "refused": "refused"}
 
@@ -14,9 +14,7 @@ STATES = {"done": "proved", "broken": "refuted", "refused": "refused"}
 def answer(path, schedule_path):
     """The status and the page. A step that is refused does give a page."""
     status, text = program.replayed(path, schedule_path)
-    with open(schedule_path, encoding="utf-8") as file:
-        schedule = json.load(file)
-    return status, page_of(Steps(Spec(text_of(path)), schedule, text), title_of(path, schedule_path))
+    return status, page_of(Steps(Spec(text_of(path)), json.loads(text_of(schedule_path)), text), title_of(path, schedule_path))
 
 
 def page_of(steps, title):
@@ -33,7 +31,7 @@ def page_of(steps, title):
         f'{note}{scrolling("The steps as a table", table(steps))}{ends(steps)}</details></section>'
     )
     body += [whole_text(spec), foot(spec, "Steps, refusals and states are the program's.")]
-    return sheet(title, body)
+    return sheet(title, body, lanes.is_broad(steps))
 
 
 def ended(steps):

@@ -1,14 +1,20 @@
-"""`./cise explain SPEC [REPORT]`: what a report says, in words for a terminal. Lines have at most 80 columns, but for the user's own, which are never
-cut, and for a name that is longer."""
-from view import order, program
-from view.columns import WIDTH, printable, table, wrapped
+"""`./cise explain SPEC [REPORT] [--places] [--all] [--no-reach] [--budget N]`: what a report says, in words for a terminal. Lines have at most 80 columns, but for
+the user's own, which are never cut, and for a name that is longer."""
+from view import order, program, reaching
+from view.columns import WIDTH, table, wrapped
+from view.inputs import name_of, text_of
+from view.outcome import failing_line
+from view.output import visible
+from view.places import findings
 from view.report import Report
-from view.story import stories
+from view.run_text import in_short
+from view.story import numbered, stories, title
 from view.tree import Spec
-from view.words import text_of
 
 # The most facts that are listed, and the widest calls that stand side by side with a remark.
 MOST_FACTS, WIDEST_CALL = 12, 54
+# So many stories are told, and so many referred to, where nobody asks for all.
+MOST_STORIES, MOST_REFERENCES = 100, 6
 NOTHING = "(nothing: every fact is false, every counter 0)"
 ORIGIN = (
     "Verdicts and values are the program's. Lines, and what is ordered, are read off the specification. The sentences are made from both, "
@@ -16,30 +22,62 @@ ORIGIN = (
 )
 
 
-def answer(path, report_path=None):
-    """The status and the text. Without a report the program checks the specification, with one it verifies that."""
+def answer(path, report_path=None, places=False, all=False, no_reach=False, budget=None):
+    """The status and the text. Without a report the program checks the specification, with one it verifies that, which takes no budget. With
+    `places` the text has a line for each refuted and undecided obligation, as editors read it; with `all` all stories are told. With `no_reach`
+    no run from the start is looked for."""
+    limit = () if budget is None else ("--budget", budget)
     if report_path is None:
-        status, text = program.answer("check", path)
+        status, text = program.answer("check", path, *limit)
     else:
-        status, _ = program.answer("verify", path, report_path)
+        status, _ = program.answer("verify", path, report_path, *limit)
         text = text_of(report_path)
-    return status, explained(Spec(text_of(path)), Report(text))
+    spec, report = Spec(text_of(path)), Report(text)
+    if places:
+        return status, "".join(it.line() + "\n" for it in findings(name_of(path), spec, report))
+    return status, explained(spec, report, None if all else MOST_STORIES, not no_reach)
 
 
-def explained(spec, report):
-    """A report in words: a line for each operation and each pair of which there is something to say, the stories, and the counts."""
-    told, pairs = stories(spec, report), order.pairs(spec, report.blocks)
-    lines = overview(spec, report, told, pairs) + [""]
+def explained(spec, report, most=None, with_reach=False):
+    """A report in words: a line for each operation and each pair of which there is something to say, so many stories, the next steps, and the
+    counts. Beside each story stands what a short search for a run to it has found, where that is asked for."""
+    numbers, pairs = numbered(spec, report), order.pairs(spec, report.blocks)
+    lines, count = overview(spec, report, numbers, pairs) + [""], max(numbers.values(), default=0)
+    told = stories(spec, report, most)
+    found = reaching.in_short(spec, [it.block for it in told if it.verdict == "refuted"]) if with_reach else {}
     for number, it in enumerate(told, 1):
-        lines += [*tell(it, number, pairs.get(it.block.pair())), ""]
-    lines += wrapped(ORIGIN) + [""]
+        lines += tell(it, number, pairs.get(it.block.pair()))
+        if it.block in found:
+            lines += ["", *(line for said in in_short(spec, found[it.block]) for line in wrapped(said, 2))]
+        lines.append("")
+    if most is not None and count > most:
+        lines += wrapped(f"Stories {most + 1} to {count} aren't told here; with --all they are.") + [""]
+    lines += wrapped(next_steps(report)) + [""] + wrapped(ORIGIN) + [""]
     lines.append(f"{report.word}: {report.proved} proved, {report.refuted} refuted, {report.undecided} undecided")
     return "\n".join(lines) + "\n"
 
 
-def overview(spec, report, told, pairs):
-    """The head: the start and each operation that breaks alone, each pair that may not run at once, and how many may."""
-    numbers, rows, free = {it.block: number for number, it in enumerate(told, 1)}, [], 0
+def next_steps(report):
+    """What can be done next, as a paragraph."""
+    refuted = {it.kind for it in report.with_verdict("refuted")}
+    said = []
+    if refuted & {"commute", "stable"}:
+        said.append("mend SPEC writes an order of the pairs, mend --no-wait changes that spare it")
+    if "safety" in refuted:
+        said.append("a call that breaks an invariant alone wants a requires line, or an invariant that was forgotten: no order helps it")
+    if "init" in refuted:
+        said.append("what is false at the start wants an initially")
+    if refuted:
+        said.append("reach SPEC writes runs that lead from the start to what is refuted")
+    if report.undecided:
+        said.append("what is undecided says what makes it smaller")
+    return f"Next: {'; '.join(said or ['review SPEC says what a yes leaves open'])}."
+
+
+def overview(spec, report, numbers, pairs):
+    """The head: the start and each operation that breaks alone, each pair that may not run at once, and how many may. `numbers` has for each block
+    that is told the number of its story."""
+    rows, free = [], 0
     for name, alone in alone_blocks(spec, report):
         seen = [it for it in alone if it in numbers]
         if seen:
@@ -65,7 +103,10 @@ def alone_blocks(spec, report):
 
 
 def references(blocks, numbers):
-    return "see " + ", ".join(map(str, sorted(numbers[it] for it in blocks)))
+    """The numbers of the stories of some blocks."""
+    found = sorted({numbers[it] for it in blocks})
+    more = f" and {len(found) - MOST_REFERENCES} more" if len(found) > MOST_REFERENCES else ""
+    return "see " + ", ".join(map(str, found[:MOST_REFERENCES])) + more
 
 
 def tell(story, number, pair):
@@ -74,12 +115,17 @@ def tell(story, number, pair):
     lines = wrapped(head + story.title(), 0, len(head))
     lines += wrapped(f"[{story.block.words()}, report line {story.block.line_in_report}]", len(head)) + [""]
     if story.verdict == "undecided":
-        return lines + wrapped(story.limit, 2) + wrapped(story.todo, 2) + [""] + sources(story)
+        return lines + wrapped(story.limit, 2) + wrapped(story.todo, 2) + [""] + sources(story.spec, story.lines)
     who = {"init": "At the start there is:", "safety": "A replica holds:"}.get(story.kind, "Both replicas hold:")
     lines += wrapped(f"{story.world()} {who}".strip(), 2) + listed(story.facts or [NOTHING]) + listed(story.also) + [""]
     if story.calls:
         lines += called(story) + [""]
-    lines += ended(story) + sources(story) + values(story)
+    lines += ended(story) + sources(story.spec, story.lines) + values(story)
+    if story.others:
+        lines += ["", *wrapped("The same calls there show more:", 2)]
+    for it in story.others:
+        lines += wrapped(f"{title(it)} [{it.words()}, report line {it.line_in_report}]", 4, 6)
+        lines += sources(story.spec, [line for line in (failing_line(story.spec, it),) if line])
     for note in notes(story, pair):
         lines += ["", *wrapped("Note. " + note, 2)]
     return lines
@@ -91,7 +137,7 @@ def notes(story, pair):
     if pair and pair.conditions:
         both = f"Two calls of {pair.f}" if pair.f == pair.g else f"{pair.f} and {pair.g}"
         found.append(f"{both} are {order.sentence(pair.conditions, pair.f, pair.g)}. These two calls aren't.")
-    return found + [it for it in (story.untold, story.observed()) if it]
+    return found + [it for it in (story.repeated(), story.untold, story.observed()) if it]
 
 
 def called(story):
@@ -134,14 +180,14 @@ def values(story):
     return lines
 
 
-def sources(story):
-    """The user's own lines, each with its number, at the indent of its first word."""
+def sources(spec, own):
+    """Some of the user's own lines, each with its number, at the indent of its first word."""
     lines = []
-    for it in story.lines:
-        before = story.spec.text[: it.head.at].rpartition("\n")[2]
+    for it in own:
+        before = spec.text[: it.head.at].rpartition("\n")[2]
         indent = len(before.expandtabs())
         for at, row in enumerate(it.text.split("\n")):
-            row = printable(row.expandtabs()).rstrip()
+            row = visible(row.rstrip().expandtabs())
             lines.append(f"  {it.number + at:5} | {row[min(indent, len(row) - len(row.lstrip())) :] if at else row}".rstrip())
     return lines
 

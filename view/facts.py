@@ -1,11 +1,13 @@
-"""`./cise json FILE`: a report, a replay, a simulation or a suggestion of the program as JSON. docs/JSON.md has the form. Nothing is added and
-nothing is left out: the text is written anew from the JSON, and only what gives the same text is taken for one of the program's."""
+"""`./cise json FILE`: a report, a replay, a simulation or a suggestion of the program as JSON; of a specification what
+`design_facts` tells. docs/users/JSON.md has the form. Of a text of the program nothing is added and nothing is left out: the text
+is written anew from the JSON, and only what gives the same text is taken for one of the program's."""
+import io
 import json
 import re
 
-from view.output import say
+from view.inputs import name_of, text_of
+from view.output import printable, say
 from view.report import Replay, Report, Simulation, Suggestion
-from view.words import text_of
 
 # For each kind of obligation how its words are called; of `operations` there are two.
 PARTS = {
@@ -17,41 +19,69 @@ PARTS = {
 # For each cause of a refused step how the numbers behind it are called.
 CAUSES = {"conflict": "event", "missing": "event", "precondition": "requires", "observation": "observes"}
 STATUS_OK, STATUS_REFUSED = 0, 4
-# A list of numbers in several lines. No text within the JSON has an end of line.
-NUMBERS = re.compile(r"\[\n\s+((?:-?\d+,\s+)*-?\d+)\n\s+\]")
+# With longer texts it would take more memory than the program does.
+MOST_CHARACTERS = 1 << 24
+# What stands in no text of the program.
+STRANGE = re.compile(r"[^A-Za-z0-9_+ \n-]")
+# The last words of a text.
+WORDS = {"report": ("accepted", "rejected", "undecided"), "suggest": ("complete", "undecided"), "replay": (None,), "simulate": (None,)}
 
 
-def answer(path):
-    """Status 0 and the JSON; status 4 and nothing for a file that is none of the program's texts."""
-    text = text_of(path)
+def answer(path, quick=False):
+    """Status 0 and the JSON; status 4 and nothing for a file that is none of the program's texts, or one that is too long. Of a specification all
+    that is told of it; `quick` leaves out the runs of `reach` and the review."""
+    text, name = text_of(path), printable(name_of(path))
+    if len(text) > MOST_CHARACTERS:
+        say(f"{name}: json takes texts of at most {MOST_CHARACTERS:,} bytes\n")
+        return STATUS_REFUSED, ""
+    if not text.startswith(TEXTS) and design_facts.is_design(path, text):
+        return design_facts.answer(path, quick)
     facts, line = facts_of(text)
     if facts is None:
-        say(f"{path}:{line}:1: this is no report, replay, simulation or suggestion as the program writes it\n")
+        say(f"{name}:{line}:1: this is no report, replay, simulation or suggestion as the program writes it\n")
         return STATUS_REFUSED, ""
     return STATUS_OK, laid_out(facts)
 
 
 def laid_out(facts):
     """The JSON, with each list of numbers in one line."""
-    text = json.dumps(facts, indent=2) + "\n"
-    return NUMBERS.sub(lambda it: f"[{', '.join(part.strip() for part in it.group(1).split(','))}]", text)
+    out = io.StringIO()
+    write_value(out, facts, "\n")
+    return out.getvalue() + "\n"
+
+
+def write_value(out, value, end):
+    """Writes a value as JSON. `end` is an end of line with the indent of the line in which the value begins."""
+    if isinstance(value, dict) and value:
+        for at, (key, it) in enumerate(value.items()):
+            out.write(f"{',' if at else '{'}{end}  {json.dumps(key)}: ")
+            write_value(out, it, end + "  ")
+        out.write(end + "}")
+    elif isinstance(value, list) and any(type(it) is not int for it in value):
+        for at, it in enumerate(value):
+            out.write(f"{',' if at else '['}{end}  ")
+            write_value(out, it, end + "  ")
+        out.write(end + "]")
+    else:
+        out.write(json.dumps(value))
 
 
 def facts_of(text):
     """The facts of a text of the program, and None; or None, and the number of the line that isn't as it should be."""
     kind = next((it for it in READERS if text.startswith(f"cise {it} ")), None)
-    if not kind:
-        return None, 1
+    strange = STRANGE.search(text)
+    if not kind or strange:
+        return None, text.count("\n", 0, strange.start()) + 1 if kind else 1
     try:
         facts = READERS[kind](text)
-        again = text_from(facts)
+        ours = lines_from(facts)
     except (ValueError, IndexError, KeyError, AttributeError, TypeError):
         # A line that no text of the program has.
         return None, 1
-    if again == text:
-        return facts, None
-    ours, theirs = again.split("\n"), text.split("\n")
-    return None, next((at for at, (a, b) in enumerate(zip(ours, theirs), 1) if a != b), min(len(ours), len(theirs)) + 1)
+    if "\n".join(ours) + "\n" != text:
+        theirs = text.split("\n")
+        return None, next((at for at, (a, b) in enumerate(zip(ours, theirs), 1) if a != b), min(len(ours), len(theirs)) + 1)
+    return (facts, None) if facts.get("word") in WORDS[kind] else (None, len(ours))
 
 
 def report_facts(text):
@@ -143,13 +173,18 @@ def answer_facts(answer):
     return {"left": answer.left, "right": answer.right, "verdict": answer.word, "obligation": obligation}
 
 
+# (it stands on this module)
+from view import design_facts  # noqa: E402
+
 READERS = {"report": report_facts, "replay": replay_facts, "simulate": simulation_facts, "suggest": suggestion_facts}
 
 
-def text_from(facts):
-    """The program's text of facts."""
-    lines = {"report": report_lines, "replay": replay_lines, "simulation": simulation_lines, "suggestion": suggestion_lines}[facts["text"]](facts)
-    return "".join(it + "\n" for it in lines)
+TEXTS = tuple(f"cise {it} " for it in READERS)
+
+
+def lines_from(facts):
+    """The lines of the program's text of facts."""
+    return {"report": report_lines, "replay": replay_lines, "simulation": simulation_lines, "suggestion": suggestion_lines}[facts["text"]](facts)
 
 
 def spelled(*parts):

@@ -2,6 +2,7 @@
 
 Each function knows one kind of slip. It takes a `Place` and gives a sentence, or None where its slip isn't what stands there. What a sentence
 proposes to write is of the grammar: `Place.sample` sees to that."""
+from view.brackets import Lenient
 from view.formulas import COMPARISONS, CONNECTIVES
 from view.grammar import NAME, NUMBER
 from view.place import FORMULA, LINE_HEADS, quoted
@@ -38,6 +39,9 @@ def numbers(place):
     word, before, after = place.word, place.near(-1), place.near(1)
     if not place.is_number(before):
         return None
+    is_beside = place.is_name(word) and word.line == before.line and word not in place.words[: place.at]
+    if is_beside and ("*" in place.expected or place.head == "initially"):
+        return f"a number has no unit behind it: {before}"
     if place.is_name(word) and "*" in place.expected:
         return f"a number and what it multiplies have * between them: {before} * {word}"
     if place.is_number(word) and place.joins() and before == "0":
@@ -99,6 +103,8 @@ def forall_inside(place):
         if first == place.word:
             return f"a line has one '{first}', with commas between its variables: {first} x : A , y : B ."
         return "a line has one quantifier: forall with exists behind it can't be said; a counter of how many there are may say it"
+    if place.head == "invariant" and place.word == "exists":
+        return "an invariant has no 'exists': that there is at least one may be said by a counter that is at least 1"
     name = " and the name" if place.head == "invariant" else ""
     return f"'{place.word}' stands before a whole line alone, right behind {place.head or 'requires'}{name}"
 
@@ -111,6 +117,8 @@ def variables(place):
     if before == "for" and word == "all":
         return "'forall' is one word"
     if place.expected == {":"} and place.head == "const":
+        if word == ",":
+            return constants_in_a_row(place)
         sort = word if place.is_name(word) else after
         return f"a constant has its sort behind a colon: const {before} : {sort}" if place.is_name(sort) else None
     if place.expected == {":"}:
@@ -120,11 +128,24 @@ def variables(place):
             return f"each {what} has its own kind: {before} : {kind} , {after} : {kind}"
         if word in ("in", "of", "is", "as"):
             return f"a colon stands between a {what} and its kind: {before} : {after}"
+        if word == "int" or place.is_name(word) and (word in place.declared("sort") or before not in place.declared("sort") and before.islower()):
+            return f"a colon stands between a {what} and its kind" + place.proposed(place.at - 1, place.at + 1, [before, ":", word])
         if place.is_name(word):
-            return f"the {what} stands first, then a colon and its kind: {word} : {before}"
+            return f"the {what} stands first, then a colon and its kind" + place.proposed(place.at - 1, place.at + 1, [word, ":", before])
         return f"each {what} has a kind behind a colon: {before} : A" + ("" if in_prefix else f", or {before} : int")
     if in_prefix and place.expected == {",", "."}:
         return "a dot stands behind the last variable, and then the formula: forall x : A . formula"
+
+
+def constants_in_a_row(place):
+    """Several constants of one sort in one item."""
+    row, at = [place.near(-1)], place.at
+    while place.words[at : at + 1] == [","] and at + 1 < len(place.words) and place.is_name(place.words[at + 1]):
+        row.append(place.words[at + 1])
+        at += 2
+    sort = place.words[at + 1] if place.words[at : at + 1] == [":"] and at + 1 < len(place.words) else None
+    parts = [it for name in row for it in ("const", name, ":", sort)] if sort else []
+    return "each constant has an item of its own" + place.proposed(place.item, at + 2, parts, "const a : A const b : A")
 
 
 def no_comparison_brackets(place):
@@ -133,13 +154,21 @@ def no_comparison_brackets(place):
     is_amount = place.head in UPDATES and "when" not in place.words[place.line : place.at]
     if not word or is_amount or not (word in COMPARISONS or word in ("+", "-") or place.is_number(word)):
         return None
-    found = place.comparison(place.formula_start())
+    start = place.formula_start()
+    found = place.comparison(start)
     if found and found[-1].at >= word.at >= found[0].at:
-        whole = ["(", *found, ")"]
-        if place.grammar.accepts("formula", whole):
-            return "a comparison stands in brackets" + place.sample("formula", whole, "( n >= 0 )")
+        told = "a comparison stands in brackets" + place.proposed(start, start + len(found), ["(", *found, ")"])
+        return told if place.proposal else "a comparison stands in brackets" + bracketed(place, start, "( n >= 0 )")
     if word in COMPARISONS and "end" in place.expected:
         return "a comparison stands in brackets, as ( n >= 0 )"
+
+
+def bracketed(place, start, other):
+    """What to write in place of the formula that begins at a place, with all its brackets; or an example. Where it begins with an open bracket it
+    ends with that."""
+    reader = Lenient(place.words, place.grammar)
+    found = reader.part(start, 0) if start in place.brackets else reader.chain(start)
+    return place.proposed(start, found[1], found[0], other) if found else f", as {other}"
 
 
 def chain(place):
@@ -152,36 +181,19 @@ def chain(place):
         return second_comparison(place, left)
     if word not in CONNECTIVES:
         return None
-    if any(it in COMPARISONS for it in left) and not any(it in CONNECTIVES for it in left) and place.grammar.accepts("formula", ["(", *left, ")"]):
-        right = place.comparison(place.at + 1)
-        right = ["(", *right, ")"] if right else place.longest("formula", place.at + 1)
-        whole = ["(", "(", *left, ")", word, *right, ")"]
-        return "each comparison has brackets of its own" + place.sample("formula", whole, f"( ( a > 0 ) {word} ( b > 0 ) )")
-    whole = grouped(left, word, place.longest("formula", place.at + 1))
+    opening = place.brackets[-1]
+    is_one = any(it in COMPARISONS for it in left) and not any(it in CONNECTIVES for it in left)
+    if is_one and place.grammar.accepts("formula", ["(", *left, ")"]):
+        return "each comparison has brackets of its own" + bracketed(place, opening, f"( ( a > 0 ) {word} ( b > 0 ) )")
     third = "a pair of brackets joins two parts; with a third one it wants brackets again"
-    return third + place.sample("formula", whole, f"( ( a {word} b ) {word} c )")
+    return third + bracketed(place, opening, f"( ( a {word} b ) {word} c )")
 
 
 def second_comparison(place, left):
     """A comparison sign behind a whole comparison."""
-    sign = next((at for at, it in enumerate(left) if it in COMPARISONS), None)
-    right = place.longest("term", place.at + 1)
-    if sign is None or not right:
+    if not any(it in COMPARISONS for it in left) or not place.longest("term", place.at + 1):
         return None
-    whole = ["(", "(", *left, ")", "and", "(", *left[sign + 1 :], place.word, *right, ")", ")"]
-    return "a comparison has two sides" + place.sample("formula", whole, "( ( 0 <= n ) and ( n <= 9 ) )")
-
-
-def grouped(left, word, right):
-    """Two joined parts and a third one, with the brackets that most people mean: 'and' binds closer than 'or', and that than 'implies'."""
-    depth, first = 0, None
-    for at, it in enumerate(left):
-        depth += (it == "(") - (it == ")")
-        if depth == 0 and it in CONNECTIVES:
-            first = at
-    if first is not None and (CONNECTIVES.index(word) < CONNECTIVES.index(left[first]) or word == left[first] == "implies"):
-        return ["(", *left[: first + 1], "(", *left[first + 1 :], word, *right, ")", ")"]
-    return ["(", "(", *left, ")", word, *right, ")"]
+    return "a comparison has two sides" + bracketed(place, place.brackets[-1], "( ( 0 <= n ) and ( n <= 9 ) )")
 
 
 def one_part(place):
@@ -190,9 +202,19 @@ def one_part(place):
         return None
     inner = place.words[place.brackets[-1] + 1 : place.at]
     if place.grammar.accepts("formula", inner):
-        return "brackets stand round two parts that are joined, and one part alone has none" + place.sample("formula", inner)
+        alone = "brackets stand round two parts that are joined, and one part alone has none"
+        return alone + place.proposed(place.brackets[-1], place.at + 1, inner)
     if place.grammar.accepts("term", inner):
         return "a sum has no brackets of its own; they stand round a whole comparison, as ( a + b >= c )"
+
+
+def sum_in_brackets(place):
+    """Brackets round a sum, where a sum is to stand."""
+    if place.word != "(" or not {NAME, NUMBER} <= place.expected or place.expected & FORMULA:
+        return None
+    inner = Lenient(place.words, place.grammar).term(place.at + 1)
+    parts = inner[0] if inner and place.words[inner[1] : inner[1] + 1] == [")"] else []
+    return "a sum has no brackets of its own" + place.proposed(place.at, place.at + len(parts) + 2, parts)
 
 
 def connective(place):
@@ -200,12 +222,10 @@ def connective(place):
     if place.word not in CONNECTIVES:
         return None
     start = place.formula_start()
-    right = place.longest("formula", place.at + 1)
     while start > 0 and place.words[start - 1] in FORMULA:
         start -= 1
-    whole = ["(", *place.words[start : place.at], place.word, *right, ")"]
     if place.expected & {"end", "sort"}:
-        return f"what '{place.word}' joins stands in brackets" + place.sample("formula", whole, f"( a {place.word} b )")
+        return f"what '{place.word}' joins stands in brackets" + bracketed(place, start, f"( a {place.word} b )")
     if place.expected & set(COMPARISONS):
         return f"'{place.word}' joins formulas, and before it stands a sum: compare it with something, in brackets"
 

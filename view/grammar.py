@@ -1,6 +1,6 @@
 """The whole grammar of a specification, and what could stand at a place. Only slips need it: a text that the program accepts is read by `tree`.
 
-The grammar stands here as docs/LANGUAGE.md has it, and a test compares the two. It is read into rules without repetition, and words are gone
+The grammar stands here as docs/users/LANGUAGE.md has it, and a test compares the two. It is read into rules without repetition, and words are gone
 through with all the ways in which they could go on, side by side: a way is a stack of what is still to come. Behind an opened bracket a sum or
 a formula may stand, so there are a few ways at a time and never many."""
 import functools
@@ -139,6 +139,10 @@ class Grammar:
         """The ways of a symbol at its start."""
         return self.at_words([self.way((symbol,))])
 
+    def begin_items(self):
+        """The ways behind the version, and between two items."""
+        return self.at_words([self.way((self.rules["specification"][0][-1],))])
+
     def behind(self, ways, word):
         """The ways behind a word."""
         kind = self.kind(word) or str(word)
@@ -172,8 +176,7 @@ def expected_at(words, place):
         return {"1", "2"}
     grammar = Grammar(int(words[1]))
     start = max((at for at in range(2, place) if words[at] in ITEMS), default=2)
-    whole = grammar.way((grammar.rules["specification"][0][-1],))
-    ways = grammar.at_words([whole])
+    ways = grammar.begin_items()
     for word in words[start:place]:
         ways = grammar.behind(ways, word)
     return grammar.next_words(ways)

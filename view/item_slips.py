@@ -2,6 +2,7 @@
 `formula_slips`."""
 import difflib
 
+from view.brackets import Lenient
 from view.grammar import NAME, NUMBER
 from view.place import FORMULA, LINE_HEADS, quoted
 from view.tree import ITEMS, LINES, UPDATES
@@ -99,6 +100,8 @@ def places_of_things(place):
         return first_value(place)
     if word == "=" and place.head in ("relation", "counter"):
         return f"the first value is stated by an item of its own: initially {name} {place.near(1) or '5'}"
+    if word == ":" and not place.brackets and place.near(-1) == ")" and place.head in ("relation", "counter"):
+        return "a relation is true or false, and has no kind" if place.head == "relation" else "a counter is a whole number, and has no kind"
     if place.head != "sort" and word == ":" and place.brackets:
         return f"places are sorts alone, without names: {place.head} {name} ( {' , '.join(kinds_in_brackets(place)) or 'A'} )"
     if place.head != "sort" and place.at == place.item + 2 and (word == ":" or place.is_name(word) and not other_word(word)):
@@ -128,6 +131,7 @@ def first_value(place):
 
 def missing_end(place):
     if "end" in place.expected and (place.word is None or place.word in ITEMS):
+        place.proposal = place.at, place.at, ["end"]
         return f"operation {place.words[place.item + 1]} of line {place.words[place.item].line} has no 'end'"
 
 
@@ -147,7 +151,14 @@ def amount(place):
         if word in ("=", ":", "+"):
             line = [*place.words[place.line : place.at], *place.longest("term", place.at + 1)]
             return f"the amount stands right behind the name, without {word}" + place.sample("line", line, f"{place.head} c ( x ) n")
+        if word == "(":
+            inner = Lenient(place.words, place.grammar).term(place.at + 1)
+            parts = inner[0] if inner and place.words[inner[1] : inner[1] + 1] == [")"] else []
+            return "the amount has no brackets" + place.proposed(place.at, place.at + len(parts) + 2, parts, f"in {place.head} c ( x ) - n")
         if word is None or word in LINE_HEADS | ITEMS | {"end", "when"}:
+            line = place.words[place.line : place.at]
+            if len(line) == 5 and line[1] in place.declared("counter") and place.words[place.words.index(line[1]) + 1] != "(":
+                return "the amount has no brackets" + place.proposed(place.line, place.at, [line[0], line[1], line[3]])
             return f"the amount is missing, as n in {place.head} c ( x ) n"
     if before in ("to", "into", "of") and word in place.declared("counter"):
         line = [place.head, *place.longest("reading", place.at), *place.words[place.line + 1 : place.at - 1]]
@@ -181,6 +192,21 @@ def condition(place):
         return "'when' stands behind a change alone; what is required is one formula, perhaps with 'implies'"
     if place.word == "when" and place.head == "takes":
         return "a token is always taken: 'when' stands behind a change alone"
+
+
+def conditional(place):
+    """A change with its condition before it, as other languages have it."""
+    if place.word != "if" or place.line is None and "requires" not in place.expected:
+        return None
+    found = Lenient(place.words, place.grammar).chain(place.at + 1)
+    if not found:
+        return None
+    start = found[1] + (place.words[found[1] : found[1] + 1] == ["then"])
+    if start >= len(place.words) or place.words[start] not in UPDATES or start == found[1] and place.words[start].line > place.word.line:
+        return None
+    stop = next((it for it in range(start + 1, len(place.words)) if place.words[it] in LINE_HEADS | ITEMS | {"end"}), len(place.words))
+    parts = [*place.words[start:stop], "when", *found[0]]
+    return "a condition stands behind the change, with 'when'" + place.proposed(place.at, stop, parts, "add c ( x ) n when ( n > 0 )")
 
 
 def bare_arguments(place):

@@ -5,6 +5,8 @@ from view.shapes import LETTER, PAD, Box, arrow, rounded, svg, text, wrapped
 
 # The width of the page's text, and what is free between lanes (less where they don't fit in anyhow) and between rows.
 PAGE = {"wide": 1010, "narrow": 352}
+# With more replicas than this the page is wider, and so is its picture.
+MOST_REPLICAS, BROAD = 4, 1150
 GAP, NEAR = {"wide": 74, "narrow": 20}, 30
 BETWEEN_ROWS = 14
 # How far arrows that run side by side are apart: across, and where they leave a box.
@@ -18,6 +20,11 @@ TOP = 44
 def pictures(steps, short):
     """Both forms of the picture. The page shows one of them."""
     return "".join(Picture(steps, short, form).draw() for form in ("wide", "narrow"))
+
+
+def is_broad(steps):
+    """Whether a replay has so many replicas that its page is wider than others."""
+    return steps.schedule["replicas"] > MOST_REPLICAS
 
 
 class Row:
@@ -52,7 +59,8 @@ class Picture:
         self.steps, self.short, self.form = steps, short, form
         self.count = steps.schedule["replicas"]
         self.gutter = 14 + 8 * len(str(len(steps.schedule["steps"])))
-        room = (PAGE[form] - self.gutter - GAP[form] * (self.count - 1)) / self.count
+        page = BROAD if form == "wide" and is_broad(steps) else PAGE[form]
+        room = (page - self.gutter - GAP[form] * (self.count - 1)) / self.count
         self.gap = GAP[form] if room > LEAST else NEAR
         self.most = max(LEAST_LETTERS, min(MOST_LETTERS, int((room - 2 * PAD) / LETTER)))
         seen = [it for it in steps.drawn() if it.replica < self.count]

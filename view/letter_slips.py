@@ -1,4 +1,5 @@
 """What people mean where a character begins no word."""
+import re
 
 INSTEAD = {
     "&": "'and' is written as a word",
@@ -63,3 +64,14 @@ def sentence(letter):
     if letter.isalpha():
         return "names are of the letters a to z and A to Z, digits and _"
     return "outside comments there are names, numbers and the signs ( ) , : . * + - = != < <= > >="
+
+
+def sentence_at(text, at):
+    """The same at a place of a text: what stands before and behind says more of some characters."""
+    letter, before, after = text[at], text[at - 1 : at] if at else "", text[at + 1 : at + 2]
+    number = re.compile(r"[0-9][0-9_]*").search(text, text.rfind(" ", 0, at) + 1)
+    if letter == "_" and before.isdigit() and after.isdigit() and number:
+        return f"a number is written without _ in it: {number.group().replace('_', '')}"
+    if letter == "'" and (before.isalnum() or before == "_") and not after.isalnum():
+        return "a value after the call has no name: what changes is said by a line insert, remove, add or set"
+    return sentence(letter)

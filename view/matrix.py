@@ -7,6 +7,8 @@ from view.parts import chip, scrolling, shown, sign
 
 # Of more operations the cells have signs alone, and the names above them stand upright.
 MOST_WITH_WORDS = 7
+# Of more operations the table is wider than a narrow screen.
+MOST_NARROW = 3
 LEGEND = {
     "proved": "may run at once, proved",
     "ordered": "ordered by tokens where named, proved",
@@ -75,7 +77,10 @@ def matrix(design):
         f'<thead><tr><td></td><th scope="col" class="alone"><span>alone</span></th>{heads}</tr></thead><tbody>{rows}</tbody></table>'
     )
     legend = "".join(f"<li>{chip(state, words)}</li>" for state, words in LEGEND.items())
+    legend += '<li class="framed">framed: two calls of one operation</li>'
+    # (shown on narrow screens alone)
+    hint = '<p class="goes-on">The table goes on to the right \u2192</p>' if len(operations) > MOST_NARROW else ""
     return (
-        '<section><h2 id="matrix">Which calls may run at once</h2>'
+        f'<section><h2 id="matrix">Which calls may run at once</h2>{hint}'
         f'{scrolling("Which calls may run at once", table)}<ul class="legend">{legend}</ul></section>'
     )

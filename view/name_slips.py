@@ -1,4 +1,4 @@
-"""What is wrong with a name, a number or a line in a text that the grammar allows: the rules of docs/LANGUAGE.md, "Typing", with where the other
+"""What is wrong with a name, a number or a line in a text that the grammar allows: the rules of docs/users/LANGUAGE.md, "Typing", with where the other
 declaration stands. The program says which word is wrong and by which rule; the sentences are made here from what the text declares."""
 import difflib
 
@@ -18,6 +18,9 @@ NEEDS = {
 
 # What other languages call whole numbers.
 WHOLE_NUMBERS = ("int", "integer", "number", "nat", "natural", "num", "long", "amount")
+TRUTH_VALUES = ("bool", "boolean")
+# What other languages count and add up over all elements.
+TOTALS = ("sum", "total", "count", "size", "card", "len", "length", "max", "min", "avg")
 
 
 class Declared:
@@ -162,6 +165,11 @@ def unknown(spec, word):
     said = f"Nothing of this name is declared before; here {needed(spec, site)} is needed." if site else "Nothing of this name is declared before."
     fits = [it for it in scope if fit(spec, site, it)] if site else scope
     near = difflib.get_close_matches(word, [it.word for it in fits], 1, 0.6) or [it.word for it in fits if it.word.lower() == word.lower()]
+    if word.lower() in TRUTH_VALUES and site and site.needs in ("kind", "sort"):
+        return f"unknown name {word}", "There are no truth values as arguments: write an operation for each of the two."
+    if word.lower() in TOTALS and site and site.needs in ("number", "relation") and not near:
+        more = "There are no sums and counts over all elements: a counter that each operation changes along may hold one."
+        return f"unknown name {word}", more
     if word.lower() in WHOLE_NUMBERS and site and site.needs == "kind":
         return f"unknown name {word}", "The kind of whole numbers is written int."
     if near:

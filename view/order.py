@@ -6,9 +6,9 @@ of the conditions of their operations holds. Two takings that are both shared ne
 `./cise order SPEC` compares what is ordered with what has to be, which the program's suggestion says."""
 from view import program
 from view.columns import table, wrapped
+from view.inputs import text_of
 from view.report import Suggestion
 from view.tree import Spec
-from view.words import text_of
 
 ORIGIN = (
     "Which pairs have to be ordered, and which equalities are enough, is what the program's suggestion says. On what they are ordered is read off "

@@ -1,16 +1,20 @@
-"""A page on a design, `page SPEC`, or on a replay, `page SPEC SCHEDULE`. It stands alone: one file of HTML without a script."""
-from view import drawn, order, program
-from view.explain import notes
+"""A page on a design, `page SPEC [--no-reach]`, or on a replay, `page SPEC SCHEDULE`. It stands alone: one file of HTML without a script."""
+from view import drawn, lanes, order, program, reaching
+from view.explain import MOST_STORIES, notes
+from view.inputs import text_of
 from view.matrix import alone_id, matrix, worst
-from view.parts import banner, chip, code, foot, head, listed, sheet, shown, sign, title_of, user_lines, whole_text, with_code
+from view.parts import banner, chip, code, foot, head, listed, scrolling, sheet, shown, sign, title_of, user_lines, whole_text, with_code
 from view.picture import pictures, short_names
 from view.report import Report
-from view.story import stories
+from view.run_text import in_short
+from view.steps import Steps
+from view.story import numbered, stories, title as title_told
 from view.tree import Spec
-from view.words import text_of
 
 # Of more facts than this a story counts the last ones, and has them in a fold.
 MOST_FACTS = 12
+# The most runs that are drawn, and the most ordered pairs that stand outside a fold.
+MOST_DRAWN, MOST_ORDERED = 20, 12
 # So many facts are read as easily in the picture.
 FACTS_IN_PICTURE = 5
 SAYS = {
@@ -24,13 +28,15 @@ VERDICTS = ("refuted", "undecided", "proved")
 
 
 class Design:
-    """What a page on a design is made of: the specification, the report, the pairs of operations and the stories."""
+    """What a page on a design is made of: the specification, the report, the pairs of operations, the stories, and what a short search has found
+    of runs to them, where that is asked for."""
 
-    def __init__(self, spec, report):
+    def __init__(self, spec, report, with_reach=False):
         self.spec, self.report = spec, report
         self.pairs = order.pairs(spec, report.blocks)
-        self.stories = stories(spec, report)
-        self.numbers = {it.block: number for number, it in enumerate(self.stories, 1)}
+        self.stories = stories(spec, report, MOST_STORIES)
+        self.numbers = {it: at for it, at in numbered(spec, report).items() if at <= len(self.stories)}
+        self.found = reaching.in_short(spec, [it.block for it in self.stories if it.verdict == "refuted"]) if with_reach else {}
         self.names = {*map(str, [*spec.relations, *spec.counters, *spec.invariants, *spec.operations])}
         self.short = short_names(spec)
 
@@ -47,21 +53,24 @@ class Design:
         return f"story-{min(numbers)}" if numbers else fold
 
 
-def answer(path, schedule_path=None):
+def answer(path, schedule_path=None, no_reach=False):
     """The status and the page."""
     if schedule_path is not None:
         return drawn.answer(path, schedule_path)
     status, text = program.answer("check", path)
-    return status, page_of(Design(Spec(text_of(path)), Report(text)), title_of(path))
+    return status, page_of(Design(Spec(text_of(path)), Report(text), not no_reach), title_of(path))
 
 
 def page_of(design, title):
     report = design.report
-    body = [head(design.spec, title, "Design check"), summary(report), matrix(design)]
+    body = [head(design.spec, title, "Design check"), summary(report), matrix(design), ordered(design)]
     for verdict, name in (("refuted", "Refuted"), ("undecided", "Undecided")):
         cards = [card(design, it) for it in design.stories if it.verdict == verdict]
-        if cards:
-            body.append(f'<section><h2 id="{verdict}">{name} <span class="count">{len(cards)}</span></h2>{"".join(cards)}</section>')
+        count = len(report.with_verdict(verdict))
+        if count:
+            more = sum(it not in design.numbers for it in report.with_verdict(verdict))
+            rest = f"<p>{more} more aren't shown here; explain --all tells of them.</p>" if more else ""
+            body.append(f'<section><h2 id="{verdict}">{name} <span class="count">{count}</span></h2>{"".join(cards)}{rest}</section>')
     body.append(f'<section><h2 id="obligations">Every obligation <span class="count">{len(report.blocks)}</span></h2>')
     body.append(f'<div class="folds">{"".join(folds(design))}</div></section>')
     body.append(whole_text(design.spec))
@@ -82,17 +91,67 @@ def summary(report):
     )
 
 
+def ordered(design):
+    """Which pairs are ordered, and on what; nothing where none is."""
+    rows = []
+    for pair in dict.fromkeys(design.pairs.values()):
+        if pair.conditions:
+            name = f"{pair.f} \u2225 {pair.g}"
+            said = order.sentence(pair.conditions, pair.f, pair.g)
+            rows.append(f'<li><a href="#{pair.id()}">{shown(name)}</a> {with_code(said, design.names)}</li>')
+    if not rows:
+        return ""
+    rest = rows[MOST_ORDERED:]
+    more = f'<details><summary>and {len(rest)} more</summary><ul class="orders">{"".join(rest)}</ul></details>' if rest else ""
+    count = f'<span class="count">{len(rows)}</span>'
+    return f'<section><h2 id="ordered">What is ordered {count}</h2><ul class="orders">{"".join(rows[:MOST_ORDERED])}</ul>{more}</section>'
+
+
 def card(design, story):
-    """A story with its picture, or an undecided obligation with its limit."""
+    """A story with its picture, or an undecided obligation with its limit. It can be folded, and leads to the next one."""
     number, block, title = design.numbers[story.block], story.block, with_code(story.title(), design.names)
     lines = user_lines(story.lines, design.spec.version, story.verdict)
     out = (
-        f'<article class="story {story.verdict}" id="story-{number}"><header><p class="kind">{chip(story.verdict, story.verdict)}'
-        f'<a class="where" href="#{home(block)}">{block.words()}</a></p><h3><span class="count">{number}.</span> {title}</h3></header>'
+        f'<article class="story {story.verdict}" id="story-{number}"><details open><summary><span class="kind">{chip(story.verdict, story.verdict)}'
+        f'<a class="where" href="#{home(block)}">{block.words()}</a></span><h3><span class="count">{number}.</span> {title}</h3></summary>'
     )
+    end = f"{next_story(design, number)}</details></article>"
     if story.verdict == "undecided":
-        return out + f"<p>{shown(story.limit)} {shown(story.todo)}</p>{lines}</article>"
-    return out + f'<figure>{pictures(story, design.short)}</figure><div class="words">{told(design, story, lines)}</div></article>'
+        return out + f"<p>{shown(story.limit)} {shown(story.todo)}</p>{lines}{end}"
+    words = f'<div class="words">{told(design, story, lines)}{further(design, story)}{run_of(design, story)}</div>'
+    return out + f"<figure>{pictures(story, design.short)}</figure>{words}{end}"
+
+
+def next_story(design, number):
+    """The link to the next story, or from the last one to the table of pairs."""
+    if number == len(design.stories):
+        return '<p class="next"><a href="#matrix">to the pairs</a></p>' if design.spec.operations else ""
+    title = design.stories[number].title()
+    return f'<p class="next"><a href="#story-{number + 1}">next: {number + 1}. {shown(title)}</a></p>'
+
+
+def further(design, story):
+    """The other refutations with the same state and the same calls."""
+    if not story.others:
+        return ""
+    items = "".join(
+        f'<li>{with_code(title_told(it), design.names)} <a class="where" href="#{home(it)}">{it.words()}</a></li>' for it in story.others
+    )
+    return f'<p>The same calls there show more:</p><ul class="more">{items}</ul>'
+
+
+def run_of(design, story):
+    """What a short search has found of a run from the start, with its picture."""
+    found = design.found.get(story.block)
+    if found is None:
+        return ""
+    said = "".join(f'<p class="reach">{with_code(it, design.names)}</p>' for it in in_short(design.spec, found))
+    if not found.run or not found.run.steps() or design.numbers[story.block] > MOST_DRAWN:
+        return said
+    run = found.run
+    steps = Steps(design.spec, run.schedule, run.text)
+    figure = f'<figure class="replay">{lanes.pictures(steps, design.short)}</figure>'
+    return f'{said}<details class="run"><summary>The run, step by step</summary>{scrolling("Picture of the run", figure)}</details>'
 
 
 def told(design, story, lines):

@@ -4,6 +4,9 @@ import os
 import re
 from html import escape
 
+from view.inputs import name_of
+from view.own import own_text
+from view.output import lines_of
 from view.words import RESERVED, RESERVED_IN_2, encoded
 
 # A sign for each state, so that none is told by its colour alone.
@@ -14,15 +17,13 @@ SIGNS = {
     "refused": '<circle cx="8" cy="8" r="5.7"/><path d="M5.4 8h5.2"/>',
     "ordered": '<path d="M2.5 8h9M8.5 4.6L12 8l-3.5 3.4M14 3.5v9"/>',
 }
-# A character that a page can't show.
-UNSHOWN = re.compile("[\x00-\x08\x0b-\x1f\x7f\ud800-\udfff]")
 # A name with an element's number or with arguments, or a name alone.
 NAMED = re.compile(r"[A-Za-z][A-Za-z0-9_]*(#\d+)?(\([^)]*\))?")
 
 
 def shown(text):
-    """A text as HTML. A carriage return is white space; what else a page can't show has a sign in its place."""
-    return escape(UNSHOWN.sub("\ufffd", text.replace("\r", " ")))
+    """A text as HTML. A carriage return is white space; what else isn't seen, or turns what stands beside it around, stands as an escape."""
+    return escape(lines_of(text.replace("\r", " ")))
 
 
 def sign(state):
@@ -85,8 +86,9 @@ def scrolling(name, inner):
 
 def title_of(*paths):
     """A page's title: the folder of the first file, and the names of all, without what stands behind their points."""
-    folder = os.path.basename(os.path.dirname(os.path.abspath(paths[0])))
-    names = ", ".join(os.path.splitext(os.path.basename(it))[0] for it in paths)
+    own = [name_of(it) for it in paths]
+    folder = os.path.basename(os.path.dirname(os.path.abspath(own[0])))
+    names = ", ".join(os.path.splitext(os.path.basename(it))[0] for it in own)
     return f"{folder} / {names}" if folder else names
 
 
@@ -106,12 +108,11 @@ def foot(spec, program_says):
     return f'<footer><p>{program_says} {made}</p><p class="sum">sha256 of the specification: {whole}</p></footer>'
 
 
-def sheet(title, body):
-    """A whole page. It has no script, and nothing in it is from elsewhere."""
-    with open(os.path.join(os.path.dirname(os.path.abspath(__file__)), "page.css"), encoding="utf-8") as file:
-        style = file.read()
+def sheet(title, body, is_broad=False):
+    """A whole page. It has no script, and nothing in it is from elsewhere. A broad one takes what a wide screen has."""
+    style, main = own_text("page.css"), '<main class="broad">' if is_broad else "<main>"
     return (
         '<!doctype html>\n<html lang="en"><head><meta charset="utf-8"><meta name="viewport" content="width=device-width,initial-scale=1">'
         f'<meta name="color-scheme" content="light dark"><title>{shown(title)}</title><style>\n{style}</style></head>\n'
-        f'<body><main>{"".join(body)}</main></body></html>\n'
+        f'<body>{main}{"".join(body)}</main></body></html>\n'
     )

@@ -26,6 +26,8 @@ class Place:
         self.line = max((it for it in range(start, at) if all_words[it] in heads), default=None) if in_operation else None
         self.head = all_words[self.begin()] if at > 1 else None
         self.brackets = self.open_brackets(self.begin())
+        # What a sentence proposes to write: the first word that goes, the one behind the last, and the words in their place.
+        self.proposal = None
 
     def open_brackets(self, start):
         found = []
@@ -75,6 +77,24 @@ class Place:
         if parts and len(text) <= MOST_SAMPLE and self.grammar.accepts(symbol, parts):
             return f": {text}"
         return f", as {other}" if other else ""
+
+    def proposed(self, start, stop, parts, other=None):
+        """The same of words in place of those from a place up to another. They are proposed only where the grammar goes on behind them with the
+        next word that stands there, so that whoever writes them comes further."""
+        if parts and self.goes_on(start, parts, stop):
+            self.proposal = start, stop, list(map(str, parts))
+            text = " ".join(parts)
+            if len(text) <= MOST_SAMPLE:
+                return f": {text}"
+        return f", as {other}" if other else ""
+
+    def goes_on(self, start, parts, stop):
+        """Whether words may stand in place of those from a place up to another, and the next word behind them."""
+        begin = max((it for it in range(2, start) if self.words[it] in ITEMS), default=2)
+        ways = self.grammar.begin_items()
+        for word in [*self.words[begin:start], *parts, *self.words[stop : stop + 1]]:
+            ways = self.grammar.behind(ways, word)
+        return bool(ways) and (stop < len(self.words) or 0 in ways)
 
     def declared(self, *heads):
         """The names that items with these first words have declared before the place."""

@@ -2,10 +2,13 @@
 import json
 import os
 import subprocess
-import tempfile
+import threading
+
+from view.inputs import Copy
 
 # Where the program is: `use` says it; tests say it by the environment.
 path = os.environ.get("CISE_PROGRAM", "crates/cise_cli/out/cise_cli")
+NAME = "cise"
 
 
 class Stopped(Exception):
@@ -16,6 +19,44 @@ class Stopped(Exception):
         self.words, self.status, self.text = list(words), status, text
 
 
+class Cut(Exception):
+    """Another thread ended the job that this run was of."""
+
+
+class Job:
+    """Runs of one thread which another may end: the process that runs is killed by its own id, and none is started behind it."""
+
+    def __init__(self):
+        self.lock, self.process, self.is_ended = threading.Lock(), None, False
+
+    def holds(self, process):
+        """Says which process runs now, or that none does. `Cut` where the job has been ended."""
+        with self.lock:
+            self.process = process
+            if self.is_ended and process:
+                process.kill()
+            if self.is_ended:
+                raise Cut()
+
+    def end(self):
+        """Ends the job, from any thread."""
+        with self.lock:
+            self.is_ended = True
+            if self.process and self.process.returncode is None:
+                self.process.kill()
+
+    def __enter__(self):
+        jobs.now = self
+        return self
+
+    def __exit__(self, *_):
+        jobs.now = None
+
+
+# The job of each thread that has one.
+jobs = threading.local()
+
+
 def use(program):
     """Says where the program is, for all runs from now on."""
     global path
@@ -23,10 +64,30 @@ def use(program):
 
 
 def run(*words):
-    """The status and the text of a run of the program with these words."""
-    done = subprocess.run([path, *words], stdin=subprocess.DEVNULL, stdout=subprocess.PIPE, stderr=subprocess.DEVNULL)
-    status = done.returncode if done.returncode >= 0 else 128 - done.returncode
-    return status, done.stdout.decode("utf-8", "surrogateescape")
+    """The status and the text of a run of the program with these words; `OSError` where it can't be run."""
+    out, returned = output_of([NAME, *words])
+    return returned if returned >= 0 else 128 - returned, out.decode("utf-8", "surrogateescape")
+
+
+def output_of(words):
+    """What a process writes, and what it returned. It never outlives this call."""
+    job = getattr(jobs, "now", None)
+    if job:
+        job.holds(None)
+    # (copies of inputs are open files, which it inherits; its own path may be of any bytes, so it is called by a plain name)
+    with subprocess.Popen(
+        words, executable=path, stdin=subprocess.DEVNULL, stdout=subprocess.PIPE, stderr=subprocess.DEVNULL, close_fds=False
+    ) as process:
+        try:
+            if job:
+                job.holds(process)
+            out = process.communicate()[0]
+        except BaseException:
+            process.kill()
+            raise
+    if job:
+        job.holds(None)
+    return out, process.returncode
 
 
 def answer(*words):
@@ -49,16 +110,18 @@ def replayed(spec_path, schedule_path):
 def run_on(text, *words, schedule=None):
     """The status and the text of a run on a specification that is no file: `run_on(text, "check", "--budget", "5")`. With a schedule, a
     value that is written as JSON, that is the second input."""
-    with tempfile.TemporaryDirectory() as folder:
-        spec_path = os.path.join(folder, "design.cise")
-        with open(spec_path, "wb") as file:
-            file.write(text.encode("utf-8", "surrogateescape"))
-        inputs = [spec_path]
-        if schedule is not None:
-            inputs.append(os.path.join(folder, "schedule.json"))
-            with open(inputs[1], "w", encoding="utf-8") as file:
-                json.dump(schedule, file)
-        return run(words[0], *inputs, *words[1:])
+    texts = [text.encode("utf-8", "surrogateescape")]
+    if schedule is not None:
+        texts.append(json.dumps(schedule).encode())
+    copies = []
+    try:
+        for it in texts:
+            copies.append(Copy())
+            copies[-1].add(it)
+        return run(words[0], *[it.path for it in copies], *words[1:])
+    finally:
+        for it in copies:
+            it.close()
 
 
 def replay(text, schedule):

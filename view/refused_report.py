@@ -1,5 +1,5 @@
-"""What it means that the program refuses a report: a sentence for each kind of docs/REPORT.md, "What is wrong with a report"."""
-from view.slips import Slip
+"""What it means that the program refuses a report: a sentence for each kind of docs/users/REPORT.md, "What is wrong with a report"."""
+from view.slips import Slip, line_of
 
 BEGIN = "refused report "
 MEANINGS = {
@@ -23,9 +23,6 @@ MEANINGS = {
 def slip_of(text, refusal):
     """The slip that a refusal of a report speaks of, which is the program's line without its first two words."""
     parts = refusal.split()
-    lines = text.split("\n")
     if parts[0] == "long":
-        return Slip(len(lines), 1, 1, "a report has at most 64 MiB")
-    line = int(parts[1])
-    length = len(lines[line - 1]) if line <= len(lines) else 1
-    return Slip(line, 1, length, MEANINGS[parts[2]])
+        return Slip(text.count("\n") + 1, 1, 1, "a report has at most 64 MiB")
+    return Slip(int(parts[1]), 1, max(1, len(line_of(text, int(parts[1])))), MEANINGS[parts[2]])

@@ -1,5 +1,5 @@
-"""What the program prints: a report, a replay, a suggestion. Only whole texts of the program come here, as docs/REPORT.md, docs/SCHEDULE.md and
-docs/SUGGEST.md tell them."""
+"""What the program prints: a report, a replay, a suggestion. Only whole texts of the program come here, as docs/users/REPORT.md, docs/users/SCHEDULE.md and
+docs/users/SUGGEST.md tell them."""
 
 
 class State:

@@ -1,5 +1,5 @@
 """What is wrong with a schedule that the program refuses, for people: the place of what isn't JSON, what was expected at a path of the schedule, and
-what a refused step means. The program says which check fails; docs/SCHEDULE.md has the checks in their order."""
+what a refused step means. The program says which check fails; docs/users/SCHEDULE.md has the checks in their order."""
 from view import located
 from view.located import NotJson
 from view.slips import Slip, at_byte, position

@@ -91,6 +91,7 @@ class Story:
     """The story of a refuted or an undecided block.
 
     block, kind, verdict  the block, its kind and verdict
+    others    further refuted blocks with the same state and the same calls
     line      the invariant or requires line that it is about; None for commute
     lines     the user's own lines to show: that one, or for commute those that write the thing
 
@@ -109,8 +110,9 @@ class Story:
     readings  what the line reads where it is false: (reading, value, place or None for a parameter that is a number)
     """
 
-    def __init__(self, spec, block, budget):
+    def __init__(self, spec, block, budget, others=()):
         self.spec, self.block, self.kind, self.verdict = spec, block, block.kind, block.verdict
+        self.others = list(others)
         self.line = failing_line(spec, block)
         self.lines = [self.line] if self.line else writing_lines(spec, block)
         if self.verdict == "undecided":
@@ -148,17 +150,22 @@ class Story:
                 found[str(name)] = str(bound[name][1]), None
         return [(text, value, place) for text, (value, place) in found.items()]
 
+    def is_one_call(self):
+        """Whether both calls are the very same one."""
+        return len(self.calls) == 2 and self.calls[0].text() == self.calls[1].text()
+
+    def repeated(self):
+        """What to do where both calls are the very same one, else None."""
+        if not self.is_one_call():
+            return None
+        return (
+            "Both calls are the very same one, made twice. Either a call that comes twice does nothing the second time, by guards behind when in "
+            "place of what it requires; or no two calls ever have the same arguments, as of numbers that are dealt out and used once "
+            "(pattern unique_number)."
+        )
+
     def title(self):
-        n, is_open = self.block.names, self.verdict == "undecided"
-        if self.kind == "init":
-            return f"whether {n[0]} holds at the start" if is_open else f"{n[0]} is false at the start"
-        if self.kind == "safety":
-            return f"whether {n[0]} keeps {n[1]}" if is_open else f"{n[0]} breaks {n[1]}"
-        if self.kind == "commute":
-            both = f"two calls of {n[0]}" if n[0] == n[1] else f"{n[0]} and {n[1]}"
-            return f"whether {both} leave {n[2]} alike in both orders" if is_open else f"{both} leave {n[2]} different"
-        other = f"another {n[2]}" if n[0] == n[2] else n[2]
-        return f"whether {other} leaves standing what {n[0]} requires" if is_open else f"{other} takes away what {n[0]} requires"
+        return title(self.block)
 
     def world(self):
         """Sentences on sorts without elements, and on elements that stand nowhere else in the story; empty where there is nothing to say."""
@@ -214,6 +221,20 @@ class Story:
         return f"The witness need not keep what {joined(ops)} {'observe' if len(ops) > 1 else 'observes'}: no obligation asks it."
 
 
+def title(block):
+    """What an obligation that isn't proved says, in a few words: `deposit breaks solvent`, `whether deposit keeps solvent`."""
+    n, is_open = block.names, block.verdict == "undecided"
+    if block.kind == "init":
+        return f"whether {n[0]} holds at the start" if is_open else f"{n[0]} is false at the start"
+    if block.kind == "safety":
+        return f"whether {n[0]} keeps {n[1]}" if is_open else f"{n[0]} breaks {n[1]}"
+    if block.kind == "commute":
+        both = f"two calls of {n[0]}" if n[0] == n[1] else f"{n[0]} and {n[1]}"
+        return f"whether {both} leave {n[2]} alike in both orders" if is_open else f"{both} leave {n[2]} different"
+    other = f"another {n[2]}" if n[0] == n[2] else n[2]
+    return f"whether {other} leaves standing what {n[0]} requires" if is_open else f"{other} takes away what {n[0]} requires"
+
+
 def writing_lines(spec, block):
     """The updates of the two operations that write a commute block's thing."""
     found = []
@@ -222,16 +243,44 @@ def writing_lines(spec, block):
     return found
 
 
-def stories(spec, report):
-    """The stories of the refuted and then of the undecided blocks: the start first, then each operation alone, then pair by pair in the order of
-    the operations, so that those of one pair stand together."""
+def stories(spec, report, most=None):
+    """The stories of the refuted and then of the undecided blocks, or so many of them. Blocks with the same state and calls have one."""
+    return [Story(spec, first, report.budget, others) for first, *others in told_together(spec, report)[:most]]
+
+
+def told_together(spec, report):
+    """The blocks of each story, in the order of stories: those that have one state and the same calls are told together."""
+    found = {}
+    for block in told_blocks(spec, report):
+        found.setdefault(told_by(block), []).append(block)
+    return list(found.values())
+
+
+def told_by(block):
+    """The same for two blocks that have the same state and the same calls; of others something of their own."""
+    witness = block.witness
+    if witness is None or not witness.calls:
+        return block
+    calls = sorted((str(name), tuple(arguments)) for name, arguments in witness.calls)
+    named = [tuple(sorted(it.items())) for it in (witness.sizes, witness.consts)]
+    return tuple(calls), tuple(witness.state.listed), *named
+
+
+def numbered(spec, report):
+    """The number of the story by which each refuted or undecided block is told."""
+    return {it: number for number, blocks in enumerate(told_together(spec, report), 1) for it in blocks}
+
+
+def told_blocks(spec, report):
+    """The refuted and then the undecided blocks: the start first, then each operation alone, then pair by pair in the order of the operations, so
+    that those of one pair stand together."""
     place = {it: at for at, it in enumerate(spec.operations)}
 
     def key(block):
         group = {"init": 0, "safety": 1}.get(block.kind, 2)
         return block.verdict != "refuted", group, sorted(place[it] for it in block.pair() or ())
 
-    return [Story(spec, it, report.budget) for it in sorted((it for it in report.blocks if it.verdict != "proved"), key=key)]
+    return sorted((it for it in report.blocks if it.verdict != "proved"), key=key)
 
 
 def tidy(words):

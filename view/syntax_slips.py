@@ -11,8 +11,8 @@ SLIPS = [
     *(item.begin, item.other_version, formula.too_deep, item.capital, formula.two_signs, formula.numbers, formula.truth_value),
     *(formula.truth_value_of_change, formula.empty_brackets, formula.product, item.no_name, item.second_token),
     *(formula.forall_inside, formula.variables, item.amount, item.reserved_name, formula.no_comparison_brackets, formula.chain),
-    *(formula.one_part, formula.connective, formula.argument, formula.unclosed, formula.unopened, item.missing_end),
-    *(item.end_alone, item.condition, item.bare_arguments, item.places_of_things, item.colon, formula.dot),
+    *(formula.one_part, formula.sum_in_brackets, formula.connective, formula.argument, formula.unclosed, formula.unopened, item.missing_end),
+    *(item.end_alone, item.conditional, item.condition, item.bare_arguments, item.places_of_things, item.colon, formula.dot),
     *(formula.fact_between, item.begins_wrong, formula.sign_before_formula),
 ]
 

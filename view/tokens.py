@@ -42,7 +42,8 @@ class Tokens:
 
     def __init__(self, spec, orders):
         self.spec, self.tokens, self.rules = spec, [], []
-        self.own = {}
+        # The rules as values, seen from either of their tokens; the sets of parameters of each operation, and the token of each such set.
+        self.forms, self.own, self.known = set(), {}, {}
         for it in orders:
             for alternative in it.alternatives:
                 self.need(it.f, {p for p, _ in alternative})
@@ -72,12 +73,12 @@ class Tokens:
         """The operation's token whose places hold these parameters."""
         held = next(it for it in self.own[operation] if params <= it)
         places = [it for it in self.params(operation) if it in held]
-        found = next((it for it in self.tokens if it.takers == [(operation, places)]), None)
-        if not found:
+        key = operation, tuple(places)
+        if key not in self.known:
             sorts = dict(self.spec.operations[operation].params)
-            found = Token(operation, places, [sorts[it] for it in places])
-            self.tokens.append(found)
-        return found
+            self.known[key] = Token(operation, places, [sorts[it] for it in places])
+            self.tokens.append(self.known[key])
+        return self.known[key]
 
     def rule(self, f, g, alternative):
         left, right = self.token(f, {p for p, _ in alternative}), self.token(g, {q for _, q in alternative})
@@ -94,34 +95,32 @@ class Tokens:
         self.add(Rule(left, right, [of(("f", it)) for it in left.takers[0][1]], [of(("g", it)) for it in right.takers[0][1]]))
 
     def add(self, rule):
-        if not any(form in it.forms() for it in self.rules for form in rule.forms()):
+        forms = rule.forms()
+        if forms[0] not in self.forms:
             self.rules.append(rule)
+            self.forms.update(forms)
 
     def share(self):
         """Lets two tokens be one where they stand in the same rules, and says whether there were any."""
+        rules_of = {it: set() for it in self.tokens}
+        for token, *rest in self.forms:
+            rules_of[token].add(tuple(rest))
         for at, one in enumerate(self.tokens):
             for other in self.tokens[at + 1 :]:
-                if one.sorts == other.sorts and self.are_alike(one, other):
-                    place = {it: number for number, it in enumerate(self.spec.operations)}
-                    one.takers = sorted(one.takers + other.takers, key=lambda it: place[it[0]])
-                    self.tokens.remove(other)
-                    rules, self.rules = self.rules, []
-                    for it in rules:
-                        left, right = [one if token is other else token for token in (it.left, it.right)]
-                        self.add(Rule(left, right, it.left_places, it.right_places))
+                if one.sorts == other.sorts and are_alike(one, other, rules_of):
+                    self.join(one, other)
                     return True
         return False
 
-    def are_alike(self, one, other):
-        """Whether two tokens stand in the same rules with each third one, and with each other as each with itself."""
-
-        def outside(token):
-            return {form[1:] for it in self.rules for form in it.forms() if form[0] is token and form[1] not in (one, other)}
-
-        def within(first, second):
-            return {form[2:] for it in self.rules for form in it.forms() if form[0] is first and form[1] is second}
-
-        return outside(one) == outside(other) and within(one, one) == within(other, other) == within(one, other)
+    def join(self, one, other):
+        """Lets a token be another one too."""
+        place = {it: number for number, it in enumerate(self.spec.operations)}
+        one.takers = sorted(one.takers + other.takers, key=lambda it: place[it[0]])
+        self.tokens.remove(other)
+        rules, self.rules, self.forms = self.rules, [], set()
+        for it in rules:
+            left, right = [one if token is other else token for token in (it.left, it.right)]
+            self.add(Rule(left, right, it.left_places, it.right_places))
 
     def name(self):
         """Names the tokens by what they are: whose calls they order, and of what."""
@@ -154,6 +153,17 @@ class Tokens:
                     names[number] = next(it for it in numbered([str(param)]) if it not in used and len(it) <= MOST_LETTERS)
                     used.add(names[number])
         return [[names[it] for it in places] for places in (rule.left_places, rule.right_places)]
+
+
+def are_alike(one, other, rules_of):
+    """Whether two tokens stand in the same rules with each third one, and with each other as each with itself. Of each token there are its rules,
+    as the other token and the places of both."""
+    both = (one, other)
+    outside = [{it for it in rules_of[token] if it[0] not in both} for token in both]
+    if outside[0] != outside[1]:
+        return False
+    within = [{it[1:] for it in rules_of[a] if it[0] is b} for a, b in ((one, one), (other, other), (one, other))]
+    return within[0] == within[1] == within[2]
 
 
 def numbered(names):

@@ -74,8 +74,9 @@ class Spec:
     items                       (first word, all words behind it), as they stand
     """
 
-    def __init__(self, text):
-        self.text, self.words = text, words(text)
+    def __init__(self, text, all_words=None):
+        """Of a text, or of some of its words alone."""
+        self.text, self.words = text, words(text) if all_words is None else all_words
         self.version = int(self.words[1])
         self.heads = LINES | ({"observes"} if self.version == 2 else set())
         self.sorts, self.consts, self.relations, self.counters, self.tokens = [], {}, {}, {}, {}

@@ -3,7 +3,8 @@ import json
 import re
 import unittest
 
-from view import slips
+from view import program, slips
+from view.server import completion
 from view.tests.slips_table import SLIPS
 from view.words import RESERVED, RESERVED_IN_2, text_of, words
 
@@ -54,6 +55,32 @@ class Places(unittest.TestCase):
         (matcher,) = json.loads(text_of("editors/vscode/package.json"))["contributes"]["problemMatchers"]
         for *_, place, _, message in SLIPS:
             self.assertEqual(re.match(matcher["pattern"]["regexp"], f"d.cise:{place}: {message}").groups(), ("d.cise", *place.split(":"), message))
+
+
+class Snippets(unittest.TestCase):
+    """What snippets fill in is of the language, with a truth value where a formula is left out."""
+
+    CONTEXT = "cise 1\nsort Sort\nrelation known ( Sort )\n"
+
+    def filled(self, body):
+        body = re.sub(r"\$\{\d+:(\w+)\}", r"\1", body)
+        return re.sub(r"(requires|implies|\(|\.) \$\d", r"\1 true", re.sub(r"\n *\$0|\$0\Z(?<! \$0)", "", body))
+
+    def test_those_of_the_extension(self):
+        for name, it in json.loads(text_of("editors/vscode/snippets.json")).items():
+            with self.subTest(name):
+                text = self.filled("\n".join(it["body"]))
+                whole = text if text.startswith("cise") else self.CONTEXT + text
+                self.assertEqual(program.run_on(whole, "spell")[0], 0, whole)
+
+    def test_those_of_the_server(self):
+        for word, body in completion.SNIPPETS.items():
+            if word in ("forall", "exists"):
+                body = f"operation f\n  requires {body}\nend"
+            if word == "conflict":
+                body = "token token_of ( Sort )\n" + body.replace("${1:token}", "token_of")
+            with self.subTest(word):
+                self.assertEqual(program.run_on(self.CONTEXT + self.filled(body), "spell")[0], 0, self.filled(body))
 
 
 if __name__ == "__main__":

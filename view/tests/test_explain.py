@@ -9,6 +9,7 @@ from unittest import mock
 
 from view import explain, program
 from view.report import Report
+from view.story import stories
 from view.tests.kinds import KINDS
 from view.tests.test_outcome import checked, gallery, report_on
 from view.tree import Spec
@@ -154,7 +155,7 @@ STORIES = {
 
   After it the invariant alive is false for x = A#0.
       2 | invariant alive
-      3 |         forall x : A .   # all \u00e9??[31m of them
+      3 |         forall x : A .   # all \u00e9\\xff\\x1b[31m of them
       4 |                 up ( x )
   where up(A#0) is false
 """,
@@ -232,7 +233,7 @@ def told(name):
         path = os.path.join(folder, "design.cise")
         with open(path, "wb") as file:
             file.write(encoded(gallery()[name]))
-        return explain.answer(path)
+        return explain.answer(path, no_reach=True)
 
 
 class Folder(unittest.TestCase):
@@ -248,7 +249,7 @@ class Folder(unittest.TestCase):
         return path
 
     def explained(self, text, *report):
-        return explain.answer(self.file("design.cise", text), *[self.file("report", it) for it in report])
+        return explain.answer(self.file("design.cise", text), *[self.file("report", it) for it in report], no_reach=True)
 
 
 class Texts(unittest.TestCase):
@@ -272,7 +273,13 @@ class Texts(unittest.TestCase):
             "the specification. The sentences are made from both, and aren't proved.\n"
         )
         self.assertEqual(status, 1)
-        self.assertEqual(text, f"undo alone  refuted, see 1\n1 pair may run at once\n\n{story}\n{origin}\nrejected: 2 proved, 1 refuted, 0 undecided\n")
+        steps = (
+            "Next: a call that breaks an invariant alone wants a requires line, or an\n"
+            "invariant that was forgotten: no order helps it; reach SPEC writes runs that\n"
+            "lead from the start to what is refuted.\n"
+        )
+        head, last = "undo alone  refuted, see 1\n1 pair may run at once\n", "rejected: 2 proved, 1 refuted, 0 undecided\n"
+        self.assertEqual(text, f"{head}\n{story}\n{steps}\n{origin}\n{last}")
 
     def test_statuses_and_counts(self):
         for name, status, last in (
@@ -292,7 +299,7 @@ class Texts(unittest.TestCase):
                         self.assertLessEqual(len(line), 80)
                         self.assertTrue(line.isascii())
                         self.assertEqual(line, line.rstrip())
-                        self.assertFalse(names.intersection(re.findall(r"\w+", line)) - {"There", "At", "Each", "Note"})
+                        self.assertFalse(names.intersection(re.findall(r"\w+", line)) - {"There", "At", "Each", "Note", "Next"})
 
     def test_every_story_is_told(self):
         for name, text in gallery().items():
@@ -300,7 +307,7 @@ class Texts(unittest.TestCase):
             for it in checked(text)[1].blocks:
                 head = f"[{it.words()}, report line {it.line_in_report}]"
                 self.assertEqual(" ".join(said.split()).count(head), int(it.verdict != "proved"), name)
-                if it.verdict == "refuted" and it.kind == "commute":
+                if it.verdict == "refuted" and it.kind == "commute" and f"\n   {head[:20]}" in said:
                     story = said[said.index(f"[{it.kind} {it.names[0]}") :]
                     self.assertRegex(story, r"(?s)At the end:\n    A  .* is \S+\n    B  .* is \S+\n  though both")
 
@@ -310,6 +317,59 @@ class Texts(unittest.TestCase):
         self.assertEqual(len(facts), 11)
         self.assertEqual(facts[0], "      k0(A#0, B#0) = 1")
         self.assertIn("\n      ... and 13 more; the report has them all\n", text)
+
+
+class Together(Folder):
+    """Refutations with one state and the same calls have one story, and what is reached stands beside it."""
+
+    def test_one_story_for_the_same_calls(self):
+        said = told("examples/review/refuted.cise")[1]
+        self.assertEqual(len(re.findall(r"^\d+\. ", said, re.M)), 3)
+        self.assertIn(
+            "  The same calls there show more:\n    approve and edit leave approvals different [commute approve edit approvals,\n"
+            "      report line 354]\n",
+            said,
+        )
+        self.assertRegex(said, r"edit takes away what publish requires \[stable[^]]*]\n +\d+ \| requires")
+        self.assertIn("edit || publish     refuted, see 3\n", said)
+
+    def test_stories_have_calls_of_their_own(self):
+        """No two stories of a pair have the same state and calls."""
+        repeated = 0
+        for name, text in gallery().items():
+            spec, report = checked(text)
+            seen = set()
+            for it in stories(spec, report):
+                if it.verdict == "refuted" and it.calls:
+                    key = (tuple(sorted(call.text() for call in it.calls)), tuple(it.facts), tuple(it.also), str(it.sizes))
+                    self.assertNotIn((key[0], frozenset(it.facts), key[3]), seen, name)
+                    seen.add((key[0], frozenset(it.facts), key[3]))
+                    repeated += len(it.others)
+        self.assertGreater(repeated, 3)
+
+    def test_one_call_made_twice(self):
+        said = told("examples/review/refuted.cise")[1]
+        self.assertEqual(" ".join(said.split()).count("Both calls are the very same one, made twice."), 1)
+        self.assertNotIn("very same", told("examples/cart/refuted.cise")[1])
+
+    def test_next_steps(self):
+        for name, words in (
+            ("examples/bank/refuted.cise", "mend SPEC writes an order"),
+            ("examples/flags/refuted.cise", "wants an initially"),
+            ("examples/bank/accepted.cise", "Next: review SPEC says what a yes leaves open."),
+            ("examples/undecided/meals.cise", "Next: what is undecided says what makes it smaller."),
+        ):
+            self.assertIn(words, " ".join(told(name)[1].split()))
+
+    def test_what_comes_up(self):
+        for name, words in (
+            ("examples/bank/refuted.cise", "It comes up, by these calls after deposit(a = Account#0, n = 1). Then solvent is false at B"),
+            ("examples/auction/forgotten.cise", "Whether it comes up isn't known: a short search found no run to it; reach looks longer."),
+            ("examples/flags/refuted.cise", "It comes up before any call."),
+        ):
+            path = self.file("design.cise", gallery()[name])
+            self.assertIn(words, " ".join(explain.answer(path)[1].split()))
+            self.assertNotIn("comes up", explain.answer(path, no_reach=True)[1])
 
 
 class Reports(Folder):
@@ -328,7 +388,8 @@ class Reports(Folder):
         self.assertTrue(report.startswith("cise report 2\n"))
         status, said = self.explained(text, report)
         lines = re.compile(r", report line \d+")
-        self.assertEqual((status, lines.sub("", said)), (1, lines.sub("", told("examples/stock/refuted.cise")[1])))
+        before = told("examples/stock/refuted.cise")[1]
+        self.assertEqual((status, lines.sub("", " ".join(said.split()))), (1, lines.sub("", " ".join(before.split()))))
 
     def test_without_values(self):
         """A witness beyond what a replay can have is told without values, and says so."""
@@ -388,7 +449,7 @@ class Cost(Folder):
             _, report = checked(text)
             with mock.patch.object(program, "run", side_effect=program.run) as runs:
                 self.explained(text)
-            self.assertEqual(runs.call_count, 1 + report.refuted)
+            self.assertEqual(runs.call_count, 1 + sum(it.verdict == "refuted" for it in stories(*checked(text))))
 
     def test_time(self):
         """Besides the program's runs a text takes less than 0.2 seconds of the processor's time."""

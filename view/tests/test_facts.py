@@ -1,5 +1,6 @@
 """JSON: each text of the program gives facts from which the same text is written, and nothing else gives any."""
 import glob
+import io
 import json
 import os
 import tempfile
@@ -7,7 +8,6 @@ import unittest
 from contextlib import redirect_stderr
 
 from view import facts, program
-from view.tests.test_mend import Said
 from view.words import text_of
 
 
@@ -24,6 +24,10 @@ def texts():
                 yield (command, path, schedule), program.run(command, path, schedule)[1]
 
 
+def spelled(found):
+    return "".join(it + "\n" for it in facts.lines_from(found))
+
+
 class RoundTrips(unittest.TestCase):
     def test_the_gallery(self):
         kinds = set()
@@ -34,7 +38,7 @@ class RoundTrips(unittest.TestCase):
                 found, line = facts.facts_of(text)
                 self.assertIsNone(line)
                 self.assertEqual(json.loads(facts.laid_out(found)), found)
-                self.assertEqual(facts.text_from(json.loads(facts.laid_out(found))), text)
+                self.assertEqual(spelled(json.loads(facts.laid_out(found))), text)
                 kinds |= {found["text"]} | {it["verdict"] for it in found.get("obligations", [])} | {found.get("stop", {}).get("word")}
         self.assertLessEqual({"report", "replay", "simulation", "suggestion", "proved", "refuted", "undecided", "done", "broken", "refused"}, kinds)
 
@@ -46,7 +50,7 @@ class RoundTrips(unittest.TestCase):
                 file.write(report)
             text = program.run("upgrade", "examples/bank/accepted.cise", path)[1]
         found, _ = facts.facts_of(text)
-        self.assertEqual((found["version"], facts.text_from(found)), (2, text))
+        self.assertEqual((found["version"], spelled(found)), (2, text))
         self.assertTrue(any(line.startswith("d ") for it in found["obligations"] for line in it["log"]))
 
 
@@ -77,7 +81,7 @@ class Facts(unittest.TestCase):
             text = program.run_on(text_of("examples/bank/accepted.cise"), "replay", schedule={"sizes": {"Account": 1}, "constants": {}, "replicas": 2, "steps": taken})[1]
             found, _ = facts.facts_of(text)
             self.assertEqual(found["stop"], {"word": "refused", "step": len(taken) - 1, "cause": cause, **rest[cause]})
-            self.assertEqual(facts.text_from(found), text)
+            self.assertEqual(spelled(found), text)
 
     def test_a_simulation(self):
         found, _ = facts.facts_of(program.run("simulate", "examples/bank/accepted.cise", "examples/bank/granted.json")[1])
@@ -95,7 +99,9 @@ class Refused(unittest.TestCase):
         report = program.run("check", "examples/bank/refuted.cise")[1]
         bad = ["", "\n", "cise report 1", "cise report 1\n", report[:-1], report + "\n", report.replace("size Account 1", "size Account 01"), report.replace("refuted\n", "refused\n", 1),
                report.replace(" 1\ncall", "  1\ncall", 1), report.replace("count balance 0 1", "count balance 0 x"), "cise replay 1\ndone 0\nreplica 1 taken 0\n", "cise suggest 1\npairs 1\nsummary needed 0 free 0 unknown 0\ncomplete\n",
-               text_of("examples/bank/refuted.cise"), report.replace("\n", "\x0c"), "cise sample 3\n"]
+               text_of("examples/bank/refuted.cise"), report.replace("\n", "\x0c"), "cise sample 3\n",
+               report.replace("rejected", "HELLO<>"), report.replace("rejected", "hello"), report.replace("solvent", "\udcff"), report.replace("solvent", "a\u00e9"),
+               report.replace("solvent", "a\x1b")]
         for text in bad:
             with self.subTest(text[:60]):
                 self.assertIsNone(facts.facts_of(text)[0])
@@ -105,11 +111,26 @@ class Refused(unittest.TestCase):
         at = report.split("\n").index("size Account 1") + 1
         self.assertEqual(facts.facts_of(report.replace("size Account 1", "size Account 01")), (None, at))
 
+    def test_the_line_of_what_stands_in_no_text(self):
+        report = program.run("check", "examples/bank/refuted.cise")[1]
+        for bad in ("\udcff", "<", "\x00"):
+            self.assertEqual(facts.facts_of(report.replace("size Account", bad)), (None, report.split("\n").index("size Account 1") + 1))
+        self.assertEqual(facts.facts_of(report.replace("rejected", "hello")), (None, report.count("\n")))
+
+    def test_a_text_that_is_too_long(self):
+        with tempfile.NamedTemporaryFile() as file:
+            file.write(b"cise report 1\n" + b"p" * facts.MOST_CHARACTERS)
+            file.flush()
+            said = io.StringIO()
+            with redirect_stderr(said):
+                self.assertEqual(facts.answer(file.name), (4, ""))
+            self.assertEqual(said.getvalue(), f"{file.name}: json takes texts of at most 16,777,216 bytes\n")
+
     def test_status_and_words(self):
-        said = Said()
+        said = io.StringIO()
         with redirect_stderr(said):
-            self.assertEqual(facts.answer("examples/bank/refuted.cise"), (4, ""))
-        self.assertTrue(said.getvalue().startswith("examples/bank/refuted.cise:1:1: this is no report"))
+            self.assertEqual(facts.answer("examples/bank/README.md"), (4, ""))
+        self.assertTrue(said.getvalue().startswith("examples/bank/README.md:1:1: this is no report"))
 
 
 if __name__ == "__main__":

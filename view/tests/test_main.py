@@ -6,7 +6,9 @@ import tempfile
 import time
 import unittest
 
+from launch.answering import OPTIONS, VIEWS
 from view import main, program
+from view.commands import COMMANDS
 
 TOP = os.path.dirname(os.path.dirname(os.path.dirname(os.path.abspath(__file__))))
 CALL = f"import sys; sys.path.insert(0, {TOP!r}); from view import main; sys.exit(main.main({os.path.abspath(program.path)!r}, sys.argv[1:]))"
@@ -35,6 +37,10 @@ class InFolder(unittest.TestCase):
 
 
 class Commands(InFolder):
+    def test_the_script_knows_the_words(self):
+        self.assertEqual(sorted([*VIEWS, *OPTIONS]), sorted(COMMANDS))
+        self.assertEqual(list(VIEWS), sorted(VIEWS))
+
     def test_statuses_are_the_programs(self):
         report = self.file("report", program.run("check", REFUTED)[1])
         for words, status in ((("explain", REFUTED), 1), (("explain", ACCEPTED), 0), (("explain", REFUTED, report), 1), (("mend", REFUTED), 0), (("order", REFUTED), 0),
@@ -46,17 +52,31 @@ class Commands(InFolder):
                 self.assertNotIn(b"Traceback", error)
 
     def test_wrong_words(self):
-        for words in (("explain",), ("explain", "a", "b", "c"), ("mend", "a", "b"), ("page",), ("json",), ("json", "a", "b"), ("order", "--help")):
+        for words in (("explain",), ("explain", "a", "b", "c"), ("mend", "a", "b"), ("page",), ("json",), ("json", "a", "b"), ("order", "--help"), ("explain", REFUTED, "--budget"),
+                      ("explain", REFUTED, "--budget", "0"), ("explain", REFUTED, REFUTED, "--budget", "9"), ("mend", REFUTED, "--budget", "9")):
             with self.subTest(" ".join(words)):
                 status, out, error = called(*words)
                 self.assertEqual((status, out), (2, b"refused words\n"))
-                self.assertIn(main.USAGE.encode(), error)
+                self.assertTrue(error.startswith(f"cise: these words aren't of the form: cise {words[0]} ".encode()), error)
+
+    def test_what_a_command_says_of_wrong_words_is_all(self):
+        for words in (("pattern", "none"), ("example", REFUTED, "none"), ("plan", REFUTED, "--for", "none"), ("audit", REFUTED, REFUTED, "--part", "9")):
+            with self.subTest(" ".join(words)):
+                status, out, error = called(*words)
+                self.assertEqual((status, out, error.count(b"\n")), (2, b"", 1), error)
+
+    def test_a_budget_is_the_programs(self):
+        status, out, error = called("explain", ACCEPTED, "--budget", "2")
+        self.assertEqual((status, error), (5, b""))
+        self.assertTrue(out.endswith(b"undecided: 5 proved, 0 refuted, 7 undecided\n"), out[-200:])
 
     def test_what_cannot_be_read(self):
         for words in (("explain", "no/file"), ("mend", self.folder.name), ("order", "no/file"), ("page", "no/file"), ("json", "no/file"), ("json", self.folder.name),
                       ("explain", REFUTED, "no/file"), ("page", REFUTED, "no/file")):
             with self.subTest(" ".join(words)):
-                self.assertEqual(called(*words), (6, b"", b"cise: an input couldn't be read\n"))
+                why = "it is a folder" if words[-1] == self.folder.name else "No such file or directory"
+                said = f"cise: an input couldn't be read: {words[-1]} ({why})\n"
+                self.assertEqual(called(*words), (6, b"", said.encode()))
 
     def test_a_refused_specification(self):
         path = self.file("d.cise", "cise 1\nsort Seat\nrelation sold ( Seat , Row )\n")
@@ -77,15 +97,20 @@ class Commands(InFolder):
     def test_bytes_of_any_kind(self):
         text = program.run("spell", REFUTED)[1].encode().replace(b"\n", b" # \xff\xc3\xa9\n", 1)
         path = self.file(b"d\xff.cise".decode("utf-8", "surrogateescape"), text)
-        for command in ("explain", "mend", "order", "page"):
-            with self.subTest(command):
-                # The program takes no name that isn't UTF-8.
-                self.assertEqual(called(command, path)[:2], (9, b""))
+        self.assertEqual([called(it, path)[0] for it in ("explain", "page", "order")], [1, 1, 0])
+        wrong = self.file(b"w\xff\n1.cise".decode("utf-8", "surrogateescape"), "cise 1 sort sort")
+        self.assertIn(b"w\\xff\\n1.cise:1:13: ", called("explain", wrong)[2])
         path = self.file("d.cise", text)
         status, out, error = called("mend", path)
         self.assertEqual(status, 0, error)
         self.assertIn(b" # \xff\xc3\xa9\n", out)
         self.assertEqual([called(it, path)[0] for it in ("explain", "page", "order")], [1, 1, 0])
+
+    def test_a_name_is_no_input(self):
+        """An operation is told by its name, whatever file there is."""
+        self.file("withdraw", "")
+        found, out, error = called("example", REFUTED, "withdraw", cwd=self.folder.name)
+        self.assertEqual((found, b"withdraw(" in out), (0, True), error)
 
     def test_pipes(self):
         with open(REFUTED, "rb") as file:
@@ -147,6 +172,14 @@ class Places(InFolder):
                 status, out, error = called("3", *words, code=PLACES)
                 self.assertEqual((status, out), (0, b""))
                 self.assertTrue(error.startswith(path.encode() + b":2:16: Seat is declared twice"), error)
+
+    def test_of_an_input_that_has_changed_nothing_is_said(self):
+        """What the program refused may be another text than the one that stands there now."""
+        path = self.file("d.cise", "cise 1\nsort Seat sort Seat\n")
+        for is_as_it_was, said in (("lambda: True", b"Seat is declared twice"), ("lambda: False", b"")):
+            code = PLACES.replace("int(sys.argv[1]))", f"int(sys.argv[1]), {is_as_it_was})")
+            error = called("3", "check", path, code=code)[2]
+            self.assertEqual((bool(error), said in error), (bool(said), True))
 
     def test_behind_a_refused_step(self):
         for command in ("replay", "simulate"):

@@ -1,13 +1,16 @@
 """mend: what is accepted, what is ordered, and that the user's own text stays."""
 import glob
-import io
 import os
+import pty
 import re
+import subprocess
+import sys
 import tempfile
+import time
 import unittest
-from contextlib import redirect_stderr
+from unittest import mock
 
-from view import mend, order, program
+from view import enough, mend, order, program
 from view.edits import with_tokens
 from view.enough import Search, by_lines
 from view.report import Answer, SuggestedPair, Suggestion
@@ -24,15 +27,11 @@ NOT_BY_TOKENS = {"flags/refuted.cise": 1, "auction/forgotten.cise": 1, "tourname
 ACCEPTED = ("access", "auction", "bank", "seats")
 
 
-class Said(io.StringIO):
-    """Standard error, as a text."""
-
-    def __init__(self):
-        super().__init__()
-        self.buffer = self
-
-    def write(self, text):
-        return super().write(text if isinstance(text, str) else text.decode())
+def orders(search, alternatives, calls):
+    """Whether two calls are ordered by alternatives."""
+    search.holding = []
+    search.learn(calls)
+    return search.orders_all(alternatives)
 
 
 def mended(text):
@@ -41,10 +40,7 @@ def mended(text):
         path = os.path.join(folder, "design.cise")
         with open(path, "wb") as file:
             file.write(text.encode("utf-8", "surrogateescape"))
-        said = Said()
-        with redirect_stderr(said):
-            status, new = mend.answer(path)
-    return status, new, said.getvalue()
+        return mend.mended(path)
 
 
 def short(text):
@@ -123,7 +119,7 @@ class Unordered(unittest.TestCase):
 
     def test_what_is_said(self):
         said = self.mended["friends"][2]
-        self.assertEqual(said.count("\n"), 2)
+        self.assertEqual(said.count("\n"), 3)
         self.assertIn("mend: meet || part: ordered where both have the same p and the same q, or where p of meet = q of part and q of meet = p of part\n", said)
         self.assertIn("mend: accepted: 6 proved, 0 refuted, 0 undecided\n", said)
 
@@ -242,19 +238,92 @@ class Parts(unittest.TestCase):
     def test_calls_of_one_operation_may_be_exchanged(self):
         one, other = {"p": 1, "q": 0}, {"p": 5, "q": 1}
         search = Search(Spec(FRIENDS), "meet", "meet")
-        self.assertEqual([search.orders([[("p", "q")]], it) for it in ((one, other), (other, one), (one, one))], [True, True, False])
+        self.assertEqual([orders(search, [[("p", "q")]], it) for it in ((one, other), (other, one), (one, one))], [True, True, False])
         self.assertEqual(search.equalities, [("p", "p"), ("p", "q"), ("q", "q")])
         search = Search(Spec(FRIENDS), "meet", "part")
-        self.assertEqual([search.orders([[("p", "q")]], it) for it in ((one, other), (other, one))], [True, False])
-        self.assertEqual([search.orders([[("p", "p")], [("p", "q"), ("q", "p")]], it) for it in ((one, {"p": 0, "q": 1}), (one, other))], [True, False])
+        self.assertEqual([orders(search, [[("p", "q")]], it) for it in ((one, other), (other, one))], [True, False])
+        self.assertEqual([orders(search, [[("p", "p")], [("p", "q"), ("q", "p")]], it) for it in ((one, {"p": 0, "q": 1}), (one, other))], [True, False])
 
     def test_a_search_learns_from_refutations(self):
         search = Search(Spec(FRIENDS), "meet", "part")
         self.assertFalse(search.is_enough([[("p", "p")]]))
         self.assertTrue(search.breaking)
-        trials = search.trials
+        count, left = search.count, search.trials.left
         self.assertFalse(search.is_enough([[("p", "p")]]))
-        self.assertEqual(search.trials, trials, "the same proposal isn't tried twice")
+        self.assertEqual((search.count, search.trials.left), (count, left), "the same proposal isn't tried twice")
+
+
+def alike(count):
+    """Operations that do the same, of which each two have to be ordered."""
+    params = " , ".join(f"{it} : A" for it in "abcdeg")
+    updates = " ".join(f"{'insert' if at % 2 else 'remove'} r ( {it} )" for at, it in enumerate("abcdeg"))
+    return "cise 1\nsort A\nrelation r ( A )\n" + "".join(f"operation f{at} ( {params} )\n  {updates}\nend\n" for at in range(count))
+
+
+class Effort(unittest.TestCase):
+    def runs_of(self, text):
+        """How many runs of the program mend makes, without those that try to spare an order, and what it says."""
+        made, run = [], program.run
+
+        def counted(*words):
+            made.append(words[0])
+            return run(*words)
+
+        with tempfile.NamedTemporaryFile("w", suffix=".cise") as file, mock.patch.object(program, "run", counted):
+            file.write(text)
+            file.flush()
+            status, _, said = mend.mended(file.name, with_ways=False)
+        self.assertEqual(status, 0, said)
+        return len(made), said
+
+    def test_pairs_that_are_alike_are_tried_once(self):
+        two, four = self.runs_of(alike(2))[0], self.runs_of(alike(4))[0]
+        self.assertLessEqual(two, 2 * 40 + 6)
+        self.assertEqual(two, four)
+
+    def test_many_operations_take_few_runs(self):
+        """300 pairs, for which a text has no room: 396 runs were made for that alone."""
+        lines = [f"operation f{it} ( a : A , b : A , c : A ) insert r ( a ) remove r ( b ) insert r ( c ) end" for it in range(24)]
+        before = time.process_time()
+        made, _ = self.runs_of("cise 1 sort A relation r ( A ) " + " ".join(lines) + "\n")
+        self.assertLessEqual(made, 60)
+        self.assertLess(time.process_time() - before, 3)
+
+    def test_runs_come_to_an_end(self):
+        with mock.patch.object(enough.Trials.__init__, "__defaults__", (3, lambda left: None)):
+            made, said = self.runs_of(alike(2))
+        self.assertLessEqual(made, 10)
+        self.assertIn("mend: f0 || f1: not all lesser orders were tried, but ", said)
+        self.assertNotIn("not all lesser orders were tried", self.runs_of(FRIENDS)[1])
+
+
+class OnATerminal(unittest.TestCase):
+    def said_of(self, code):
+        """What a terminal gets on standard error from some lines of Python."""
+        terminal, other = pty.openpty()
+        begin = "import sys, time; sys.path.insert(0, '.'); from view.output import Progress\n"
+        done = subprocess.run([sys.executable, "-c", begin + code], stdin=subprocess.DEVNULL, stdout=subprocess.PIPE, stderr=other)
+        os.close(other)
+        found = b""
+        while True:
+            try:
+                piece = os.read(terminal, 999)
+            except OSError:
+                piece = b""
+            if not piece:
+                os.close(terminal)
+                return done.stdout, found
+            found += piece
+
+    def test_progress_is_told_after_a_second_and_goes_away(self):
+        code = "with Progress() as it:\n    it.tell('a')\n    it.due = 0\n    it.tell('b\\x1b[2J\\n')\n    it.tell('c')\n"
+        self.assertEqual(self.said_of(code), (b"", b"\rb\\x1b[2J\\n\x1b[K\r\x1b[K"))
+
+    def test_elsewhere_nothing_is_told(self):
+        with tempfile.TemporaryFile() as file:
+            code = "import sys; sys.path.insert(0, '.'); from view.output import Progress\nwith Progress() as it:\n    it.tell('a'); print(it.due)"
+            done = subprocess.run([sys.executable, "-c", code], stdout=subprocess.PIPE, stderr=file)
+            self.assertEqual((done.stdout, file.seek(0, 2)), (b"inf\n", 0))
 
 
 if __name__ == "__main__":

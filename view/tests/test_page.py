@@ -17,6 +17,7 @@ from view.tests.kinds import KINDS
 from view.tests.page_tree import Tree
 from view.tests.test_outcome import gallery, report_on
 from view.tree import Spec
+from view.words import text_of
 
 OUTSIDE = re.compile(r"<script|<link|<iframe|<object|\bsrc=|\bon[a-z]+=|https?:|url\(|@import")
 VERDICTS = ("refuted", "undecided", "proved")
@@ -28,7 +29,7 @@ def page_on(text):
         path = os.path.join(folder, "design.cise")
         with open(path, "wb") as file:
             file.write(text.encode("utf-8", "surrogateescape"))
-        return page.answer(path)
+        return page.answer(path, no_reach=True)
 
 
 @functools.lru_cache(maxsize=None)
@@ -107,11 +108,12 @@ class EachPage(unittest.TestCase):
             cards = tree.all("article", "story")
             told = stories(spec, report)
             self.assertEqual([it.attributes["id"] for it in cards], [f"story-{at}" for at in range(1, len(told) + 1)])
-            self.assertEqual(len(cards), report.refuted + report.undecided)
+            self.assertEqual(sum(1 + len(it.others) for it in told), report.refuted + report.undecided)
             for number, (card, story) in enumerate(zip(cards, told), 1):
                 self.assertIn(story.verdict, card.classes())
-                self.assertEqual(card.one("a", "where").text(), story.block.words())
+                self.assertEqual([it.text() for it in card.all("a", "where")], [it.words() for it in (story.block, *story.others)])
                 self.assertEqual(card.one("h3").text(), f"{number}. {story.title()}")
+                self.leads_on(card, number, len(told), spec)
                 forms = [it.classes()[1] for it in card.all("svg", "pic")]
                 self.assertEqual(forms, ["wide", "narrow"] if story.verdict == "refuted" else [])
                 said = [story.limit, story.todo] if story.verdict == "undecided" else [story.ending(), *(it.text() for it in story.calls)]
@@ -119,6 +121,29 @@ class EachPage(unittest.TestCase):
                     self.assertIn(it, card.text())
 
         self.each(examine)
+
+    def leads_on(self, card, number, count, spec):
+        """A card can be folded, stands open, and leads to the next one, or from the last to the pairs."""
+        self.assertIn("open", card.all("details")[0].attributes)
+        links = [it.one("a").attributes["href"] for it in card.all("p", "next")]
+        last = ["#matrix"] if spec.operations else []
+        self.assertEqual(links, [f"#story-{number + 1}"] if number < count else last)
+
+    def test_what_is_ordered(self):
+        """Each ordered pair is listed, with what it is ordered on."""
+        seen = 0
+
+        def examine(spec, report, _html, tree):
+            nonlocal seen
+            rows = [it for part in tree.all("ul", "orders") for it in part.all("li")]
+            pairs = [it for it in dict.fromkeys(order.pairs(spec, report.blocks).values()) if it.conditions]
+            self.assertEqual([it.one("a").attributes["href"] for it in rows], [f"#{it.id()}" for it in pairs])
+            for row, pair in zip(rows, pairs):
+                self.assertIn(order.sentence(pair.conditions, pair.f, pair.g), row.text())
+                seen += 1
+
+        self.each(examine)
+        self.assertGreater(seen, 40)
 
     def test_lines_of_stories(self):
         """Each number of a story's line leads to the same words in the whole text."""
@@ -143,7 +168,7 @@ class EachPage(unittest.TestCase):
             lines = spec.text.rstrip("\r\n").split("\n")
             self.assertEqual([it.one("span", "number").text() for it in rows], [str(at) for at in range(1, len(lines) + 1)])
             for row, line in zip(rows, lines):
-                shown = re.sub("[\x00-\x08\x0b-\x1f\x7f\ud800-\udfff]", "\ufffd", line.rstrip())
+                shown = re.sub("[\x00-\x08\x0b-\x1f\x7f-\xa0\u200b-\u200f\u2028-\u202e\u2066-\u2069\ud800-\udfff]", lambda it: ascii(it[0])[1:-1].replace("udc", "x"), line.rstrip())
                 self.assertEqual(row.parts[1].text(), shown)
 
         self.each(examine)
@@ -191,7 +216,8 @@ class Matrices(unittest.TestCase):
                 self.assertEqual(heads, ["alone"] + operations)
                 rows = [it for it in table.all("tr") if it.inside("tbody")]
                 self.assertEqual([it.one("th").text() for it in rows], operations)
-                numbers = {it.attributes["id"]: it.one("a", "where").text() for it in tree.all("article", "story")}
+                cards = tree.all("article", "story")
+                numbers = {it.attributes["id"]: {part.text() for part in it.all("a", "where")} for it in cards}
                 for f, row in zip(operations, rows):
                     cells = row.all("td")
                     self.assertEqual(len(cells), len(operations) + 1)
@@ -212,7 +238,7 @@ class Matrices(unittest.TestCase):
         link = cell.one("a")
         self.assertEqual(cell.classes()[0], state)
         self.assertEqual(link.all("path")[0].attributes["d"], SIGNS[state])
-        stories_ = [it for it in numbers if numbers[it] in {block.words() for block in blocks}]
+        stories_ = [it for it in numbers if numbers[it] & {block.words() for block in blocks}]
         self.assertEqual(link.attributes["href"], "#" + (min(stories_, key=lambda it: int(it[6:])) if stories_ else fold))
 
     def words(self, spec, cell, state, f, g):
@@ -273,6 +299,15 @@ end
         self.assertIn("dense", table.classes())
         self.assertEqual(len(table.all("td", "proved")), 24 * 25)
 
+    def test_frames_stand_in_the_legend(self):
+        tree = Tree(page_on("cise 1 relation up operation f insert up end")[1])
+        self.assertEqual([it.text() for it in tree.one("ul", "legend").all("li", "framed")], ["framed: two calls of one operation"])
+
+    def test_a_wide_matrix_says_that_it_goes_on(self):
+        for count, hints in ((3, 0), (4, 1)):
+            text = "cise 1\n" + "".join(f"operation f{at}\nend\n" for at in range(count))
+            self.assertEqual(len(Tree(page_on(text)[1]).all("p", "goes-on")), hints)
+
     def test_no_operation(self):
         tree = Tree(page_on("cise 1 relation up invariant alive up")[1])
         self.assertEqual(tree.all("table"), [])
@@ -283,6 +318,29 @@ SIGNS = {
     "proved": "M3.5 8.5l3 3 6-7", "refuted": "M4 4l8 8M12 4l-8 8", "ordered": "M2.5 8h9M8.5 4.6L12 8l-3.5 3.4M14 3.5v9",
     "undecided": "M5.3 5.6a2.8 2.8 0 1 1 4 2.6c-1 .5-1.3 1-1.3 1.9M8 12.9v.2",
 }
+
+
+class Runs(unittest.TestCase):
+    """What a short search has found stands beside each story, with its picture."""
+
+    def test_a_run_is_drawn(self):
+        tree = Tree(page.answer("examples/bank/refuted.cise")[1])
+        card = tree.one("article", "story")
+        self.assertIn("It comes up, by these calls after deposit(a = Account#0, n = 1).", card.one("p", "reach").text())
+        run = card.one("details", "run")
+        self.assertNotIn("open", run.attributes)
+        self.assertEqual(len(run.all("svg", "pic")), 2)
+        self.assertIn("breaks solvent", run.text())
+        self.assertEqual(lost_links(tree), [])
+
+    def test_what_is_not_found(self):
+        tree = Tree(page.answer("examples/auction/forgotten.cise")[1])
+        for card in tree.all("article", "story"):
+            self.assertIn("isn't known", card.one("p", "reach").text())
+            self.assertEqual(card.all("details", "run"), [])
+
+    def test_without(self):
+        self.assertEqual(Tree(page.answer("examples/bank/refuted.cise", no_reach=True)[1]).all("p", "reach"), [])
 
 
 class Texts(unittest.TestCase):
@@ -307,6 +365,18 @@ class Texts(unittest.TestCase):
         html.encode("utf-8")
         self.assertNotIn("\r", html)
         self.assertNotIn("\x1b", html)
+
+    def test_what_turns_a_text_around_is_seen(self):
+        """Marks by which a comment would be shown in another order than it is read, here and in a page's title."""
+        text = text_of("examples/bank/refuted.cise").replace("\n", " # \u202eno\u2066 \u200b\x9b\n", 1)
+        with tempfile.TemporaryDirectory() as folder:
+            path = os.path.join(folder, "a\u202eb.cise")
+            with open(path, "w", encoding="utf-8") as file:
+                file.write(text)
+            html = page.answer(path)[1]
+        self.assertIn("# \\u202eno\\u2066 \\u200b\\x9b", html)
+        self.assertIn("a\\u202eb</h1>", html)
+        self.assertFalse({"\u202e", "\u2066", "\u200b", "\x9b"} & {*html})
 
     def test_the_same_twice(self):
         self.assertEqual(page.answer("examples/bank/refuted.cise"), page.answer("examples/bank/refuted.cise"))

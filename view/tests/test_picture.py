@@ -8,7 +8,7 @@ from unittest import mock
 
 from view import picture, shapes
 from view.shapes import Box, ShortNames, rows_of, wrapped
-from view.story import stories
+from view.story import Story, told_blocks
 from view.tests.designs import Design
 from view.tests.geometry import Picture, pictures_in
 from view.tests.test_outcome import checked, gallery
@@ -18,7 +18,7 @@ from view.tests.test_outcome import checked, gallery
 def refuted_stories(text, *words):
     """A specification, and its stories of refutations. Nothing changes them."""
     spec, report = checked(text, *words)
-    return spec, [it for it in stories(spec, report) if it.verdict == "refuted"]
+    return spec, [Story(spec, it, report.budget) for it in told_blocks(spec, report) if it.verdict == "refuted"]
 
 
 def drawn(spec, story):

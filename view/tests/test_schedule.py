@@ -165,7 +165,7 @@ class Steps(unittest.TestCase):
                 slip = schedule.refused_step(Spec(text_of(BANK)), text, said)
                 self.assertEqual((slip.line, slip.column, slip.message), (at + 2, 1, f"step {at} is refused: {message}"))
                 seen.add(cause.split()[0])
-        named = re.findall(r"^\| `([a-z]+)(?: [A-Z .]+)?` \|", text_of("docs/SCHEDULE.md").partition("| Cause | Meaning |")[2].partition("\n\n")[0], re.M)
+        named = re.findall(r"^\| `([a-z]+)(?: [A-Z .]+)?` \|", text_of("docs/users/SCHEDULE.md").partition("| Cause | Meaning |")[2].partition("\n\n")[0], re.M)
         self.assertEqual(set(named) - seen, {"observation"})
 
     def test_an_observation(self):
@@ -177,7 +177,7 @@ class Steps(unittest.TestCase):
 
 class Reports(unittest.TestCase):
     def test_each_kind_has_a_sentence(self):
-        table = text_of("docs/REPORT.md").partition("| Kind | Where |")[2].partition("\n\n")[0]
+        table = text_of("docs/users/REPORT.md").partition("| Kind | Where |")[2].partition("\n\n")[0]
         kinds = {it for row in re.findall(r"^\| ([^|]*) \|", table, re.M) for it in re.findall(r"`([a-z]+)`", row)}
         self.assertEqual(kinds, set(refused_report.MEANINGS))
 

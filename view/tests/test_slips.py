@@ -98,7 +98,7 @@ class Shown(unittest.TestCase):
 
 class Grammars(unittest.TestCase):
     def test_the_grammar_is_that_of_the_document(self):
-        blocks = re.findall(r"^```\n(.*?)^```$", text_of("docs/LANGUAGE.md"), re.M | re.S)
+        blocks = re.findall(r"^```\n(.*?)^```$", text_of("docs/users/LANGUAGE.md"), re.M | re.S)
         self.assertIn(VERSION_1.strip(), [it.strip() for it in blocks])
         self.assertIn(VERSION_2.strip(), [it.strip() for it in blocks])
 
@@ -195,7 +195,7 @@ class Names(unittest.TestCase):
         self.assertEqual(self.more(text), said)
 
     def test_every_limit_has_a_sentence(self):
-        rows = re.findall(r"^\| ([a-z`, ]+) \| [^|]* \| (?:the|its)? ?", text_of("docs/LANGUAGE.md").partition("| Limit | Most |")[2], re.M)
+        rows = re.findall(r"^\| ([a-z`, ]+) \| [^|]* \| (?:the|its)? ?", text_of("docs/users/LANGUAGE.md").partition("| Limit | Most |")[2], re.M)
         named = {it for row in rows for it in re.findall(r"`([a-z]+)`", row)}
         from view.name_slips import LIMITS
 

@@ -28,11 +28,12 @@ class Exact(unittest.TestCase):
         seen = set()
         for name, text in gallery().items():
             spec, report, told = told_of(text)
-            self.assertEqual(len(told), report.refuted + report.undecided)
+            self.assertEqual(sum(1 + len(it.others) for it in told), report.refuted + report.undecided)
             for story in told:
-                with self.subTest(name=name, block=story.block.words()):
-                    self.examine(spec, story)
-                    seen.add((story.kind, story.verdict))
+                for it in (story, *(Story(spec, other, report.budget) for other in story.others)):
+                    with self.subTest(name=name, block=it.block.words()):
+                        self.examine(spec, it)
+                        seen.add((it.kind, it.verdict))
         self.assertEqual(len(seen), 7, seen)
 
     def test_random_designs(self):
@@ -200,8 +201,8 @@ class Worded(unittest.TestCase):
         self.assertEqual(verdicts, sorted(verdicts))
         self.assertEqual(set(verdicts), {"refuted", "undecided"})
         mixed = "cise 1 relation up invariant alive up relation hot operation f requires hot insert hot end operation g remove hot remove up end"
-        found = [it.block.words() for it in told_of(mixed)[2]]
-        self.assertEqual(found, ["init alive", "safety g alive", "commute f g hot", "stable f 1 g"])
+        found = [[it.words() for it in (story.block, *story.others)] for story in told_of(mixed)[2]]
+        self.assertEqual(found, [["init alive"], ["safety g alive"], ["commute f g hot", "stable f 1 g"]])
 
     def test_observed(self):
         told = told_of(KINDS["WRITTEN"])[2]

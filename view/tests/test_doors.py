@@ -1,0 +1,79 @@
+"""One door each: inputs are read by view/inputs.py, the program is run by view/program.py, and
+what people see is written by view/output.py."""
+import ast
+import glob
+import os
+import unittest
+
+TOP = os.path.dirname(os.path.dirname(os.path.dirname(os.path.abspath(__file__))))
+# What a module may do past the doors, and why.
+MAY = {
+    "output": {"sys.stdout", "sys.stderr"},
+    "inputs": {"open"},
+    # The bytes of a path, for inputs and tests.
+    "words": {"open"},
+    # Whether an input can be opened, for the reason why not.
+    "main": {"open"},
+    "program": {"subprocess.Popen"},
+    # It runs the implementation that is tried.
+    "testing/adapter": {"subprocess.Popen"},
+    # An editor is spoken to by bytes, on standard input and output.
+    "lsp": {"sys.stdout"},
+    # Whether there is a terminal.
+    "watch": {"sys.stdout"},
+    "ci": {"sys.stderr"},
+    "testing/drive": {"sys.stderr"},
+}
+
+
+def is_reading(call):
+    """Whether a call of `open` has no mode that writes."""
+    modes = [*call.args[1:2], *(it.value for it in call.keywords if it.arg == "mode")]
+    return not any(
+        isinstance(it, ast.Constant) and set(str(it.value)) & set("wxa+") for it in modes
+    )
+
+
+def past_doors(text):
+    """What a text reads, runs or writes by itself."""
+    for node in ast.walk(ast.parse(text)):
+        if isinstance(node, ast.Call) and isinstance(node.func, ast.Name):
+            if node.func.id == "print" or node.func.id == "open" and is_reading(node):
+                yield node.func.id
+        elif isinstance(node, ast.Attribute) and isinstance(node.value, ast.Name):
+            name = f"{node.value.id}.{node.attr}"
+            if name in (
+                "sys.stdout",
+                "sys.stderr",
+                "subprocess.run",
+                "subprocess.Popen",
+                "os.system",
+                "os.popen",
+            ):
+                yield name
+
+
+class Doors(unittest.TestCase):
+    def test_nothing_goes_past_them(self):
+        paths = [
+            it for it in glob.glob(f"{TOP}/view/**/*.py", recursive=True) if "/tests/" not in it
+        ]
+        self.assertGreater(len(paths), 40)
+        for path in paths:
+            module = os.path.relpath(path, f"{TOP}/view")[: -len(".py")]
+            with self.subTest(module), open(path, encoding="utf-8") as file:
+                self.assertLessEqual(
+                    set(past_doors(file.read())),
+                    MAY.get(module, set()),
+                    f"view/{module}.py goes past the doors of its package",
+                )
+
+    def test_what_is_found(self):
+        text = "print(1)\nopen('a')\nopen('a', 'w')\nopen('a', mode='rb')\nx.open('a')\nsys.stderr.write('a')\nsubprocess.run([])\n"
+        self.assertEqual(
+            sorted(past_doors(text)), ["open", "open", "print", "subprocess.run", "sys.stderr"]
+        )
+
+
+if __name__ == "__main__":
+    unittest.main()
