@@ -1,4 +1,4 @@
-" The words of a specification, as docs/LANGUAGE.md has them.
+" The words of a specification, as docs/users/LANGUAGE.md has them.
 if exists("b:current_syntax")
   finish
 endif

@@ -1,0 +1,78 @@
+;; Run by checks/editor in a folder with a.cise: diagnostics, a jump, a new name, and the tokens of `mend', as eglot does them.
+;;; -*- lexical-binding: t -*-
+(package-initialize)
+(require 'json)
+(require 'eglot)
+(load (expand-file-name "emacs/cise.el" (getenv "CISE_EDITORS")) nil t)
+(setq cise-program (getenv "CISE_SCRIPT")
+      make-backup-files nil
+      eglot-sync-connect 30
+      eglot-confirm-server-initiated-edits nil)
+
+(defvar found nil)
+
+(defun tell (key value) (push (cons key value) found))
+
+(defun write-found ()
+  (with-temp-file "found.json" (insert (json-encode (nreverse found)))))
+
+(defun wait-for (what holds)
+  (let ((left 3000))
+    (while (and (> left 0) (not (funcall holds)))
+      (accept-process-output nil 0.02)
+      (setq left (1- left)))
+    (when (= left 0)
+      (tell 'failed what)
+      (write-found)
+      (kill-emacs 1))))
+
+(defun whole () (buffer-substring-no-properties (point-min) (point-max)))
+
+(defun place (line piece)
+  (goto-char (point-min))
+  (forward-line (1- line))
+  (search-forward piece (line-end-position))
+  (goto-char (match-beginning 0)))
+
+(find-file "a.cise")
+;; The places without the server, by compilation mode.
+(compile compile-command)
+(let ((process (get-buffer-process "*compilation*")))
+  (wait-for "the end of the compilation" (lambda () (not (process-live-p process)))))
+(next-error 2)
+(set-buffer (get-file-buffer "a.cise"))
+(tell 'compiled (vector (line-number-at-pos (window-point (get-buffer-window (current-buffer)))) (current-column)))
+(tell 'mode (symbol-name major-mode))
+(apply #'eglot--connect (eglot--guess-contact))
+(unless (eglot-managed-p) (eglot--maybe-activate-editing-mode))
+(flymake-mode 1)
+(flymake-start)
+(wait-for "diagnostics" (lambda () (= 5 (length (flymake-diagnostics)))))
+(tell 'diagnostics
+      (vconcat (mapcar (lambda (it)
+                         (vector (line-number-at-pos (flymake-diagnostic-beg it)) (flymake-diagnostic-text it)))
+                       (sort (flymake-diagnostics) (lambda (a b) (< (flymake-diagnostic-beg a) (flymake-diagnostic-beg b)))))))
+(place 26 "bid")
+(xref-find-definitions (xref-backend-identifier-at-point (xref-find-backend)))
+(tell 'definition (vector (line-number-at-pos) (current-column)))
+(eglot-rename "highest_bid")
+(tell 'renamed (whole))
+;; (changes are told when Emacs is idle, which it never is here)
+(eglot--signal-textDocument/didChange)
+(wait-for "verdicts of the new text" (lambda () (= 5 (length (flymake-diagnostics)))))
+(place 19 "requires")
+(let ((action (seq-find (lambda (it) (string-prefix-p "Order" (plist-get it :title)))
+                        (append (jsonrpc-request (eglot-current-server) :textDocument/codeAction
+                                                 (list :textDocument (eglot--TextDocumentIdentifier)
+                                                       :range (list :start (eglot--pos-to-lsp-position (point)) :end (eglot--pos-to-lsp-position (point)))
+                                                       :context (list :diagnostics [])))
+                                nil))))
+  (eglot--apply-workspace-edit (plist-get action :edit)))
+(tell 'mended (whole))
+(eglot--signal-textDocument/didChange)
+(wait-for "no diagnostics" (lambda () (= 0 (length (flymake-diagnostics)))))
+(indent-region (point-min) (point-max))
+(tell 'indented (whole))
+(eglot-shutdown (eglot-current-server))
+(set-buffer-modified-p nil)
+(write-found)
