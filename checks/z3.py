@@ -21,7 +21,7 @@ where two verdicts contradict.
 A word that is a number N stands for the specification that `sample N` checks, and `rN` for the one that is generated from the seed N: `r1` to
 `r30` are those of the table. They have 275 to 1,717 obligations over one to three sorts, some relations and counters, with up to 14 operations.
 
-Each obligation becomes one SMT-LIB problem, which can be satisfied where something breaks the obligation as docs/RULE.md says: sorts are
+Each obligation becomes one SMT-LIB problem, which can be satisfied where something breaks the obligation as docs/embedders/RULE.md says: sorts are
 uninterpreted sorts, relations predicates, counters functions to the integers, quantifiers stand as they are, and what is read after a call is a
 defined function of what was read before it. No encoding has predicates for sorts. z3 gets all problems of a specification in one run, by several
 encodings (ENCODINGS); and where there is no table, each problem in a run of its own too. This isn't part of any proof. A sort of z3 is never
