@@ -13,6 +13,17 @@
 // failed), specs/Written.antt (what a sink holds after the writing of a text), specs/Memory.antt (the source and the sink in memory, and
 // what one call does to them), specs/Ending.antt (how the writing of an answer ends) and specs/Told.antt (which bytes a source gives, and
 // what is answered to them).
+//
+// Decisions:
+// - Calls may be counted as faults are, each by at most one: by this count `read_up_to` reads at
+//   most limit + 1 times, and `write_all` writes at most as often as there are bytes.
+// - A read that fails before the end is a fault also where more bytes than the limit were still to
+//   come. A source is said to be read to its end only where it gave no more bytes than the limit;
+//   of more, one is read and no further.
+// - An ending is said of one record, the port before and the port after (`Port`: what a sink holds,
+//   and how often it has failed). The trait has the two apart, since most clauses speak of one.
+// - `write_text` and the statuses stand here, since checks, suggestions, upgrades and replays write
+//   their texts alike.
 #![tactic(auto)]
 
 ghost use Rattle.std.specs.Prelude.{◌≡◌};

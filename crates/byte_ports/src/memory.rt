@@ -1,5 +1,8 @@
 // A source and a sink in memory, which tell all, fail at the calls that they are told to, and give or take only a few bytes at
 // a time where they are told that: by them a test shows what a program does when the outside fails.
+//
+// Calls are numbered from 0, those that fail too, in a count that stops at 2^64 - 1. A full sink
+// fails also at a write of no bytes.
 ghost use Rattle.std.specs.Prelude.{◌≡◌, ◌-◌, ◌≤◌, ◌<◌, [], if◌then◌else◌, length, take, min, IfOk};
 ghost use Rattle.std.specs.Io.{ReadsAtMost, WritesAtMost};
 ghost use Rattle.std.specs.Io.KnownBytes.{ReadConsumes, WriteAppends};

@@ -2,6 +2,9 @@
 //
 // This is the trusted edge. What a file holds and what reaches a terminal is told by no contract; these count each error that
 // the system gives, so that a failure shows in the count.
+//
+// A file is opened again at a read that follows a failed one. Every error that the system gives is
+// a fault, an interrupted call too, and so is a flush that fails after its bytes were written.
 ghost use Rattle.std.specs.Prelude.{◌≡◌, ◌+◌, ◌<◌, ◌≤◌, None, length, IfOk, OnOk, OnErr};
 ghost use Rattle.std.specs.Io.{ReadsAtMost, WritesAtMost};
 ghost use Rattle.std.specs.Io.KnownBytes.{ReadConsumes, WriteAppends};

@@ -6,6 +6,13 @@
 // the readers are (one after the other, one or the other, perhaps, as often as there are some, a list with commas), so a grammar of any
 // size is exact by its shape alone. Words and readers are defined in `specs/`, the parts are in `proofs/`; `Loop` there is for code
 // that reads one after the other.
+//
+// Decisions:
+// - A word's number fits 32 bits without a limit on the text: each word has a byte of its own, and
+//   places have 32 bits.
+// - The brackets of formulas are read by three functions here (`is_opening`, `opening`, `closing`),
+//   so that a body that leaves brackets out is tried on this crate, which is proved in a fraction
+//   of the time of the grammar.
 #![tactic(auto)]
 
 mod brackets;

@@ -8,6 +8,16 @@
 //
 // Truth is computed over whatever reads like a state, without memory, by `holds`, `line_holds`, `invariant_broken_at`,
 // `requires_broken_at` and `observes_broken_at`.
+//
+// Decisions:
+// - The field of an operation for its precondition is `requires_`, since `requires` is a word of
+//   Rattle.
+// - What is compared as an element is a number: a whole-number argument that stands there counts by
+//   its size. In a well-formed specification none does.
+// - `holds` and `line_holds` ask nothing of a formula's size or depth: that what it names exists,
+//   that elements fit their places and that terms are within their limits is enough.
+// - A `Name` is any text of 1 to 32 bytes. That the names of a specification are words of the
+//   language is kept by `Spec`; reserved words aren't excluded there.
 #![tactic(auto)]
 
 mod broken_lines;

@@ -9,6 +9,12 @@
 // It stands on the layers of the language, from `word_cut` to `spec_types`, and on `byte_ports`, which says which bytes a source gives.
 // The definitions stand in specs/, in this order: Lines (a line of words), Refusal (which specification some bytes are, why they are
 // none, and the text that says so), Reading (what a call answers of bytes and of a source).
+//
+// Decisions:
+// - The lines of words that texts are made of stand here, since refusals are the lowest texts;
+//   reports are made of the same lines.
+// - The reason of a refusal is one value, and its text a function of it. That bytes have at most
+//   one is a law and no property of this code: any reader gives the same refusal.
 #![tactic(auto)]
 
 mod faults;

@@ -6,6 +6,11 @@
 // of them is an exact part of the grammar, and that what is spelled is read. Each module reads a
 // part of the grammar: `words`, `terms`, `formulas`, `sentences` (formulas with their variables),
 // `lines` (of an operation), `item`, and `parsing` the whole.
+//
+// Decisions:
+// - The place of a refusal is a number of words, for which no limit is asked. It is proved for
+//   spellings whose names and numbers are words; no spelling with other names goes on further
+//   either.
 #![tactic(auto)]
 
 /// What a call returns, or its error, before which the values named are dropped: a `?` while they

@@ -7,6 +7,17 @@
 // tree, and how far some spelling goes) and `Layout` (the text of a tree). `spec_reader` makes
 // trees of words, `spec_writer` makes text of trees. The crate stands on `word_cut` (words),
 // `parser_combinators` (what is spelled by which words) and `spec_core` (names).
+//
+// Decisions:
+// - The trees are below reading and writing, with all definitions of how they are spelled, so that
+//   neither typing nor writing needs the reader. Which place a refusal names is said beside the
+//   reader.
+// - The version of a tree is `First` or `Second` and not a number, so that no tree has another.
+// - The place of the first summand of a sum is that of its number or name, also where a `-` is
+//   before it.
+// - Where there are no brackets, the list of arguments, places, parameters or spots is empty.
+// - A tree of the grammar has names and numbers that are words. Other trees can be built, and
+//   `spell` writes what they say, but nothing is promised of reading them again.
 #![tactic(auto)]
 
 mod laws;

@@ -4,6 +4,11 @@
 // `fault_rules`, which says it by rules, on `find_faults`, which looks for what is wrong, and on `elaborate_lines`, which makes the lines
 // that have no fault. `known` is what is known after some items; `declaring`, `initials`, `rules` and `operations` have the items,
 // `refusal` the answer with a fault, and `typing` the whole.
+//
+// Decisions:
+// - The parts of a specification in the making are a `Draft`, which may be ill formed.
+//   `Draft::into_spec` asks that it is well formed, which the law of typing proves of a tree
+//   without a fault; a test at run time would be proved never to fail.
 #![tactic(auto)]
 
 /// What a call returns, or its error, before which the values named are dropped: a `?` while they are alive would be

@@ -5,6 +5,15 @@
 // `Terms` (elements and amounts), `Formulas` (formulas and their prefixes), `Lines` (what operations do) and `Items` (the
 // declarations, and the whole). Each part of a tree has the first of its faults, and what it is in the specification. Where the
 // places in the tree are those of its words, as in each tree that is read, faults come in the order of the words.
+//
+// Decisions:
+// - In version 1 no observes line is allowed and no taking is shared, so that part of typing needs
+//   no premise.
+// - The law of typing asks for a tree of the grammar, since a specification's names are words; each
+//   tree that is read is one.
+// - What is made of a tree with a fault is bounded all the same: a literal that is too large and a
+//   place that a byte can't number stand for 0 there. The number of nodes that is answered is at
+//   most 2^32, since words are numbered below that.
 #![tactic(auto)]
 
 mod laws;
