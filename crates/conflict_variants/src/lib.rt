@@ -2,6 +2,13 @@
 //
 // It stands on `spec_core`. specs/Takes.antt, specs/Bare.antt and specs/Keyed.antt have the definitions. `copies` copies the parts of a
 // specification, `in_use` and `naming` look for the names of the two tokens, and `making` makes the specifications.
+//
+// Decisions:
+// - A `Spec` is made here by writing its record, where that it is well formed is to be proved; no
+//   code tests it. Parts are copied here alone.
+// - Names in use are those that the bare specification declares, and those of parameters. A token's
+//   name is chosen among t0 to t249.
+// - For an operation with itself both orders of two parameters are tried.
 #![tactic(auto)]
 
 /// What a call returns, or its error, before which the values named are dropped: a `?` while they are alive would be

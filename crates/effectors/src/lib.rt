@@ -4,6 +4,15 @@
 // whose guards and amounts read the old state. specs/Beyond says which value a refusal names. `Places`, `Reaching`, `Outside` and
 // `Refusal` serve the proofs of the code alone. `Spare` is the second state
 // that is kept beside one, over which `apply_over` writes.
+//
+// Decisions:
+// - A thing that isn't declared, and a tuple or key that doesn't fit, reads false or 0 after a call
+//   too (`post_has`, `post_count` and their likes).
+// - The definition lists all keys of each counter, those of value 0 too. The state that `apply`
+//   gives lists what the old one listed and what an update reaches; it reads the same.
+// - `apply` writes over a copy, and `apply_over` over a second state: a write that lacks memory
+//   can't always be undone, so the state itself is never half written. All counters are gone
+//   through only where a value is out of range, for the first one.
 #![tactic(auto)]
 
 mod after;

@@ -3,6 +3,10 @@
 //
 // It stands on `spec_core`, whose types they are built of. specs/Sample.antt has the definition. Checks are measured by them: the
 // number of their obligations grows as 10 n^2 - 6 n - 1.
+//
+// Decisions:
+// - That the specification is well formed is a law, so the only other answer than it is want of
+//   memory.
 #![tactic(auto)]
 
 /// What a call returns, or its error, before which the values named are dropped: a `?` while they are alive would be

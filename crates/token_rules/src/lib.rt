@@ -6,6 +6,11 @@
 // Most calls can be passed over before they are compared rule by rule: where no rule matches the tokens of their operations, and where
 // each rule that does asks for one element for an argument of each and they differ. `rivals_of` and `may_conflict` say which. What is passed
 // over doesn't conflict, by the lemma `no_conflict` of proofs/Tokens. `specs/Rivals.antt` mirrors this code.
+//
+// Decisions:
+// - `conflicts` asks for no fit of its world and calls: an operation that isn't there takes
+//   nothing, and an element that isn't there is 0.
+// - Two lists of elements and of variables match only where their lengths agree.
 #![tactic(auto)]
 
 mod assignment;
