@@ -8,6 +8,10 @@
 //
 // The definitions stand in specs/, in this order: Bank (the specification), Calls (the account, the amount and the lines of a call), Running
 // (which words are accepted, and which status and text belong to them). Carried serves the code and its proofs.
+//
+// Decisions:
+// - What the program wrote, whole or a front, belongs to one list of bytes, which is the source's
+//   where those are known. Words that aren't accepted are refused before the source is read.
 #![tactic(auto)]
 
 /// What a call returns, or its error, before which the values named are dropped: a `?` while they are alive would be

@@ -5,6 +5,12 @@
 // an id is one of them. The lists of messages and events share their elements, by `shared_lists`.
 //
 // `specs/Log.antt` has the lists of a log, and when each has room for one element more; `specs/Members.antt` mirrors the code.
+//
+// Decisions:
+// - It is below nodes and networks, since it knows nothing of how calls are run. `token_core`
+//   passes it on, so that its users name one crate.
+// - Marks are for the turns of 64 replicas. An id whose mark would be far after the others is kept
+//   in a set, so that no id takes more than 4 KB; either answers, so nothing depends on which.
 #![tactic(auto)]
 
 mod ids;

@@ -3,6 +3,14 @@
 // It stands on `replica_replay`, whose steps it carries out one by one, and on `schedule_json`, which reads schedules. The definitions stand in
 // specs/, in this order: Course (which steps are accepted, where it stops, what is held then), Text (the lines, and the status), Recorded
 // (from the bytes of a schedule), Safely (what a replay of a safe specification keeps). Reached and Asked serve the code and its proofs.
+//
+// Decisions:
+// - Course and text are below the program, since the bank's program prints the same. The whole text
+//   is made before its first byte is written.
+// - A course is the events of the accepted steps, how it stops, and what is held then; the lines
+//   are made of it. A broken initial state is one after no accepted steps.
+// - The invariants aren't asked of the state after a front of what another replica has taken: they
+//   were asked when that replica had it. It is proved to answer the same.
 #![tactic(auto)]
 
 mod law;

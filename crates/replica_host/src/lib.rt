@@ -4,6 +4,18 @@
 // of nodes runs over it too. `specs/Native.antt` says what the application's code has to answer: at every state and call that fit, an
 // effect the state after the call, a guard the first requires line that is false. `Native` keeps both beside these facts, and a `Host`
 // runs steps with them: it answers and leaves what a replay does. `specs/Lines.antt` serves the code and its proofs.
+//
+// Decisions:
+// - An application's effect and guard are types that implement `Effect` and `Guard`, and no
+//   closures: the invariant of a type can speak of a trait's members, and not of what a closure in
+//   a field answers. The compiler refuses such a field with "if a bound on `Fn`, `FnMut` or
+//   `FnOnce` is meant, a ghost field or an `impl Model` cannot yet cite its `pre`, `post` or
+//   `step`".
+// - An `impl` of these traits for every closure would leave a caller's own type "an impl that is
+//   not the only match". One for a struct around a closure, `struct Kept<F> { f: F }`, passes in a
+//   small example and is no such match; that isn't done.
+// - A host takes any number of replicas, as a replay does. Observes lines are evaluated; the guard
+//   is asked for the requires lines alone.
 #![tactic(auto)]
 
 mod asking;

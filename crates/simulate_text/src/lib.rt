@@ -4,6 +4,13 @@
 // this order: Lines (the lines, and the line that says how it stops), Course (what each step does to the network, and where it stops),
 // Text (the whole text, and the status), Recorded (from the bytes of a schedule), Safely (what a simulation of a safe specification
 // keeps). Reached serves the code and its proofs.
+//
+// Decisions:
+// - `simulate_by` takes its runner by value, since a network owns the one that its nodes run;
+//   `replay_by` borrows what carries steps out.
+// - For each replica it is kept after how many events its state is known to break no invariant.
+//   Where it has taken one more, only what that event's call can have made false is asked. The
+//   number is tested when it is used, so no step needs to say what it left unbroken.
 #![tactic(auto)]
 
 mod law;

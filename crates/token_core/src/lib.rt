@@ -10,6 +10,16 @@
 //
 // A step first makes room for all that it may send and keep, and changes a node only then, so a step that finds no memory changes
 // nothing.
+//
+// Decisions:
+// - Numbers beyond 32 bits, 4,000,000,000 turns of a replica and as many steps of a network
+//   (`Net::steps`) are want of memory, where a condition of the call could stand. So a caller has
+//   nothing to show, and no step is counted past the number that counts it.
+// - The spare state of a replica is kept beside its node: that it fits is a fact about a
+//   specification, of which a node knows nothing. `Node::begin` and `Node::hear` go without.
+// - Grants, messages and events share the elements of their lists (`shared_lists`); who reads one
+//   makes it whole first. The list that a replica's events share is compared with what the replica
+//   has taken, so it has no invariant.
 #![tactic(auto)]
 
 mod net;

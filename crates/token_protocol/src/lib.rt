@@ -12,6 +12,14 @@
 // later has the later grant, its node had taken what the grant names or knew it as void; what ran isn't void, so it was taken, so
 // it was seen. If the event that ran first had the later grant, it ran only where the other was taken, which it wasn't, or void,
 // and a void call never runs.
+//
+// Decisions:
+// - Turns count from 0. A refused call uses none, a void one does. A call is void to the network
+//   where a Void of it was sent.
+// - A grant's list is made once and kept, so that a repeated request gets the same.
+// - Events are numbered in the order in which they ran, each kept with its call's id. Of a step
+//   that hears a message, a missing replica is refused before a missing message.
+// - The theorem asks nothing of the world; only convergence needs one that fits.
 #![tactic(auto)]
 
 mod granted;
