@@ -5,6 +5,13 @@
 // Contracts see the list of the clauses, with none where one was dropped. The layer stands on `proof_lines` alone.
 //
 // specs/Spans mirrors where the literals of a clause stand, and no clause of a call names it.
+//
+// Whether an earlier clause subsumes a new one is forward subsumption (`log_freshness`): each
+// candidate is looked up here by its number and compared where it stands.
+//
+// Decisions:
+// - Dropped literals stay until they are half of all and at least 4,096. So about twice what isn't
+//   dropped is held at most, and each literal is copied about once more.
 #![tactic(auto)]
 
 mod store;

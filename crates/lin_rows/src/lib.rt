@@ -5,6 +5,22 @@
 // products or sums leave that range says so. It stands on `items` alone. Definitions: specs/Rows (rows, points, negation,
 // truth), specs/Divisors (tightening), specs/Sums (sums), specs/Multiples (sums where the multipliers are tested), specs/Cancelling (the
 // least multipliers that cancel a place).
+//
+// Decisions:
+// - A row's fields are private; contracts see its terms and its bound, so two rows are equal where
+//   these are.
+// - A sum of rows needs all its products and sums, of bounds too, and is out of range where any of
+//   them is. The order of places matters only in `row_of` and `truth_at`; a place whose
+//   coefficients add up to 0 on the way begins anew with its next one.
+// - A multiplier may be 0, which drops that row. `sum_in` writes over the terms of a row that
+//   nothing needs any more, so that a chain of sums seldom takes memory; what stood there shows in
+//   no clause.
+// - The test of a step's multipliers is in `sum_of_multiples_in`, so that a body which takes a
+//   negative one is tried here and not over all of `line_rows`.
+// - `truth_at` takes any 128-bit values. The least one is no number of a row, and a product with it
+//   is out of range.
+// - The least multipliers that cancel a place are quotients by the greatest common divisor; a law
+//   says that no positive ones that cancel it are less.
 #![tactic(auto)]
 
 pub mod adding;

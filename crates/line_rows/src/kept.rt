@@ -1,6 +1,9 @@
 // The rows of a line, of which those alone are kept that are named later, so that a long line holds few rows at a time.
 //
 // The steps are read twice: first for when each row is named last, then row by row. A row that nothing names any more is let go at once.
+//
+// A line with few rows keeps them all, so that it isn't asked when each is named last. The evidence
+// of too many rows keeps all, since they are compared.
 ghost use Rattle.std.specs.Prelude.{◌≡◌, ℕ, List, ◌<◌, ◌+◌, cond, true, false, length, option_copied, slice_index_or, slice_set, MatchResult, OnOk, OnErr, IfOk, Ok, Some, None, [], ◌∷◌, ◌++◌};
 ghost use Rattle.std.specs.List.{list_all};
 ghost use Rattle.lin_rows.specs.Rows.{Row as RowView};

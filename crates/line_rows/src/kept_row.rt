@@ -1,4 +1,7 @@
 // A row that is kept while a line is taken: the row of an atom, which isn't copied, or one that was made for the line.
+//
+// An atom's row isn't copied where its literal is positive and its first coefficient is 1 or -1,
+// which shows that tightening leaves it as it is.
 ghost use Rattle.std.specs.Prelude.{◌≡◌, Some, None, option_copied};
 
 use lin_rows::Row;

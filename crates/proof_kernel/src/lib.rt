@@ -9,6 +9,18 @@
 // the first rule that it breaks), specs/Evidence (fresh logs, the evidence of undecided verdicts), specs/Answers (the answers to
 // whole logs). A private index of the rows among the atoms makes Split lines fast, and no clause of a call names it: src/atoms.rt,
 // specs/Atoms.
+//
+// Decisions:
+// - A dropped clause is a number without literals, so nothing of it is kept; whether a clause was
+//   ever empty is kept apart.
+// - A numbering is full at 2^32 - 1 clauses or atoms, and a log at as many lines. One more is
+//   answered as want of memory.
+// - A resolvent is made in a list that the kernel keeps for it and then put into the store, since
+//   the two clauses that it is made of are read there.
+// - Freshness is asked of a whole log, so its index is made in that call: `add` does no work for
+//   it, and a kernel that drops clauses keeps nothing of them.
+// - That evidence of a number beyond the range uses no atom both ways is asked after its rows were.
+//   Then its literals are over atoms of the problem, which bounds the table of marks.
 #![tactic(auto)]
 
 pub mod answer;

@@ -6,6 +6,12 @@
 //
 // Definitions, in the order in which a reader needs them: specs/Numbers (lists of numbers), specs/Clauses (literals and clauses), specs/Problems (problems and
 // what makes them true), specs/Forced (the literals that clauses force). specs/Marks mirrors a table by which long clauses are resolved.
+//
+// Decisions:
+// - These types are below what rows show, since the reader of a report and the clauses of a ground
+//   problem need no more.
+// - `Problem::new` gives nothing where parts don't fit, so that a caller who can't prove the fit
+//   can ask.
 #![tactic(auto)]
 
 /// The value of a call; where it fails, lets go of these values and ends with its error. Values that are let go by name are let go

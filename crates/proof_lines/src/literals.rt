@@ -2,6 +2,9 @@
 //
 // Most clauses have two or three literals, and a search writes, copies and lets go of many thousands of them. These take no memory
 // besides that of the list in which the clause stands. Which form a list has, contracts don't see.
+//
+// Three stand in the list itself: it takes 32 bytes then, no more than it would with room for two,
+// since a list in memory and the word by which the two forms differ take as many.
 ghost use Rattle.std.specs.Prelude.{◌≡◌, [], ◌∷◌, ◌++◌, ◌≤◌, true, false, OnOk, OnErr, IfOk};
 
 use crate::clause::Lit;
