@@ -21,6 +21,13 @@
 //
 // The parts, in the order in which a reader needs them: `chains` (the steps by which clauses were learned, and their lines), `analysis`
 // (a conflict), `searching`.
+//
+// Decisions:
+// - By number an atom gets the value that it had last, the first time false: with true, pigeons
+//   take more conflicts.
+// - Tried on an unproved model, with little gain in lines: a second search over the clauses that a
+//   log uses, literals of level 0 left in learned clauses, resolutions dropped on atoms that are
+//   resolved away again. Learned clauses derived anew by unit propagation made logs longer.
 #![tactic(auto)]
 
 mod analysis;

@@ -12,6 +12,14 @@
 // A decision looks at all clauses that count. So there is a bound on how often clauses are visited.
 //
 // It stands on `watched_clauses`. Nothing is promised of the choice: each call is safe and ends.
+//
+// Decisions:
+// - Eight atoms are tried with both values before one is decided; with more, logs are as long. The
+//   value that does less is decided first.
+// - Weights are relative to their average, over the atoms that such clauses name, and bounded on
+//   both sides: without bounds and with fewer rounds logs are longer. A clause that is true doesn't
+//   count, nor does one with a literal whose opposite is in no other: the problem of an obligation
+//   has hundreds of such, the names of equal readings, and they would make up the average.
 #![tactic(auto)]
 
 use std::alloc::{AllocError, Global};

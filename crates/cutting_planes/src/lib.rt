@@ -24,6 +24,15 @@
 // The layer stands on `simplex`, and on `lin_rows` and `proof_lines`, whose rows and steps it makes.
 // Files, in the order in which a reader needs them: src/listing, src/worst and src/narrow (the rows), src/combining (sums of multiples as steps),
 // src/rounding and src/repairing (whole numbers near a vertex), src/joining (rows that join late), src/cuts, src/guide (what is proposed).
+//
+// Decisions:
+// - The tableau has no proved invariant: a wrong one would cost answers and prove nothing.
+// - Rows are a plain list with a table of the given ones, and not those of `indexed_rows`: the rows
+//   of a name are asked for only where it is moved, and pairs never.
+// - A contradiction may be a partial sum. Rows after it are never made, and those that it doesn't
+//   rest on are trimmed away.
+// - A vertex whose values are whole satisfies all rows, so its values are proposed without a look
+//   at the rows.
 #![tactic(auto)]
 
 mod combining;

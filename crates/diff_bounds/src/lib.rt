@@ -20,6 +20,10 @@
 // specs/Spans, specs/Edges and specs/Walks (rows as edges, and walks along them), specs/Cycles and specs/Values (what a conflict and a
 // model are made of), specs/Distances (the shortest walks along rows, and how far values lie from 0). specs/States and specs/Fitting
 // mirror the code.
+//
+// Decisions:
+// - That a constant of a solver equals the member of its name is proved by each check of a solver;
+//   a wrong body shows it.
 #![tactic(auto)]
 
 pub mod cycle;

@@ -28,6 +28,15 @@
 // src/trim (what a conflict rests on), src/leaving_out (going on without a combination).
 // Definitions: specs/Pairs (when a pair is combined, and what holds when all places are eliminated), specs/Tableaux (what a tableau
 // keeps), specs/Stops (the reasons to stop), specs/Sides (the rows of a place), specs/Needed (which combinations are held).
+//
+// Decisions:
+// - The invariant of the tableau is the certificate itself, so an answer's evidence is never put
+//   together afterwards. Evidence of a Split, of Rows and of Range stays whole; only a conflict is
+//   trimmed.
+// - While rows are taken and places eliminated, a stop can't be a gap, which keeps the number of
+//   names out of those contracts. `Stop` has gaps for the solver above, so that it needs no reasons
+//   of its own.
+// - Which place is next is free in the proof. Only places that a row names are eliminated.
 #![tactic(auto)]
 
 pub mod eliminate;

@@ -6,6 +6,10 @@
 //
 // The layer stands on `theory_api`, whose trait it keeps, on `cutting_planes`, which proposes, and on `linear_ints`, which answers where
 // the guide doesn't. It has no definitions of its own.
+//
+// Decisions:
+// - The tests are apart from what they test, in a small crate, so that a body without a test is
+//   tried in a short time.
 #![tactic(auto)]
 
 mod solver;

@@ -17,6 +17,12 @@
 // that rows name).
 // Definitions: specs/Places (which places a row names), specs/Naming (the index of the rows of a place), specs/Fingerprints (the number
 // by which a row is looked up).
+//
+// Decisions:
+// - Where the row under a fingerprint is another one, all rows are compared.
+// - The index of a place may hold more numbers than it must: only that none is missing is kept, so
+//   a failed addition leaves it sound. How many pairs a place has is in no clause, since it decides
+//   only the order of elimination.
 #![tactic(auto)]
 
 mod choosing;

@@ -26,6 +26,11 @@
 // src/eliminator (the solver).
 // Definitions: specs/Stops (the reasons to stop), specs/Bounds and specs/Descending (what is known while values are chosen); the others
 // are steps of the proofs.
+//
+// Decisions:
+// - An upper row's floor is minus the ceiling of its opposite, clipped to the range of a state: one
+//   function serves both sides, and no fractions are compared.
+// - A place that no row names gets 0.
 #![tactic(auto)]
 
 pub mod bounds;

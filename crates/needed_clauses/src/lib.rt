@@ -12,6 +12,16 @@
 // So no trust is put in the choice: what is answered is what `watched_search` answers of a part or of the whole, or was tested.
 //
 // Definitions: specs/Renaming (parts, and what a log of a part is over the whole), specs/Rounds (what a round comes to).
+//
+// Decisions:
+// - Where fewer than 100 clauses are after the front, a round isn't worth it, and the whole is
+//   searched.
+// - A log of a part has at most 2,000 lines. Where these don't do, the whole is searched with the
+//   whole budget, so evidence of a limit is always that of the whole problem.
+// - Where a part gives an interpretation of the whole, the whole is searched for another one first:
+//   with the clauses on equality at hand its worlds are smaller.
+// - A log that splits whole numbers isn't answered from a part, since an answer to a problem that
+//   fits the solver of difference rows has none.
 #![tactic(auto)]
 
 /// The value of a call; where it fails, lets go of these values and ends with its error. Values that are let go by name are let go

@@ -30,6 +30,22 @@
 // nothing else is used. Definitions, in the order in which a reader needs them: search_logs has trails and the logs of a search,
 // specs/Answers what each answer promises; specs/Searching and specs/Outcomes are the search's own, and say where it stands between its
 // private functions.
+//
+// In the field's words: a decision with what was forced after it is a decision level, and to cut
+// whole levels off the trail after a conflict is backtracking.
+//
+// Decisions:
+// - No condition on the problem or the budget is asked. The answer may be want of memory where a
+//   row has no negation (its bound is 2^127 - 1), and beyond 2^32 clauses or atoms, which have no
+//   numbers.
+// - A row is decided by its truth where all numbers are 0, so that a row that nothing needs forces
+//   no numbers beyond a range.
+// - With budget 0 a problem with an empty clause is Unsat by an empty log; else Lines comes where a
+//   first line is wanted.
+// - The problem so far, the trail and the log are one value (`SearchState`). Who steps takes it by
+//   `&mut`, and the log is taken out at the end (`take_log`): what a loop owns is gone through in a
+//   proof at each of its returns.
+// - The problem so far is a problem itself and no kernel: each line is proved to keep its rule.
 #![tactic(auto)]
 
 /// The value of a call; where it fails, lets go of these values and ends with its error. Values that are let go by name are let go

@@ -10,6 +10,11 @@
 // Definitions, in the order in which a reader needs them: specs/Trails (what is false, unit and settled under a trail, and when
 // a list is a trail), specs/Fresh (each clause of a log is new), specs/SearchLogs (the logs of a search), specs/Forcing (what
 // follows by forced literals alone).
+//
+// Decisions:
+// - A trail keeps the place of the oldest entry, by atom and sign. A literal is before the last
+//   decision exactly where its place is below the number of entries that are kept then, so one
+//   index serves all questions, also of a trail with an atom twice.
 #![tactic(auto)]
 
 mod decisions;

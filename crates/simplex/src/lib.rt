@@ -28,6 +28,12 @@
 // Nothing is promised of the answers but that they come: a caller tests them. The layer stands on `lin_rows`, for the terms of rows.
 // Files, in the order in which a reader needs them: src/number (the widths of numbers), src/tableau (the equations), src/pivoting (the
 // pivots), src/vertex (the values of the names).
+//
+// Decisions:
+// - It knows nothing of cuts or of steps: a slack has the number of its row, and who asks makes
+//   multipliers of an equation.
+// - With 64 bits a product is one instruction, and they serve nearly always. Where one has no room,
+//   who asks begins anew with 128.
 #![tactic(auto)]
 
 pub mod number;

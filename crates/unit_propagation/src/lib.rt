@@ -17,6 +17,7 @@
 // nothing is to be done for them. Those that the chain gave watch from then on: two literals that aren't false, or where there is one
 // alone, that one and another that was falsified at the last level that is left. A chain leaves two such literals in each of its
 // clauses, as far as a decision is left. So these, too, are at rest under each trail before a decision, and only these may be unit.
+// Backtracking, by however many decision levels, so costs nothing for the clauses that watch already.
 //
 // Where a false clause is met while a list is gone through, what is left of the list goes back to its place, since watches have to last.
 // So a conflict costs what its chain and its further clauses take, and the others aren't looked at.
@@ -24,6 +25,14 @@
 // The layer stands on `sat_core`, whose contract of `find` its own has word for word, on `search_logs` and on `short_lists`. Definitions, in
 // the order in which a reader needs them: specs/Watches (clauses at rest, what is watched), specs/Ready (where the watched literals stand
 // between the steps of a search).
+//
+// Decisions:
+// - A clause that is found unit is noted, and its literal goes on the trail when no clause is left
+//   to be looked at: a chain needs that no clause was false before the newest literal.
+// - `find` and what keeps the watches are apart from the search, whose steps know no list of
+//   clauses.
+// - The first six clauses of a literal are in its list itself (`short_lists`), since most literals
+//   are watched by fewer.
 #![tactic(auto)]
 
 mod lists;

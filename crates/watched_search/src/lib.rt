@@ -7,7 +7,7 @@
 // Why the log stays fresh. A chain begins only at a false clause, and what a chain asks of the search is what the plain search gives:
 // no clause was false before the newest literal, and none is unit or false before a decision. Both follow from what
 // `unit_propagation` keeps: between steps each clause is at rest, or isn't false and waits among those that may be unit, and under each
-// trail before a decision all are at rest. The trail is cut back to where it stood before a decision, so nothing is to be done for
+// trail before a decision all are at rest. Backtracking cuts the trail to where a decision level begins, so nothing is to be done for
 // clauses that watch already. A chain leaves two literals in each of its clauses that aren't false before the last decision that is
 // left; these watch from then on, and only these may be unit.
 //
@@ -38,6 +38,18 @@
 // Definitions, in the order in which a reader needs them: `unit_propagation` has clauses at rest and where the watched literals stand;
 // specs/Conflicts (the chain of a conflict), specs/Early (what is known of the rows that are asked about early), specs/Reduced (what an
 // implicant says), specs/Exhausted (when another order of decisions is tried).
+//
+// Decisions:
+// - A question to the solver costs more than a step. So it is asked early where more than a quarter
+//   of the trail's rows are new to it and not known to be satisfied by its last numbers; in a
+//   problem of fewer than four rows, at each such row.
+// - A row is decided by the solver's last numbers, before the first ones by its truth where all
+//   numbers are 0; any other atom has the value that it had last, the first time true. No clause
+//   speaks of it.
+// - By number comes first, for 2,000 lines: small problems gain nothing by activity. With fewer
+//   than 32 atoms no proposed log is taken, which might have more lines than there are clauses.
+// - The solver of no rows is asked only where there are neither names nor atoms with rows, so no
+//   fact is needed that rows name something.
 #![tactic(auto)]
 
 /// The value of a call; where it fails, lets go of these values and ends with its error. Values that are let go by name are let go
