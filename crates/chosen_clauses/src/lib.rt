@@ -4,6 +4,10 @@
 // atom that names a part; so the numbers of their clauses are told by how many pairs there are before them, and the others aren't made.
 //
 // Definitions: specs/Chosen (clauses that have numbers among all, and the places of pairs).
+//
+// Decisions:
+// - The numbers of a pair's clauses follow from places and counts alone, since its tuples differ.
+//   That they differ is tested too: they rise.
 #![tactic(auto)]
 
 mod choosing;

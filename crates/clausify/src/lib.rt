@@ -5,6 +5,16 @@
 // (specs/Clauses and specs/Problem), on `ground_atoms`, whose formulas and atoms it reads, and on `proof_lines`, whose problems it
 // makes. specs/Formulas says what the formulas of the code are, specs/Straight what is written of those on equality, and specs/Kept what
 // is kept for problems that begin with the same formulas.
+//
+// Decisions:
+// - `problem_of` takes a table and formulas of any origin, and asks that these name atoms of the
+//   table and that rows name its integers.
+// - No form with "not" at the literals is made first where a formula has no truth values: it is
+//   written as it stands, with a sign for each part. So there is one writer of clauses, but for
+//   `Implied` and `Congruent`, which are written from their numbers.
+// - Room is made at once for as many clauses as there are formulas; most give one to three. Where
+//   the clauses are that name an atom is a hint: each is asked for by its place, and proved to be
+//   there.
 #![tactic(auto)]
 
 mod bare;

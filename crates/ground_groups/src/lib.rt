@@ -5,6 +5,12 @@
 // group is appended to the formulas so far; it says that there are too many exactly where the list would have more than its limit.
 // Definitions, in specs/: `Limited` (lists of formulas up to a limit). `Lines`, `Defined` and `Rules` say groups as a program goes
 // over them, and serve the proofs. The groups of equality stand in `ground_equality`.
+//
+// Decisions:
+// - A definition of a reading has at most some hundred formulas, so it is made whole and counted
+//   then. All other groups count before they make.
+// - A reading after a call that the obligation doesn't have is defined by an operation's first
+//   place and no arguments, as in the definition; no list names one.
 #![tactic(auto)]
 
 /// The value of a call; where it fails, lets go of these values and ends with its error. Values that are let go by name are let go

@@ -3,6 +3,20 @@
 // It stands on `ground_groups`, which makes each group of the list. Here the groups stand one after another: what is true at the entry,
 // that the conclusion fails, the definitions of later readings, and equality. What obligations share at the entry is
 // made once (src/entry.rt) and kept for a few kinds of constants (src/caching.rt). Definitions: specs/Ground (what the ground problem is, as a program holds it), specs/Entry (what is shared).
+//
+// In the field's words this is an instantiation: each line of the specification at all choices of
+// constants for its variables.
+//
+// Entries of 32 kinds of constants, with 60,000 formulas together, are the most that `EntryCache`
+// keeps. Eviction is by last use: the entry that was used the longest ago goes first. Which one
+// serves is a hint, and is tested where it is used.
+//
+// Decisions:
+// - `Grounded` keeps nothing by its type. What its parts keep is said once, of the definition
+//   (`law_obligation_fits`), and `ground` says that it answers that (`IsGrounded`): a type that
+//   kept it would want it while the list still grows.
+// - Where the conclusion fails is said in this small crate, so that a wrong body of it is tried in
+//   a short time.
 #![tactic(auto)]
 
 /// The value of a call; where it fails, lets go of these values and ends with its error. Values that are let go by name are let go

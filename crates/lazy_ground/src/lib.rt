@@ -13,6 +13,19 @@
 // Definitions, in specs/: `Pairs` (what a relation's tuples stand for), `Lazy` (what the lazy ground problem is), `Kept` (what of it
 // serves the next obligation). `Equal`, `Named` and `Front` mirror the code: what is tested of constants and of tuples, and what is made
 // before the pairs.
+//
+// In the field's words the instantiation of the axioms of equality is lazy: an instance is made
+// when a search asks for it.
+//
+// Decisions:
+// - Only the formulas of relations are left to tuples. Those of counters name rows, which take
+//   numbers.
+// - That pairs name nothing new is tested place by place: the equality of each two constants at a
+//   place of some tuples has to have a number. Where the test fails, the whole problem is made; so
+//   it is where there are fewer than three pairs, before any tuple is put in order.
+// - Where the list has too many formulas, what was made of the entry is left for the next
+//   obligation, which mostly has too many too.
+// - `verify` makes the whole problem, since a log may name any clause.
 #![tactic(auto)]
 
 /// The value of a call; where it fails, lets go of these values and ends with its error. Values that are let go by name are let go

@@ -10,6 +10,14 @@
 // pairs agree, or where a search comes to no end in a few lines; then the whole problem is to be searched.
 //
 // Definitions: specs/Refuting (what a log of the whole is, and what the tests of a part say).
+//
+// Decisions:
+// - A refutation is that of the whole problem: where all pairs agree, the problem is completed and
+//   searched whole.
+// - Two calls mostly commute whatever the invariants say. So an obligation on two calls whose entry
+//   has at least 256 clauses is first searched without these, and its time doesn't grow with the
+//   number of invariants. Of one call the invariants are needed nearly always. After three rounds
+//   all clauses but those of pairs are searched.
 #![tactic(auto)]
 
 /// The value of a call; where it fails, lets go of these values and ends with its error. Values that are let go by name are let go

@@ -8,6 +8,13 @@
 //
 // Definitions, in specs/: `Witnesses` (the witness that an interpretation gives), `Calls` (calls at elements and whole numbers).
 // `Equals` and `Filling` say what a program lists and fills in, and serve the proofs.
+//
+// Decisions:
+// - The classes of equal constants are found from the atoms that are true, once for a sort; a class
+//   is numbered by its least constant.
+// - What the witness is stands in its contract beside that it breaks: exactly the values that the
+//   definitions read from the interpretation. An argument's value is in the range of a state by
+//   what `witness_of` asks.
 #![tactic(auto)]
 
 mod calls;

@@ -3,6 +3,12 @@
 // It stands on `ground_atoms`, by which formulas are numbered as they are made, and on `ground_problem`, whose definitions these
 // formulas are. Definitions, in specs/: `Settings` (what a formula is read in, and when a program's formula is a definition's);
 // `Parts` serves the proofs alone.
+//
+// Decisions:
+// - The formulas of guards and amounts are here with those of invariants and requires lines, since
+//   all are formulas at a stage.
+// - `define_has` and `define_count` ask for no condition: what doesn't exist has a definition too,
+//   which no obligation names.
 #![tactic(auto)]
 
 pub mod acting;
