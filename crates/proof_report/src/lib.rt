@@ -8,6 +8,12 @@
 // specs/Texts (the text of a report, block by block), specs/Events (what its lines say), specs/Feeding (reading line by line: the
 // line that may come at each place, what it must say besides, and the place behind it), specs/Gathering (the verdicts that lines
 // say).
+//
+// Decisions:
+// - The places at which a reader may stand are declared here, since which line may come is defined
+//   by them.
+// - A line of a witness that breaks the order is `form`, as a line of another form is; so is a
+//   summary that isn't there where all blocks are.
 #![tactic(auto)]
 
 pub mod event;

@@ -7,6 +7,10 @@
 // Definitions, in the order in which a reader needs them: specs/Heads (the lines that stand once), specs/Blocks (the obligation and
 // the verdict's word), specs/Logs (the lines of a log), specs/Evidence (the evidence of an undecided verdict), specs/Witnesses (the
 // lines of a witness).
+//
+// Decisions:
+// - A witness is read with the relations and counters that are still due: a name is looked for from
+//   the last one on, so a tuple or value of an earlier one is no line that may come.
 #![tactic(auto)]
 
 /// What a call returns, or its error, before which the values named are dropped: a `?` while they are alive would be

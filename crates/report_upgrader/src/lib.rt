@@ -10,6 +10,11 @@
 //
 // Definitions, in the order in which a reader needs them: specs/Reports (the upgraded report), specs/Upgrading (what is answered, and what
 // is written). specs/Plans and specs/Passing mirror the code.
+//
+// Decisions:
+// - Room for the notes is asked for at once, eight bytes a line as for lines of seven bytes: pages
+//   that are never written take no memory. A line that doesn't fit its note is read again.
+// - What can't be read of a report that stands is answered as want of memory.
 #![tactic(auto)]
 
 mod gathering;

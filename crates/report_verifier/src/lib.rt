@@ -7,6 +7,16 @@
 // Definitions, in the order in which a reader needs them: specs/Valid (when a verdict is valid), specs/Rules (the same as a function:
 // the fault of a verdict and its line, and the first one of a report), specs/Verified (what is answered to bytes), specs/Verifier
 // (what is kept of a report line by line), specs/Notes (what is noted of the lines of a report that is held). specs/Taking mirrors the code.
+//
+// Decisions:
+// - After the first fault of a verdict no further problem is posed; only the text is read on.
+// - What obligations share is kept as a check keeps it (`EntryCache`) and believed as little: it
+//   was made here, of the specification.
+// - A witness is judged by what it shows: tuples that aren't shown are false, values 0.
+// - A line number, a count or a log beyond 32 bits is answered as want of memory; no report of 64
+//   MiB reaches it.
+// - A verifier is let go by a caller that does nothing else, and answers by reference: so what it
+//   owns is gone through once in the proof.
 #![tactic(auto)]
 
 mod ending;

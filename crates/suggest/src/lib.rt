@@ -6,6 +6,18 @@
 // It stands on `conflict_variants`, which makes the bare and the keyed specifications, and on `check_run`, which decides obligations. Definitions,
 // in the order in which a reader needs them: specs/Pairs (pairs, their obligations, and what is enough), specs/Answers (what is answered for
 // each pair), specs/Texts (the text of a suggestion), specs/Theorem (what a suggestion says). specs/Writing mirrors the code.
+//
+// Decisions:
+// - What is found of a pair, and of a pair at two parameters, is one type: proved, refuted or
+//   undecided. The words of the text are the text's. An answer keeps nothing by its type: that it
+//   is good is the clause of `pairs` (`AreAnswers`).
+// - Answers are good by the verdicts of obligations in their order: of a refuted one none before it
+//   is refuted, and of an undecided one all before it are proved and none is refuted.
+// - What is proved of the bare specification counts for a keyed one: what breaks it where some
+//   calls conflict breaks it where none do. So it isn't decided anew for each two parameters, and
+//   no log lines of the keyed specification are there then.
+// - At most 16 values that broke an obligation of a pair are tried on its others. They are tested
+//   as any witness.
 #![tactic(auto)]
 
 /// What a call returns, or its error, before which the values named are dropped: a `?` while they are alive would be
