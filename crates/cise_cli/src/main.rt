@@ -9,6 +9,9 @@
 //
 // This is the edge alone: the words after the program's name, files as sources, and standard output as the sink. All else is `run`
 // of `cise_program`, for any sources and any sink, whose clauses say what each status means.
+//
+// Decisions:
+// - It ends with 9 also where there is no memory for a copy of the words.
 #![tactic(auto)]
 
 use byte_ports::{FileSource, NO_WORDS, StdSink};

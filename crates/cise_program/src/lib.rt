@@ -13,6 +13,20 @@
 // command answers, in a file for each), Answer (which status and text belong to which words and bytes), Headline (what status 0 says, what a
 // refutation says, what a replay or a simulation of a safe specification keeps, what a suggestion says, for what bytes are refused, and which
 // statuses may come).
+//
+// Decisions:
+// - Where a clause is about one command, the job is compared with it; where it is about several, a
+//   table over tasks says which, with one row for all others. So a new command needs a row only
+//   where something is said of it.
+// - That what a check wrote is verified alike is said here, above both, so that the checker and the
+//   verifier stay independent of each other.
+// - That a run is complete asks that no count of faults rose and, for a task, that the known bytes
+//   of the source are a specification.
+// - A job is a task for a specification, or a sample, which reads no input. What may be left of a
+//   stopped answer is defined for each command beside its outcome.
+// - Where a specification is refused, the second input isn't read, and no clause says so: what
+//   stays unread is said of the job. The third word of `check SPEC --budget N` names a source that
+//   is never opened.
 #![tactic(auto)]
 
 mod checked;

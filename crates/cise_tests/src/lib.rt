@@ -7,6 +7,11 @@
 // `verify`, `upgrade`, `sample`, `replay`, `simulate`, `suggestions` and `spell` have the commands, with the texts of `examples`;
 // `whole_numbers` has what is decided of numbers, `words` the words, `refusals` what is no specification, `limits` the limits of the
 // language, and `statuses` and `failing` what stops a run.
+//
+// Decisions:
+// - The ports are tested here, since a crate of their own would cost more than the tests do.
+// - Where memory is wanting, a test ends at once: its helpers call `expect` with the runtime, and
+//   no `?` lets go of what they own.
 #![tactic(auto)]
 
 #[cfg(test)]

@@ -1,6 +1,6 @@
 // How many formulas, atoms, integer names and clauses the problem of each obligation has.
 //
-// A program in Python counted them, written from docs/GROUND.md and the definitions. Two of them are counted by hand besides.
+// A program in Python counted them, written from docs/embedders/GROUND.md and the definitions. Two of them are counted by hand besides.
 //
 // That puts and drops of a set commute: 12 formulas, 14 atoms, no integer name and 24 clauses. The elements x, y of the calls and e
 // of the conclusion are the constants 0, 1 and 2. The set reads differently at e after the two orders: one formula and two atoms,

@@ -5,6 +5,10 @@
 // problems over rows, with the solver in `known`, which refutes, splits, stops and finds numbers; `summaries` says in short what was
 // answered; `refuting` asks solvers alone, one of them the solver in `constants`. `watched` has the search on watched literals beside the plain one, and
 // `solvers` the solvers of rows.
+//
+// Decisions:
+// - The solver of the tests is in an ordinary module, since wrong bodies are tried without tests.
+//   All else is there for the tests alone, and so is proved once.
 #![tactic(auto)]
 
 #[cfg(test)]
