@@ -1,4 +1,5 @@
 pub mod Equals
+pub mod Classed
 pub mod Filling
 pub mod Calls
 pub mod Witnesses

@@ -1,10 +1,10 @@
 // The values that break an obligation, from an interpretation of its problem.
-ghost use Rattle.std.specs.Prelude.{◌≡◌, IfOk, true, map, slice_index};
+ghost use Rattle.std.specs.Prelude.{◌≡◌, IfOk, IfSome, true, nat_lt, pos, length, map};
+ghost use Rattle.std.specs.Prelude.{slice_index, slice_index_or};
 ghost use Rattle.std.specs.List.{list_all};
 ghost use Rattle.spec_core.specs.Fits.{in_state_range, world_fits};
 ghost use Rattle.obligation_list.specs.Obligations.{IsObligation};
 ghost use Rattle.obligation_list.specs.Refuting.{IsRefutation};
-ghost use Rattle.line_rows.specs.Evidence.{in_state};
 ghost use Rattle.proof_lines.specs.Problems.{atom_true, meaning_of};
 ghost use Rattle.ground_problem.specs.Symbols.{all_true};
 ghost use Rattle.ground_problem.specs.Constants.{constants_of};
@@ -13,18 +13,18 @@ ghost use Rattle.ground_numbers.specs.Numbered.{all_hold};
 ghost use Rattle.ground_numbers.specs.Problem.{kind_of, table_of, numbered_of, interpretation_of};
 ghost use Rattle.ground_atoms.specs.Calls.{calls_of};
 ghost use Rattle.instances.specs.Ground.{IsGrounded};
+ghost use Rattle.model_back.specs.Calls.{call_by};
 ghost use Rattle.model_back.specs.Witnesses.{IsGivenBy, IsStateFor};
 
 use crate::calls::calls_at;
-use crate::equals::equals_of;
+use crate::classed::{Classed, world_of};
+use crate::named::Named;
 use crate::state::{element_of, entry_state};
-use crate::values::{all_classes, all_elements};
-use crate::world::world_with;
-use ground_atoms::{Atoms, GroundCall};
+use ground_atoms::Atoms;
 use ground_numbers::{law_arguments_are_first, law_numbers_are_names};
 use instances::Grounded;
 use items::Items;
-use obligation_list::{Obligation, Witness};
+use obligation_list::{Obligation, Witness, breaks};
 use proof_lines::Interpretation;
 use spec_core::{Spec, World};
 use spec_states::State;
@@ -63,22 +63,55 @@ fn elements_at(alloc: Global, elements: &[u32], consts: &[u32]) -> Result<Items<
     Ok(out)
 }
 
+// The witness of a world whose constants stand for these elements.
+fn witness_in(
+    alloc: Global,
+    spec: &Spec,
+    ob: &Obligation,
+    named: &Named<'_>,
+    found: &Interpretation,
+    classed: Classed,
+) -> Result<Witness, AllocError>
+    requires world { world_fits spec.now classed.world ≡ true }
+    requires values { list_all in_state_range found.now.ints ≡ true }
+    ensures world { IfOk result (λ w. w.world ≡ classed.world) }
+    ensures state { IfOk result
+        (λ w. IsStateFor spec.now ob.now classed.world (slice_index classed.elements.items)
+        found.now.truths found.now.ints named.now.atoms.now.table w.state) }
+    ensures calls { IfOk result
+        (λ w. w.calls
+        ≡ map (call_by (slice_index classed.elements.items)
+        (λ n. slice_index_or found.now.ints n (pos 0))) named.now.calls.now) }
+    ensures range { IfOk result
+        (λ w. list_all (λ c. list_all in_state_range c.args) w.calls ≡ true) }
+    ensures elements { IfOk result
+        (λ w. w.elements ≡ map (slice_index classed.elements.items) named.now.consts.now) }
+{
+    let Classed { world, elements } = classed;
+    let state = state_for(alloc, spec, ob, &world, &elements, named.atoms, found)?;
+    let at = elements_at(alloc, &elements, named.consts)?;
+    let calls = calls_at(alloc, &elements, found.ints.as_slice(), named.calls)?;
+    Ok(Witness {
+        world,
+        state,
+        calls,
+        elements: at,
+    })
+}
+
 // A witness that breaks the obligation, from an interpretation that makes its formulas true over what their numbers stand for.
 fn witness_with(
     alloc: Global,
     spec: &Spec,
     ob: &Obligation,
-    atoms: &Atoms,
-    sorts: &[u8],
-    consts: &[u32],
-    calls: &[GroundCall],
+    named: &Named<'_>,
     found: &Interpretation,
 ) -> Result<Witness, AllocError>
     requires member { IsObligation spec.now ob.now }
-    requires table { atoms.now.table ≡ table_of spec.now ob.now }
-    requires sorts { sorts.now ≡ (constants_of spec.now ob.now).sorts }
-    requires consts { consts.now ≡ (constants_of spec.now ob.now).elements }
-    requires calls { calls.now ≡ calls_of spec.now ob.now }
+    requires table { named.now.atoms.now.table ≡ table_of spec.now ob.now }
+    requires sorts { named.now.sorts.now ≡ (constants_of spec.now ob.now).sorts }
+    requires consts { named.now.consts.now ≡ (constants_of spec.now ob.now).elements }
+    requires calls { named.now.calls.now ≡ calls_of spec.now ob.now }
     requires satisfied { all_true
         (interpretation_of (table_of spec.now ob.now) (meaning_of found.now))
         (formulas_of spec.now ob.now)
@@ -92,25 +125,9 @@ fn witness_with(
 {
     spec.well_formed();
     law_arguments_are_first();
-    let (Ok(count), Ok(declared)) = (
-        u8::try_from(spec.sorts.len()),
-        u32::try_from(spec.consts.len()),
-    ) else {
-        return Err(AllocError);
-    };
-    let equals = equals_of(alloc, atoms, found.truths.as_slice())?;
-    let classes = all_classes(alloc, &equals, sorts, count)?;
-    let elements = all_elements(alloc, &equals, sorts, &classes)?;
-    let world = world_with(alloc, &classes, &elements, declared)?;
-    let state = state_for(alloc, spec, ob, &world, &elements, atoms, found)?;
-    let at = elements_at(alloc, &elements, consts)?;
-    let calls = calls_at(alloc, &elements, found.ints.as_slice(), calls)?;
-    Ok(Witness {
-        world,
-        state,
-        calls,
-        elements: at,
-    })
+    let truths = found.truths.as_slice();
+    let classed = world_of(alloc, spec, named.atoms, named.sorts, truths)?;
+    witness_in(alloc, spec, ob, named, found, classed)
 }
 
 /// The witness that an interpretation gives, where it makes the formulas of an obligation's ground problem true: it breaks the
@@ -129,7 +146,7 @@ pub fn witness_of(
         (atom_true (meaning_of found.now) (map kind_of (table_of spec.now ob.now).atoms))
         (numbered_of spec.now ob.now)
         ≡ true }
-    requires in_range { list_all in_state found.now.ints ≡ true }
+    requires in_range { list_all in_state_range found.now.ints ≡ true }
     ensures breaks { IfOk result
         (λ w. IsRefutation spec.now ob.now w.world w.state w.calls w.elements) }
     ensures given { IfOk result
@@ -138,14 +155,55 @@ pub fn witness_of(
         w.calls w.elements) }
 {
     law_numbers_are_names();
-    witness_with(
+    let named = Named {
+        atoms: &grounded.atoms,
+        sorts: grounded.consts.as_slice(),
+        consts: grounded.elements.as_slice(),
+        calls: grounded.calls.as_slice(),
+    };
+    witness_with(alloc, spec, ob, &named, found)
+}
+
+// Whether each of these sorts is declared.
+fn are_declared(spec: &Spec, sorts: &[u8]) -> bool
+    ensures { result ≡ list_all (λ s. nat_lt s (length spec.now.sorts)) sorts.now }
+{
+    sorts.iter().all(|sort| (*sort as usize) < spec.sorts.len())
+}
+
+/// A witness that breaks the obligation, read back as by `witness_of` from any truth values and whole numbers in the range of a state;
+/// nothing where what they give doesn't break it. Nothing is asked of how they were found, so they may make some formulas false, or be
+/// of some atoms alone: each other one is false.
+pub fn tried_witness(
+    alloc: Global,
+    spec: &Spec,
+    ob: &Obligation,
+    named: &Named<'_>,
+    found: &Interpretation,
+) -> Result<Option<Witness>, AllocError>
+    requires member { IsObligation spec.now ob.now }
+    requires in_range { list_all in_state_range found.now.ints ≡ true }
+    ensures { IfOk result (λ tried. IfSome tried
+        (λ w. IsRefutation spec.now ob.now w.world w.state w.calls w.elements)) }
+{
+    if !are_declared(spec, named.sorts) {
+        return Ok(None);
+    }
+    let classed = world_of(
         alloc,
         spec,
-        ob,
-        &grounded.atoms,
-        grounded.consts.as_slice(),
-        grounded.elements.as_slice(),
-        grounded.calls.as_slice(),
-        found,
-    )
+        named.atoms,
+        named.sorts,
+        found.truths.as_slice(),
+    )?;
+    if !classed.world.fits(spec) {
+        drop(classed);
+        return Ok(None);
+    }
+    let witness = witness_in(alloc, spec, ob, named, found, classed)?;
+    if breaks(spec, ob, &witness) {
+        return Ok(Some(witness));
+    }
+    drop(witness);
+    Ok(None)
 }

@@ -1,52 +1,68 @@
-use Rattle.std.proofs.Common.{◌≡◌, ℕ, pos, Bool, true, false, nat_lt, List, map, length, slice_index, slice_index_or, sym, ◌∙◌, ap, subst, arith}
+use Rattle.std.proofs.Common.{◌≡◌, ℕ, pos, Bool, true, false, nat_lt, List, map, length, slice_index, slice_index_or, Ok, Err, Result, refl, sym, ◌∙◌, subst}
+use Rattle.std.specs.Prelude.{IfOk}
 use Rattle.std.specs.List.{list_all, range_with_len}
-use Rattle.std.proofs.lemmas.Grind.{common_steps}
-use Rattle.std.proofs.lemmas.List.FromFn.{length-map-range_with_len}
-use Rattle.ground_problem.proofs.Existing.{sorts_exist}
-use Rattle.ground_numbers.specs.Problem.{table_of}
-use Rattle.model_back.specs.Equals.{equals_from, alike_by, classes_by, element_by}
-use Rattle.model_back.proofs.Breaking.{own_elements, own, made-is, elements-are, parts-witness}
-use Rattle.model_back.proofs.Called.{calls-are}
-use Rattle.model_back.specs.Calls.{call_by}
+use Rattle.spec_core.specs.declared.world.World.{World}
+use Rattle.spec_core.specs.Specification.{Specification}
+use Rattle.spec_core.specs.Typed.{is_specification}
+use Rattle.spec_core.specs.Fits.{in_state_range, world_fits}
+use Rattle.obligation_list.specs.declared.obligation.Obligation.{Obligation}
+use Rattle.obligation_list.specs.declared.witness.Witness.{Witness}
+use Rattle.obligation_list.specs.Obligations.{IsObligation}
+use Rattle.obligation_list.specs.Refuting.{IsRefutation}
+use Rattle.proof_lines.specs.declared.problem.Interpretation.{Interpretation as Found}
 use Rattle.proof_lines.specs.Problems.{meaning_of}
-use Rattle.model_back.specs.Witnesses.{IsStateFor}
+use Rattle.ground_problem.specs.Symbols.{all_true}
+use Rattle.ground_problem.specs.Constants.{constants_of}
+use Rattle.ground_problem.specs.Problem.{formulas_of}
+use Rattle.ground_problem.specs.Readback as back
+use Rattle.ground_problem.proofs.Existing.{sorts_exist}
 use Rattle.ground_numbers.specs.Numbers.{Table}
+use Rattle.ground_numbers.specs.Problem.{table_of, interpretation_of}
+use Rattle.ground_atoms.specs.Calls.{calls_of}
+use Rattle.ground_atoms.specs.declared.call.GroundCall.{GroundCall}
+use Rattle.model_back.specs.declared.classed.Classed.{Classed}
+use Rattle.model_back.specs.Calls.{call_by}
+use Rattle.model_back.specs.Classed.{like_in, elements_in, world_in, IsClassed}
+use Rattle.model_back.specs.Equals.{equals_from}
+use Rattle.model_back.specs.Witnesses.{IsGivenBy, IsStateFor}
+use Rattle.model_back.proofs.Breaking.{own_classes, own_elements, own, made-is, elements-are, parts-witness}
+use Rattle.model_back.proofs.Called.{calls-are}
 use Rattle.model_back.proofs.witness.witness_with.Goals as goal
 
-pub all_elements-requires-clause-classes : goal.all_elements-requires-clause-classes
-all_elements-requires-clause-classes c =
-    let f = classes_by (alike_by c.deref-2.result.now) c.args.sorts.now in
-    let same : c.deref.result.now ≡ c.deref-2.result.now = c.deref.ensures.value ∙ sym c.deref-2.ensures.value in
-    let made : c.deref-3.result.now ≡ map f (range_with_len 0 c.in-Ok-Ok.count) = c.deref-3.ensures.value ∙ c.in_ok-classes.ensures ∙ ap (λ es. map (classes_by (alike_by es) c.args.sorts.now) (range_with_len 0 c.in-Ok-Ok.count)) same in
-    let size : c.in-Ok-Ok.count ≡ length c.deref-3.result.now = sym (ap length made ∙ length-map-range_with_len f 0 c.in-Ok-Ok.count) in
-    made ∙ ap (λ n. map f (range_with_len 0 n)) size
-
-pub all_elements-requires-clause-exist : goal.all_elements-requires-clause-exist
-all_elements-requires-clause-exist c =
+pub world_of-requires : goal.world_of-requires
+world_of-requires c =
     let d = c.args.spec.now in
-    let f = classes_by (alike_by c.deref.result.now) c.args.sorts.now in
-    let count : c.in-Ok-Ok.count ≡ length d.sorts = grind (arith, common_steps) in
-    let made : c.deref-3.result.now ≡ map f (range_with_len 0 c.in-Ok-Ok.count) = c.deref-3.ensures.value ∙ c.in_ok-classes.ensures in
-    let size : length c.deref-3.result.now ≡ length d.sorts = ap length made ∙ length-map-range_with_len f 0 c.in-Ok-Ok.count ∙ count in
-    subst (λ (n : ℕ). list_all (λ (s : ℕ). nat_lt s n) c.args.sorts.now ≡ true) (sym size)
-    (subst (λ (ss : List ℕ). list_all (λ (s : ℕ). nat_lt s (length d.sorts)) ss ≡ true) (sym c.requires.sorts) (sorts_exist d c.args.ob.now c.well_formed-2.ensures c.requires.member))
+    subst (λ (ss : List ℕ). list_all (λ (s : ℕ). nat_lt s (length d.sorts)) ss ≡ true) (sym c.requires.sorts) (sorts_exist d c.args.ob.now c.well_formed-2.ensures c.requires.member)
 
-pub state_for-requires-clause-world : goal.state_for-requires-clause-world
-state_for-requires-clause-world c =
-    let d = c.args.spec.now in
-    let ob = c.args.ob.now in
-    let found = c.args.found.now in
-    let t = c.well_formed-2.ensures in
-    let e : c.in_ok-equals.equals.items ≡ equals_from (λ (n : ℕ). slice_index_or found.truths n false) 0 (table_of d ob).atoms =
-    c.in_ok-equals.ensures ∙ ap (λ (ts : List Bool). equals_from (λ (n : ℕ). slice_index_or ts n false) 0 c.args.atoms.now.table.atoms) c.as_slice.ensures ∙ ap (λ o. equals_from (λ (n : ℕ). slice_index_or found.truths n false) 0 o.atoms) c.requires.table in
-    let count : c.in-Ok-Ok.count ≡ length d.sorts = grind (arith, common_steps) in
-    let declared : c.in-Ok-Ok.declared ≡ length d.consts = grind (arith, common_steps) in
-    let es = c.in_ok-equals.equals.items in
-    let cls : c.in_ok-classes.classes.items ≡ map (classes_by (alike_by es) c.args.sorts.now) (range_with_len 0 c.in-Ok-Ok.count) = c.in_ok-classes.ensures ∙ ap (λ x. map (classes_by (alike_by x) c.args.sorts.now) (range_with_len 0 c.in-Ok-Ok.count)) c.deref.ensures.value in
-    let els : c.in_ok-elements.elements.items ≡ map (element_by (alike_by es) c.args.sorts.now) (range_with_len 0 (length c.args.sorts.now)) = c.in_ok-elements.ensures ∙ ap (λ x. map (element_by (alike_by x) c.args.sorts.now) (range_with_len 0 (length c.args.sorts.now))) c.deref-2.ensures.value in
-    let world = c.in_ok-world.ensures ∙ (λ i. record { sizes = map length (c.deref-4.ensures.value i); consts = map (slice_index (c.deref-5.ensures.value i)) (range_with_len 0 c.in-Ok-Ok.declared) }) in
-    let all = made-is d ob found t c.requires.member c.requires.satisfied es c.in_ok-classes.classes.items c.in_ok-elements.elements.items c.args.sorts.now c.in-Ok-Ok.count c.in-Ok-Ok.declared c.in_ok-world.world e c.requires.sorts count declared cls els world in
+-- what was made is the world and the elements that the interpretation gives
+given : (d : Specification) (ob : Obligation) (found : Found) (t : is_specification d ≡ true) (io : IsObligation d ob) (h : all_true (interpretation_of (table_of d ob) (meaning_of found)) (formulas_of d ob) ≡ true)
+    → (o : Table) (sorts : List ℕ) (truths : List Bool) (c : Classed) → o ≡ table_of d ob → sorts ≡ (constants_of d ob).sorts → truths ≡ found.truths → IsClassed d o sorts truths c
+    → (c.elements.items ≡ own_elements d ob found t io h) × (c.world ≡ back.world_of d ob (interpretation_of (table_of d ob) (meaning_of found))) × (world_fits d c.world ≡ true)
+given d ob found t io h o sorts truths c eo es et k =
+    let els : c.elements.items ≡ own_elements d ob found t io h = k.elements ∙ (λ i. elements_in (like_in (eo i) (et i)) (es i)) in
+    let world : c.world ≡ world_in d (like_in (table_of d ob) found.truths) (constants_of d ob).sorts = k.world ∙ (λ i. world_in d (like_in (eo i) (et i)) (es i)) in
+    made-is d ob found t io h (equals_from (λ (n : ℕ). slice_index_or found.truths n false) 0 (table_of d ob).atoms) (own_classes d ob found t io h) c.elements.items (constants_of d ob).sorts (length d.sorts) (length d.consts) c.world refl refl refl refl refl els
+    (world ∙ (λ i. record { sizes = map length (own_classes d ob found t io h); consts = map (slice_index (sym els i)) (range_with_len 0 (length d.consts)) }))
+
+pub witness_in-requires-clause-world : goal.witness_in-requires-clause-world
+witness_in-requires-clause-world c =
+    let all = given c.args.spec.now c.args.ob.now c.args.found.now c.well_formed-2.ensures c.requires.member c.requires.satisfied c.args.named.now.atoms.now.table c.args.named.now.sorts.now c.as_slice-truths.result.now c.in_ok-classed.classed c.requires.table c.requires.sorts c.as_slice-truths.ensures c.in_ok-classed.ensures in
     all.2
+
+-- a witness that is made so breaks the obligation, and is given
+breaking : {E : Type 0} (d : Specification) (ob : Obligation) (found : Found) (t : is_specification d ≡ true) (io : IsObligation d ob) (h : all_true (interpretation_of (table_of d ob) (meaning_of found)) (formulas_of d ob) ≡ true)
+    → (o : Table) (consts : List ℕ) (calls : List GroundCall) (world : World) (els : List ℕ)
+    → map (call_by (slice_index (own_elements d ob found t io h)) (λ n. slice_index_or found.ints n (pos 0))) (calls_of d ob) ≡ back.calls_of d ob (interpretation_of (table_of d ob) (meaning_of found))
+    → o ≡ table_of d ob → consts ≡ (constants_of d ob).elements → calls ≡ calls_of d ob → els ≡ own_elements d ob found t io h → world ≡ back.world_of d ob (interpretation_of (table_of d ob) (meaning_of found))
+    → (r : Result Witness E) → IfOk r (λ w. w.world ≡ world) → IfOk r (λ w. IsStateFor d ob world (slice_index els) found.truths found.ints o w.state)
+    → IfOk r (λ w. w.calls ≡ map (call_by (slice_index els) (λ n. slice_index_or found.ints n (pos 0))) calls) → IfOk r (λ w. list_all (λ c. list_all in_state_range c.args) w.calls ≡ true) → IfOk r (λ w. w.elements ≡ map (slice_index els) consts)
+    → IfOk r (λ w. IsRefutation d ob w.world w.state w.calls w.elements × IsGivenBy d ob (interpretation_of (table_of d ob) (meaning_of found)) w.world w.state w.calls w.elements)
+breaking d ob found t io h o consts calls world els given eo ek ec el ew (Err e) w s c n k = tt
+breaking d ob found t io h o consts calls world els given eo ek ec el ew (Ok r) w s c n k =
+    let state = subst (λ (x : World). IsStateFor d ob x (slice_index (own_elements d ob found t io h)) found.truths found.ints (table_of d ob) r.state) (sym w)
+    (subst (λ (x : List ℕ). IsStateFor d ob world (slice_index x) found.truths found.ints (table_of d ob) r.state) el (subst (λ (x : Table). IsStateFor d ob world (slice_index els) found.truths found.ints x r.state) eo s)) in
+    parts-witness d ob found t io h r.world r.state r.calls r.elements (w ∙ ew) state (c ∙ (λ i. map (call_by (slice_index (el i)) (λ n. slice_index_or found.ints n (pos 0))) (ec i)) ∙ given)
+    (k ∙ (λ i. map (slice_index (el i)) (ek i)) ∙ elements-are d ob found t io h) n
 
 pub returns : goal.returns
 returns c =
@@ -54,20 +70,7 @@ returns c =
     let ob = c.args.ob.now in
     let found = c.args.found.now in
     let t = c.well_formed-2.ensures in
-    let e : c.in_ok-equals.equals.items ≡ equals_from (λ (n : ℕ). slice_index_or found.truths n false) 0 (table_of d ob).atoms =
-    c.in_ok-equals.ensures ∙ ap (λ (ts : List Bool). equals_from (λ (n : ℕ). slice_index_or ts n false) 0 c.args.atoms.now.table.atoms) c.as_slice.ensures ∙ ap (λ o. equals_from (λ (n : ℕ). slice_index_or found.truths n false) 0 o.atoms) c.requires.table in
-    let count : c.in-Ok-Ok.count ≡ length d.sorts = grind (arith, common_steps) in
-    let declared : c.in-Ok-Ok.declared ≡ length d.consts = grind (arith, common_steps) in
-    let es = c.in_ok-equals.equals.items in
-    let cls : c.in_ok-classes.classes.items ≡ map (classes_by (alike_by es) c.args.sorts.now) (range_with_len 0 c.in-Ok-Ok.count) = c.in_ok-classes.ensures ∙ ap (λ x. map (classes_by (alike_by x) c.args.sorts.now) (range_with_len 0 c.in-Ok-Ok.count)) c.deref.ensures.value in
-    let els : c.in_ok-elements.elements.items ≡ map (element_by (alike_by es) c.args.sorts.now) (range_with_len 0 (length c.args.sorts.now)) = c.in_ok-elements.ensures ∙ ap (λ x. map (element_by (alike_by x) c.args.sorts.now) (range_with_len 0 (length c.args.sorts.now))) c.deref-2.ensures.value in
-    let world = c.in_ok-world.ensures ∙ (λ i. record { sizes = map length (c.deref-4.ensures.value i); consts = map (slice_index (c.deref-5.ensures.value i)) (range_with_len 0 c.in-Ok-Ok.declared) }) in
-    let all = made-is d ob found t c.requires.member c.requires.satisfied es c.in_ok-classes.classes.items c.in_ok-elements.elements.items c.args.sorts.now c.in-Ok-Ok.count c.in-Ok-Ok.declared c.in_ok-world.world e c.requires.sorts count declared cls els world in
-    let s = c.in_ok-state.state in
-    let w = c.in_ok-world.world in
-    let st = subst (λ (x : List ℕ). IsStateFor d ob w (slice_index x) found.truths found.ints (table_of d ob) s) (c.deref-6.ensures.value ∙ all.0)
-    (subst (λ (o : Table). IsStateFor d ob w (slice_index c.deref-6.result.now) found.truths found.ints o s) c.requires.table c.in_ok-state.ensures) in
-    let at = c.in_ok-at.ensures ∙ (λ i. map (slice_index ((c.deref-7.ensures.value ∙ all.0) i)) (c.requires.consts i)) ∙ elements-are d ob found t c.requires.member c.requires.satisfied in
-    let mu = meaning_of found in
-    let calls = c.in_ok-calls.ensures.calls ∙ (λ i. map (call_by (slice_index ((c.deref-8.ensures.value ∙ all.0) i)) (λ (n : ℕ). slice_index_or (c.as_slice-2.ensures i) n (pos 0))) (c.requires.calls i)) ∙ calls-are d ob (c.law_arguments_are_first.ensures d ob) mu (slice_index (own_elements d ob found t c.requires.member c.requires.satisfied)) (own d ob found t c.requires.member c.requires.satisfied) in
-    parts-witness d ob found t c.requires.member c.requires.satisfied w s c.in_ok-calls.calls c.in_ok-at.at all.1 st calls at c.in_ok-calls.ensures.range
+    let all = given d ob found t c.requires.member c.requires.satisfied c.args.named.now.atoms.now.table c.args.named.now.sorts.now c.as_slice-truths.result.now c.in_ok-classed.classed c.requires.table c.requires.sorts c.as_slice-truths.ensures c.in_ok-classed.ensures in
+    let calls = calls-are d ob (c.law_arguments_are_first.ensures d ob) (meaning_of found) (slice_index (own_elements d ob found t c.requires.member c.requires.satisfied)) (own d ob found t c.requires.member c.requires.satisfied) in
+    breaking d ob found t c.requires.member c.requires.satisfied c.args.named.now.atoms.now.table c.args.named.now.consts.now c.args.named.now.calls.now c.in_ok-classed.classed.world c.in_ok-classed.classed.elements.items
+    calls c.requires.table c.requires.consts c.requires.calls all.0 all.1 c.witness_in.result c.witness_in.ensures.world c.witness_in.ensures.state c.witness_in.ensures.calls c.witness_in.ensures.range c.witness_in.ensures.elements
