@@ -51,6 +51,27 @@ fn pose(
     problem_of(alloc, &ground.atoms, ground.formulas.as_slice())
 }
 
+// The verdict of a witness that breaks the obligation, made smaller.
+fn refute_by(
+    alloc: Global,
+    spec: &Spec,
+    ob: &Obligation,
+    witness: Witness,
+) -> Result<Verdict, AllocError>
+    requires member { IsObligation spec.now ob.now }
+    requires breaks { IsRefutation spec.now ob.now witness.world witness.state witness.calls
+        witness.elements }
+    ensures good { (budget : ℕ)
+        → IfOk result (λ v. IsGood spec.now budget ob.now (shown_verdict spec.now v)) }
+    ensures shown { IfOk result (λ v. HasShown spec.now ob.now v) }
+    ensures decided { (atoms budget : ℕ) → IfOk result (λ v. IsDecided atoms budget v) }
+{
+    let mut smaller = witness;
+    shrink(alloc, spec, ob, &mut smaller)?;
+    smaller.state.stays_in_range();
+    Ok(Verdict::Refuted(smaller))
+}
+
 // Values that refute the obligation, from an interpretation of its problem.
 fn refute(
     alloc: Global,
@@ -68,10 +89,8 @@ fn refute(
     ensures decided { (atoms budget : ℕ) → IfOk result (λ v. IsDecided atoms budget v) }
 {
     law_clauses_make_formulas_true();
-    let mut witness = witness_of(alloc, spec, ob, ground, found)?;
-    shrink(alloc, spec, ob, &mut witness)?;
-    witness.state.stays_in_range();
-    Ok(Verdict::Refuted(witness))
+    let witness = witness_of(alloc, spec, ob, ground, found)?;
+    refute_by(alloc, spec, ob, witness)
 }
 
 /// The verdict that values give of themselves, where they refute the obligation, wherever they are from.
@@ -244,7 +263,7 @@ fn decide_completed(
     verdict
 }
 
-// Decides an obligation by its lazy ground problem, and by the whole one where that doesn't prove it.
+// Decides an obligation by its lazy ground problem, and by the whole one where that neither proves nor refutes it.
 fn decide_lazily(
     alloc: Global,
     spec: &Spec,
@@ -264,10 +283,14 @@ fn decide_lazily(
         → IfOk result (λ v. IsDecided (length (problem_of spec.now ob.now).atoms) budget v) }
     ensures kept { IsKept spec.now kept.new }
 {
-    match search_lazily(alloc, &ground, budget) {
+    match search_lazily(alloc, spec, ob, &ground, budget) {
         Ok(LazyAnswer::Refuted(log)) => {
             keep(kept, ground.into_kept());
             numbered(Verdict::Proved(log))
+        }
+        Ok(LazyAnswer::Broken(witness)) => {
+            keep(kept, ground.into_kept());
+            numbered(refute_by(alloc, spec, ob, witness)?)
         }
         Ok(LazyAnswer::Satisfiable) => {
             decide_completed(alloc, spec, ob, budget, ground, true, kept)

@@ -1,5 +1,9 @@
--- What a log of a lazy ground problem is, and what is known of its sizes and of the chosen clauses.
+-- What is answered of a lazy ground problem, and what is known of its sizes and of the chosen clauses.
 use Rattle.std.specs.Prelude.{◌≡◌, ℕ, ◌≤◌, true, Ok, List, ◌++◌, length, map, replicate}
+use Rattle.spec_core.specs.Specification.{Specification}
+use Rattle.obligation_list.specs.declared.obligation.Obligation.{Obligation}
+use Rattle.obligation_list.specs.declared.witness.Witness.{Witness}
+use Rattle.obligation_list.specs.Refuting.{IsRefutation}
 use Rattle.proof_lines.specs.declared.line.Line.{Line}
 use Rattle.proof_lines.specs.declared.problem.AtomKind.{AtomKind}
 use Rattle.proof_lines.specs.declared.problem.AtomKind.TheVariants.{Plain}
@@ -13,9 +17,10 @@ use Rattle.chosen_clauses.specs.declared.choosing.Chosen.{Chosen}
 use Rattle.chosen_clauses.specs.Chosen.{AreAt}
 use Rattle.lazy_search.specs.declared.counting.Sizes.{Sizes}
 use Rattle.lazy_search.specs.declared.searching.LazyAnswer.{LazyAnswer}
-use Rattle.lazy_search.specs.declared.searching.LazyAnswer.TheVariants.{Refuted, Satisfiable, Unknown}
+use Rattle.lazy_search.specs.declared.searching.LazyAnswer.TheVariants.{Refuted, Broken, Satisfiable, Unknown}
 use Rattle.lazy_search.specs.declared.searching.Step.{Step}
 use Rattle.lazy_search.specs.declared.searching.Step.TheVariants.{Answered, MoreClauses}
+use Rattle.lazy_search.specs.declared.trying.Aim.{Aim}
 
 -- A log of at most so many lines shows that a problem has no interpretation: the kernel accepts its lines, and an empty clause is among
 -- the clauses.
@@ -40,13 +45,27 @@ pub record AreSizes (g : LazyGround) (sizes : Sizes) : Type 0 where
 abbrev pub AreOf : LazyGround → Chosen → Type 0
 AreOf g c = AreAt (lazy_problem g).clauses c.clauses c.numbers.items
 
--- a log that is answered is one of the problem
-abbrev pub IsLazyAnswer : PlainProblem → ℕ → LazyAnswer → Type 0
-IsLazyAnswer p budget (Refuted log) = RefutesWithin p budget log
-IsLazyAnswer p budget Satisfiable = Unit {0}
-IsLazyAnswer p budget Unknown = Unit {0}
+-- a witness breaks an obligation
+abbrev pub IsBroken : Specification → Obligation → Witness → Type 0
+IsBroken d ob w = IsRefutation d ob w.world w.state w.calls w.elements
+
+-- a log that is answered is one of the problem, and a witness breaks the obligation
+abbrev pub IsLazyAnswer : Specification → Obligation → PlainProblem → ℕ → LazyAnswer → Type 0
+IsLazyAnswer d ob p budget (Refuted log) = RefutesWithin p budget log
+IsLazyAnswer d ob p budget (Broken w) = IsBroken d ob w
+IsLazyAnswer d ob p budget Satisfiable = Unit {0}
+IsLazyAnswer d ob p budget Unknown = Unit {0}
 
 -- what a round answers is an answer
-abbrev pub IsStep : LazyGround → ℕ → Step → Type 0
-IsStep g budget (Answered answer) = IsLazyAnswer (lazy_problem g) budget answer
-IsStep g budget (MoreClauses more) = Unit {0}
+abbrev pub IsStep : Specification → Obligation → LazyGround → ℕ → Step → Type 0
+IsStep d ob g budget (Answered answer) = IsLazyAnswer d ob (lazy_problem g) budget answer
+IsStep d ob g budget (MoreClauses more) = Unit {0}
+
+-- it is an answer to this aim
+abbrev pub IsLazyAnswerTo : Aim → LazyGround → LazyAnswer → Type 0
+IsLazyAnswerTo aim g answer =
+    IsLazyAnswer aim.spec.now aim.ob.now (lazy_problem g) aim.budget answer
+
+-- it is a step to this aim
+abbrev pub IsStepTo : Aim → LazyGround → Step → Type 0
+IsStepTo aim g step = IsStep aim.spec.now aim.ob.now g aim.budget step

@@ -1,19 +1,25 @@
-// The search of a lazy ground problem for a log that shows that it has no interpretation.
+// The search of the lazy ground problem of an obligation: for a log that shows that it has no interpretation, or a witness.
 //
 // Some clauses are searched first, as a problem of their own over the atoms that they name (src/picking.rt, src/beside.rt, src/parts.rt),
 // which is tested to be a part of the whole (src/testing.rt). Where they have no interpretation, the log is written with the numbers of the whole
-// problem, and the kernel takes it there. Where they have one, it says which constants are equal and which readings are true. The pairs
-// of tuples that it makes equal and of which it reads one true and one false (src/agreeing.rt) are those whose clauses are false. These
+// problem, and the kernel takes it there. Where they have one, it says which constants are equal and which readings are true. That is
+// read back as a witness, which is the answer where it breaks the obligation (src/trying.rt). Else the pairs of tuples that the
+// interpretation makes equal and of which it reads one true and one false (src/agreeing.rt) are those whose clauses are false. These
 // and the other clauses that it makes false join the first ones, and all are searched again (src/searching.rt).
 //
 // So no formula is made for a pair of tuples that no interpretation makes equal, and none is looked at. Nothing is answered where all
 // pairs agree, or where a search comes to no end in a few lines; then the whole problem is to be searched.
 //
-// Definitions: specs/Refuting (what a log of the whole is, and what the tests of a part say).
+// Definitions: specs/Refuting (what is answered, and what the tests of a part say).
 //
 // Decisions:
-// - A refutation is that of the whole problem: where all pairs agree, the problem is completed and
-//   searched whole.
+// - Each interpretation of a round is read back as a witness before anything else is made of it, and
+//   where that breaks the obligation, it is the answer. Nothing has to be shown of the clauses that
+//   weren't searched, since `breaks` looks at the specification alone. The test costs about as much
+//   as what a round does beside its search, and it spares the searches that follow.
+// - Where no witness of a round breaks it and all pairs agree, the problem is completed and searched
+//   whole. The formulas are counted before the first round, so too many of them leave an obligation
+//   undecided, whether or not a witness would be found.
 // - Two calls mostly commute whatever the invariants say. So an obligation on two calls whose entry
 //   has at least 256 clauses is first searched without these, and its time doesn't grow with the
 //   number of invariants. Of one call the invariants are needed nearly always. After three rounds
@@ -41,5 +47,6 @@ mod parts;
 mod picking;
 mod searching;
 mod testing;
+mod trying;
 
 pub use searching::{LazyAnswer, search_lazily};

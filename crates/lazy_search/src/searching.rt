@@ -1,23 +1,30 @@
 // The rounds of a search that takes the clauses of more pairs of readings as it needs them.
 ghost use Rattle.std.specs.Prelude.{◌≡◌, ◌+◌, ℕ, true, length, IfOk, IfSome, OnOk};
+ghost use Rattle.spec_core.specs.Specification.{Specification};
+ghost use Rattle.obligation_list.specs.declared.obligation.Obligation.{Obligation as TheObligation};
+ghost use Rattle.obligation_list.specs.Obligations.{IsObligation};
 ghost use Rattle.sat_core.specs.Answers.{IsRefuted};
 ghost use Rattle.needed_clauses.specs.Renaming.{IsPart};
 ghost use Rattle.lazy_ground.specs.Lazy.{lazy_problem, ArePairs};
 ghost use Rattle.lazy_ground.specs.Kept.{HasClauses};
 ghost use Rattle.chosen_clauses.specs.Chosen.{IsLayout};
 ghost use Rattle.lazy_search.specs.Refuting.{AreSizes, AreOf, IsLazyAnswer, IsStep};
+ghost use Rattle.lazy_search.specs.Refuting.{IsLazyAnswerTo, IsStepTo};
 
 use crate::agreeing::{PairAt, disagreeing};
 use crate::counting::{Sizes, count_atoms};
 use crate::parts::{Part, part_of};
 use crate::picking::Picked;
+use crate::trying::{Aim, broken_by};
 use chosen_clauses::{Chosen, Layout, chosen_front};
 use instances::kept_clauses;
 use items::Items;
 use lazy_ground::LazyGround;
 use needed_clauses::renumbering::{are_plain_lines, renumbered};
+use obligation_list::{Obligation, Witness};
 use proof_lines::Line;
 use sat_core::Answer;
+use spec_core::Spec;
 use std::alloc::{AllocError, Global};
 
 // So many rounds at most: each is a search, and most problems of the examples need one or two.
@@ -34,6 +41,8 @@ const FEW_LINES: u32 = 2000;
 pub enum LazyAnswer {
     /// This log shows that the problem has no interpretation.
     Refuted(Items<Line>),
+    /// This breaks the obligation.
+    Broken(Witness),
     /// The chosen clauses have an interpretation in which all pairs agree, so the problem probably has one. Nothing is promised of it.
     Satisfiable,
     /// Nothing was found in a few lines.
@@ -74,16 +83,16 @@ fn judge_log(
     part: &Part,
     log: Items<Line>,
     few: u32,
-    budget: u32,
+    aim: &Aim<'_>,
 ) -> Result<Step, AllocError>
     requires sizes { AreSizes ground.now sizes.now }
     requires part { IsPart part.now.problem (lazy_problem ground.now) part.now.picks.numbers.items
         part.now.atoms.items }
     requires refuted { IsRefuted true part.now.problem few log }
-    ensures { IfOk result (λ step. IsStep ground.now budget step) }
+    ensures { IfOk result (λ step. IsStepTo aim.now ground.now step) }
 {
     let _ground = ground;
-    if log.len() > budget as usize || !are_plain_lines(log.as_slice()) {
+    if log.len() > aim.budget as usize || !are_plain_lines(log.as_slice()) {
         drop(log);
         return Ok(Step::Answered(LazyAnswer::Unknown));
     }
@@ -118,7 +127,8 @@ fn judge_found(
     part: &Part,
     truths: &[bool],
 ) -> Result<Step, AllocError>
-    ensures { IfOk result (λ step. (budget : ℕ) → IsStep ground.now budget step) }
+    ensures { IfOk result (λ step. (d : Specification) (ob : TheObligation) (budget : ℕ)
+        → IsStep d ob ground.now budget step) }
 {
     let is_picking = picked.pick_false(chosen, part, truths);
     let places = false_kept(alloc, ground, sizes, picked, part, truths)?;
@@ -142,30 +152,28 @@ fn search_picked(
     sizes: &Sizes,
     chosen: &Chosen,
     picked: &mut Picked,
-    budget: u32,
+    aim: &Aim<'_>,
 ) -> Result<Step, AllocError>
+    requires member { IsObligation aim.now.spec.now aim.now.ob.now }
     requires sizes { AreSizes ground.now sizes.now }
     requires chosen { AreOf ground.now chosen.now }
-    ensures { IfOk result (λ step. IsStep ground.now budget step) }
+    ensures { IfOk result (λ step. IsStepTo aim.now ground.now step) }
 {
     let picks = picked.picks(alloc, chosen.numbers.as_slice())?;
     let Some(part) = part_of(alloc, ground, sizes, chosen, picks)? else {
         return Ok(Step::Answered(LazyAnswer::Unknown));
     };
-    let few = few_of(budget);
+    let few = few_of(aim.budget);
     match watched_search::search(alloc, &part.problem, few) {
-        Answer::Unsat(log) => judge_log(alloc, ground, sizes, &part, log, few, budget),
-        Answer::Sat(found) => {
-            judge_found(
-                alloc,
-                ground,
-                sizes,
-                chosen,
-                picked,
-                &part,
-                found.truths.as_slice(),
-            )
-        }
+        Answer::Unsat(log) => judge_log(alloc, ground, sizes, &part, log, few, aim),
+        Answer::Sat(found) => match broken_by(alloc, aim, ground, &part, &found) {
+            Ok(Some(witness)) => Ok(Step::Answered(LazyAnswer::Broken(witness))),
+            Ok(None) => {
+                let truths = found.truths.as_slice();
+                judge_found(alloc, ground, sizes, chosen, picked, &part, truths)
+            }
+            Err(AllocError) => Err(AllocError),
+        },
         Answer::Memory => Err(AllocError),
         other => {
             drop(other);
@@ -276,18 +284,19 @@ fn rounds(
     layout: &Layout,
     chosen: &mut Chosen,
     picked: &mut Picked,
-    budget: u32,
+    aim: &Aim<'_>,
 ) -> Result<LazyAnswer, AllocError>
     requires pairs { ArePairs ground.now.atoms.table ground.now.pairs }
     requires clauses { HasClauses ground.now }
     requires sizes { AreSizes ground.now sizes.now }
     requires layout { IsLayout ground.now (length ground.now.atoms.table.atoms) layout.now }
     requires chosen { AreOf ground.now chosen.now }
-    ensures answer { IfOk result (λ answer. IsLazyAnswer (lazy_problem ground.now) budget answer) }
+    requires member { IsObligation aim.now.spec.now aim.now.ob.now }
+    ensures answer { IfOk result (λ answer. IsLazyAnswerTo aim.now ground.now answer) }
     ensures chosen { OnOk result (AreOf ground.now chosen.new) }
 {
     for round in 0..ROUNDS {
-        match search_picked(alloc, ground, sizes, chosen, picked, budget)? {
+        match search_picked(alloc, ground, sizes, chosen, picked, aim)? {
             Step::Answered(answer) => return Ok(answer),
             Step::MoreClauses(more) => {
                 if !add_more(alloc, ground, sizes, layout, chosen, &more)? {
@@ -357,37 +366,44 @@ fn search_chosen(
     sizes: &Sizes,
     layout: &Layout,
     chosen: &mut Chosen,
-    budget: u32,
+    aim: &Aim<'_>,
 ) -> Result<LazyAnswer, AllocError>
+    requires member { IsObligation aim.now.spec.now aim.now.ob.now }
     requires pairs { ArePairs ground.now.atoms.table ground.now.pairs }
     requires clauses { HasClauses ground.now }
     requires sizes { AreSizes ground.now sizes.now }
     requires layout { IsLayout ground.now (length ground.now.atoms.table.atoms) layout.now }
     requires chosen { AreOf ground.now chosen.now }
-    ensures { IfOk result (λ answer. IsLazyAnswer (lazy_problem ground.now) budget answer) }
+    ensures { IfOk result (λ answer. IsLazyAnswerTo aim.now ground.now answer) }
 {
     let mut picked = Picked::first(alloc, &ground.atoms, chosen)?;
     if is_first_without_entry(ground) {
-        match rounds(alloc, ground, sizes, layout, chosen, &mut picked, budget)? {
+        match rounds(alloc, ground, sizes, layout, chosen, &mut picked, aim)? {
             LazyAnswer::Refuted(log) => return Ok(LazyAnswer::Refuted(log)),
+            LazyAnswer::Broken(witness) => return Ok(LazyAnswer::Broken(witness)),
             LazyAnswer::Satisfiable => {}
             LazyAnswer::Unknown => {}
         }
     }
     add_entry(alloc, ground, sizes, chosen, &mut picked)?;
-    rounds(alloc, ground, sizes, layout, chosen, &mut picked, budget)
+    rounds(alloc, ground, sizes, layout, chosen, &mut picked, aim)
 }
 
-/// A search of a lazy ground problem, with logs of at most `budget` lines: a log that shows that the problem has no interpretation, or
-/// whether it probably has one. Nothing is found where a few searches of a few lines don't find it.
+/// A search of the lazy ground problem of an obligation, with logs of at most `budget` lines: a log that shows that the problem has no
+/// interpretation; or a witness that breaks the obligation; or whether the problem probably has an interpretation. Nothing is found where
+/// a few searches of a few lines don't find it.
 pub fn search_lazily(
     alloc: Global,
+    spec: &Spec,
+    ob: &Obligation,
     ground: &LazyGround,
     budget: u32,
 ) -> Result<LazyAnswer, AllocError>
+    requires member { IsObligation spec.now ob.now }
     requires pairs { ArePairs ground.now.atoms.table ground.now.pairs }
     requires clauses { HasClauses ground.now }
-    ensures { IfOk result (λ answer. IsLazyAnswer (lazy_problem ground.now) budget answer) }
+    ensures { IfOk result
+        (λ answer. IsLazyAnswer spec.now ob.now (lazy_problem ground.now) budget answer) }
 {
     let Some(first) = count_atoms(&ground.atoms) else {
         return Ok(LazyAnswer::Unknown);
@@ -398,5 +414,6 @@ pub fn search_lazily(
     let Some(sizes) = sizes_of(first, &layout) else {
         return Ok(LazyAnswer::Unknown);
     };
-    search_chosen(alloc, ground, &sizes, &layout, &mut chosen, budget)
+    let aim = Aim { spec, ob, budget };
+    search_chosen(alloc, ground, &sizes, &layout, &mut chosen, &aim)
 }

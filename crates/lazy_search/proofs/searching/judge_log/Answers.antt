@@ -14,8 +14,8 @@ returns c =
     let g : ℕ → ℕ = number_in part.atoms.items (length p.atoms) in
     let plain : list_all is_plain_line c.args.log ≡ true =
     subst (λ (z : List Line). list_all is_plain_line z ≡ true) c.as_slice.ensures (sym c.are_plain_lines.ensures ∙ c.if-not-are_plain_lines.false) in
-    let within : length c.args.log ≤ c.args.budget = let l = c.len.ensures in omega (arith, l, c.if-len-budget.false) in
+    let within : length c.args.log ≤ c.args.aim.now.budget = let l = c.len.ensures in omega (arith, l, c.if-len-aim.false) in
     let lines : c.in_ok-lines.lines ≡ map (line_by f g) c.args.log =
     c.in_ok-lines.ensures
     ∙ (λ i. map (line_by (number_in (c.as_slice-numbers.ensures.value i) (c.requires.sizes.clauses i)) (number_in (c.as_slice-atoms.ensures.value i) (c.requires.sizes.atoms i))) c.args.log) in
-    of_whole f g part.problem p c.args.few c.args.budget c.args.log c.in_ok-lines.lines c.requires.part c.requires.refuted plain within lines
+    of_whole f g part.problem p c.args.few c.args.aim.now.budget c.args.log c.in_ok-lines.lines c.requires.part c.requires.refuted plain within lines
