@@ -3,3 +3,4 @@ pub mod Sums
 pub mod Numbering
 pub mod Guessing
 pub mod Cutting
+pub mod Staying

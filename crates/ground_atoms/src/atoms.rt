@@ -5,6 +5,7 @@ ghost use Rattle.ground_numbers.specs.Numbers as numbers;
 ghost use Rattle.ground_atoms.specs.Symbols.{atom_of, integer_of, reading_of};
 ghost use Rattle.ground_atoms.specs.Known.{Known, nothing, know_atom, know_integer, reading_of_atom};
 ghost use Rattle.ground_atoms.specs.Sizes.{size_of, cut_back};
+ghost use Rattle.ground_atoms.specs.Staying.{NumbersStay};
 ghost use Rattle.ground_problem.specs.Definitions.{reading_of_integer};
 
 use crate::atom::{Atom, IntName, NamedReading, same_arguments};
@@ -80,6 +81,7 @@ impl Atoms {
     pub fn number_of(&mut self, atom: Atom) -> Result<u32, AllocError>
         ensures known { OnOk result (self.new ≡ know_atom self.old (atom_of atom)) }
         ensures number { IfOk result (λ n. n ≡ numbers.number_of self.old.table (atom_of atom)) }
+        ensures stay { NumbersStay self.old self.new }
     {
         let slot = slot_of(&atom);
         if let Some(number) = self.guessed(slot, &atom) {
@@ -95,6 +97,7 @@ impl Atoms {
     fn looked_up(&mut self, atom: Atom) -> Result<u32, AllocError>
         ensures known { OnOk result (self.new ≡ know_atom self.old (atom_of atom)) }
         ensures number { IfOk result (λ n. n ≡ numbers.number_of self.old.table (atom_of atom)) }
+        ensures stay { NumbersStay self.old self.new }
     {
         if let Some(index) = self.atoms.get_index_of(&atom) {
             return as_number(index);
@@ -134,6 +137,7 @@ impl Atoms {
         ensures known { OnOk result (self.new ≡ know_integer self.old (integer_of name)) }
         ensures number { IfOk result (λ n. n ≡ numbers.integer_of self.old.table
             (integer_of name)) }
+        ensures stay { NumbersStay self.old self.new }
     {
         if let Some(index) = self.ints.get_index_of(&name) {
             return as_number(index);

@@ -7,6 +7,7 @@ ghost use Rattle.ground_numbers.specs.Numbers.{plain_of, bound_of, added_up, sig
 ghost use Rattle.ground_atoms.specs.Symbols.{parts_of};
 ghost use Rattle.ground_atoms.specs.Making.{make, make_row, make_terms};
 ghost use Rattle.ground_atoms.specs.Formulas.{form_of};
+ghost use Rattle.ground_atoms.specs.Staying.{NumbersStay};
 
 use crate::atom::Atom;
 use crate::atoms::Atoms;
@@ -17,6 +18,7 @@ use lin_rows::number::minus;
 use lin_rows::{Row, RowTerm, plus, row_of};
 use std::alloc::{AllocError, Global};
 
+#[tactic(auto, using(crate::proofs::Staying::stay, crate::proofs::Staying::stay_then))]
 /// Says that one sum is at most another one and a number, over numbers of integer names.
 pub fn at_most(
     atoms: &mut Atoms,
@@ -25,9 +27,10 @@ pub fn at_most(
     right: &[SumPart],
     more: i64,
 ) -> Result<GroundFormula, AllocError>
-    ensures { IfOk result
+    ensures made { IfOk result
         (λ f. make atoms.old (at_most (parts_of left.now) (parts_of right.now) more)
         ≡ record { known = atoms.new; form = form_of f }) }
+    ensures stay { NumbersStay atoms.old atoms.new }
 {
     let bound = bound_of(left, right, more)?;
     let mut terms = Vec::new(alloc);
@@ -39,10 +42,11 @@ pub fn at_most(
 
 // A row as a literal, or as a truth value where it has no terms.
 fn row_formula(atoms: &mut Atoms, row: Row) -> Result<GroundFormula, AllocError>
-    ensures { IfOk result (λ f. make_row atoms.old row.terms row ≡ record {
+    ensures made { IfOk result (λ f. make_row atoms.old row.terms row ≡ record {
       known = atoms.new;
       form = form_of f;
     }) }
+    ensures stay { NumbersStay atoms.old atoms.new }
 {
     if row.terms().is_empty() {
         let holds = row.bound() >= 0;
@@ -52,6 +56,7 @@ fn row_formula(atoms: &mut Atoms, row: Row) -> Result<GroundFormula, AllocError>
     Ok(GroundFormula::Lit(number, true))
 }
 
+#[tactic(auto, using(crate::proofs::Staying::stay, crate::proofs::Staying::stay_then))]
 // Appends the multiples of a sum, or their opposites.
 fn add_terms(
     atoms: &mut Atoms,
@@ -65,14 +70,17 @@ fn add_terms(
         ≡ record { known = atoms.new; terms = terms.new.items }) }
     ensures range { OnOk result (all_in_range terms.old.items ≡ true
         → all_in_range terms.new.items ≡ true) }
+    ensures stay { NumbersStay atoms.old atoms.new }
 {
-    for part in parts {
-        if let SumPart::Multiple(coef, name) = part {
+    match parts {
+        [] => Ok(()),
+        [SumPart::Multiple(coef, name), rest @ ..] => {
             let place = atoms.int_of(name.copy(alloc)?)?;
             terms.push(term_of(positive, place, *coef))?;
+            add_terms(atoms, alloc, positive, rest, terms)
         }
+        [_, rest @ ..] => add_terms(atoms, alloc, positive, rest, terms),
     }
-    Ok(())
 }
 
 // The sum of terms as a row.
