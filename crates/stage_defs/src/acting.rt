@@ -4,6 +4,7 @@ ghost use Rattle.std.specs.Option.{option_map};
 ghost use Rattle.ground_problem.specs.Definitions as definitions;
 ghost use Rattle.ground_numbers.specs.Numbered.{known};
 ghost use Rattle.ground_atoms.specs.Formulas.{form_of};
+ghost use Rattle.ground_atoms.specs.Staying.{NumbersStay};
 ghost use Rattle.stage_defs.specs.Settings.{readings_in, caller_in, IsMade};
 ghost use Rattle.stage_defs.specs.Parts.{joined, make_parts, spot_at};
 
@@ -23,10 +24,11 @@ pub fn acts_on(
     tuple: &[u32],
     update: &Update,
 ) -> Result<GroundFormula, AllocError>
-    ensures { IfOk result
+    ensures made { IfOk result
         (λ f. IsMade atoms.old
         (definitions.acts_on (readings_in setting.now) (caller_in setting.now) tuple.now update.now)
         atoms.new f) }
+    ensures stay { NumbersStay atoms.old atoms.new }
 {
     let spots = spots_hold(atoms, alloc, setting, update.at.as_slice(), tuple)?;
     let guard = formula(atoms, alloc, setting, &[], &update.guard)?;
@@ -42,9 +44,10 @@ fn spots_hold(
     spots: &[Spot],
     tuple: &[u32],
 ) -> Result<Option<GroundFormula>, AllocError>
-    ensures { IfOk result
+    ensures made { IfOk result
         (λ done. make_parts None atoms.old (definitions.spots_hold (caller_in setting.now) spots.now tuple.now)
         ≡ record { known = atoms.new; parts = option_map form_of done }) }
+    ensures stay { NumbersStay atoms.old atoms.new }
 {
     let mut done = None;
     let count = spots.len().min(tuple.len());
@@ -65,9 +68,10 @@ fn join_spot(
     place: usize,
     done: Option<GroundFormula>,
 ) -> Result<Option<GroundFormula>, AllocError>
-    ensures { IfOk result
+    ensures made { IfOk result
         (λ more. make_parts (option_map form_of done) atoms.old (spot_at (caller_in setting.now) (slice_get spots.now place) (slice_get tuple.now place))
         ≡ record { known = atoms.new; parts = option_map form_of more }) }
+    ensures stay { NumbersStay atoms.old atoms.new }
 {
     match (spots.get(place), tuple.get(place)) {
         (Some(Spot::One(element)), Some(constant)) => {

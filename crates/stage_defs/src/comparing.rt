@@ -4,6 +4,7 @@ ghost use Rattle.spec_core.specs.Specification.{no_relation};
 ghost use Rattle.ground_problem.specs.Symbols as symbols;
 ghost use Rattle.ground_problem.specs.Formulas.{comparison};
 ghost use Rattle.ground_atoms.specs.Symbols.{parts_of};
+ghost use Rattle.ground_atoms.specs.Staying.{NumbersStay};
 ghost use Rattle.stage_defs.specs.Settings.{readings_in, IsMade};
 
 use crate::connecting::{both, either};
@@ -14,7 +15,8 @@ use std::alloc::{AllocError, Global};
 
 /// The equality of two constants: true of one constant with itself, else a literal whose lesser constant stands first.
 pub fn same_const(atoms: &mut Atoms, left: u32, right: u32) -> Result<GroundFormula, AllocError>
-    ensures { IfOk result (λ f. IsMade atoms.old (symbols.same_const left right) atoms.new f) }
+    ensures made { IfOk result (λ f. IsMade atoms.old (symbols.same_const left right) atoms.new f) }
+    ensures stay { NumbersStay atoms.old atoms.new }
 {
     if left == right {
         return Ok(GroundFormula::Truth(true));
@@ -34,8 +36,9 @@ pub fn has(
     relation: u8,
     tuple: Tuple,
 ) -> Result<GroundFormula, AllocError>
-    ensures { IfOk result (λ f. IsMade atoms.old
+    ensures made { IfOk result (λ f. IsMade atoms.old
         ((readings_in setting.now).has relation tuple) atoms.new f) }
+    ensures stay { NumbersStay atoms.old atoms.new }
 {
     match setting.stage {
         Stage::Initial => Ok(GroundFormula::Truth(begins_true(setting.spec, relation))),
@@ -67,8 +70,9 @@ pub fn equal(
     left: &[SumPart],
     right: &[SumPart],
 ) -> Result<GroundFormula, AllocError>
-    ensures { IfOk result (λ f. IsMade atoms.old
+    ensures made { IfOk result (λ f. IsMade atoms.old
         (symbols.equal (parts_of left.now) (parts_of right.now)) atoms.new f) }
+    ensures stay { NumbersStay atoms.old atoms.new }
 {
     let up = at_most(atoms, alloc, left, right, 0)?;
     let down = at_most(atoms, alloc, right, left, 0)?;
@@ -82,8 +86,9 @@ pub fn unequal(
     left: &[SumPart],
     right: &[SumPart],
 ) -> Result<GroundFormula, AllocError>
-    ensures { IfOk result (λ f. IsMade atoms.old
+    ensures made { IfOk result (λ f. IsMade atoms.old
         (symbols.unequal (parts_of left.now) (parts_of right.now)) atoms.new f) }
+    ensures stay { NumbersStay atoms.old atoms.new }
 {
     let below = at_most(atoms, alloc, left, right, -1)?;
     let above = at_most(atoms, alloc, right, left, -1)?;
@@ -98,8 +103,9 @@ pub fn comparison(
     order: Cmp,
     right: &[SumPart],
 ) -> Result<GroundFormula, AllocError>
-    ensures { IfOk result (λ f. IsMade atoms.old
+    ensures made { IfOk result (λ f. IsMade atoms.old
         (comparison order (parts_of left.now) (parts_of right.now)) atoms.new f) }
+    ensures stay { NumbersStay atoms.old atoms.new }
 {
     match order {
         Cmp::Less => at_most(atoms, alloc, left, right, -1),

@@ -9,6 +9,7 @@ ghost use Rattle.ground_numbers.specs.Stages.{stage_of};
 ghost use Rattle.ground_atoms.specs.Symbols.{part_of, parts_of, count_of};
 ghost use Rattle.ground_atoms.specs.Making.{make_all};
 ghost use Rattle.ground_atoms.specs.Formulas.{form_of};
+ghost use Rattle.ground_atoms.specs.Staying.{NumbersStay};
 ghost use Rattle.stage_defs.specs.Settings.{readings_in, caller_in, count_definition, IsMade};
 ghost use Rattle.stage_defs.specs.Parts.{value_defined, values_upto, count_defined};
 
@@ -24,7 +25,7 @@ use items::Items;
 use spec_core::{Change, Spec, Thing, Update};
 use std::alloc::{AllocError, Global};
 
-/// The formulas that tie a counter's reading at a stage to the readings before it. After a refusal `atoms` may have new numbers.
+/// The formulas that tie a counter's reading at a stage to the readings before it. After a refusal `atoms` may have new numbers; others stay.
 pub fn define_count(
     spec: &Spec,
     atoms: &mut Atoms,
@@ -34,9 +35,10 @@ pub fn define_count(
     counter: u8,
     key: &[u32],
 ) -> Result<Items<GroundFormula>, AllocError>
-    ensures { IfOk result
+    ensures made { IfOk result
         (λ fs. make_all [] atoms.old (count_definition spec.now call.now stage counter key.now)
         ≡ record { known = atoms.new; forms = map form_of fs }) }
+    ensures stay { NumbersStay atoms.old atoms.new }
 {
     let mut out = Items::new(alloc);
     add_count(spec, atoms, alloc, call, stage, counter, key, &mut out)?;
@@ -54,9 +56,10 @@ pub fn add_count(
     key: &[u32],
     out: &mut Items<GroundFormula>,
 ) -> Result<(), AllocError>
-    ensures { OnOk result
+    ensures made { OnOk result
         (make_all (map form_of out.old) atoms.old (count_definition spec.now call.now stage counter key.now)
         ≡ record { known = atoms.new; forms = map form_of out.new }) }
+    ensures stay { NumbersStay atoms.old atoms.new }
 {
     let before = Setting {
         spec,
@@ -79,9 +82,10 @@ fn add_in(
     updates: &[Update],
     out: &mut Items<GroundFormula>,
 ) -> Result<(), AllocError>
-    ensures { OnOk result
+    ensures made { OnOk result
         (make_all (map form_of out.old) atoms.old (definitions.define_count (readings_in before.now) (caller_in before.now) updates.now (stage_of stage) counter key.now)
         ≡ record { known = atoms.new; forms = map form_of out.new }) }
+    ensures stay { NumbersStay atoms.old atoms.new }
 {
     let reading = reading_part(before, 1, counter, Tuple::of(alloc, key)?);
     let value = sum_of_one(alloc, reading)?;
@@ -103,9 +107,10 @@ fn add_defined(
     value: Items<SumPart>,
     out: &mut Items<GroundFormula>,
 ) -> Result<(), AllocError>
-    ensures { OnOk result
+    ensures made { OnOk result
         (make_all (map form_of out.old) atoms.old (count_defined (readings_in before.now) (caller_in before.now) (stage_of stage) counter key.now (parts_of value) updates.now)
         ≡ record { known = atoms.new; forms = map form_of out.new }) }
+    ensures stay { NumbersStay atoms.old atoms.new }
 {
     if updates_any(updates, counter) {
         return add_values(
@@ -143,9 +148,10 @@ fn add_stays(
     value: &[SumPart],
     out: &mut Items<GroundFormula>,
 ) -> Result<(), AllocError>
-    ensures { OnOk result
+    ensures made { OnOk result
         (make_all (map form_of out.old) atoms.old (symbols.equal (symbols.multiple (pos 1) (symbols.reading (stage_of stage) counter key.now) ∷ []) (parts_of value.now) ∷ [])
         ≡ record { known = atoms.new; forms = map form_of out.new }) }
+    ensures stay { NumbersStay atoms.old atoms.new }
 {
     let reading = sum_of_one(alloc, value_part(stage, 0, counter, Tuple::of(alloc, key)?))?;
     let stays = equal(atoms, alloc, reading.as_slice(), value)?;
@@ -179,9 +185,10 @@ fn add_values(
     first: Items<SumPart>,
     out: &mut Items<GroundFormula>,
 ) -> Result<(), AllocError>
-    ensures { OnOk result
+    ensures made { OnOk result
         (make_all (map form_of out.old) atoms.old (values_upto (readings_in before.now) (caller_in before.now) (stage_of stage) counter key.now 1 (parts_of first) updates.now)
         ≡ record { known = atoms.new; forms = map form_of out.new }) }
+    ensures stay { NumbersStay atoms.old atoms.new }
 {
     let mut value = first;
     let mut number = 1;
@@ -262,9 +269,10 @@ fn add_value(
     update: &Update,
     out: &mut Items<GroundFormula>,
 ) -> Result<(), AllocError>
-    ensures { OnOk result
+    ensures made { OnOk result
         (make_all (map form_of out.old) atoms.old (value_defined (readings_in before.now) (caller_in before.now) key.now (parts_of next.now) (parts_of value.now) update.now)
         ≡ record { known = atoms.new; forms = map form_of out.new }) }
+    ensures stay { NumbersStay atoms.old atoms.new }
 {
     out.push(gives_next(atoms, alloc, before, key, next, value, update)?)?;
     out.push(leaves_value(atoms, alloc, before, key, next, value, update)?)
@@ -280,7 +288,7 @@ fn gives_next(
     value: &[SumPart],
     update: &Update,
 ) -> Result<GroundFormula, AllocError>
-    ensures { IfOk result
+    ensures made { IfOk result
         (λ f. IsMade atoms.old
         (symbols.either
         (symbols.negated (definitions.acts_on (readings_in before.now) (caller_in before.now) key.now update.now))
@@ -288,6 +296,7 @@ fn gives_next(
         (definitions.count_then (readings_in before.now) (caller_in before.now) update.now.change
         (parts_of value.now))))
         atoms.new f) }
+    ensures stay { NumbersStay atoms.old atoms.new }
 {
     let acting = acts_on(atoms, alloc, before, key, update)?;
     let left = negated(alloc, acting)?;
@@ -306,12 +315,13 @@ fn leaves_value(
     value: &[SumPart],
     update: &Update,
 ) -> Result<GroundFormula, AllocError>
-    ensures { IfOk result
+    ensures made { IfOk result
         (λ f. IsMade atoms.old
         (symbols.either
         (definitions.acts_on (readings_in before.now) (caller_in before.now) key.now update.now)
         (symbols.equal (parts_of next.now) (parts_of value.now)))
         atoms.new f) }
+    ensures stay { NumbersStay atoms.old atoms.new }
 {
     let acting = acts_on(atoms, alloc, before, key, update)?;
     let right = equal(atoms, alloc, next, value)?;

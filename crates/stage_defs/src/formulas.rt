@@ -3,6 +3,7 @@ ghost use Rattle.std.specs.Prelude.{◌≡◌, IfOk};
 ghost use Rattle.spec_core.specs.Form as forms;
 ghost use Rattle.ground_problem.specs.Symbols as symbols;
 ghost use Rattle.ground_problem.specs.Formulas as formulas;
+ghost use Rattle.ground_atoms.specs.Staying.{NumbersStay};
 ghost use Rattle.stage_defs.specs.Settings.{readings_in, caller_in, IsMade};
 
 use crate::comparing::{comparison, has, same_const};
@@ -21,11 +22,12 @@ pub fn formula(
     vars: &[u32],
     form: &Formula,
 ) -> Result<GroundFormula, AllocError>
-    ensures { IfOk result
+    ensures made { IfOk result
         (λ f. IsMade atoms.old
         (formulas.formula (readings_in setting.now) (caller_in setting.now) vars.now
         (forms.form_of form.now))
         atoms.new f) }
+    ensures stay { NumbersStay atoms.old atoms.new }
 {
     match form {
         Formula::True => Ok(GroundFormula::Truth(true)),
@@ -71,11 +73,12 @@ fn equality(
     a: Elem,
     b: Elem,
 ) -> Result<GroundFormula, AllocError>
-    ensures { IfOk result
+    ensures made { IfOk result
         (λ f. IsMade atoms.old
         (symbols.same_const (formulas.const_of (caller_in setting.now) vars.now a)
         (formulas.const_of (caller_in setting.now) vars.now b))
         atoms.new f) }
+    ensures stay { NumbersStay atoms.old atoms.new }
 {
     same_const(
         atoms,
@@ -93,12 +96,13 @@ fn compared(
     order: Cmp,
     right: &Term,
 ) -> Result<GroundFormula, AllocError>
-    ensures { IfOk result
+    ensures made { IfOk result
         (λ f. IsMade atoms.old
         (formulas.comparison order
         (formulas.parts_of (readings_in setting.now) (caller_in setting.now) vars.now left.now)
         (formulas.parts_of (readings_in setting.now) (caller_in setting.now) vars.now right.now))
         atoms.new f) }
+    ensures stay { NumbersStay atoms.old atoms.new }
 {
     let left = parts_of(alloc, setting, vars, left)?;
     let right = parts_of(alloc, setting, vars, right)?;

@@ -8,6 +8,7 @@ ghost use Rattle.ground_problem.specs.Definitions as definitions;
 ghost use Rattle.ground_numbers.specs.Stages.{stage_of, stage_before, latest_call};
 ghost use Rattle.ground_atoms.specs.Making.{make_all};
 ghost use Rattle.ground_atoms.specs.Formulas.{form_of, consts_of_args};
+ghost use Rattle.ground_atoms.specs.Staying.{NumbersStay};
 ghost use Rattle.stage_defs.specs.Settings.{readings_in, caller_in, has_definition, updated, IsMade};
 ghost use Rattle.stage_defs.specs.Parts.{has_upto};
 
@@ -22,7 +23,7 @@ use items::Items;
 use spec_core::{Change, Spec, Thing, Update};
 use std::alloc::{AllocError, Global};
 
-/// The formulas that tie a relation's reading at a stage to the readings before it. After a refusal `atoms` may have new numbers.
+/// The formulas that tie a relation's reading at a stage to the readings before it. After a refusal `atoms` may have new numbers; others stay.
 pub fn define_has(
     spec: &Spec,
     atoms: &mut Atoms,
@@ -32,9 +33,10 @@ pub fn define_has(
     relation: u8,
     tuple: &[u32],
 ) -> Result<Items<GroundFormula>, AllocError>
-    ensures { IfOk result
+    ensures made { IfOk result
         (λ fs. make_all [] atoms.old (has_definition spec.now call.now stage relation tuple.now)
         ≡ record { known = atoms.new; forms = map form_of fs }) }
+    ensures stay { NumbersStay atoms.old atoms.new }
 {
     let mut out = Items::new(alloc);
     add_has(spec, atoms, alloc, call, stage, relation, tuple, &mut out)?;
@@ -52,9 +54,10 @@ pub fn add_has(
     tuple: &[u32],
     out: &mut Items<GroundFormula>,
 ) -> Result<(), AllocError>
-    ensures { OnOk result
+    ensures made { OnOk result
         (make_all (map form_of out.old) atoms.old (has_definition spec.now call.now stage relation tuple.now)
         ≡ record { known = atoms.new; forms = map form_of out.new }) }
+    ensures stay { NumbersStay atoms.old atoms.new }
 {
     let before = Setting {
         spec,
@@ -77,11 +80,12 @@ fn only_if(
     tuple: &[u32],
     updates: &[Update],
 ) -> Result<GroundFormula, AllocError>
-    ensures { IfOk result
+    ensures made { IfOk result
         (λ f. IsMade atoms.old
         (symbols.either (symbols.negated (symbols.has (stage_of stage) relation tuple.now))
         (updated (readings_in before.now) (caller_in before.now) updates.now relation tuple.now))
         atoms.new f) }
+    ensures stay { NumbersStay atoms.old atoms.new }
 {
     let reading = reading(atoms, alloc, before, stage, relation, tuple)?;
     let left = negated(alloc, reading)?;
@@ -99,11 +103,12 @@ fn if_updated(
     tuple: &[u32],
     updates: &[Update],
 ) -> Result<GroundFormula, AllocError>
-    ensures { IfOk result
+    ensures made { IfOk result
         (λ f. IsMade atoms.old
         (symbols.either (symbols.has (stage_of stage) relation tuple.now)
         (symbols.negated (updated (readings_in before.now) (caller_in before.now) updates.now relation tuple.now)))
         atoms.new f) }
+    ensures stay { NumbersStay atoms.old atoms.new }
 {
     let left = reading(atoms, alloc, before, stage, relation, tuple)?;
     let value = updated(atoms, alloc, before, relation, tuple, updates)?;
@@ -120,8 +125,9 @@ fn reading(
     relation: u8,
     tuple: &[u32],
 ) -> Result<GroundFormula, AllocError>
-    ensures { IfOk result (λ f. IsMade atoms.old
+    ensures made { IfOk result (λ f. IsMade atoms.old
         (symbols.has (stage_of stage) relation tuple.now) atoms.new f) }
+    ensures stay { NumbersStay atoms.old atoms.new }
 {
     let after = Setting {
         spec: before.spec,
@@ -142,10 +148,11 @@ fn updated(
     tuple: &[u32],
     updates: &[Update],
 ) -> Result<GroundFormula, AllocError>
-    ensures { IfOk result
+    ensures made { IfOk result
         (λ f. IsMade atoms.old
         (updated (readings_in before.now) (caller_in before.now) updates.now relation tuple.now)
         atoms.new f) }
+    ensures stay { NumbersStay atoms.old atoms.new }
 {
     updated_upto(
         atoms,
@@ -169,11 +176,12 @@ fn updated_upto(
     updates: &[Update],
     count: usize,
 ) -> Result<GroundFormula, AllocError>
-    ensures { IfOk result
+    ensures made { IfOk result
         (λ f. IsMade atoms.old
         (has_upto (readings_in before.now) (caller_in before.now) (thing.Relation relation)
         tuple.now updates.now count ((readings_in before.now).has relation tuple.now))
         atoms.new f) }
+    ensures stay { NumbersStay atoms.old atoms.new }
 {
     if count == 0 {
         return has(atoms, before, relation, Tuple::of(alloc, tuple)?);

@@ -12,8 +12,8 @@ use Rattle.stage_defs.specs.Parts.{joined}
 use Rattle.stage_defs.proofs.Joined.{all_parts-last}
 use Rattle.stage_defs.proofs.acting.acts_on.Goals as goal
 
-pub returns : goal.returns
-returns c =
+pub returns-clause-made : goal.returns-clause-made
+returns-clause-made c =
     let s = c.args.setting.now in
     let u = c.args.update.now in
     let ss = c.as_slice.result.now in
@@ -22,6 +22,6 @@ returns c =
     let e : u.at ≡ ss = search rules in
     let made : make c.spots_hold.new.atoms g ≡ record { known = c.formula.new.atoms; form = form_of c.in_ok-guard.guard } = search rules in
     ap (λ (xs : List Spot). make c.args.atoms.now (all_parts (spots_hold (caller_in s) xs c.args.tuple.now ++ g ∷ []))) e
-    ∙ all_parts-last c.args.atoms.now (spots_hold (caller_in s) ss c.args.tuple.now) g o c.spots_hold.new.atoms c.in_ok-spots.ensures
+    ∙ all_parts-last c.args.atoms.now (spots_hold (caller_in s) ss c.args.tuple.now) g o c.spots_hold.new.atoms c.in_ok-spots.ensures.made
     ∙ ap (λ (m : Made). record { known = m.known; form = joined o m.form }) made
     ∙ ap (λ (z : Numbered). record { known = c.formula.new.atoms; form = z }) (sym c.in_ok-made.ensures)
