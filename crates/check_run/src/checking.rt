@@ -139,7 +139,7 @@ fn write_opening<K: Sink>(
     ensures never_falls { K.faults out.old ≤ K.faults out.new }
 {
     let mut text = Vec::new(alloc);
-    let Ok(()) = write_head(spec, 1, budget, obligations, &mut text) else {
+    let Ok(()) = write_head(alloc, spec, 1, budget, obligations, &mut text) else {
         return Err(WriteOut::Memory);
     };
     write_text(out, text.as_slice())
@@ -153,7 +153,7 @@ fn write_closing<K: Sink>(alloc: Global, tally: Tally, out: &mut K) -> Result<()
     ensures never_falls { K.faults out.old ≤ K.faults out.new }
 {
     let mut text = Vec::new(alloc);
-    let Ok(()) = write_end(tally, &mut text) else {
+    let Ok(()) = write_end(alloc, tally, &mut text) else {
         return Err(WriteOut::Memory);
     };
     write_text(out, text.as_slice())

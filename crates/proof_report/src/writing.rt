@@ -1,6 +1,6 @@
 // Writing a report: the lines before the blocks, a block, and the lines behind them.
 
-ghost use Rattle.std.specs.Prelude.{◌≡◌, ◌++◌, ◌+◌, ◌<◌, ◌^◌, OnOk, IfOk, true, length};
+ghost use Rattle.std.specs.Prelude.{◌≡◌, ◌++◌, ◌+◌, ◌<◌, ◌^◌, OnOk, OnErr, IfOk, true, length};
 ghost use Rattle.spec_core.specs.State.{reads};
 ghost use Rattle.spec_states.specs.StateText.{state_text};
 ghost use Rattle.spec_core.specs.Fits.{is_state};
@@ -52,8 +52,41 @@ fn count(lines: &[Line]) -> Result<u32, AllocError>
     Ok(lines.len() as u32)
 }
 
-/// Appends the lines before the blocks. After a refusal a front is appended.
+// Appends a text that was made in a list of its own. A refusal leaves what was there.
+fn append(out: &mut Vec<u8>, text: Vec<u8>) -> Result<(), AllocError>
+    ensures ok { OnOk result (out.new.items ≡ out.old.items ++ text.items) }
+    ensures err { OnErr result (out.new.items ≡ out.old.items) }
+{
+    if out.is_empty() {
+        *out = text;
+        return Ok(());
+    }
+    let told = out.extend_from_slice(text.as_slice());
+    drop(text);
+    told
+}
+
+// The lines before the blocks.
+fn head(
+    alloc: Global,
+    spec: &Spec,
+    version: u8,
+    budget: u32,
+    obligations: u32,
+) -> Result<Vec<u8>, AllocError>
+    requires { obligations ≡ obligation_count spec.now }
+    ensures { IfOk result (λ text. text.items ≡ head_text spec.now version budget) }
+{
+    let mut text = Vec::new(alloc);
+    write_title(&mut text, version)?;
+    write_budget(&mut text, budget)?;
+    write_obligations(&mut text, obligations)?;
+    Ok(text)
+}
+
+/// Appends the lines before the blocks. After a refusal nothing is appended.
 pub fn write_head(
+    alloc: Global,
     spec: &Spec,
     version: u8,
     budget: u32,
@@ -61,12 +94,11 @@ pub fn write_head(
     out: &mut Vec<u8>,
 ) -> Result<(), AllocError>
     requires { obligations ≡ obligation_count spec.now }
-    ensures { OnOk result (out.new.items ≡ out.old.items ++ head_text spec.now version budget) }
+    ensures ok { OnOk result (out.new.items ≡ out.old.items ++ head_text spec.now version budget) }
+    ensures err { OnErr result (out.new.items ≡ out.old.items) }
 {
-    write_title(out, version)?;
-    write_budget(out, budget)?;
-    write_obligations(out, obligations)?;
-    Ok(())
+    let text = head(alloc, spec, version, budget, obligations)?;
+    append(out, text)
 }
 
 /// What the verdicts come to.
@@ -82,13 +114,23 @@ pub fn outcome(tally: &Tally) -> Outcome
     }
 }
 
-/// Appends the lines behind the blocks. After a refusal a front is appended.
-pub fn write_end(tally: Tally, out: &mut Vec<u8>) -> Result<(), AllocError>
-    ensures { OnOk result (out.new.items ≡ out.old.items ++ end_text tally) }
+// The lines behind the blocks.
+fn end(alloc: Global, tally: Tally) -> Result<Vec<u8>, AllocError>
+    ensures { IfOk result (λ text. text.items ≡ end_text tally) }
 {
-    write_summary(out, tally)?;
-    write_outcome(out, outcome(&tally))?;
-    Ok(())
+    let mut text = Vec::new(alloc);
+    write_summary(&mut text, tally)?;
+    write_outcome(&mut text, outcome(&tally))?;
+    Ok(text)
+}
+
+/// Appends the lines behind the blocks. After a refusal nothing is appended.
+pub fn write_end(alloc: Global, tally: Tally, out: &mut Vec<u8>) -> Result<(), AllocError>
+    ensures ok { OnOk result (out.new.items ≡ out.old.items ++ end_text tally) }
+    ensures err { OnErr result (out.new.items ≡ out.old.items) }
+{
+    let text = end(alloc, tally)?;
+    append(out, text)
 }
 
 fn write_sizes(
@@ -220,7 +262,24 @@ fn write_all(
     }
 }
 
-/// Appends the block of an obligation with its verdict. After a refusal a front of it is appended.
+// The block of an obligation with its verdict.
+fn block(
+    alloc: Global,
+    spec: &Spec,
+    obligation: Obligation,
+    verdict: &Verdict,
+) -> Result<Vec<u8>, AllocError>
+    requires obligation { IsObligation spec.now obligation }
+    requires verdict { CanStand spec.now verdict.now }
+    ensures { IfOk result (λ text. text.items ≡ block_text spec.now obligation verdict.now) }
+{
+    let mut text = Vec::new(alloc);
+    write_obligation(&mut text, spec, obligation)?;
+    write_all(alloc, spec, verdict, &mut text)?;
+    Ok(text)
+}
+
+/// Appends the block of an obligation with its verdict. After a refusal nothing is appended.
 pub fn write_verdict(
     alloc: Global,
     spec: &Spec,
@@ -230,10 +289,10 @@ pub fn write_verdict(
 ) -> Result<(), AllocError>
     requires obligation { IsObligation spec.now obligation }
     requires verdict { CanStand spec.now verdict.now }
-    ensures { OnOk result (out.new.items ≡ out.old.items
+    ensures ok { OnOk result (out.new.items ≡ out.old.items
         ++ block_text spec.now obligation verdict.now) }
+    ensures err { OnErr result (out.new.items ≡ out.old.items) }
 {
-    write_obligation(out, spec, obligation)?;
-    write_all(alloc, spec, verdict, out)?;
-    Ok(())
+    let text = block(alloc, spec, obligation, verdict)?;
+    append(out, text)
 }

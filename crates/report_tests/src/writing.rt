@@ -58,6 +58,7 @@ fn write_front(rt: &impl Abort, alloc: Global, spec: &Spec, report: &Report, out
     let obligations = list(alloc, spec).expect(rt, "memory");
     assert!(rt; obligations.len() == 1);
     write_head(
+        alloc,
         spec,
         report.version,
         report.budget,
@@ -74,7 +75,7 @@ fn write_again(rt: &impl Abort, alloc: Global, spec: &Spec, report: &Report) -> 
     write_front(rt, alloc, spec, report, &mut out);
     for block in report.blocks.as_slice() {
         write_block(rt, alloc, spec, &block.verdict, &mut out);
-        write_end(tally_of(&block.verdict), &mut out).expect(rt, "memory");
+        write_end(alloc, tally_of(&block.verdict), &mut out).expect(rt, "memory");
     }
     out
 }

@@ -47,7 +47,7 @@ fn text_of(alloc: Global, number: u8, count: Count) -> Result<Vec<u8>, AllocErro
     let mut text = Vec::new(alloc);
     push_placed(alloc, &mut text, b"cise", b"sample", number as usize)?;
     push_numbered(alloc, &mut text, b"obligations", count.obligations)?;
-    write_end(count.tally, &mut text)?;
+    write_end(alloc, count.tally, &mut text)?;
     Ok(text)
 }
 

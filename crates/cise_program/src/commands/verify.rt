@@ -46,7 +46,7 @@ fn verified_text(alloc: Global, tally: Tally) -> Result<Vec<u8>, AllocError>
     ensures { IfOk result (λ text. text.items ≡ verified_text tally) }
 {
     let mut text = Vec::from_slice(alloc, b"cise verify 1\n")?;
-    write_end(tally, &mut text)?;
+    write_end(alloc, tally, &mut text)?;
     Ok(text)
 }
 
