@@ -1,9 +1,10 @@
 -- Private places of clauses in one list of literals; they mirror src/store.rt, and a reader of the rules passes them by.
-use Rattle.std.specs.Prelude.{◌≡◌, ℕ, ◌+◌, nat_le, Bool, true, cond, List, length, map, take, drop, Option, Some, None}
+use Rattle.std.specs.Prelude.{◌≡◌, ℕ, ◌+◌, ◌≤◌, nat_le, Bool, true, cond, List, length, map, take, drop, Option, Some, None}
 use Rattle.std.specs.List.{list_all}
 use Rattle.proof_lines.specs.declared.clause.Lit.{Lit}
 use Rattle.proof_lines.specs.Clauses.{distinct}
 use Rattle.clause_store.specs.declared.store.Span.{Span}
+use Rattle.clause_store.specs.Held.{most_literals}
 
 -- the literals at a span
 abbrev pub lits_at : List Lit → Span → List Lit
@@ -30,3 +31,8 @@ is_apart None = true
 pub record SpansFit (lits : List Lit) (spans : List Span) : Type 0 where
   pub within : list_all (ends_within (length lits)) spans ≡ true
   pub apart : list_all is_apart (clauses_at lits spans) ≡ true
+
+-- and it holds no more literals than it may
+pub record StoreFits (lits : List Lit) (spans : List Span) : Type 0 where
+  pub placed : SpansFit lits spans
+  pub few : length lits ≤ most_literals

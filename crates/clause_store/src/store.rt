@@ -1,6 +1,7 @@
 // The store: where the literals of each clause stand.
-ghost use Rattle.std.specs.Prelude.{◌≡◌, ◌<◌, ◌++◌, ◌∷◌, [], true, Some, None, OnOk, OnErr, IfOk, IfSome, length, option_copied, slice_index_or, slice_set};
+ghost use Rattle.std.specs.Prelude.{◌≡◌, ◌<◌, ◌≤◌, ◌++◌, ◌∷◌, [], true, Some, None, OnOk, OnErr, IfOk, IfSome, length, option_copied, slice_index_or, slice_set};
 ghost use Rattle.proof_lines.specs.Clauses.{distinct};
+ghost use Rattle.clause_store.specs.Held.{most_literals};
 
 use proof_lines::clause::Lit;
 use std::alloc::{AllocError, Global};
@@ -8,6 +9,9 @@ use std::marker::Model;
 
 // From so many literals of dropped clauses on, these may be too many.
 const MANY: usize = 4_096;
+
+/// The most literals that a store holds, those of dropped clauses among them: 2^27, which take 1 GiB.
+pub const MOST_LITERALS: usize = 134_217_728;
 
 /// Where the literals of a clause stand, and whether it wasn't dropped.
 #[derive(Clone, Copy)]
@@ -36,13 +40,13 @@ pub struct ClauseStore {
 impl Model for ClauseStore {
     ghost use Rattle.std.specs.Prelude.{List, Option};
     ghost use Rattle.proof_lines.specs.declared.clause.Lit.{Lit};
-    ghost use Rattle.clause_store.specs.Spans.{clauses_at, SpansFit};
+    ghost use Rattle.clause_store.specs.Spans.{clauses_at, StoreFits};
 
     ghost Value = { List (Option (List Lit)) };
 
     ghost view = { λ a. clauses_at a.lits.items a.spans.items };
 
-    ghost invariant = { λ a. SpansFit a.lits.items a.spans.items };
+    ghost invariant = { λ a. StoreFits a.lits.items a.spans.items };
 }
 
 impl ClauseStore {
@@ -81,8 +85,15 @@ impl ClauseStore {
         Some(&self.lits[span.first..end])
     }
 
+    /// How many literals are held, those of dropped clauses among them.
+    pub fn held(&self) -> usize
+        ensures { result ≤ most_literals }
+    {
+        self.lits.len()
+    }
+
     /// Adds a clause of these literals under the next number. A refusal leaves the clauses as they were; one of 2^32 literals is
-    /// answered as want of memory.
+    /// answered as want of memory, and so is one with which more than the most literals would be held.
     pub fn push(&mut self, lits: &[Lit]) -> Result<(), AllocError>
         requires { distinct lits.now ≡ true }
         ensures ok { OnOk result (self.new ≡ self.old ++ Some lits.now ∷ []) }
@@ -92,6 +103,9 @@ impl ClauseStore {
             return Err(AllocError);
         };
         let first = self.lits.len();
+        if first + lits.len() > MOST_LITERALS {
+            return Err(AllocError);
+        }
         self.lits.extend_from_slice(lits)?;
         self.spans.push(Span {
             first,

@@ -4,6 +4,7 @@ ghost use Rattle.std.specs.List.{list_all, list_any};
 ghost use Rattle.lin_rows.specs.Rows.{is_row, places_below};
 ghost use Rattle.proof_lines.specs.Clauses.{is_empty, distinct};
 ghost use Rattle.proof_lines.specs.Problems.{Meaning, makes_true, atoms_below};
+ghost use Rattle.clause_store.specs.Held.{most_literals};
 ghost use Rattle.log_freshness.specs.Freshness.{live_of};
 ghost use Rattle.proof_kernel.specs.Rules.{State, StateFits, start, grown, live_clause, is_live, resolved, combined, split, split_after, named, dropped, cleared, next, holds};
 ghost use Rattle.proof_lines.specs.Numbers.{are_different};
@@ -27,8 +28,8 @@ use std::collections::HashSet;
 use std::marker::Model;
 use std::mem;
 
-/// The atoms and clauses that stand after some lines. Contracts see them as a `State`; the literals of dropped clauses aren't
-/// kept.
+/// The atoms and clauses that stand after some lines. Contracts see them as a `State`; the literals of dropped clauses are kept
+/// until they are 4,096 and half of all.
 #[derive(Drop)]
 pub struct Kernel {
     atoms: Atoms,
@@ -101,7 +102,7 @@ impl Kernel {
     }
 
     /// Takes the next line of the log. A refusal changes nothing. With 2^32 - 1 clauses or atoms a further one is answered as
-    /// want of memory.
+    /// want of memory, and so is a clause with which more than 2^27 literals would be held.
     pub fn add(&mut self, line: &Line) -> Result<(), LineRefused>
         ensures exact { MatchResult result (λ _. next self.old line.now ≡ Ok self.new)
             (λ e. IsTold e (next self.old line.now)) }
@@ -189,6 +190,13 @@ impl Kernel {
         ensures { result ≡ length (live_of self.now.slots) }
     {
         count_live(&self.slots) as u32
+    }
+
+    /// How many literals of clauses are held, those of dropped ones among them that weren't let go of yet.
+    pub fn held(&self) -> usize
+        ensures { result ≤ most_literals }
+    {
+        self.slots.held()
     }
 
     /// Whether an empty clause was among the clauses, dropped or not. Then no interpretation makes all clauses of the problem

@@ -20,4 +20,4 @@ returns-clause-apart c =
     let count : span.count ≡ (span.first + span.count) - span.first = omega arith in
     let part : lits_at lits (get_or spans c.args.number span) ≡ take ((span.first + span.count) - span.first) (drop span.first c.deref.result.now) =
     ap (lits_at lits) (sym here) ∙ (λ i. take (count i) (drop span.first (sym c.deref.ensures.value i))) in
-    subst (λ (z : List Lit). distinct z ≡ true) part (span-apart lits spans c.args.number span c.self.invariant within live)
+    subst (λ (z : List Lit). distinct z ≡ true) part (span-apart lits spans c.args.number span c.self.invariant.placed within live)
