@@ -114,3 +114,7 @@ span-apart lits spans i d h lt live =
     let e : get_or (clauses_at lits spans) i None ≡ Some (lits_at lits (get_or spans i d)) =
     clause-at lits spans i d None lt ∙ ap (λ (b : Bool). cond b (Some (lits_at lits (get_or spans i d))) None) live in
     subst (λ (o : Option (List Lit)). is_apart o ≡ true) e a
+
+pub apart-at : (lits : List Lit) (spans : List Span) (i : ℕ) (d : Span) → SpansFit lits spans → i < length spans → is_apart (clause_at lits (get_or spans i d)) ≡ true
+apart-at lits spans i d h lt =
+    subst (λ (o : Option (List Lit)). is_apart o ≡ true) (clause-at lits spans i d None lt) (at-apart (clauses_at lits spans) i None h.apart (omega (arith, lt, length-map spans (clause_at lits))))

@@ -1,7 +1,10 @@
 // The store: where the literals of each clause stand.
-ghost use Rattle.std.specs.Prelude.{◌≡◌, ◌<◌, ◌≤◌, ◌++◌, ◌∷◌, [], true, Some, None, OnOk, OnErr, IfOk, IfSome, length, option_copied, slice_index_or, slice_set};
+ghost use Rattle.std.specs.Prelude.{◌≡◌, ◌+◌, ◌*◌, ◌<◌, ◌≤◌, ◌++◌, ◌∷◌, [], true, Some, None, OnOk, OnErr, IfOk, IfSome, length, nat_lt, option_copied, slice_index_or};
+ghost use Rattle.std.specs.List.{list_all};
 ghost use Rattle.proof_lines.specs.Clauses.{distinct};
-ghost use Rattle.clause_store.specs.Held.{most_literals};
+ghost use Rattle.clause_store.specs.Held.{most_literals, live_literals};
+ghost use Rattle.clause_store.specs.Spans.{clause_at, clauses_at, ends_within, is_apart, marked, counts_of, SpansFit};
+ghost use Rattle.clause_store.specs.Clearing.{cleared};
 
 use proof_lines::clause::Lit;
 use std::alloc::{AllocError, Global};
@@ -46,7 +49,7 @@ impl Model for ClauseStore {
 
     ghost view = { λ a. clauses_at a.lits.items a.spans.items };
 
-    ghost invariant = { λ a. StoreFits a.lits.items a.spans.items };
+    ghost invariant = { λ a. StoreFits a.lits.items a.spans.items a.dropped };
 }
 
 impl ClauseStore {
@@ -87,7 +90,8 @@ impl ClauseStore {
 
     /// How many literals are held, those of dropped clauses among them.
     pub fn held(&self) -> usize
-        ensures { result ≤ most_literals }
+        ensures most { result ≤ most_literals }
+        ensures live { result ≤ 2 * live_literals self.now + 8192 }
     {
         self.lits.len()
     }
@@ -107,22 +111,51 @@ impl ClauseStore {
             return Err(AllocError);
         }
         self.lits.extend_from_slice(lits)?;
-        self.spans.push(Span {
+        let span = Span {
             first,
             count,
             is_live: true,
-        })?;
+        };
+        let Ok(()) = self.spans.push(span) else {
+            self.lits.truncate(first);
+            return Err(AllocError);
+        };
         Ok(())
     }
 
-    /// Drops the clause of a number, which keeps it.
-    pub fn drop_clause(&mut self, number: usize)
-        requires { number < length self.old }
-        ensures { self.new ≡ slice_set self.old number None }
+    /// Drops the clauses of some numbers, which keep them. Where dropped ones would have more than 4,096 literals and than half of
+    /// all, the others are put into a new list; that takes as long as adding them. A refusal leaves the clauses as they were.
+    pub fn drop_all(&mut self, numbers: &[u32]) -> Result<(), AllocError>
+        requires { list_all (λ n. nat_lt n (length self.old)) numbers.now ≡ true }
+        ensures ok { OnOk result (self.new ≡ cleared self.old numbers.now) }
+        ensures err { OnErr result (self.new ≡ self.old) }
     {
-        let count = self.spans[number].count as usize;
-        self.spans[number] = DROPPED;
-        self.dropped = self.dropped.saturating_add(count);
+        let Some(more) = literals_of(&self.spans, numbers) else {
+            return Err(AllocError);
+        };
+        let Some(dropped) = self.dropped.checked_add(more) else {
+            return Err(AllocError);
+        };
+        if dropped > MANY && dropped > self.lits.len() / 2 {
+            let next = self.without(numbers)?;
+            *self = next;
+            return Ok(());
+        }
+        mark(&mut self.spans, numbers);
+        self.dropped = dropped;
+        Ok(())
+    }
+
+    // The same clauses, without those of some numbers, in a list without the literals of dropped ones.
+    fn without(&self, numbers: &[u32]) -> Result<ClauseStore, AllocError>
+        requires { list_all (λ n. nat_lt n (length self.now)) numbers.now ≡ true }
+        ensures { IfOk result (λ store. store ≡ cleared self.now numbers.now) }
+    {
+        let mut spans = Vec::from_slice(self.alloc, &self.spans)?;
+        mark(&mut spans, numbers);
+        let made = copied(self.alloc, &self.lits, &spans);
+        drop(spans);
+        made
     }
 
     // Adds a number whose clause was dropped.
@@ -133,37 +166,50 @@ impl ClauseStore {
         Ok(())
     }
 
-    // Adds the same clause as another store has at a number.
-    fn push_same(&mut self, other: &ClauseStore, number: usize) -> Result<(), AllocError>
-        requires { number < length other.now }
-        ensures { OnOk result (self.new ≡ self.old ++ slice_index_or other.now number None ∷ []) }
+    // Adds the clause at a span of some literals, or a number whose clause was dropped.
+    fn push_at(&mut self, lits: &[Lit], span: Span) -> Result<(), AllocError>
+        requires within { ends_within (length lits.now) span ≡ true }
+        requires apart { is_apart (clause_at lits.now span) ≡ true }
+        ensures { OnOk result (self.new ≡ self.old ++ clause_at lits.now span ∷ []) }
     {
-        match other.get(number) {
-            Some(lits) => self.push(lits),
-            None => self.push_dropped(),
+        if !span.is_live {
+            return self.push_dropped();
         }
+        let end = span.first + span.count as usize;
+        self.push(&lits[span.first..end])
     }
+}
 
-    // The same clauses, without the literals of dropped ones.
-    fn copy(&self) -> Result<ClauseStore, AllocError>
-        ensures { IfOk result (λ store. store ≡ self.now) }
-    {
-        let mut store = ClauseStore::new(self.alloc);
-        for number in 0..self.len() {
-            store.push_same(self, number)?;
-        }
-        Ok(store)
+// A store of the clauses at some spans of a list of literals.
+fn copied(alloc: Global, lits: &[Lit], spans: &[Span]) -> Result<ClauseStore, AllocError>
+    requires { SpansFit lits.now spans.now }
+    ensures { IfOk result (λ store. store ≡ clauses_at lits.now spans.now) }
+{
+    let mut store = ClauseStore::new(alloc);
+    for span in spans {
+        store.push_at(lits, *span)?;
     }
+    Ok(store)
+}
 
-    /// Lets go of the memory of dropped clauses, where they have half of all literals. It takes as long as adding the others.
-    pub fn tidy(&mut self)
-        ensures { self.new ≡ self.old }
-    {
-        if self.dropped < MANY || self.dropped < self.lits.len() / 2 {
-            return;
-        }
-        if let Ok(next) = self.copy() {
-            *self = next;
-        }
+// How many literals the clauses of some numbers have.
+fn literals_of(spans: &[Span], numbers: &[u32]) -> Option<usize>
+    requires { list_all (λ n. nat_lt n (length spans.now)) numbers.now ≡ true }
+    ensures { IfSome result (λ n. n ≡ counts_of spans.now numbers.now) }
+{
+    let mut sum: usize = 0;
+    for number in numbers {
+        sum = sum.checked_add(spans[*number as usize].count as usize)?;
+    }
+    Some(sum)
+}
+
+// Marks the clauses of some numbers as dropped.
+fn mark(spans: &mut Vec<Span>, numbers: &[u32])
+    requires { list_all (λ n. nat_lt n (length spans.old.items)) numbers.now ≡ true }
+    ensures { spans.new.items ≡ marked spans.old.items numbers.now }
+{
+    for number in numbers {
+        spans[*number as usize] = DROPPED;
     }
 }

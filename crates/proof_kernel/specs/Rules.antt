@@ -1,6 +1,6 @@
 -- The rules of a log: what stands after a line, or the first rule that the line breaks.
-use Rattle.std.specs.Prelude.{◌≡◌, ℕ, ◌<◌, ◌≤◌, ◌^◌, ◌+◌, nat_lt, ℤ, Bool, true, false, not, ◌&&◌, ◌||◌, List, [], ◌∷◌, ◌++◌, length, map, slice_index_or, slice_set, Option, Some, None, is_some, Result, Ok, Err}
-use Rattle.std.specs.List.{list_any, list_all, fold}
+use Rattle.std.specs.Prelude.{◌≡◌, ℕ, ◌<◌, ◌≤◌, ◌^◌, ◌+◌, nat_lt, ℤ, Bool, true, false, not, ◌&&◌, ◌||◌, List, [], ◌∷◌, ◌++◌, length, map, slice_index_or, Option, Some, None, is_some, Result, Ok, Err}
+use Rattle.std.specs.List.{list_any, list_all}
 use Rattle.lin_rows.specs.Rows.{Row}
 use Rattle.proof_lines.specs.declared.clause.Lit.{Lit}
 use Rattle.proof_lines.specs.declared.problem.AtomKind.{AtomKind}
@@ -16,6 +16,7 @@ use Rattle.line_rows.specs.Refusals.{need, then_}
 use Rattle.line_rows.specs.Steps.{line_rows, ends_badly, row_at}
 use Rattle.line_rows.specs.Splits.{split_fits, split_cause, at_most, is_at_most}
 use Rattle.proof_lines.specs.Numbers.{are_different}
+use Rattle.clause_store.specs.Clearing as clearing
 use Rattle.log_freshness.specs.Freshness.{live_of}
 
 -- What stands after some lines: the atoms, the number of integer names, how many clauses the problem has, the clauses by their
@@ -130,7 +131,7 @@ is_some_number (n ∷ ns) = true
 
 -- the clauses without those of some numbers
 abbrev pub cleared : List (Option (List Lit)) → List ℕ → List (Option (List Lit))
-cleared slots ns = fold (λ left n. slice_set left n None) slots ns
+cleared slots ns = clearing.cleared slots ns
 
 -- the state with the clauses of these numbers dropped
 abbrev pub without_clauses : State → List ℕ → State

@@ -1,10 +1,10 @@
 // The kernel: what stands after the lines taken so far.
-ghost use Rattle.std.specs.Prelude.{◌≡◌, ℕ, ◌<◌, ◌≤◌, ◌^◌, Bool, true, MatchResult, OnOk, OnErr, IsOk, IfOk, IsTrue, length, option_copied, slice_get, slice_index_or, is_some, Ok, nat_lt, map, Some, None, [], ◌∷◌};
+ghost use Rattle.std.specs.Prelude.{◌≡◌, ℕ, ◌+◌, ◌*◌, ◌<◌, ◌≤◌, ◌^◌, Bool, true, MatchResult, OnOk, OnErr, IsOk, IfOk, IsTrue, length, option_copied, slice_get, slice_index_or, is_some, Ok, nat_lt, map, Some, None, [], ◌∷◌};
 ghost use Rattle.std.specs.List.{list_all, list_any};
 ghost use Rattle.lin_rows.specs.Rows.{is_row, places_below};
 ghost use Rattle.proof_lines.specs.Clauses.{is_empty, distinct};
 ghost use Rattle.proof_lines.specs.Problems.{Meaning, makes_true, atoms_below};
-ghost use Rattle.clause_store.specs.Held.{most_literals};
+ghost use Rattle.clause_store.specs.Held.{most_literals, live_literals};
 ghost use Rattle.log_freshness.specs.Freshness.{live_of};
 ghost use Rattle.proof_kernel.specs.Rules.{State, StateFits, start, grown, live_clause, is_live, resolved, combined, split, split_after, named, dropped, cleared, next, holds};
 ghost use Rattle.proof_lines.specs.Numbers.{are_different};
@@ -29,7 +29,7 @@ use std::marker::Model;
 use std::mem;
 
 /// The atoms and clauses that stand after some lines. Contracts see them as a `State`; the literals of dropped clauses are kept
-/// until they are 4,096 and half of all.
+/// until they are more than 4,096 and than half of all.
 #[derive(Drop)]
 pub struct Kernel {
     atoms: Atoms,
@@ -194,7 +194,8 @@ impl Kernel {
 
     /// How many literals of clauses are held, those of dropped ones among them that weren't let go of yet.
     pub fn held(&self) -> usize
-        ensures { result ≤ most_literals }
+        ensures most { result ≤ most_literals }
+        ensures live { result ≤ 2 * live_literals self.now.slots + 8192 }
     {
         self.slots.held()
     }
@@ -448,8 +449,9 @@ impl Kernel {
         if !different || !self.all_live(numbers) {
             return Err(LineRefused::Bad(Why::Dropped));
         }
-        clear(&mut self.slots, numbers);
-        self.slots.tidy();
+        let Ok(()) = self.slots.drop_all(numbers) else {
+            return Err(LineRefused::Memory);
+        };
         Ok(())
     }
 }
@@ -507,15 +509,6 @@ fn count_live(slots: &ClauseStore) -> usize
         }
     }
     count
-}
-
-fn clear(slots: &mut ClauseStore, numbers: &[u32])
-    requires { list_all (λ n. nat_lt n (length slots.old)) numbers.now ≡ true }
-    ensures { slots.new ≡ cleared slots.old numbers.now }
-{
-    for number in numbers {
-        slots.drop_clause(*number as usize);
-    }
 }
 
 // Whether no number stands in a list twice. It goes from the end, with the numbers behind in a set.

@@ -22,8 +22,8 @@ use spec_core::Spec;
 use std::alloc::{AllocError, Global};
 use std::marker::Model;
 
-/// Verifies a report line by line. It keeps one block, of its log the clauses that weren't dropped, and what problems of
-/// other blocks share with its. Contracts see it as a `VerifierForm`.
+/// Verifies a report line by line. It keeps one block, of its log the clauses that weren't dropped (those that were, until
+/// they are half of all), and what problems of other blocks share with its. Contracts see it as a `VerifierForm`.
 #[derive(Drop)]
 pub struct Verifier<'a> {
     poser: Poser,
