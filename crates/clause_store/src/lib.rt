@@ -10,8 +10,12 @@
 // candidate is looked up here by its number and compared where it stands.
 //
 // Decisions:
-// - Dropped literals stay until they are half of all and at least 4,096. So about twice what isn't
-//   dropped is held at most, and each literal is copied about once more.
+// - Dropped literals stay until they are more than half of all and than 4,096. Then the others are
+//   put into a new list, before anything is dropped, so that a refusal changes nothing. What is held
+//   is at most twice what isn't dropped and 8,192 literals, and each literal is copied about once
+//   more.
+// - At most 2^27 literals are held, which is 1 GiB: a line of 14 bytes can't ask for as much as it
+//   likes. A clause beyond that is answered as want of memory.
 #![tactic(auto)]
 
 mod store;

@@ -14,6 +14,9 @@
 //   by them.
 // - A line of a witness that breaks the order is `form`, as a line of another form is; so is a
 //   summary that isn't there where all blocks are.
+// - A head, a block and an end are written into a list of their own, which is put behind the others
+//   when it is whole. So a refusal appends nothing, and the functions that write a line promise
+//   nothing of one.
 #![tactic(auto)]
 
 pub mod event;

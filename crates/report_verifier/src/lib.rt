@@ -11,7 +11,8 @@
 // Decisions:
 // - After the first fault of a verdict no further problem is posed; only the text is read on.
 // - What obligations share is kept as a check keeps it (`EntryCache`) and believed as little: it
-//   was made here, of the specification.
+//   was made here, of the specification. It holds what up to 32 problems of other blocks share with
+//   later ones, at most 60,000 formulas together.
 // - A witness is judged by what it shows: tuples that aren't shown are false, values 0.
 // - A line number, a count or a log beyond 32 bits is answered as want of memory; no report of 64
 //   MiB reaches it.

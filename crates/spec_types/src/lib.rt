@@ -9,6 +9,10 @@
 // - The parts of a specification in the making are a `Draft`, which may be ill formed.
 //   `Draft::into_spec` asks that it is well formed, which the law of typing proves of a tree
 //   without a fault; a test at run time would be proved never to fail.
+// - `type_tree` asks that its tree is one of the grammar (`IsTree`), as the law of typing does: a
+//   `Tree` may hold any text as a name, and no refusal says that a name is no word. That the fault
+//   is the least one is said of trees that stand in a text (`IsWritten`). Each tree that is read is
+//   both.
 #![tactic(auto)]
 
 /// What a call returns, or its error, before which the values named are dropped: a `?` while they are alive would be
