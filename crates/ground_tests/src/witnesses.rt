@@ -2,7 +2,7 @@
 
 ghost use Rattle.std.specs.Prelude.{◌≡◌, true};
 ghost use Rattle.std.specs.List.{list_all};
-ghost use Rattle.line_rows.specs.Evidence.{in_state};
+ghost use Rattle.spec_core.specs.Fits.{in_state_range};
 ghost use Rattle.obligation_list.specs.Obligations.{IsObligation};
 ghost use Rattle.instances.specs.Ground.{IsGrounded};
 
@@ -10,7 +10,7 @@ use crate::examples::{guarded, set, withdrawals};
 use crate::satisfying::all_hold;
 use crate::setting::{commute, grounded, items, obligation_at, spec};
 use instances::Grounded;
-use model_back::witness_of;
+use model_back::{Named, tried_witness, witness_of};
 use obligation_list::{Obligation, Witness, breaks, list};
 use proof_lines::Interpretation;
 use spec_core::{Call, Spec};
@@ -21,7 +21,7 @@ use std::process::Abort;
 type Values = (&'static [bool], &'static [i128]);
 
 fn are_in_range(values: &[i128]) -> bool
-    ensures { result ≡ list_all in_state values.now }
+    ensures { result ≡ list_all in_state_range values.now }
 {
     values
         .iter()
@@ -193,4 +193,60 @@ fn a_class_is_numbered_by_its_least_constant(rt: HostRuntime) {
         elements: &[1],
     };
     check(&rt, rt.alloc(), guarded(), 1, kept, put_another(), &want);
+}
+
+// What comes of these values where they are tried on the obligation at a place of the list.
+fn tried(
+    rt: &impl Abort,
+    alloc: Global,
+    spec: &Spec,
+    place: usize,
+    found: &Interpretation,
+) -> Option<Witness> {
+    let obligations = list(alloc, spec).expect(rt, "memory");
+    let ob = obligation_at(rt, spec, obligations.as_slice(), place);
+    let problem = grounded(rt, alloc, spec, ob).expect(rt, "few formulas");
+    assert!(rt; are_in_range(found.ints.as_slice()));
+    let named = Named {
+        atoms: &problem.atoms,
+        sorts: problem.consts.as_slice(),
+        consts: problem.elements.as_slice(),
+        calls: problem.calls.as_slice(),
+    };
+    let witness = tried_witness(alloc, spec, ob, &named, found).expect(rt, "memory");
+    drop(problem);
+    drop(obligations);
+    witness
+}
+
+// Whether these values of the put and the drop are a witness, where they are tried.
+fn are_tried(rt: &impl Abort, alloc: Global, truths: &[bool]) -> bool {
+    let spec = spec(rt, alloc, set());
+    let found = Interpretation {
+        truths: items(rt, alloc, truths),
+        ints: items(rt, alloc, &[]),
+    };
+    let witness = tried(rt, alloc, &spec, 1, &found);
+    let is_witness = witness.is_some();
+    drop(witness);
+    drop(found);
+    drop(spec);
+    is_witness
+}
+
+// That the constants are equal is enough for a witness: what comes of the calls is read from the state. Where the put and the drop are of
+// two elements, they commute.
+#[test]
+fn values_are_tried(rt: HostRuntime) {
+    assert!(&rt; are_tried(&rt, rt.alloc(), one_element().0));
+    let equal_alone = [false, false, true, false, true, false, false, true];
+    assert!(&rt; are_tried(&rt, rt.alloc(), &equal_alone));
+    assert!(&rt; !are_tried(&rt, rt.alloc(), &[]));
+    assert!(&rt;
+        !are_tried(
+            &rt,
+            rt.alloc(),
+            &[true, true, false, true, false, true, true, false]
+        )
+    );
 }
