@@ -35,8 +35,14 @@ OPTIONS = {"verify": ("--second", 4)}
 # How many of the words behind a command are paths. Each command has one word behind it at least.
 PATHS = {"check": 1, "suggest": 1, "spell": 1, "verify": 2, "upgrade": 2, "replay": 2, "simulate": 2, "sample": 0}
 # What these statuses of the program mean, which it doesn't say itself.
-MEANINGS = {6: "an input couldn't be read", 9: "the words couldn't be had from the system, or one of them isn't UTF-8"}
-REFUSED_INPUT, NOT_READ, NOT_WRITTEN = (3, 4), 6, 7
+MEANINGS = {
+    6: "an input couldn't be read",
+    8: "memory ran out",
+    9: "the words couldn't be had from the system, or one of them isn't UTF-8",
+}
+# Why else memory is said to have run out, where a report is gone through.
+HELD = ", or the clauses of one log had more than 134,217,728 literals, the most that are held (1 GiB)"
+REFUSED_INPUT, NOT_READ, NOT_WRITTEN, NO_MEMORY = (3, 4), 6, 7, 8
 # A path at which nothing is.
 NOWHERE = "/proc/self/fd/none"
 
@@ -112,13 +118,14 @@ def view():
     return main
 
 
-def tell(program, words, status, marks):
+def tell(program: str, words: "list[str]", status: int, marks: "list[object]") -> None:
     """Says what the program doesn't say of its status; of inputs, only where they are what they were for the program."""
     if status == BAD_WORDS:
         tell_words(words)
     elif status in MEANINGS:
         found = unread(words) if status == NOT_READ else []
-        say(MEANINGS[status] + (": " if found else "") + ", ".join(found))
+        held = HELD if status == NO_MEMORY and words[0] in ("verify", "upgrade") else ""
+        say(MEANINGS[status] + held + (": " if found else "") + ", ".join(found))
     elif status in REFUSED_INPUT:
         view().places(program, words, status, lambda: marks_of(words) == marks)
 

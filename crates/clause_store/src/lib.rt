@@ -1,8 +1,8 @@
 // Clauses by their numbers, of which some were dropped.
 //
 // A log makes many thousands of clauses, most of them of a few literals. The literals of all of them stand in one list, so a clause takes
-// no memory of its own and no call of the allocator. Dropped clauses keep their numbers; their literals go when they are half of all.
-// No more than a stated number of literals is held (specs/Held). Contracts see the list of the clauses, with none where one was
+// no memory of its own and no call of the allocator. Dropped clauses keep their numbers; their literals go when they are more than half
+// of all. No more than a stated number of literals is held (specs/Held). Contracts see the list of the clauses, with none where one was
 // dropped. The layer stands on `proof_lines` alone.
 //
 // specs/Spans mirrors where the literals of a clause stand, and no clause of a call names it.

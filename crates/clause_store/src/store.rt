@@ -1,12 +1,12 @@
 // The store: where the literals of each clause stand.
-ghost use Rattle.std.specs.Prelude.{◌≡◌, ◌+◌, ◌*◌, ◌<◌, ◌≤◌, ◌++◌, ◌∷◌, [], true, length, nat_lt};
-ghost use Rattle.std.specs.Prelude.{Some, None, OnOk, OnErr, IfOk, IfSome, option_copied};
-ghost use Rattle.std.specs.Prelude.{slice_index_or};
+ghost use Rattle.std.specs.Prelude.{◌≡◌, ◌+◌, ◌*◌, ◌<◌, ◌≤◌, ◌++◌, ◌∷◌, [], true, Some, None};
+ghost use Rattle.std.specs.Prelude.{OnOk, OnErr, IfOk, IfSome};
+ghost use Rattle.std.specs.Prelude.{length, nat_lt, option_copied, slice_index_or};
 ghost use Rattle.std.specs.List.{list_all};
 ghost use Rattle.proof_lines.specs.Clauses.{distinct};
 ghost use Rattle.clause_store.specs.Held.{most_literals, live_literals};
-ghost use Rattle.clause_store.specs.Spans.{clause_at, clauses_at, ends_within, is_apart, SpansFit};
-ghost use Rattle.clause_store.specs.Spans.{marked, counts_of};
+ghost use Rattle.clause_store.specs.Spans.{clause_at, clauses_at, ends_within, is_apart};
+ghost use Rattle.clause_store.specs.Spans.{marked, counts_of, SpansFit};
 ghost use Rattle.clause_store.specs.Clearing.{cleared};
 
 use proof_lines::clause::Lit;

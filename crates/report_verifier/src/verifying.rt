@@ -1,6 +1,5 @@
 // The bytes of a report, verified as they come. One block, the line that isn't ended yet and what problems of
-// other blocks share are kept. Behind a line that breaks a rule
-// the source is read on, since it may give too many bytes or fail.
+// other blocks share are kept. Behind a line that breaks a rule the source is read on, since it may give too many bytes or fail.
 ghost use Rattle.std.specs.Prelude.{◌≡◌, ℕ, ◌≤◌, List, [], true, IsErrOf};
 ghost use Rattle.std.specs.Io.KnownBytes.{IsAtEnd, Consumes};
 ghost use Rattle.byte_ports.specs.Faults.{IsFault};
