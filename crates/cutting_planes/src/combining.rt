@@ -135,8 +135,8 @@ fn divided_by(left: &Row, first: i128, right: &Row, second: i128, sum: &Row) -> 
     }
 }
 
-// Adds a step and its row; what tightening divided by.
-fn push_step(derivation: &mut Derivation<'_>, alloc: Global, step: RowStep) -> Option<i128> {
+/// Adds a step and its row; what tightening divided by.
+pub fn push_step(derivation: &mut Derivation<'_>, alloc: Global, step: RowStep) -> Option<i128> {
     let left = row_at(derivation, step.left)?;
     let right = row_at(derivation, step.right)?;
     let sum = sum_of_multiples(alloc, left, step.first, right, step.second).ok()?;

@@ -2,6 +2,7 @@
 use crate::combining::{Derivation, Multiple, combine, is_contradiction, no_rows, take};
 use crate::cuts::{Cutting, add_cuts};
 use crate::joining::{bound_names, join_broken};
+use crate::reformed::propose_reformed;
 use crate::repairing::{Attempt, are_in_state, attempt_at, mend};
 use crate::rounding::{Rounding, round};
 use items::Items;
@@ -59,13 +60,14 @@ enum Turn {
 
 /// How a guide ends.
 #[derive(Drop)]
-enum Ended {
+pub enum Ended {
     Proposed(Proposal),
+    /// A limit is met, or no cut is left to make.
     GivenUp,
 }
 
-// Takes the given rows; whether one is a contradiction.
-fn take_all(derivation: &mut Derivation<'_>, alloc: Global, rows: &[Row]) -> Option<bool> {
+/// Takes the given rows; whether one is a contradiction.
+pub fn take_all(derivation: &mut Derivation<'_>, alloc: Global, rows: &[Row]) -> Option<bool> {
     for (i, row) in rows.iter().enumerate() {
         if take(derivation, alloc, u32::try_from(i).ok()?, row)? {
             return Some(true);
@@ -151,8 +153,8 @@ fn try_whole<N: Number>(vertex: &Vertex<N>, alloc: Global) -> Option<Vec<i128>> 
     None
 }
 
-// Whole numbers near a vertex that satisfy all rows.
-fn try_all<N: Number>(
+/// Whole numbers near a vertex that satisfy all rows.
+pub fn try_all<N: Number>(
     derivation: &Derivation<'_>,
     alloc: Global,
     vertex: &Vertex<N>,
@@ -241,8 +243,8 @@ fn numbers_taken(derivation: &Derivation<'_>, alloc: Global) -> Option<Items<u32
     Some(Items::from_vec(used))
 }
 
-// The line of a derivation.
-fn refutation(derivation: Derivation<'_>, alloc: Global) -> Option<Proposal> {
+/// The line of a derivation.
+pub fn refutation(derivation: Derivation<'_>, alloc: Global) -> Option<Proposal> {
     let used = numbers_taken(&derivation, alloc);
     let Derivation {
         rows,
@@ -305,8 +307,8 @@ fn guide_of<N: Number>(
     })
 }
 
-// What is proposed, by a tableau whose numbers have one width; nothing where a number has no room, or for want of memory.
-fn propose_in<N: Number>(alloc: Global, rows: &[Row], ints: u32) -> Option<Ended> {
+/// What is proposed, by a tableau whose numbers have one width; nothing where a number has no room, or for want of memory.
+pub fn propose_in<N: Number>(alloc: Global, rows: &[Row], ints: u32) -> Option<Ended> {
     let mut derivation = no_rows(alloc, rows)?;
     match take_all(&mut derivation, alloc, rows) {
         Some(false) => {}
@@ -322,13 +324,20 @@ fn propose_in<N: Number>(alloc: Global, rows: &[Row], ints: u32) -> Option<Ended
 }
 
 /// Numbers that may satisfy all rows, or a line that may refute them; nothing where a number has no room, where a limit is met, or for
-/// want of memory. A tableau of 64 bits is tried first.
+/// want of memory. A tableau of 64 bits is tried first, then the rows without their equations, then a tableau of 128 bits, where one of
+/// 64 had no room.
 pub fn propose(alloc: Global, rows: &[Row], ints: u32) -> Option<Proposal> {
-    let ended = match propose_in::<i64>(alloc, rows, ints) {
-        Some(ended) => Some(ended),
-        None => propose_in::<i128>(alloc, rows, ints),
-    };
-    match ended? {
+    let narrow = propose_in::<i64>(alloc, rows, ints);
+    if let Some(Ended::Proposed(proposal)) = narrow {
+        return Some(proposal);
+    }
+    if let Some(proposal) = propose_reformed(alloc, rows, ints) {
+        return Some(proposal);
+    }
+    if let Some(Ended::GivenUp) = narrow {
+        return None;
+    }
+    match propose_in::<i128>(alloc, rows, ints)? {
         Ended::Proposed(proposal) => Some(proposal),
         Ended::GivenUp => None,
     }

@@ -21,9 +21,14 @@
 // one row behind the other, where all have room there (src/narrow), and a row that is tight already isn't copied. The tableau has numbers
 // of 64 bits, and all is done once more in 128 where one has no room. 15 times cuts are made, up to two at a time.
 //
-// The layer stands on `simplex`, and on `lin_rows` and `proof_lines`, whose rows and steps it makes.
+// Equations and thin slabs. Where this decides nothing, the equations among the rows are taken out (`whole_lattice`), and the same is asked
+// of the rest in the coordinates of short vectors (src/reformed says how an answer is put back). Where cuts come to no end there either, a
+// search through faces gives the coordinates values one after the other, and comes out as a line without a split (src/faces).
+//
+// The layer stands on `simplex` and `whole_lattice`, and on `lin_rows` and `proof_lines`, whose rows and steps it makes.
 // Files, in the order in which a reader needs them: src/listing, src/worst and src/narrow (the rows), src/combining (sums of multiples as steps),
-// src/rounding and src/repairing (whole numbers near a vertex), src/joining (rows that join late), src/cuts, src/guide (what is proposed).
+// src/rounding and src/repairing (whole numbers near a vertex), src/joining (rows that join late), src/cuts, src/faces, src/pairs and
+// src/system (rows that stand against each other), src/reformed, src/guide (what is proposed).
 //
 // Decisions:
 // - The tableau has no proved invariant: a wrong one would cost answers and prove nothing.
@@ -33,16 +38,25 @@
 //   rest on are trimmed away.
 // - A vertex whose values are whole satisfies all rows, so its values are proposed without a look
 //   at the rows.
+// - The kernel's Split is on one name, and the coordinates of short vectors are sums of many: a search
+//   that splits there gives no log. The search through faces needs none, as each empty face gives a
+//   row of the line.
+// - Only what fits is tried with short vectors: 48 names and 600 rows; for faces 16 vectors, 120
+//   rows, 400 vertices and two million numbers. What is larger is left to cuts and elimination.
 #![tactic(auto)]
 
 mod combining;
 mod cuts;
+mod faces;
 mod guide;
 mod joining;
 mod listing;
 mod narrow;
+mod pairs;
+mod reformed;
 mod repairing;
 mod rounding;
+mod system;
 mod worst;
 
 pub use guide::{Proposal, propose};
