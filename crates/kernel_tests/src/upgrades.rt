@@ -1,9 +1,9 @@
 // Worked examples of upgraded logs: where the clauses of a log are dropped, that an upgraded log is upgraded already, and that the
 // kernel accepts it.
 use crate::making::{FIRST, NOT_FIRST, NOT_SECOND, SECOND, Short, log_of, plain};
-use log_drops::upgrade_log;
 use proof_kernel::check_log;
 use proof_lines::{Line, Lit};
+use report_upgrader::upgrade_log;
 use std::alloc::Global;
 use std::process::Abort;
 

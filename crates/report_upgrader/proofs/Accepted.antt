@@ -22,8 +22,8 @@ use Rattle.report_bytes.proofs.BytesOfReports.{one_report_of_bytes}
 use Rattle.report_verifier.specs.Rules.{or_else, rule_fault, blocks_fault, verdict_fault}
 use Rattle.report_verifier.specs.Valid.{IsProof, IsValid}
 use Rattle.report_verifier.specs.Verified.{most_report_bytes, IsAccepted}
-use Rattle.log_drops.specs.Upgraded.{upgraded}
-use Rattle.log_drops.specs.Agreement.{IsAccepted as IsTaken}
+use Rattle.report_upgrader.specs.UpgradedLogs.{upgraded}
+use Rattle.report_upgrader.specs.Agreement.{IsAccepted as IsTaken}
 use Rattle.report_upgrader.specs.Reports.{upgraded_verdict, upgraded_report, upgraded_version, has_room}
 use Rattle.report_upgrader.specs.Upgrading.{IsUpgradedText}
 use Rattle.report_upgrader.proofs.Room.{report_room}

@@ -1,3 +1,7 @@
+mod Slots
+pub mod Names
+pub mod Runs
+mod Backwards
 mod Reports
 mod Passes
 mod Follows

@@ -5,7 +5,7 @@ use Rattle.std.proofs.Math.Seq.{take-add, take-append_seam, drop-append-add}
 use Rattle.std.proofs.lemmas.List.{drop-drop, drop_all, drop_more, drop-set, length-drop}
 use Rattle.report_bytes.specs.Bytes.{pieces}
 use Rattle.proof_lines.specs.declared.line.Line.{Line}
-use Rattle.log_drops.specs.Upgraded.{is_named, upgraded}
+use Rattle.report_upgrader.specs.UpgradedLogs.{is_named, upgraded}
 use Rattle.report_verifier.specs.declared.notes.ResolvedPair.{ResolvedPair}
 use Rattle.report_verifier.specs.Notes.{NoteForm, IsLong, IsPair, AreNotedTo, AreNoted}
 use Rattle.report_upgrader.specs.declared.log_bytes.LogLine.{LogLine}

@@ -16,7 +16,7 @@ use Rattle.proof_report.specs.declared.event.Event.TheVariants as events
 use Rattle.proof_report.specs.declared.place.PartialWitness.{PartialWitness}
 use Rattle.proof_report.specs.Verdicts.{VerdictForm, proved, refuted, instances, lines, rows, range, obligation_count, ReportForm}
 use Rattle.proof_report.specs.Events.{told, no_verdicts, with_verdict, log_lines, size_lines, const_lines, fact_lines, reading_lines, call_lines, witness_lines, verdict_lines, block_lines}
-use Rattle.log_drops.specs.Upgraded.{upgraded}
+use Rattle.report_upgrader.specs.UpgradedLogs.{upgraded}
 use Rattle.report_upgrader.specs.Reports.{upgraded_verdict, upgraded_report}
 use Rattle.report_upgrader.specs.Passing.{Held, held_on, whole_lines, passed, begins_proof}
 

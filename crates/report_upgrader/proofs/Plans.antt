@@ -15,7 +15,7 @@ use Rattle.report_words.specs.Words.{line_text, spaced}
 use Rattle.report_words.proofs.Splitting.{written, more}
 use Rattle.report_lines.specs.Logs.{line_format}
 use Rattle.proof_report.specs.Texts.{log_text}
-use Rattle.log_drops.specs.Upgraded.{rising, named, is_named, last_named, unless_drop, drop_line, upgraded}
+use Rattle.report_upgrader.specs.UpgradedLogs.{rising, named, is_named, last_named, unless_drop, drop_line, upgraded}
 use Rattle.report_upgrader.specs.declared.log_bytes.LogLine.TheVariants as kinds
 use Rattle.report_upgrader.specs.declared.planning.Rewritten.{Rewritten}
 use Rattle.report_upgrader.specs.declared.planning.Rewritten.TheVariants as rewritten

@@ -14,8 +14,8 @@ use Rattle.report_lines.specs.Heads.{title_format, budget_format}
 use Rattle.report_lines.specs.Logs.{log_format, line_format, drop_words}
 use Rattle.proof_report.specs.Verdicts.{VerdictForm, proved, refuted, instances, lines, rows, range, ReportForm, is_report, may_drop, is_verdict, are_verdicts, obligation_at, obligation_count}
 use Rattle.proof_report.specs.Events.{with_verdict}
-use Rattle.log_drops.specs.Upgraded.{is_named, last_named, drop_line, upgraded}
-use Rattle.log_drops.proofs.Names.{upgraded-twice, last-all}
+use Rattle.report_upgrader.specs.UpgradedLogs.{is_named, last_named, drop_line, upgraded}
+use Rattle.report_upgrader.proofs.Names.{upgraded-twice, last-all}
 use Rattle.report_upgrader.specs.Reports.{upgraded_verdict, upgraded_report, has_room}
 
 -- ---- upgrading twice

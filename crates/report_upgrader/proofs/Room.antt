@@ -22,7 +22,7 @@ use Rattle.proof_report.specs.Verdicts.{VerdictForm, proved, refuted, instances,
 use Rattle.proof_report.specs.Events.{with_verdict, no_verdicts, log_lines, size_lines, const_lines, fact_lines, reading_lines, call_lines, witness_lines, verdict_lines, block_lines, report_lines, words}
 use Rattle.report_bytes.specs.Bytes.{report_bytes}
 use Rattle.report_verifier.specs.Verified.{most_report_bytes}
-use Rattle.log_drops.specs.Upgraded.{last_named, drop_line, upgraded}
+use Rattle.report_upgrader.specs.UpgradedLogs.{last_named, drop_line, upgraded}
 use Rattle.report_upgrader.specs.Reports.{has_room}
 use Rattle.report_upgrader.specs.Passing.{text_of}
 

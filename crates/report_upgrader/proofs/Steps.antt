@@ -22,7 +22,7 @@ use Rattle.proof_report.proofs.Whole.{all_ok}
 use Rattle.report_bytes.specs.Bytes.{report_bytes, pieces, before_last, lines_of}
 use Rattle.report_bytes.proofs.BytesOfReports.{text_bytes_are_fed}
 use Rattle.report_bytes.proofs.Cutting.{front_more, pieces_some, no_bytes}
-use Rattle.log_drops.specs.Upgraded.{upgraded}
+use Rattle.report_upgrader.specs.UpgradedLogs.{upgraded}
 use Rattle.report_upgrader.specs.Reports.{upgraded_report, upgraded_version}
 use Rattle.report_upgrader.specs.Passing.{passed, text_of, proved_text, say_log, IsLogAhead, begins_proof, is_followed, logs_follow, IsLeft, Progress, Task, IsGathered, IsUnderway}
 use Rattle.report_upgrader.proofs.Gathered.{gathered_first, gathered_rest, gathered_stopped, gathered_still}

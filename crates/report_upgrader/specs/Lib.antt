@@ -1,3 +1,5 @@
+pub mod UpgradedLogs
+pub mod Agreement
 pub mod Reports
 pub mod Plans
 pub mod Passing

@@ -19,7 +19,7 @@ use Rattle.proof_report.specs.Events.{words, log_lines, verdict_lines}
 use Rattle.report_reader.specs.Reader.{begin_of, log_of_event}
 use Rattle.proof_report.specs.Texts.{log_text}
 use Rattle.report_bytes.specs.Bytes.{lines_of}
-use Rattle.log_drops.specs.Upgraded.{upgraded}
+use Rattle.report_upgrader.specs.UpgradedLogs.{upgraded}
 use Rattle.report_upgrader.specs.declared.planning.Rewritten.{Rewritten}
 use Rattle.report_upgrader.specs.Plans.{AreWritten}
 

@@ -4,7 +4,7 @@ use Rattle.proof_lines.specs.declared.line.Line.{Line}
 use Rattle.proof_lines.specs.declared.line.Line.TheVariants.{Resolve, Farkas, Split, Drop}
 use Rattle.proof_report.specs.Texts.{log_text}
 use Rattle.report_verifier.specs.Notes.{NoteForm}
-use Rattle.log_drops.specs.Upgraded.{rising, named, is_named, last_named, unless_drop, drop_line}
+use Rattle.report_upgrader.specs.UpgradedLogs.{rising, named, is_named, last_named, unless_drop, drop_line}
 use Rattle.report_upgrader.specs.declared.log_bytes.LogLine.{LogLine}
 use Rattle.report_upgrader.specs.declared.log_bytes.LogLine.TheVariants as kinds
 use Rattle.report_upgrader.specs.declared.planning.Rewritten.{Rewritten}

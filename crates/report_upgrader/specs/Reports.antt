@@ -2,7 +2,7 @@
 use Rattle.std.specs.Prelude.{ℕ, nat_le, Bool, true, length, map}
 use Rattle.report_words.specs.Fields.{most_count}
 use Rattle.proof_report.specs.Verdicts.{VerdictForm, proved, refuted, instances, lines, rows, range, ReportForm}
-use Rattle.log_drops.specs.Upgraded.{upgraded}
+use Rattle.report_upgrader.specs.UpgradedLogs.{upgraded}
 
 -- a verdict with its log upgraded, where that proves
 abbrev pub upgraded_verdict : VerdictForm → VerdictForm

@@ -8,11 +8,11 @@ ghost use Rattle.report_verifier.specs.Verified.{most_report_bytes, IsAccepted, 
 ghost use Rattle.report_verifier.specs.declared.refused.VerifyRefused.{VerifyRefused};
 ghost use Rattle.report_upgrader.specs.Upgrading.{IsUpgradedText};
 
+use crate::log_laws::law_upgraded_log_is_accepted;
 use crate::report_laws::{
     law_report_upgraded_twice, law_upgraded_report_has_the_same_summary,
     law_upgraded_report_is_a_report,
 };
-use log_drops::law_upgraded_log_is_accepted;
 use report_verifier::{law_one_answer, law_valid_verdicts};
 
 /// The text of an upgraded report is that of a report without fault, with as many verdicts of each kind.

@@ -9,7 +9,7 @@ ghost use Rattle.std.specs.Prelude.{drop, length, take, IfOk, OnOk, Some};
 ghost use Rattle.std.specs.Str.{bytes_eq};
 ghost use Rattle.proof_lines.specs.declared.line.Line.{Line as Given};
 ghost use Rattle.proof_lines.specs.declared.line.Line.TheVariants.{Drop as DropLine};
-ghost use Rattle.log_drops.specs.Upgraded.{rising};
+ghost use Rattle.report_upgrader.specs.UpgradedLogs.{rising};
 ghost use Rattle.report_lines.specs.Logs.{line_format};
 ghost use Rattle.report_words.specs.Words.{left};
 ghost use Rattle.report_upgrader.specs.Plans.{IsKind, dropped_by, dropped_from, written_for};

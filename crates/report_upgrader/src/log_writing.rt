@@ -10,7 +10,7 @@ ghost use Rattle.byte_ports.specs.Written.{IsFrontWritten};
 ghost use Rattle.byte_ports.specs.declared.text.WriteOut.TheVariants.{Fault};
 ghost use Rattle.proof_lines.specs.declared.line.Line.{Line as Given};
 ghost use Rattle.proof_report.specs.Texts.{log_text};
-ghost use Rattle.log_drops.specs.Upgraded.{upgraded};
+ghost use Rattle.report_upgrader.specs.UpgradedLogs.{upgraded};
 ghost use Rattle.report_bytes.specs.Bytes.{pieces};
 ghost use Rattle.report_verifier.specs.Notes.{IsLong, IsPair, AreNoted};
 ghost use Rattle.report_upgrader.specs.Plans.{written_for};

@@ -6,7 +6,7 @@
 ghost use Rattle.std.specs.Prelude.{◌≡◌, ℕ, ◌+◌, ◌==◌, ◌<◌, ◌≤◌, ◌||◌, ◌∷◌, [], List, false, length};
 ghost use Rattle.std.specs.Prelude.{slice_index_or, IfOk, OnOk};
 ghost use Rattle.proof_lines.specs.declared.line.Line.{Line as Given};
-ghost use Rattle.log_drops.specs.Upgraded.{upgraded};
+ghost use Rattle.report_upgrader.specs.UpgradedLogs.{upgraded};
 ghost use Rattle.report_bytes.specs.Bytes.{pieces};
 ghost use Rattle.report_verifier.specs.Notes.{AreNotedTo};
 ghost use Rattle.report_upgrader.specs.Plans.{IsKind, IsSeen, place_of, with_drops, written_by};

@@ -1,7 +1,7 @@
 use Rattle.std.proofs.Common.{◌≡◌, ◌≤◌, ◌++◌, ℕ, List, Option, length, take, drop}
 use Rattle.proof_lines.specs.declared.line.Line.{Line}
 use Rattle.proof_report.specs.Texts.{log_text}
-use Rattle.log_drops.specs.Upgraded.{upgraded}
+use Rattle.report_upgrader.specs.UpgradedLogs.{upgraded}
 use Rattle.report_bytes.specs.Bytes.{pieces}
 use Rattle.report_verifier.specs.Notes.{AreNotedTo}
 use Rattle.report_upgrader.specs.Passing.{IsPlanned, IsGathered}

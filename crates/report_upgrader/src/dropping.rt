@@ -3,7 +3,7 @@
 ghost use Rattle.std.specs.Prelude.{◌≡◌, ℕ, ◌++◌, ◌||◌, ◌==◌, List, [], ◌∷◌, not, if◌then◌else◌, reverse, IfOk, OnOk, nat_eq};
 ghost use Rattle.std.specs.HashSet.{contains};
 ghost use Rattle.proof_lines.specs.declared.line.Line.{Line as Given};
-ghost use Rattle.log_drops.specs.Upgraded.{is_named, last_named as last_named_of, drop_line, unless_drop, upgraded};
+ghost use Rattle.report_upgrader.specs.UpgradedLogs.{is_named, last_named as last_named_of, drop_line, unless_drop, upgraded};
 
 use items::Items;
 use proof_lines::line::Line;

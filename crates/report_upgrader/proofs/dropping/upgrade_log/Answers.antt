@@ -1,8 +1,8 @@
 use Rattle.std.proofs.Common.{◌≡◌, ◌-◌, ◌∷◌, List, drop, sym, ◌∙◌, ap, arith, reverse}
 use Rattle.proof_lines.specs.declared.line.Line.{Line}
-use Rattle.log_drops.specs.Upgraded.{is_named, upgraded}
-use Rattle.log_drops.proofs.Backwards.{front_at, written}
-use Rattle.log_drops.proofs.upgrade.upgrade_log.Goals as goal
+use Rattle.report_upgrader.specs.UpgradedLogs.{is_named, upgraded}
+use Rattle.report_upgrader.proofs.Backwards.{front_at, written}
+use Rattle.report_upgrader.proofs.dropping.upgrade_log.Goals as goal
 
 pub loop-i-preserved : goal.loop-i-preserved
 loop-i-preserved c =

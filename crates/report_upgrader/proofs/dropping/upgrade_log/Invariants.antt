@@ -1,8 +1,8 @@
 use Rattle.std.proofs.Common.{◌≡◌, ℕ, ◌≤◌, length, drop, reverse}
 use Rattle.std.specs.Prelude.{nat_eq}
 use Rattle.std.specs.HashSet.{contains}
-use Rattle.log_drops.specs.Upgraded.{is_named, upgraded}
-use Rattle.log_drops.proofs.upgrade.upgrade_log.Given as goal
+use Rattle.report_upgrader.specs.UpgradedLogs.{is_named, upgraded}
+use Rattle.report_upgrader.proofs.dropping.upgrade_log.Given as goal
 
 abbrev pub invariant-loop-i : goal.invariant-loop-i
 invariant-loop-i l = record {

@@ -2,7 +2,7 @@
 use Rattle.std.proofs.Common.{◌≡◌, ℕ, suc, ◌-◌, ◌<◌, ◌≤◌, List, ◌∷◌, ◌++◌, length, get_or, drop, drop-cons, reverse, sym, ◌∙◌, ap, arith}
 use Rattle.std.proofs.lemmas.List.{reverse-append, append_assoc}
 use Rattle.proof_lines.specs.declared.line.Line.{Line}
-use Rattle.log_drops.specs.Upgraded.{last_named, drop_line, unless_drop, upgraded}
+use Rattle.report_upgrader.specs.UpgradedLogs.{last_named, drop_line, unless_drop, upgraded}
 
 pub front_at : (ls : List Line) (i : ℕ) (d : Line) → 0 < i → i ≤ length ls → drop (i - 1) ls ≡ get_or ls (i - 1) d ∷ drop i ls
 front_at ls i d some within =

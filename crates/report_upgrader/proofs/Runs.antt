@@ -18,14 +18,14 @@ use Rattle.line_rows.specs.Steps.{line_rows, ends_badly, row_at}
 use Rattle.line_rows.specs.Splits.{at_most, is_at_most, split_fits, split_cause}
 use Rattle.proof_kernel.specs.Rules.{State, next, start, is_live, clause_at, clause_or_empty, grown, named as with_atom, resolved, combined, combined_after, split, split_after, dropped, without_clauses, cleared, is_some_number, run, run_from}
 use Rattle.proof_kernel.proofs.States.{length-cleared}
-use Rattle.log_drops.specs.Upgraded.{rising, named, is_named, last_named, drop_line, unless_drop, upgraded}
+use Rattle.report_upgrader.specs.UpgradedLogs.{rising, named, is_named, last_named, drop_line, unless_drop, upgraded}
 use Rattle.proof_kernel.specs.Answers.{IsJudged}
 use Rattle.proof_kernel.specs.declared.answer.Checked.{Checked}
 use Rattle.proof_kernel.specs.declared.answer.KernelRefused.{KernelRefused}
 use Rattle.proof_kernel.specs.declared.answer.KernelRefused.TheVariants.{BadLine, NoEmptyClause, Memory as NoMemory}
-use Rattle.log_drops.specs.Agreement.{IsAccepted, StandsUpgraded, Accepts}
-use Rattle.log_drops.proofs.Slots.{Slots, at, live, cleared-live, cleared-other, live-below, pushed-front, pushed-same, pushed-kept}
-use Rattle.log_drops.proofs.Names.{rising-left, rising-right, last-all, last-different, last-later}
+use Rattle.report_upgrader.specs.Agreement.{IsAccepted, StandsUpgraded, Accepts}
+use Rattle.report_upgrader.proofs.Slots.{Slots, at, live, cleared-live, cleared-other, live-below, pushed-front, pushed-same, pushed-kept}
+use Rattle.report_upgrader.proofs.Names.{rising-left, rising-right, last-all, last-different, last-later}
 
 -- a state with other slots
 abbrev with_slots : State → Slots → State

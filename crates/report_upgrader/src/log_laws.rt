@@ -7,8 +7,8 @@ ghost use Rattle.proof_kernel.specs.Rules.{run};
 ghost use Rattle.proof_kernel.specs.Answers.{IsJudged};
 ghost use Rattle.proof_kernel.specs.declared.answer.Checked.{Checked};
 ghost use Rattle.proof_kernel.specs.declared.answer.KernelRefused.{KernelRefused};
-ghost use Rattle.log_drops.specs.Upgraded.{upgraded};
-ghost use Rattle.log_drops.specs.Agreement.{IsAccepted, StandsUpgraded, Accepts};
+ghost use Rattle.report_upgrader.specs.UpgradedLogs.{upgraded};
+ghost use Rattle.report_upgrader.specs.Agreement.{IsAccepted, StandsUpgraded, Accepts};
 
 /// Where a log breaks no rule, the upgraded one breaks none, and what stands after both agrees but for dropped clauses.
 pub fn law_upgraded_log_stands()

@@ -6,7 +6,7 @@ use Rattle.std.proofs.lemmas.Bool.{and_parts, and_from}
 use Rattle.proof_lines.specs.declared.line.Line.{Line}
 use Rattle.proof_lines.specs.declared.line.Line.TheVariants.{Resolve, Farkas, Split, Drop}
 use Rattle.proof_lines.specs.Numbers.{stands_in, are_different}
-use Rattle.log_drops.specs.Upgraded.{rising, is_named, last_named, drop_line, upgraded}
+use Rattle.report_upgrader.specs.UpgradedLogs.{rising, is_named, last_named, drop_line, upgraded}
 
 -- ---- two numbers in rising order
 

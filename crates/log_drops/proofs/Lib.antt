@@ -1,4 +1,0 @@
-mod Slots
-pub mod Names
-pub mod Runs
-mod Backwards

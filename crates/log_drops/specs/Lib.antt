@@ -1,2 +1,0 @@
-pub mod Upgraded
-pub mod Agreement
