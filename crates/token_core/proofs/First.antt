@@ -9,8 +9,8 @@ use Rattle.token_protocol.specs.Network.{Replica as ReplicaOf, first_replicas, f
 use Rattle.token_protocol.specs.declared.granted.Granted.{Granted}
 use Rattle.token_protocol.specs.Kept.{IsKept}
 use Rattle.token_protocol.proofs.Executing.{first_kept}
-use Rattle.call_events.specs.declared.log.Log.{Log}
-use Rattle.call_events.specs.Log.{lists_of, no_lists}
+use Rattle.token_core.specs.declared.log.Log.{Log}
+use Rattle.token_core.specs.Log.{lists_of, no_lists}
 use Rattle.token_protocol.proofs.Places.{absent, map_more}
 use Rattle.token_core.specs.declared.replica.Replica.{Replica}
 use Rattle.token_core.specs.Held.{node_of}

@@ -21,7 +21,7 @@ use Rattle.token_protocol.specs.declared.network.NetDid.TheVariants as did
 use Rattle.token_protocol.specs.Node.{Node, ran, void, Begin, refused, waits, runs, begin, begin_answer, node_after_begin, Hear, not_heard, awaits, grants, takes, notes, old, hear, hear_answer, node_after_hear}
 use Rattle.token_protocol.specs.Network.{Network, Replica, number_of, Outcome, accepted, begin_at, hear_at, answer, network_after}
 use Rattle.token_protocol.proofs.Places.{one_found}
-use Rattle.call_events.specs.Log.{Lists}
+use Rattle.token_core.specs.Log.{Lists}
 use Rattle.token_core.specs.Left.{Left, id_of, event_of, event_for, after_ran, after_void, after_asked, after_took, after_none, after_begun, IsAfterRan, IsAfterHeard, IsPrepared}
 use Rattle.token_core.specs.Fields.{network_with}
 use Rattle.token_core.proofs.Inversion.{begin_call, hear_ran, grant_event, hear_takes}

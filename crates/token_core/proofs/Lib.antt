@@ -1,3 +1,5 @@
+pub mod Noting
+pub mod Numbering
 pub mod Inversion
 pub mod Leaving
 pub mod Running

@@ -12,10 +12,10 @@ use Rattle.token_protocol.specs.Network.{Network, Outcome, rejected, outcome, ne
 use Rattle.token_protocol.specs.Kept.{IsKept}
 use Rattle.token_protocol.proofs.Places.{absent, get_set, get_map}
 use Rattle.token_protocol.proofs.Stepping.{step_kept}
-use Rattle.call_events.specs.declared.log.Log.{Log}
+use Rattle.token_core.specs.declared.log.Log.{Log}
 use Rattle.token_core.specs.declared.replica.Replica.{Replica}
 use Rattle.token_core.specs.HeldNet.{HeldReplica, replica_of, HeldNet, network_held}
-use Rattle.call_events.specs.Log.{Lists, lists_of}
+use Rattle.token_core.specs.Log.{Lists, lists_of}
 use Rattle.token_core.specs.Fields.{held_replica, replica_at, replicas_in, network_with, network_in, held_in, FitsIn, IsNet}
 use Rattle.token_core.specs.Stepped.{IsStepped}
 use Rattle.token_core.proofs.Leaving.{set_same}

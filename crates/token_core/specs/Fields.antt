@@ -7,8 +7,8 @@ use Rattle.effectors.specs.Spare.{IsSpare}
 use Rattle.token_protocol.specs.declared.granted.Granted.{Granted}
 use Rattle.token_protocol.specs.Network.{Network, Replica as ReplicaOf, first_replicas}
 use Rattle.token_protocol.specs.Kept.{IsKept}
-use Rattle.call_events.specs.declared.log.Log.{Log}
-use Rattle.call_events.specs.Log.{Lists, lists_of}
+use Rattle.token_core.specs.declared.log.Log.{Log}
+use Rattle.token_core.specs.Log.{Lists, lists_of}
 use Rattle.token_core.specs.HeldNet.{HeldReplica, replica_of, HeldNet}
 use Rattle.token_core.specs.declared.replica.Replica.{Replica}
 

@@ -15,7 +15,7 @@ use Rattle.token_protocol.specs.declared.node.Heard.TheVariants as heard
 use Rattle.token_protocol.specs.declared.network.NetDid.{NetDid}
 use Rattle.token_protocol.specs.declared.network.NetDid.TheVariants as did
 use Rattle.token_protocol.specs.Network.{Happened, number_of}
-use Rattle.call_events.specs.Log.{Lists}
+use Rattle.token_core.specs.Log.{Lists}
 
 -- What a step did, what the lists are then, and what its replica has taken then.
 pub record Left : Type 0 where

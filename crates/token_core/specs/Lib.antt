@@ -1,3 +1,5 @@
+pub mod Members
+pub mod Log
 pub mod Held
 pub mod Ended
 pub mod Left

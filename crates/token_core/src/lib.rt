@@ -2,11 +2,16 @@
 //
 // It stands on `token_protocol`, whose definitions say what a node answers to a call and to a message, what a network holds after each
 // step, and why what its nodes run is an execution; on `token_manager`, which grants calls; and on `call_runner`, whose `Runner` runs
-// them. `call_events` has the log of a network and the ids that a node has taken. `Net` keeps that its events form an execution, that what
-// each replica has taken is a delivery order of it, and that the state of each replica is the state after that.
+// them. `Net` keeps that its events form an execution, that what each replica has taken is a delivery order of it, and that the state of
+// each replica is the state after that.
 //
-// `specs/Held.antt` and `specs/HeldNet.antt` have a node and a network as a program holds them, `specs/Stepped.antt` what a step of such
-// a network is; the other files of `specs/` mirror the code.
+// `log` keeps what was sent in a network and the calls that were run, in their orders; `ids` has the ids of the events that a node has
+// taken, and answers whether an id is one of them; `node` and `replica` have a node, `net` the network. The lists of messages and events
+// share their elements, by `shared_lists`.
+//
+// `specs/Log.antt` has the lists of a log, and when each has room for one element more; `specs/Held.antt` and `specs/HeldNet.antt` have a
+// node and a network as a program holds them, `specs/Stepped.antt` what a step of such a network is; the other files of `specs/` mirror
+// the code.
 //
 // A step first makes room for all that it may send and keep, and changes a node only then, so a step that finds no memory changes
 // nothing.
@@ -20,14 +25,19 @@
 // - Grants, messages and events share the elements of their lists (`shared_lists`); who reads one
 //   makes it whole first. The list that a replica's events share is compared with what the replica
 //   has taken, so it has no invariant.
+// - Marks are for the turns of 64 replicas. An id whose mark would be far after the others is kept
+//   in a set, so that no id takes more than 4 KB; either answers, so nothing depends on which.
 #![tactic(auto)]
 
+mod ids;
+mod log;
 mod net;
 mod node;
 mod replica;
 
-pub use call_events::{CallEvent, Happened, Ids, number_of};
 pub use call_runner::{Plain, Runner, Tried, try_call, try_call_over};
+pub use ids::Ids;
+pub use log::{CallEvent, Happened, number_of};
 pub use net::Net;
 pub use node::Node;
 pub use token_manager::Manager;

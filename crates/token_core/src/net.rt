@@ -12,9 +12,9 @@ ghost use Rattle.token_core.specs.HeldNet.{HeldReplica, network_held};
 ghost use Rattle.token_core.specs.Fields.{IsFirst};
 ghost use Rattle.token_core.specs.Stepped.{IsStepped};
 
+use crate::log::{Happened, Log};
 use crate::node::Node;
 use crate::replica::{Replica, ask_at, begin_at, hear_at};
-use call_events::{Happened, Log};
 use call_runner::Runner;
 use shared_lists::SharedList;
 use spec_core::Call;

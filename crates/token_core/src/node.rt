@@ -19,7 +19,7 @@ ghost use Rattle.token_core.specs.Held.{node_of, waiting_fits, message_fits};
 ghost use Rattle.call_runner.specs.Tried.{IsTried};
 ghost use Rattle.token_core.specs.Ended.{ended_of, begun_of, heard_of, refused_effect};
 
-use call_events::Ids;
+use crate::ids::Ids;
 use call_runner::{Runner, Tried, try_call_over};
 use effectors::ApplyRefused;
 use spec_core::Call;

@@ -11,15 +11,15 @@ ghost use Rattle.token_protocol.specs.Node.{begin};
 ghost use Rattle.token_protocol.specs.Network.{Replica as ReplicaOf, number_of as number_of_call};
 ghost use Rattle.token_protocol.specs.Network.{node_refused, begin_at, hears_message, asks};
 ghost use Rattle.token_protocol.specs.Network.{network_after, answer};
-ghost use Rattle.call_events.specs.Log.{lists_of, HasRoom};
+ghost use Rattle.token_core.specs.Log.{lists_of, HasRoom};
 ghost use Rattle.token_core.specs.Held.{node_of, waiting_fits, message_fits};
 ghost use Rattle.token_core.specs.Left.{id_of, event_of, event_for, after_begun, IsAfterHeard};
 ghost use Rattle.token_core.specs.Left.{IsPrepared, Left, after_ran, after_void};
 ghost use Rattle.token_core.specs.Fields.{network_with, held_replica, replica_at, FitsIn};
 ghost use Rattle.token_manager.specs.Grants.{AreGrants};
 
+use crate::log::{CallEvent, Happened, Log, make_room, number_of, put};
 use crate::node::Node;
-use call_events::{CallEvent, Happened, Log, make_room, number_of, put};
 use call_runner::Runner;
 use shared_lists::SharedList;
 use spec_core::Call;

@@ -2,7 +2,7 @@ use Rattle.std.proofs.Common.{inr, List, ℕ, ◌∙◌, ap}
 use Rattle.token_protocol.specs.declared.node.NodeRefused.TheVariants as refusal
 use Rattle.token_protocol.specs.Node.{begin, begin_answer, node_after_begin}
 use Rattle.token_protocol.specs.Network.{begin_at}
-use Rattle.call_events.specs.Log.{Lists, lists_of}
+use Rattle.token_core.specs.Log.{Lists, lists_of}
 use Rattle.token_core.specs.Held.{node_of}
 use Rattle.token_core.specs.Left.{Left, event_of, after_begun}
 use Rattle.token_core.specs.Fields.{network_with}

@@ -4,7 +4,7 @@ use Rattle.token_protocol.specs.declared.message.EventId.{EventId}
 use Rattle.token_protocol.specs.declared.node.NodeRefused.TheVariants as refusal
 use Rattle.token_protocol.specs.Node.{hear, hear_answer, node_after_hear}
 use Rattle.token_protocol.specs.Network.{hear_at, hears_message, answer, network_after}
-use Rattle.call_events.specs.Log.{Lists, lists_of}
+use Rattle.token_core.specs.Log.{Lists, lists_of}
 use Rattle.token_core.specs.Held.{node_of}
 use Rattle.token_core.specs.Left.{Left, event_for, id_of, IsAfterHeard}
 use Rattle.token_core.specs.Fields.{network_with}

@@ -1,5 +1,5 @@
 use Rattle.std.proofs.Common.{sym, ◌∙◌, ap}
-use Rattle.call_events.specs.Log.{lists_of}
+use Rattle.token_core.specs.Log.{lists_of}
 use Rattle.token_core.specs.Left.{after_begun}
 use Rattle.token_core.proofs.replica.keep_begun.Goals as goal
 

@@ -1,6 +1,6 @@
 use Rattle.std.proofs.Common.{sym, subst}
 use Rattle.token_protocol.specs.declared.node.Heard.{Heard}
-use Rattle.call_events.specs.Log.{lists_of}
+use Rattle.token_core.specs.Log.{lists_of}
 use Rattle.token_core.specs.Left.{Left, IsAfterHeard}
 use Rattle.token_core.proofs.replica.keep_heard.Goals as goal
 

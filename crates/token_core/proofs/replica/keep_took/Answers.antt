@@ -1,5 +1,5 @@
 use Rattle.std.proofs.Common.{arith}
-use Rattle.call_events.proofs.Numbering.{number_within}
+use Rattle.token_core.proofs.Numbering.{number_within}
 use Rattle.token_core.proofs.replica.keep_took.Goals as goal
 
 pub overflow_cast-number : goal.overflow_cast-number

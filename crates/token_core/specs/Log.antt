@@ -3,7 +3,7 @@ use Rattle.std.specs.Prelude.{◌<◌, ◌^◌, List, [], length, vec_len, vec_c
 use Rattle.token_protocol.specs.declared.message.Request.{Request}
 use Rattle.token_protocol.specs.declared.message.Message.{Message}
 use Rattle.token_protocol.specs.Network.{Happened}
-use Rattle.call_events.specs.declared.log.Log.{Log}
+use Rattle.token_core.specs.declared.log.Log.{Log}
 
 -- requests, messages and the calls that were run, in their orders
 pub record Lists : Type 0 where

@@ -1,5 +1,5 @@
 use Rattle.std.proofs.Common.{◌≡◌, ℕ, ◌+◌, ◌-◌, false, get_or, length}
-use Rattle.call_events.proofs.ids.mark_up_to.Given as goal
+use Rattle.token_core.proofs.ids.mark_up_to.Given as goal
 
 -- nothing more is marked
 abbrev pub invariant-loop-marks : goal.invariant-loop-marks

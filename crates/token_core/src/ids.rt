@@ -7,7 +7,7 @@ ghost use Rattle.std.specs.Prelude.{◌≡◌, ℕ, ◌<◌, true, false, ◌||�
 ghost use Rattle.std.specs.Prelude.{OnOk, OnErr, IfOk};
 ghost use Rattle.token_protocol.specs.declared.message.EventId.{EventId as Id};
 ghost use Rattle.token_protocol.specs.Ids.{same_id, is_among, first_outside};
-ghost use Rattle.call_events.specs.Members.{has_id, room, mark_of, is_marked};
+ghost use Rattle.token_core.specs.Members.{has_id, room, mark_of, is_marked};
 
 use shared_lists::SharedList;
 use std::alloc::{AllocError, Global};
@@ -33,7 +33,7 @@ impl Model for Ids {
     ghost use Rattle.std.specs.Prelude.{List, ◌≡◌, ◌||◌};
     ghost use Rattle.token_protocol.specs.declared.message.EventId.{EventId as Id};
     ghost use Rattle.token_protocol.specs.Ids.{is_among};
-    ghost use Rattle.call_events.specs.Members.{has_id, is_marked};
+    ghost use Rattle.token_core.specs.Members.{has_id, is_marked};
 
     ghost Value = { List Id };
 

@@ -3,7 +3,7 @@
 ghost use Rattle.std.specs.Prelude.{◌≡◌, ◌<◌, ◌^◌, false, [], ◌∷◌, ◌++◌, length, vec_len};
 ghost use Rattle.std.specs.Prelude.{vec_capacity, OnOk};
 ghost use Rattle.token_protocol.specs.Network.{number_of};
-ghost use Rattle.call_events.specs.Log.{lists_of, no_lists, HasRoom};
+ghost use Rattle.token_core.specs.Log.{lists_of, no_lists, HasRoom};
 
 use shared_lists::SharedList;
 use spec_core::Call;

@@ -5,7 +5,7 @@ use Rattle.std.proofs.Common.{◌≡◌, ℕ, Bool, true, false, cond, ◌&&◌,
 use Rattle.std.proofs.lemmas.Bool.Decides.{nat_tests}
 use Rattle.token_protocol.specs.declared.message.EventId.{EventId}
 use Rattle.token_protocol.specs.Ids.{same_id}
-use Rattle.call_events.specs.Members.{same_pair, has_id}
+use Rattle.token_core.specs.Members.{same_pair, has_id}
 
 ok_so : {A E P : Type 0} (r : Result A E) → IsOk r → OnOk r P → P
 ok_so (Ok a) k h = h

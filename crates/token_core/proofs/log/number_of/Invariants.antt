@@ -1,6 +1,6 @@
 use Rattle.std.proofs.Common.{◌≡◌, ◌+◌, drop}
 use Rattle.token_protocol.specs.Network.{number_of}
-use Rattle.call_events.proofs.log.number_of.Given as goal
+use Rattle.token_core.proofs.log.number_of.Given as goal
 
 -- the number is that from here on, behind those before
 abbrev pub invariant-loop-number : goal.invariant-loop-number
