@@ -13,9 +13,9 @@ use Rattle.token_protocol.specs.declared.granted.Granted.{Granted}
 use Rattle.token_protocol.specs.Manager.{conflicting, grant_message, asked_with}
 use Rattle.token_protocol.specs.declared.message.Request.{Request}
 use Rattle.token_protocol.specs.declared.message.Message.{Message}
-use Rattle.grant_index.specs.Alike.{take_alike}
-use Rattle.grant_index.specs.Named.{id_if, ids_at}
-use Rattle.grant_index.proofs.SameTokens.{named_behind}
+use Rattle.token_manager.specs.Alike.{take_alike}
+use Rattle.token_manager.specs.Named.{id_if, ids_at}
+use Rattle.token_manager.proofs.SameTokens.{named_behind}
 use Rattle.token_manager.specs.Grants.{AreGrants, IsAlikeAt}
 use Rattle.token_manager.proofs.Found.{absent, one_found}
 

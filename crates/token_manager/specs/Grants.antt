@@ -5,7 +5,7 @@ use Rattle.spec_core.specs.declared.world.Call.{Call}
 use Rattle.spec_core.specs.Specification.{Specification}
 use Rattle.token_protocol.specs.declared.granted.Granted.{Granted}
 use Rattle.token_protocol.specs.Manager.{conflicting}
-use Rattle.grant_index.specs.Alike.{take_alike}
+use Rattle.token_manager.specs.Alike.{take_alike}
 
 -- each grant names the calls granted before that conflict with it
 abbrev pub AreGrants : Specification → World → List Granted → Type 0

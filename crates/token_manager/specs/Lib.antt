@@ -1,1 +1,5 @@
+pub mod Index
+pub mod Named
+pub mod Same
+pub mod Alike
 pub mod Grants

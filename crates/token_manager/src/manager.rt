@@ -12,11 +12,12 @@ ghost use Rattle.token_protocol.specs.Manager.{conflicting, grant_of, grant_mess
 ghost use Rattle.token_protocol.specs.Manager.{asked};
 ghost use Rattle.token_rules.specs.Conflict.{conflicts};
 ghost use Rattle.token_rules.specs.Rivals.{rivals_of};
-ghost use Rattle.grant_index.specs.Index.{numbers_from};
-ghost use Rattle.grant_index.specs.Named.{id_if, ids_at};
+ghost use Rattle.token_manager.specs.Index.{numbers_from};
+ghost use Rattle.token_manager.specs.Named.{id_if, ids_at};
 ghost use Rattle.token_manager.specs.Grants.{AreGrants, IsAlikeAt};
 
-use grant_index::{GrantIndex, take_alike, token_sum};
+use crate::alike::{take_alike, token_sum};
+use crate::index::GrantIndex;
 use items::Items;
 use shared_lists::SharedList;
 use spec_core::{Call, Spec, World};
@@ -40,7 +41,7 @@ pub struct Manager {
 impl Model for Manager {
     ghost use Rattle.std.specs.Prelude.{List};
     ghost use Rattle.token_protocol.specs.declared.granted.Granted.{Granted};
-    ghost use Rattle.grant_index.specs.Index.{AreUpTo};
+    ghost use Rattle.token_manager.specs.Index.{AreUpTo};
 
     ghost Value = { List Granted };
 

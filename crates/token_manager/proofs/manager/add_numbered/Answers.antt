@@ -1,6 +1,6 @@
 use Rattle.std.proofs.Common.{◌++◌, sym, ◌∙◌, ap}
 use Rattle.std.proofs.lemmas.List.{append-nil}
-use Rattle.grant_index.specs.Named.{id_if}
+use Rattle.token_manager.specs.Named.{id_if}
 use Rattle.token_manager.proofs.manager.add_numbered.Goals as goal
 
 pub returns-in-None : goal.returns-in-None

@@ -1,8 +1,8 @@
 use Rattle.std.proofs.Common.{◌+◌, List, ◌++◌, drop, sym, ◌∙◌, ap}
 use Rattle.token_protocol.specs.declared.message.EventId.{EventId}
 use Rattle.token_protocol.specs.Manager.{conflicting}
-use Rattle.grant_index.specs.Named.{ids_at}
-use Rattle.grant_index.proofs.Listed.{conflicts_listed}
+use Rattle.token_manager.specs.Named.{ids_at}
+use Rattle.token_manager.proofs.Listed.{conflicts_listed}
 use Rattle.token_manager.proofs.Granting.{next}
 use Rattle.token_manager.proofs.manager.conflicting.Goals as goal
 

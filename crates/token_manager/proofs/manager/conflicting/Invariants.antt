@@ -1,6 +1,6 @@
 use Rattle.std.proofs.Common.{◌≡◌, ◌++◌, drop}
 use Rattle.token_protocol.specs.Manager.{conflicting}
-use Rattle.grant_index.specs.Named.{ids_at}
+use Rattle.token_manager.specs.Named.{ids_at}
 use Rattle.token_manager.proofs.manager.conflicting.Given as goal
 
 -- all that conflict are those found so far, and those on the list from here on

@@ -1,7 +1,7 @@
 use Rattle.std.proofs.Common.{List, sym, subst}
 use Rattle.token_protocol.specs.declared.granted.Granted.{Granted}
-use Rattle.grant_index.specs.Index.{AreUpTo}
-use Rattle.grant_index.proofs.Counted.{index_of_more}
+use Rattle.token_manager.specs.Index.{AreUpTo}
+use Rattle.token_manager.proofs.Counted.{index_of_more}
 use Rattle.token_manager.proofs.manager.Manager.grant.Goals as goal
 
 pub invariant_of-self : goal.invariant_of-self

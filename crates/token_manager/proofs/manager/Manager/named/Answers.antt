@@ -1,6 +1,6 @@
 use Rattle.std.proofs.Common.{List, sym, subst}
 use Rattle.token_protocol.specs.declared.granted.Granted.{Granted}
-use Rattle.grant_index.specs.Index.{AreUpTo}
+use Rattle.token_manager.specs.Index.{AreUpTo}
 use Rattle.token_manager.proofs.manager.Manager.named.Goals as goal
 
 pub catch_up-requires : goal.catch_up-requires

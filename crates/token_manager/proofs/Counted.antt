@@ -9,9 +9,9 @@ use Rattle.token_rules.specs.declared.rivals.Rivalry.{Rivalry}
 use Rattle.token_rules.specs.declared.rivals.Rivalry.TheVariants.{Never, Tied, Free}
 use Rattle.token_protocol.specs.declared.granted.Granted.{Granted}
 use Rattle.token_protocol.proofs.Places.{absent, one_found, get_set}
-use Rattle.grant_index.specs.declared.list.Candidates.{Candidates}
-use Rattle.grant_index.specs.Index.{can_conflict, numbers_from, IsUpTo, AreUpTo, numbers_in, numbers_at}
-use Rattle.grant_index.specs.Same.{same_rivalry, same_rivals}
+use Rattle.token_manager.specs.declared.candidates.Candidates.{Candidates}
+use Rattle.token_manager.specs.Index.{can_conflict, numbers_from, IsUpTo, AreUpTo, numbers_in, numbers_at}
+use Rattle.token_manager.specs.Same.{same_rivalry, same_rivals}
 
 -- ---- rivals that are the same
 one_rivalry : (a b : Rivalry) → same_rivalry a b ≡ true → a ≡ b

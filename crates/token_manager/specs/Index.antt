@@ -3,7 +3,7 @@ use Rattle.std.specs.Prelude.{◌≡◌, ℕ, suc, ◌≤◌, Bool, true, false,
 use Rattle.token_rules.specs.declared.rivals.Rivalry.{Rivalry}
 use Rattle.token_rules.specs.declared.rivals.Rivalry.TheVariants.{Never, Tied, Free}
 use Rattle.token_protocol.specs.declared.granted.Granted.{Granted}
-use Rattle.grant_index.specs.declared.list.Candidates.{Candidates}
+use Rattle.token_manager.specs.declared.candidates.Candidates.{Candidates}
 
 -- whether there can be a conflict
 abbrev pub may_happen : Rivalry → Bool

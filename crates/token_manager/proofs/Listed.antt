@@ -14,8 +14,8 @@ use Rattle.token_rules.proofs.Tokens.{no_conflict}
 use Rattle.token_protocol.specs.declared.message.EventId.{EventId}
 use Rattle.token_protocol.specs.declared.granted.Granted.{Granted}
 use Rattle.token_protocol.specs.Manager.{conflicting}
-use Rattle.grant_index.specs.Index.{may_happen, can_conflict, numbers_from}
-use Rattle.grant_index.specs.Named.{id_if, ids_at}
+use Rattle.token_manager.specs.Index.{may_happen, can_conflict, numbers_from}
+use Rattle.token_manager.specs.Named.{id_if, ids_at}
 
 -- what never happens may not
 never_may : (r : Rivalry) (other own : List ℤ) → may_happen r ≡ false → may_conflict r other own ≡ false

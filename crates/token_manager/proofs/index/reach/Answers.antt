@@ -1,7 +1,7 @@
 use Rattle.std.proofs.Common.{sym, subst}
-use Rattle.grant_index.specs.Index.{AreUpTo}
-use Rattle.grant_index.proofs.Counted.{one_list_more}
-use Rattle.grant_index.proofs.index.reach.Goals as goal
+use Rattle.token_manager.specs.Index.{AreUpTo}
+use Rattle.token_manager.proofs.Counted.{one_list_more}
+use Rattle.token_manager.proofs.index.reach.Goals as goal
 
 pub loop-alloc-preserved : goal.loop-alloc-preserved
 loop-alloc-preserved c = λ granted are.

@@ -1,7 +1,7 @@
 use Rattle.std.proofs.Common.{sym, ◌∙◌, subst}
-use Rattle.grant_index.specs.Index.{AreUpTo}
-use Rattle.grant_index.proofs.Counted.{read_at, list_replaced, numbers_replaced, on_ok}
-use Rattle.grant_index.proofs.index.GrantIndex.catch_up.Goals as goal
+use Rattle.token_manager.specs.Index.{AreUpTo}
+use Rattle.token_manager.proofs.Counted.{read_at, list_replaced, numbers_replaced, on_ok}
+use Rattle.token_manager.proofs.index.GrantIndex.catch_up.Goals as goal
 
 pub returns-in_err-reach-clause-index : goal.returns-in_err-reach-clause-index
 returns-in_err-reach-clause-index c = c.reach.ensures.kept c.args.granted.now (subst (AreUpTo c.args.granted.now) (sym c.self.view_is) c.requires.index)

@@ -1,7 +1,7 @@
 // Calls that take the same tokens conflict with the same calls.
 
 ghost use Rattle.std.specs.Prelude.{◌≡◌};
-ghost use Rattle.grant_index.specs.Alike.{same_elems, same_takes, take_alike};
+ghost use Rattle.token_manager.specs.Alike.{same_elems, same_takes, take_alike};
 
 use spec_core::{Call, Elem, Spec, Take, World, elem_at};
 

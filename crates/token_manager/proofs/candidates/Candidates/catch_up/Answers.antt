@@ -1,9 +1,9 @@
 use Rattle.std.proofs.Common.{◌∙◌, ap, refl, List, [], ◌∷◌, ◌++◌, cond}
 use Rattle.std.specs.Prelude.{take}
 use Rattle.token_rules.specs.declared.rivals.Rivalry.{Rivalry}
-use Rattle.grant_index.specs.Index.{can_conflict, numbers_from}
-use Rattle.grant_index.proofs.Counted.{upto_next, read_at}
-use Rattle.grant_index.proofs.list.Candidates.catch_up.Goals as goal
+use Rattle.token_manager.specs.Index.{can_conflict, numbers_from}
+use Rattle.token_manager.proofs.Counted.{upto_next, read_at}
+use Rattle.token_manager.proofs.candidates.Candidates.catch_up.Goals as goal
 
 pub loop-number-preserved : goal.loop-number-preserved
 loop-number-preserved c =

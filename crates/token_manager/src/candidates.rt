@@ -1,8 +1,8 @@
 // The list of an operation.
 
 ghost use Rattle.std.specs.Prelude.{◌≡◌, List, [], ◌∷◌, ◌++◌, cond, OnOk, OnErr};
-ghost use Rattle.grant_index.specs.Index.{can_conflict, numbers_from, IsUpTo};
-ghost use Rattle.grant_index.specs.Same.{same_rivalry, same_rivals};
+ghost use Rattle.token_manager.specs.Index.{can_conflict, numbers_from, IsUpTo};
+ghost use Rattle.token_manager.specs.Same.{same_rivalry, same_rivals};
 ghost use Rattle.token_protocol.specs.declared.granted.Granted.{Granted as Grant};
 
 use items::Items;

@@ -17,7 +17,7 @@ use Rattle.token_rules.specs.Conflict.{lines_match, matched, conflicts}
 use Rattle.token_protocol.specs.declared.message.EventId.{EventId}
 use Rattle.token_protocol.specs.declared.granted.Granted.{Granted}
 use Rattle.token_protocol.specs.Manager.{conflicting}
-use Rattle.grant_index.specs.Alike.{same_elems, same_takes, take_alike}
+use Rattle.token_manager.specs.Alike.{same_elems, same_takes, take_alike}
 
 first_of : (a b : Bool) → (a && b) ≡ true → a ≡ true
 first_of a b h = grind (arith, nat_tests)

@@ -1,7 +1,7 @@
 use Rattle.std.proofs.Common.{List, length, ◌+◌, ◌-◌}
 use Rattle.token_protocol.specs.declared.granted.Granted.{Granted}
-use Rattle.grant_index.specs.Index.{AreUpTo}
-use Rattle.grant_index.proofs.index.reach.Given as goal
+use Rattle.token_manager.specs.Index.{AreUpTo}
+use Rattle.token_manager.proofs.index.reach.Given as goal
 
 abbrev pub invariant-loop-alloc : goal.invariant-loop-alloc
 invariant-loop-alloc l = (granted : List Granted) → AreUpTo granted l.initial.lists.items → AreUpTo granted l.lists.items

@@ -1,6 +1,6 @@
 use Rattle.std.proofs.Common.{sym, ◌∙◌}
-use Rattle.grant_index.proofs.Counted.{one_list}
-use Rattle.grant_index.proofs.list.Candidates.follow.Goals as goal
+use Rattle.token_manager.proofs.Counted.{one_list}
+use Rattle.token_manager.proofs.candidates.Candidates.follow.Goals as goal
 
 pub returns-then-same_rivals-clause-rivals : goal.returns-then-same_rivals-clause-rivals
 returns-then-same_rivals-clause-rivals c =

@@ -2,9 +2,9 @@
 
 ghost use Rattle.std.specs.Prelude.{◌≡◌, ◌<◌, List, [], length, slice_get, OnOk};
 ghost use Rattle.token_protocol.specs.declared.granted.Granted.{Granted as Grant};
-ghost use Rattle.grant_index.specs.Index.{numbers_from, numbers_at, IsUpTo, AreUpTo};
+ghost use Rattle.token_manager.specs.Index.{numbers_from, numbers_at, IsUpTo, AreUpTo};
 
-use crate::list::Candidates;
+use crate::candidates::Candidates;
 use std::alloc::{AllocError, Global};
 use std::marker::Model;
 use token_protocol::Granted;
@@ -18,7 +18,7 @@ pub struct GrantIndex {
 
 impl Model for GrantIndex {
     ghost use Rattle.std.specs.Prelude.{List};
-    ghost use Rattle.grant_index.specs.declared.list.Candidates.{Candidates};
+    ghost use Rattle.token_manager.specs.declared.candidates.Candidates.{Candidates};
 
     ghost Value = { List Candidates };
 

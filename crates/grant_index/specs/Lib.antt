@@ -1,4 +1,0 @@
-pub mod Index
-pub mod Named
-pub mod Same
-pub mod Alike
