@@ -15,12 +15,12 @@ ghost use Rattle.replay_text.specs.Asked.{AllHeld, OthersHeld, IsFrontElsewhere,
 use crate::lines::{push, push_number, push_step, push_stop};
 use crate::stop::Stop;
 use byte_ports::{ACCEPTED, Answer, REFUSED, REJECTED};
-use invariants_after::invariant_broken_after;
 use partial_truth::invariant_broken_at;
 use replica_replay::{Replay, Step, StepRefused, Steps};
 use spec_core::{Spec, World};
 use spec_states::write_state;
 use std::alloc::{AllocError, Global};
+use touched_lines::invariant_broken_after;
 
 /// The replica of a step.
 fn replica_of(step: &Step) -> u32

@@ -1,2 +1,3 @@
+mod Staying
 mod Spanning
 mod Touching

@@ -6,8 +6,8 @@ ghost use Rattle.spec_core.specs.Meaning.{broken_at};
 ghost use Rattle.spec_core.specs.Fits.{world_fits};
 ghost use Rattle.effectors.specs.Effect.{after};
 
+use crate::reached::line_holds_after;
 use spec_core::{Call, Readings, Spec, World};
-use touched_lines::line_holds_after;
 
 /// The place of the first invariant that is false after a call, where all were true before it.
 pub fn invariant_broken_after<R: Readings>(

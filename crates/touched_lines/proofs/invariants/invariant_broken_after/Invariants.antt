@@ -4,7 +4,7 @@ use Rattle.spec_core.specs.State.{Reads}
 use Rattle.spec_core.specs.Truth.{line_true}
 use Rattle.spec_core.specs.Meaning.{broken_at}
 use Rattle.effectors.specs.Effect.{after}
-use Rattle.invariants_after.proofs.asking.invariant_broken_after.Given as goal
+use Rattle.touched_lines.proofs.invariants.invariant_broken_after.Given as goal
 
 -- where the invariants held before the call, the first false one is the first one from here on
 abbrev pub invariant-loop-i : goal.invariant-loop-i

@@ -9,8 +9,8 @@ use Rattle.spec_core.proofs.Lists.{list_all-within}
 use Rattle.spec_core.proofs.Parts.{parts_of}
 use Rattle.spec_core.proofs.Fitting.{line_fits_typed}
 use Rattle.spec_core.proofs.Positions.{position_here, position_later, position_past}
-use Rattle.invariants_after.proofs.Staying.{each_true}
-use Rattle.invariants_after.proofs.asking.invariant_broken_after.Goals as goal
+use Rattle.touched_lines.proofs.Staying.{each_true}
+use Rattle.touched_lines.proofs.invariants.invariant_broken_after.Goals as goal
 
 pub line_holds_after-requires-clause-fits : goal.line_holds_after-requires-clause-fits
 line_holds_after-requires-clause-fits g c =
