@@ -13,10 +13,11 @@ ghost use Rattle.replica_replay.specs.Holding.{calls_of};
 ghost use Rattle.token_rules.specs.Rivals.{rivals_of as rivals_with};
 ghost use Rattle.replica_host.specs.Lines.{observes_asked, lines_asked};
 
-use call_runner::Runner;
 use effectors::ApplyRefused;
 use partial_truth::observes_broken_at;
-use replica_replay::{Happened, Order, StepRefused, least_unseen, operation_named, taking_asked};
+use replica_replay::{
+    Happened, Order, Runner, StepRefused, least_unseen, operation_named, taking_asked,
+};
 use spec_core::{Call, Spec, World};
 use spec_states::State;
 use std::alloc::{AllocError, Global};

@@ -11,9 +11,10 @@ ghost use Rattle.replica_replay.specs.Steps.{held_after, answer};
 use crate::asking::{named, rivals, state_after_call, state_after_taking};
 use crate::keeping::{keep_call, keep_taking, replicas_of};
 use crate::native::{Effect, Guard, Native};
-use call_runner::Runner;
 use items::Items;
-use replica_replay::{Happened, Replica, Step, StepRefused, Steps, Taken, count, seen_by_event};
+use replica_replay::{
+    Happened, Replica, Runner, Step, StepRefused, Steps, Taken, count, seen_by_event,
+};
 use spec_core::{Call, World};
 use spec_states::State;
 use std::alloc::{AllocError, Global};

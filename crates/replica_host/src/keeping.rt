@@ -7,9 +7,8 @@ ghost use Rattle.spec_core.specs.Meaning.{initial as initial_of};
 ghost use Rattle.spec_core.specs.Fits.{world_fits, is_state};
 ghost use Rattle.replica_replay.specs.Holding.{orders_of};
 
-use call_runner::Runner;
 use replica_replay::{
-    Happened, Replica, StepRefused, Taken, first_replicas, note_call, note_taking,
+    Happened, Replica, Runner, StepRefused, Taken, first_replicas, note_call, note_taking,
 };
 use spec_core::Call;
 use spec_states::State;

@@ -11,8 +11,8 @@ ghost use Rattle.spec_core.specs.Fits.{world_fits, call_fits, is_state};
 ghost use Rattle.effectors.specs.declared.applying.ApplyRefused.{ApplyRefused as Refused};
 ghost use Rattle.replica_host.specs.Native.{IsEffect, IsGuard, Meets};
 
-use call_runner::Runner;
 use effectors::ApplyRefused;
+use replica_replay::Runner;
 use spec_core::{Call, Spec, World};
 use spec_states::State;
 use std::alloc::AllocError;

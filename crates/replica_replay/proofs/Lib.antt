@@ -1,3 +1,5 @@
+pub mod Places
+pub mod Causes
 pub mod Taking
 pub mod Refusing
 pub mod Executed

@@ -1,3 +1,4 @@
+pub mod Tried
 pub mod Held
 pub mod Refusals
 pub mod Steps

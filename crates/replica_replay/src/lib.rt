@@ -1,4 +1,10 @@
-// Recorded schedules, step by step: which steps are accepted, and the state of each replica after them.
+// Recorded schedules, step by step: which steps are accepted, and the state of each replica after them; and who runs a call: its
+// precondition and its effect, as they are written or by an application's own code.
+//
+// It stands on `executions`, and on `token_protocol`, whose definitions say why a call can't run.
+//
+// A `Runner` is a specification in a world with code for its preconditions and effects. `Plain` evaluates them as they are written; an
+// application's own code can stand in their place. `specs/Tried.antt` says what trying a call in a state gives.
 //
 // `specs/Held.antt` says what a replay holds, `specs/Refusals.antt` which calls and takings are refused and for what,
 // `specs/Steps.antt` what a step answers and what is held after it. `Replay` applies the updates as they are written; what it is made of
@@ -11,15 +17,20 @@
 // - A replica of what is held, with what it has taken, is one record (`AtReplica`), which isn't
 //   there where the replica isn't; what a step is refused by, what the replica has taken and its
 //   state are another (`LocalView`).
+// - An effect may be written over a spare state, which a `Runner` then brings up to date. An
+//   application's code makes states of its own, so it takes and leaves none.
 #![tactic(auto)]
 
 mod asking;
+mod conditions;
 mod keeping;
 mod law;
 mod order;
 mod replay;
+mod runner;
 mod step;
 mod steps;
+mod trying;
 
 pub use asking::{least_unseen, operation_named, taking_asked};
 pub use keeping::{
@@ -28,5 +39,7 @@ pub use keeping::{
 pub use law::law_steps_keep_executions;
 pub use order::Order;
 pub use replay::Replay;
+pub use runner::{Plain, Runner};
 pub use step::{Step, StepRefused, Taken};
 pub use steps::Steps;
+pub use trying::{Tried, try_call, try_call_over};

@@ -1,7 +1,7 @@
 // The token protocol in code: nodes, which run calls that are granted, and a network of them and a manager.
 //
 // It stands on `token_protocol`, whose definitions say what a node answers to a call and to a message, what a network holds after each
-// step, and why what its nodes run is an execution; on `token_manager`, which grants calls; and on `call_runner`, whose `Runner` runs
+// step, and why what its nodes run is an execution; on `token_manager`, which grants calls; and on `replica_replay`, whose `Runner` runs
 // them. `Net` keeps that its events form an execution, that what each replica has taken is a delivery order of it, and that the state of
 // each replica is the state after that.
 //
@@ -35,11 +35,11 @@ mod net;
 mod node;
 mod replica;
 
-pub use call_runner::{Plain, Runner, Tried, try_call, try_call_over};
 pub use ids::Ids;
 pub use log::{CallEvent, Happened, number_of};
 pub use net::Net;
 pub use node::Node;
+pub use replica_replay::{Plain, Runner, Tried, try_call, try_call_over};
 pub use token_manager::Manager;
 pub use token_protocol::{
     Begun, EventId, Granted, Heard, Message, NetDid, NetRefused, NetStep, NodeRefused, Request,

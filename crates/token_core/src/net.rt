@@ -15,7 +15,7 @@ ghost use Rattle.token_core.specs.Stepped.{IsStepped};
 use crate::log::{Happened, Log};
 use crate::node::Node;
 use crate::replica::{Replica, ask_at, begin_at, hear_at};
-use call_runner::Runner;
+use replica_replay::Runner;
 use shared_lists::SharedList;
 use spec_core::Call;
 use spec_states::State;

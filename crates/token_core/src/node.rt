@@ -16,12 +16,12 @@ ghost use Rattle.token_protocol.specs.Node.{grant_open, hear_done, take_within, 
 ghost use Rattle.token_protocol.specs.Node.{hear_answer, node_after_hear};
 ghost use Rattle.token_protocol.specs.Node.{first_open as first_open_of};
 ghost use Rattle.token_core.specs.Held.{node_of, waiting_fits, message_fits};
-ghost use Rattle.call_runner.specs.Tried.{IsTried};
+ghost use Rattle.replica_replay.specs.Tried.{IsTried};
 ghost use Rattle.token_core.specs.Ended.{ended_of, begun_of, heard_of, refused_effect};
 
 use crate::ids::Ids;
-use call_runner::{Runner, Tried, try_call_over};
 use effectors::ApplyRefused;
+use replica_replay::{Runner, Tried, try_call_over};
 use spec_core::Call;
 use spec_states::State;
 use std::alloc::{AllocError, Global};

@@ -20,7 +20,7 @@ ghost use Rattle.token_manager.specs.Grants.{AreGrants};
 
 use crate::log::{CallEvent, Happened, Log, make_room, number_of, put};
 use crate::node::Node;
-use call_runner::Runner;
+use replica_replay::Runner;
 use shared_lists::SharedList;
 use spec_core::Call;
 use spec_states::State;

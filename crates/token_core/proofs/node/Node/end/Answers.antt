@@ -1,8 +1,8 @@
 use Rattle.std.proofs.Common.{sym, ◌∙◌, ap, subst}
 use Rattle.spec_core.specs.State.{reads}
 use Rattle.effectors.specs.Effect.{after}
-use Rattle.call_runner.specs.Tried.{IsTried}
-use Rattle.call_runner.specs.declared.trying.Tried.TheVariants.{Ready}
+use Rattle.replica_replay.specs.Tried.{IsTried}
+use Rattle.replica_replay.specs.declared.trying.Tried.TheVariants.{Ready}
 use Rattle.token_core.specs.Held.{HeldNode}
 use Rattle.token_core.proofs.node.Node.end.Goals as goal
 

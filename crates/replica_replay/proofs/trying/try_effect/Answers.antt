@@ -7,8 +7,8 @@ use Rattle.effectors.specs.Beyond.{Beyond}
 use Rattle.effectors.proofs.FirstBeyond.{first_is, is_none}
 use Rattle.token_protocol.specs.declared.node.WhyVoid.{WhyVoid}
 use Rattle.token_protocol.specs.declared.node.WhyVoid.TheVariants.{Range}
-use Rattle.call_runner.proofs.Causes.{not_void, void_by_range}
-use Rattle.call_runner.proofs.trying.try_effect.Goals as goal
+use Rattle.replica_replay.proofs.Causes.{not_void, void_by_range}
+use Rattle.replica_replay.proofs.trying.try_effect.Goals as goal
 
 pub returns-in-Ok : goal.returns-in-Ok
 returns-in-Ok g c =

@@ -11,7 +11,7 @@ ghost use Rattle.effectors.specs.Effect.{after, after_call};
 ghost use Rattle.effectors.specs.Beyond.{Beyond, AllInRange, IsFirstBeyond};
 ghost use Rattle.effectors.specs.Spare.{IsSpare};
 
-use crate::lines::requires_line;
+use crate::conditions::requires_line;
 use effectors::{ApplyRefused, apply, apply_over, caught_up};
 use spec_core::{Call, Spec, World};
 use spec_states::State;

@@ -7,9 +7,9 @@ ghost use Rattle.spec_core.specs.Meaning.{first_false};
 ghost use Rattle.spec_core.specs.State.{reads};
 ghost use Rattle.spec_core.specs.Fits.{call_fits, is_state};
 ghost use Rattle.effectors.specs.Spare.{IsSpare};
-ghost use Rattle.call_runner.specs.Tried.{IsTried};
+ghost use Rattle.replica_replay.specs.Tried.{IsTried};
 
-use crate::lines::observes_line;
+use crate::conditions::observes_line;
 use crate::runner::Runner;
 use effectors::ApplyRefused;
 use spec_core::Call;

@@ -1,7 +1,7 @@
 use Rattle.std.proofs.Common.{sym, ◌∙◌, arith}
 use Rattle.spec_core.specs.State.{reads}
-use Rattle.call_runner.proofs.Places.{observes_place}
-use Rattle.call_runner.proofs.lines.observes_line.Goals as goal
+use Rattle.replica_replay.proofs.Places.{observes_place}
+use Rattle.replica_replay.proofs.conditions.observes_line.Goals as goal
 
 pub overflow_cast-result : goal.overflow_cast-result
 overflow_cast-result c =

@@ -7,8 +7,8 @@ use Rattle.spec_core.specs.State.{Reads, reads}
 use Rattle.spec_core.specs.Fits.{is_state}
 use Rattle.effectors.specs.Effect.{after}
 use Rattle.token_protocol.specs.Node.{why_void}
-use Rattle.call_runner.specs.declared.trying.Tried.{Tried}
-use Rattle.call_runner.specs.declared.trying.Tried.TheVariants.{Ready, Never}
+use Rattle.replica_replay.specs.declared.trying.Tried.{Tried}
+use Rattle.replica_replay.specs.declared.trying.Tried.TheVariants.{Ready, Never}
 
 -- the state after the call, or why it can't run
 abbrev pub IsTried : Specification → World → Reads → Call → Tried → Type 0
