@@ -1,3 +1,5 @@
+pub mod Spans
+pub mod Marks
 pub mod Slots
 pub mod Index
 pub mod Masks

@@ -17,7 +17,7 @@ ghost use Rattle.log_freshness.specs.Index.{MarksAre};
 ghost use Rattle.log_freshness.specs.Blocks.{number_within, block_within, finds_in_blocks, AllFit, BlockFits, BlocksFit, RulesOut, AreNotWithin, BitsAre, PutsNumber, PutsInBlocks, MovesLast, IsEmptyBlock, HasNoClause};
 
 use crate::freshness::{is_marked, marked_slot_within, spot};
-use clause_store::ClauseStore;
+use crate::store::ClauseStore;
 use items::Items;
 use proof_lines::clause::Lit;
 use std::alloc::{AllocError, Global};

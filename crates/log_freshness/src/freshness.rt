@@ -26,7 +26,7 @@ ghost use Rattle.log_freshness.specs.Blocks.{finds_in_blocks, BlocksFit};
 ghost use Rattle.log_freshness.specs.Puts.{IsIndex, PutsEither};
 
 use crate::blocks::{Blocks, any_in_blocks, is_crowded, is_for_blocks, no_blocks, put_in_blocks};
-use clause_store::ClauseStore;
+use crate::store::ClauseStore;
 use items::Items;
 use proof_lines::clause::{Lit, holds_both_ways, is_within};
 use std::alloc::{AllocError, Global};

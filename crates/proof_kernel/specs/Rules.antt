@@ -16,7 +16,7 @@ use Rattle.line_rows.specs.Refusals.{need, then_}
 use Rattle.line_rows.specs.Steps.{line_rows, ends_badly, row_at}
 use Rattle.line_rows.specs.Splits.{split_fits, split_cause, at_most, is_at_most}
 use Rattle.proof_lines.specs.Numbers.{are_different}
-use Rattle.clause_store.specs.Clearing as clearing
+use Rattle.log_freshness.specs.Clearing as clearing
 use Rattle.log_freshness.specs.Freshness.{live_of}
 
 -- What stands after some lines: the atoms, the number of integer names, how many clauses the problem has, the clauses by their

@@ -12,7 +12,7 @@
 //
 // Decisions:
 // - Contracts see a dropped clause as a number without literals. Its literals are let go of later,
-//   as `clause_store` says; whether a clause was ever empty is kept apart.
+//   as `log_freshness` says; whether a clause was ever empty is kept apart.
 // - A numbering is full at 2^32 - 1 clauses or atoms, and a log at as many lines. One more is
 //   answered as want of memory.
 // - A resolvent is made in a list that the kernel keeps for it and then put into the store, since

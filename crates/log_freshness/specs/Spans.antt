@@ -3,8 +3,8 @@ use Rattle.std.specs.Prelude.{◌≡◌, ℕ, ◌+◌, ◌*◌, ◌≤◌, nat_l
 use Rattle.std.specs.List.{list_all, fold}
 use Rattle.proof_lines.specs.declared.clause.Lit.{Lit}
 use Rattle.proof_lines.specs.Clauses.{distinct}
-use Rattle.clause_store.specs.declared.store.Span.{Span}
-use Rattle.clause_store.specs.Held.{most_literals, live_literals}
+use Rattle.log_freshness.specs.declared.store.Span.{Span}
+use Rattle.log_freshness.specs.Held.{most_literals, live_literals}
 
 -- the literals at a span
 abbrev pub lits_at : List Lit → Span → List Lit

@@ -4,10 +4,10 @@ ghost use Rattle.std.specs.Prelude.{OnOk, OnErr, IfOk, IfSome};
 ghost use Rattle.std.specs.Prelude.{length, nat_lt, option_copied, slice_index_or};
 ghost use Rattle.std.specs.List.{list_all};
 ghost use Rattle.proof_lines.specs.Clauses.{distinct};
-ghost use Rattle.clause_store.specs.Held.{most_literals, live_literals};
-ghost use Rattle.clause_store.specs.Spans.{clause_at, clauses_at, ends_within, is_apart};
-ghost use Rattle.clause_store.specs.Spans.{marked, counts_of, SpansFit};
-ghost use Rattle.clause_store.specs.Clearing.{cleared};
+ghost use Rattle.log_freshness.specs.Held.{most_literals, live_literals};
+ghost use Rattle.log_freshness.specs.Spans.{clause_at, clauses_at, ends_within, is_apart};
+ghost use Rattle.log_freshness.specs.Spans.{marked, counts_of, SpansFit};
+ghost use Rattle.log_freshness.specs.Clearing.{cleared};
 
 use proof_lines::clause::Lit;
 use std::alloc::{AllocError, Global};
@@ -46,7 +46,7 @@ pub struct ClauseStore {
 impl Model for ClauseStore {
     ghost use Rattle.std.specs.Prelude.{List, Option};
     ghost use Rattle.proof_lines.specs.declared.clause.Lit.{Lit};
-    ghost use Rattle.clause_store.specs.Spans.{clauses_at, StoreFits};
+    ghost use Rattle.log_freshness.specs.Spans.{clauses_at, StoreFits};
 
     ghost Value = { List (Option (List Lit)) };
 

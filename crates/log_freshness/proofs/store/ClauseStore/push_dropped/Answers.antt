@@ -1,11 +1,11 @@
 use Rattle.std.proofs.Common.{◌≡◌, ◌+◌, ◌++◌, ◌∷◌, [], List, None, length, refl, sym, subst, ap, ◌∙◌, arith}
 use Rattle.std.proofs.lemmas.Bool.{le-leb}
-use Rattle.clause_store.specs.declared.store.Span.{Span}
-use Rattle.clause_store.specs.Held.{live_literals}
-use Rattle.clause_store.specs.Spans.{clauses_at, StoreFits, gone}
-use Rattle.clause_store.proofs.Spans.{fit-more, clauses_at-more}
-use Rattle.clause_store.proofs.Marks.{live-append}
-use Rattle.clause_store.proofs.store.ClauseStore.push_dropped.Goals as goal
+use Rattle.log_freshness.specs.declared.store.Span.{Span}
+use Rattle.log_freshness.specs.Held.{live_literals}
+use Rattle.log_freshness.specs.Spans.{clauses_at, StoreFits, gone}
+use Rattle.log_freshness.proofs.Spans.{fit-more, clauses_at-more}
+use Rattle.log_freshness.proofs.Marks.{live-append}
+use Rattle.log_freshness.proofs.store.ClauseStore.push_dropped.Goals as goal
 
 pub invariant_of-self-2 : goal.invariant_of-self-2
 invariant_of-self-2 c =

@@ -7,8 +7,8 @@ use Rattle.std.proofs.lemmas.List.{length-append, length-drop, drop-append-le, t
 use Rattle.std.proofs.lemmas.List.Folds.{list_all-append}
 use Rattle.proof_lines.specs.declared.clause.Lit.{Lit}
 use Rattle.proof_lines.specs.Clauses.{distinct}
-use Rattle.clause_store.specs.declared.store.Span.{Span}
-use Rattle.clause_store.specs.Spans.{lits_at, clause_at, clauses_at, ends_within, is_apart, SpansFit}
+use Rattle.log_freshness.specs.declared.store.Span.{Span}
+use Rattle.log_freshness.specs.Spans.{lits_at, clause_at, clauses_at, ends_within, is_apart, SpansFit}
 
 -- more literals behind those of a span change nothing at it
 lits_at-longer : (lits more : List Lit) (s : Span) → ends_within (length lits) s ≡ true → lits_at (lits ++ more) s ≡ lits_at lits s

@@ -1,10 +1,10 @@
 use Rattle.std.proofs.Common.{◌≡◌, ◌<◌, ◌+◌, ◌-◌, Bool, true, false, not, length, List, sym, subst, ap, ◌∙◌, take, drop, get_or, arith}
 use Rattle.proof_lines.specs.declared.clause.Lit.{Lit}
 use Rattle.proof_lines.specs.Clauses.{distinct}
-use Rattle.clause_store.specs.declared.store.Span.{Span}
-use Rattle.clause_store.specs.Spans.{lits_at}
-use Rattle.clause_store.proofs.Spans.{span-apart}
-use Rattle.clause_store.proofs.store.ClauseStore.get.Goals as goal
+use Rattle.log_freshness.specs.declared.store.Span.{Span}
+use Rattle.log_freshness.specs.Spans.{lits_at}
+use Rattle.log_freshness.proofs.Spans.{span-apart}
+use Rattle.log_freshness.proofs.store.ClauseStore.get.Goals as goal
 
 is_so : (b : Bool) → not b ≡ false → b ≡ true
 is_so b h = grind (arith, h)

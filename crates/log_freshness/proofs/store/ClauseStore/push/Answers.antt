@@ -2,12 +2,12 @@ use Rattle.std.proofs.Common.{◌≡◌, ◌+◌, ◌++◌, ◌∷◌, [], true,
 use Rattle.std.proofs.lemmas.List.{length-append}
 use Rattle.proof_lines.specs.declared.clause.Lit.{Lit}
 use Rattle.proof_lines.specs.Clauses.{distinct}
-use Rattle.clause_store.specs.declared.store.Span.{Span}
-use Rattle.clause_store.specs.Held.{live_literals}
-use Rattle.clause_store.proofs.Marks.{live-append}
-use Rattle.clause_store.specs.Spans.{lits_at, clauses_at, StoreFits}
-use Rattle.clause_store.proofs.Spans.{fit-longer, fit-more, clauses_at-longer, clauses_at-more, lits_at-last, within-last}
-use Rattle.clause_store.proofs.store.ClauseStore.push.Goals as goal
+use Rattle.log_freshness.specs.declared.store.Span.{Span}
+use Rattle.log_freshness.specs.Held.{live_literals}
+use Rattle.log_freshness.proofs.Marks.{live-append}
+use Rattle.log_freshness.specs.Spans.{lits_at, clauses_at, StoreFits}
+use Rattle.log_freshness.proofs.Spans.{fit-longer, fit-more, clauses_at-longer, clauses_at-more, lits_at-last, within-last}
+use Rattle.log_freshness.proofs.store.ClauseStore.push.Goals as goal
 
 -- the span of the new clause
 abbrev span : goal.In-Ok-push → Span

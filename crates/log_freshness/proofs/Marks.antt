@@ -1,11 +1,11 @@
 -- What dropping clauses changes: what they are, what a store keeps, and how many literals are those of clauses that weren't dropped.
 use Rattle.std.proofs.Common.{◌≡◌, ℕ, zero, suc, ◌+◌, ◌≤◌, Bool, true, false, cond, List, [], ◌∷◌, ◌++◌, length, take, drop, set, get_or, refl, ◌∙◌, ap, arith, Option, Some, None}
 use Rattle.proof_lines.specs.declared.clause.Lit.{Lit}
-use Rattle.clause_store.specs.declared.store.Span.{Span}
-use Rattle.clause_store.specs.Held.{size_of, live_literals}
-use Rattle.clause_store.specs.Clearing.{cleared}
-use Rattle.clause_store.specs.Spans.{clauses_at, SpansFit, gone, marked, counts_of}
-use Rattle.clause_store.proofs.Spans.{fit-dropped, clauses_at-dropped}
+use Rattle.log_freshness.specs.declared.store.Span.{Span}
+use Rattle.log_freshness.specs.Held.{size_of, live_literals}
+use Rattle.log_freshness.specs.Clearing.{cleared}
+use Rattle.log_freshness.specs.Spans.{clauses_at, SpansFit, gone, marked, counts_of}
+use Rattle.log_freshness.proofs.Spans.{fit-dropped, clauses_at-dropped}
 
 pub fit-marked : (lits : List Lit) (spans : List Span) (ns : List ℕ) → SpansFit lits spans → SpansFit lits (marked spans ns)
 fit-marked lits spans [] h = h

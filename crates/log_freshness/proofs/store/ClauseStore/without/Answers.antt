@@ -1,10 +1,10 @@
 use Rattle.std.proofs.Common.{◌≡◌, List, Option, IfOk, sym, subst, ap, ◌∙◌}
 use Rattle.proof_lines.specs.declared.clause.Lit.{Lit}
-use Rattle.clause_store.specs.declared.store.Span.{Span}
-use Rattle.clause_store.specs.Clearing.{cleared}
-use Rattle.clause_store.specs.Spans.{clauses_at, SpansFit, marked}
-use Rattle.clause_store.proofs.Marks.{fit-marked, clauses_at-marked}
-use Rattle.clause_store.proofs.store.ClauseStore.without.Goals as goal
+use Rattle.log_freshness.specs.declared.store.Span.{Span}
+use Rattle.log_freshness.specs.Clearing.{cleared}
+use Rattle.log_freshness.specs.Spans.{clauses_at, SpansFit, marked}
+use Rattle.log_freshness.proofs.Marks.{fit-marked, clauses_at-marked}
+use Rattle.log_freshness.proofs.store.ClauseStore.without.Goals as goal
 
 pub copied-made-requires : goal.copied-made-requires
 copied-made-requires c =

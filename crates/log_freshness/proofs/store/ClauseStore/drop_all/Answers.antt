@@ -1,11 +1,11 @@
 use Rattle.std.proofs.Common.{◌≡◌, ◌+◌, ◌*◌, ◌≤◌, List, Option, length, sym, subst, ap, ◌∙◌, arith, rules}
 use Rattle.proof_lines.specs.declared.clause.Lit.{Lit}
-use Rattle.clause_store.specs.declared.store.Span.{Span}
-use Rattle.clause_store.specs.Clearing.{cleared}
-use Rattle.clause_store.specs.Spans.{clauses_at, StoreFits, counts_of}
-use Rattle.clause_store.proofs.Marks.{fit-marked, clauses_at-marked, live-marked}
-use Rattle.clause_store.proofs.store.ClauseStore.drop_all.Goals as goal
-use Rattle.clause_store.proofs.store.ClauseStore.drop_all.Goals.{else-dropped-gt-MANY-via-then-dropped-gt-MANY+else-dropped-len, else-dropped-gt-MANY-via-else-dropped-gt-MANY}
+use Rattle.log_freshness.specs.declared.store.Span.{Span}
+use Rattle.log_freshness.specs.Clearing.{cleared}
+use Rattle.log_freshness.specs.Spans.{clauses_at, StoreFits, counts_of}
+use Rattle.log_freshness.proofs.Marks.{fit-marked, clauses_at-marked, live-marked}
+use Rattle.log_freshness.proofs.store.ClauseStore.drop_all.Goals as goal
+use Rattle.log_freshness.proofs.store.ClauseStore.drop_all.Goals.{else-dropped-gt-MANY-via-then-dropped-gt-MANY+else-dropped-len, else-dropped-gt-MANY-via-else-dropped-gt-MANY}
 
 pub invariant_of-self-2 : goal.invariant_of-self-2
 invariant_of-self-2 c =
