@@ -1,8 +1,10 @@
 // A conflict: the clause that is learned from it, and the steps of its chain.
+use crate::assignment::Assignment;
 use crate::chains::Chains;
+use crate::codes::{atom_of, opposite};
+use crate::watching::Clauses;
 use decision_queue::DecisionQueue;
 use std::alloc::{AllocError, Global};
-use watched_clauses::{Assignment, Clauses, atom_of, opposite};
 
 /// Marks of the atoms that the clause reached names; those of its literals that are below the last level, and those of level 0; how many
 /// are of the last level; and for each atom of level 0 the clause of its literal.

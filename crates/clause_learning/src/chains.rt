@@ -1,8 +1,8 @@
 // The steps by which clauses were learned, and the lines of those that the empty clause needs.
+use crate::codes::{atom_of, is_positive};
 use items::Items;
 use proof_lines::Line;
 use std::alloc::{AllocError, Global};
-use watched_clauses::{atom_of, is_positive};
 
 /// A step of a chain: the clause reached is resolved with a clause that forced a literal. The first step of a chain is the clause with
 /// which it begins.

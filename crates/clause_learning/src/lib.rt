@@ -1,6 +1,9 @@
 // A clause search that promises nothing, for problems over plain atoms: whoever asks tests what it proposes.
 //
-// It stands on `watched_clauses` (the clauses and the trail), `decision_queue` and `clause_lookahead` (what is tried before a decision).
+// It stands on `proof_lines`, whose literals it numbers, and on `decision_queue`, which gets an atom back when its value is taken back.
+//
+// Each clause watches two of its literals, with a literal beside the watch that is looked at first (Eén and Sörensson, 2003). A literal or
+// clause that isn't there reads as open or empty.
 //
 // It learns from conflicts as MiniSat does (Eén and Sörensson, 2003). A conflict is resolved back to the first clause with one literal of the last level (the first unique
 // implication point), and that clause alone is kept and watched. The most active atom is decided, as it was last, and the search begins anew
@@ -19,8 +22,9 @@
 //
 // A literal of level 0 gets a clause of its own, of that literal alone. A chain resolves such literals away by these, each by one line.
 //
-// The parts, in the order in which a reader needs them: `chains` (the steps by which clauses were learned, and their lines), `analysis`
-// (a conflict), `searching`.
+// The parts, in the order in which a reader needs them: `codes` (literals as numbers), `assignment` (the trail), `watching` (the clauses
+// and what they watch), `lookahead` (what is tried before a decision), `chains` (the steps by which clauses were learned, and their
+// lines), `analysis` (a conflict), `searching`.
 //
 // Decisions:
 // - By number an atom gets the value that it had last, the first time false: with true, pigeons
@@ -31,7 +35,11 @@
 #![tactic(auto)]
 
 mod analysis;
+mod assignment;
 mod chains;
+mod codes;
+mod lookahead;
 mod searching;
+mod watching;
 
 pub use searching::{Proposal, propose};

@@ -1,13 +1,15 @@
 // The search, and what it proposes.
 use crate::analysis::Analysis;
+use crate::assignment::{Assignment, Truth};
 use crate::chains::Chains;
-use clause_lookahead::{Lookahead, score};
+use crate::codes::{code, opposite};
+use crate::lookahead::{Lookahead, score};
+use crate::watching::Clauses;
 use decision_queue::{DecisionQueue, Order};
 use items::Items;
 use proof_lines::{AtomKind, Line, Problem};
 use std::alloc::{AllocError, Global};
 use std::cmp::min;
-use watched_clauses::{Assignment, Clauses, Truth, code, opposite};
 
 /// What the search proposes. Nothing is promised of it.
 #[derive(Drop)]

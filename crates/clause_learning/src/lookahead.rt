@@ -11,8 +11,6 @@
 //
 // A decision looks at all clauses that count. So there is a bound on how often clauses are visited.
 //
-// It stands on `watched_clauses`. Nothing is promised of the choice: each call is safe and ends.
-//
 // Decisions:
 // - Eight atoms are tried with both values before one is decided; with more, logs are as long. The
 //   value that does less is decided first.
@@ -20,11 +18,12 @@
 //   both sides: without bounds and with fewer rounds logs are longer. A clause that is true doesn't
 //   count, nor does one with a literal whose opposite is in no other: the problem of an obligation
 //   has hundreds of such, the names of equal readings, and they would make up the average.
-#![tactic(auto)]
 
+use crate::assignment::{Truth, truth_of};
+use crate::codes::opposite;
+use crate::watching::Clauses;
 use std::alloc::{AllocError, Global};
 use std::mem;
-use watched_clauses::{Clauses, Truth, opposite, truth_of};
 
 // What the average literal weighs.
 const UNIT: u64 = 1024;
