@@ -2,7 +2,7 @@
 use Rattle.std.proofs.Common.{◌≡◌, ℕ, ◌+◌, ◌^◌, ◌≤◌, false, List, length, refl, subst, arith, Result, Ok, Err, IfOk}
 use Rattle.proof_lines.specs.declared.line.Line.{Line}
 use Rattle.proof_lines.specs.Problems.{PlainProblem}
-use Rattle.search_logs.specs.SearchLogs.{splits}
+use Rattle.sat_core.specs.SearchLogs.{splits}
 use Rattle.sat_core.specs.Answers.{IsExhausted}
 
 pub exhausted-small : (p : PlainProblem) (budget : ℕ) (log : List Line) → IsExhausted false p budget log → budget ≤ 3 ^ length p.atoms

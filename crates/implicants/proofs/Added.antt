@@ -6,8 +6,8 @@ use Rattle.std.proofs.lemmas.List.Folds.{list_all-append}
 use Rattle.proof_lines.specs.declared.clause.Lit.{Lit}
 use Rattle.proof_lines.specs.Clauses.{has, same_lit, same_bool, lit_of}
 use Rattle.proof_lines.proofs.Sets.{same_bool-is, same_lit-refl, has-append}
-use Rattle.search_logs.specs.declared.trail.Entry.{Entry}
-use Rattle.search_logs.specs.Trails.{in_trail}
+use Rattle.sat_core.specs.declared.trail.Entry.{Entry}
+use Rattle.sat_core.specs.Trails.{in_trail}
 use Rattle.implicants.specs.declared.choosing.Chosen.{Chosen}
 use Rattle.implicants.specs.Choosing.{is_sign, is_marked, AreChosen, Keeps, IsAdded}
 

@@ -5,7 +5,7 @@ use Rattle.proof_lines.specs.declared.clause.Lit.{Lit}
 use Rattle.proof_lines.specs.declared.problem.AtomKind.{AtomKind}
 use Rattle.proof_lines.specs.Clauses.{has, same_bool, lit_true, clause_true, all_true}
 use Rattle.line_rows.specs.Steps.{has_row}
-use Rattle.search_logs.proofs.Trails.{all_has}
+use Rattle.sat_core.proofs.Trails.{all_has}
 use Rattle.implicants.specs.Implicants.{plain_value, holds_by, is_met, IsImplicant, Agrees}
 
 -- What follows from an implicant.

@@ -6,8 +6,8 @@ use Rattle.proof_lines.specs.declared.problem.AtomKind.{AtomKind}
 use Rattle.proof_lines.specs.Clauses.{has, same_lit, same_bool}
 use Rattle.line_rows.specs.Steps.{has_row}
 use Rattle.proof_lines.proofs.Sets.{same_lit-is}
-use Rattle.search_logs.specs.declared.trail.Entry.{Entry}
-use Rattle.search_logs.specs.Trails.{in_trail}
+use Rattle.sat_core.specs.declared.trail.Entry.{Entry}
+use Rattle.sat_core.specs.Trails.{in_trail}
 use Rattle.implicants.specs.declared.choosing.Chosen.{Chosen}
 use Rattle.implicants.specs.Implicants.{plain_value, holds_by, is_met}
 use Rattle.implicants.specs.Choosing.{is_marked, is_candidate, AreChosen, Keeps, IsAdded, IsCovered, AreMet}

@@ -5,8 +5,8 @@ use Rattle.proof_lines.specs.declared.clause.Lit.{Lit}
 use Rattle.proof_lines.specs.declared.problem.AtomKind.{AtomKind}
 use Rattle.proof_lines.specs.Clauses.{has, same_bool, lit_of}
 use Rattle.line_rows.specs.Steps.{has_row}
-use Rattle.search_logs.specs.declared.trail.Entry.{Entry}
-use Rattle.search_logs.specs.Trails.{in_trail}
+use Rattle.sat_core.specs.declared.trail.Entry.{Entry}
+use Rattle.sat_core.specs.Trails.{in_trail}
 use Rattle.implicants.specs.declared.choosing.Chosen.{Chosen}
 use Rattle.implicants.specs.Implicants.{is_met, IsImplicant}
 

@@ -4,14 +4,14 @@ ghost use Rattle.std.specs.Prelude.{slice_index_or, OnOk, IfOk, IfSome, MatchOpt
 ghost use Rattle.std.specs.List.{list_any, list_all};
 ghost use Rattle.proof_lines.specs.Clauses.{has};
 ghost use Rattle.line_rows.specs.Steps.{has_row};
-ghost use Rattle.search_logs.specs.Trails.{in_trail};
+ghost use Rattle.sat_core.specs.Trails.{in_trail};
 ghost use Rattle.implicants.specs.Implicants.{plain_value, holds_by, is_met, IsImplicant};
 ghost use Rattle.implicants.specs.Choosing.{is_sign, is_marked, is_candidate, AreChosen, IsAdded};
 ghost use Rattle.implicants.specs.Choosing.{IsCovered, IsUnmet, AreCovered};
 
 use items::Items;
 use proof_lines::{AtomKind, Clause, Lit, Problem};
-use search_logs::Trail;
+use sat_core::Trail;
 use std::alloc::{AllocError, Global};
 
 /// The literals that were chosen, and by atom the sign with which it was.

@@ -20,7 +20,7 @@
 // The atoms beyond those of the problem, at which whole numbers were split, are in no clause. Their literals are always chosen: without them
 // a solver would ask for the same split again.
 //
-// The layer stands on `proof_lines`, whose problems it reads, and on `search_logs`, whose trails it takes literals from. Definitions, in the
+// The layer stands on `proof_lines`, whose problems it reads, and on `sat_core`, whose trails it takes literals from. Definitions, in the
 // order in which a reader needs them: specs/Implicants (what an implicant is), specs/Choosing (how the choice goes on, which a reader of
 // the contracts passes by). Nothing is promised of `relaxed`: whoever uses an implicant learns from `choose` that it is one.
 #![tactic(auto)]

@@ -2,7 +2,7 @@
 use crate::choosing::{has_row, plain_value};
 use items::Items;
 use proof_lines::{AtomKind, Lit, Problem};
-use search_logs::Trail;
+use sat_core::Trail;
 use std::alloc::{AllocError, Global};
 
 // How often all clauses are gone through at most, to find atoms that may change their values, and again to keep those that may not.

@@ -7,7 +7,7 @@ use Rattle.proof_lines.specs.declared.line.Line.TheVariants.{Resolve, Farkas, Sp
 use Rattle.proof_lines.specs.Problems.{PlainProblem, fits, has_good_row}
 use Rattle.proof_kernel.specs.Rules.{run}
 use Rattle.proof_kernel.proofs.Runs.{run-refutes}
-use Rattle.search_logs.specs.SearchLogs.{splits}
+use Rattle.sat_core.specs.SearchLogs.{splits}
 use Rattle.sat_core.specs.Answers.{IsRefuted, IsShort}
 use Rattle.watched_search.proofs.Easy.{none-uneasy}
 use Rattle.watched_search.proofs.Proposals.{few-many}

@@ -3,8 +3,8 @@ use Rattle.std.specs.Prelude.{is_none}
 use Rattle.std.proofs.lemmas.Bool.{or_left, or_right}
 use Rattle.proof_lines.specs.declared.clause.Lit.{Lit}
 use Rattle.proof_lines.specs.Clauses.{same_lit}
-use Rattle.search_logs.specs.declared.trail.Entry.{Entry}
-use Rattle.search_logs.specs.Trails.{in_trail, after, before_last, is_decision, has_decision}
+use Rattle.sat_core.specs.declared.trail.Entry.{Entry}
+use Rattle.sat_core.specs.Trails.{in_trail, after, before_last, is_decision, has_decision}
 use Rattle.sat_core.specs.Searching.{IsBefore, IsBackjump}
 
 -- Trails before the decisions of another.

@@ -23,17 +23,17 @@ use Rattle.proof_lines.proofs.Sets.{same_nat-refl, true_by}
 use Rattle.line_rows.proofs.LineRows.{row_at-is_row}
 use Rattle.theory_api.specs.Laws.{all_below, is_some_row, are_given, rows_at, IsModel, IsSplit, IsTooMany, IsBeyond}
 use Rattle.theory_api.proofs.Standing.{Stand, lit_at}
-use Rattle.search_logs.specs.declared.trail.Entry.{Entry}
-use Rattle.search_logs.specs.Trails.{in_trail, negated as opposed, is_assigned, is_false, Settled, NoneFalse, IsTrail}
-use Rattle.search_logs.specs.Fresh.{IsFresh}
-use Rattle.search_logs.specs.Forcing.{is_plain, are_plain}
-use Rattle.search_logs.specs.SearchLogs.{SearchLog, IsSearched, between, within, farkas, split, standing, with_clause, with_row, AreHeldRows}
-use Rattle.search_logs.proofs.Chain.{at_old, at_new, longer, old_or_new}
-use Rattle.search_logs.proofs.Begins.{begin_theory, theory_fresh, theory_one_way}
-use Rattle.search_logs.proofs.Forcing.{assigned_one, some_open}
-use Rattle.search_logs.proofs.Taken.{picked-line, split_taken}
-use Rattle.search_logs.proofs.Shown.{false-negations, distinct-negations, false-below, trail_one_way, rows_judged-so, range_judged-so, rows_hold-so, range_holds-so}
-use Rattle.search_logs.proofs.Valued.{stand-of, valued, no_atom}
+use Rattle.sat_core.specs.declared.trail.Entry.{Entry}
+use Rattle.sat_core.specs.Trails.{in_trail, negated as opposed, is_assigned, is_false, Settled, NoneFalse, IsTrail}
+use Rattle.sat_core.specs.Fresh.{IsFresh}
+use Rattle.sat_core.specs.Forcing.{is_plain, are_plain}
+use Rattle.sat_core.specs.SearchLogs.{SearchLog, IsSearched, between, within, farkas, split, standing, with_clause, with_row, AreHeldRows}
+use Rattle.sat_core.proofs.Chain.{at_old, at_new, longer, old_or_new}
+use Rattle.sat_core.proofs.Begins.{begin_theory, theory_fresh, theory_one_way}
+use Rattle.sat_core.proofs.Forcing.{assigned_one, some_open}
+use Rattle.sat_core.proofs.Taken.{picked-line, split_taken}
+use Rattle.sat_core.proofs.Shown.{false-negations, distinct-negations, false-below, trail_one_way, rows_judged-so, range_judged-so, rows_hold-so, range_holds-so}
+use Rattle.sat_core.proofs.Valued.{stand-of, valued, no_atom}
 use Rattle.sat_core.specs.Answers.{AreRowsOf, IsEasy, IsModelOf, IsStopped, IsTooLong, IsTooLarge}
 use Rattle.sat_core.specs.declared.state.SearchState.{SearchState}
 use Rattle.sat_core.specs.Searching.{Aim, Keeps, InSearch, InChain, IsRowAssignment, IsLevel, IsAnalyzed, IsLearned, IsBefore}

@@ -9,12 +9,12 @@ use Rattle.proof_lines.specs.Problems.{PlainProblem, fits, has_good_row}
 use Rattle.proof_kernel.specs.Rules.{start}
 use Rattle.proof_kernel.proofs.Runs.{run-refutes}
 use Rattle.std.proofs.lemmas.Bool.{or_left, or_right, cases_eq}
-use Rattle.search_logs.specs.declared.trail.Entry.{Entry}
-use Rattle.search_logs.specs.Trails.{is_false, open_in, before_last, has_decision, older, is_done, Settled, NoneFalse}
-use Rattle.search_logs.specs.Forcing.{AreRefuted}
-use Rattle.search_logs.specs.SearchLogs.{Phase, between, within, SearchLog, standing, IsSearched}
-use Rattle.search_logs.proofs.Forcing.{refuted_none, empty_unsat}
-use Rattle.search_logs.proofs.Shown.{standing-fresh, lines_judged-so}
+use Rattle.sat_core.specs.declared.trail.Entry.{Entry}
+use Rattle.sat_core.specs.Trails.{is_false, open_in, before_last, has_decision, older, is_done, Settled, NoneFalse}
+use Rattle.sat_core.specs.Forcing.{AreRefuted}
+use Rattle.sat_core.specs.SearchLogs.{Phase, between, within, SearchLog, standing, IsSearched}
+use Rattle.sat_core.proofs.Forcing.{refuted_none, empty_unsat}
+use Rattle.sat_core.proofs.Shown.{standing-fresh, lines_judged-so}
 use Rattle.sat_core.specs.declared.answer.Answer.{Answer}
 use Rattle.sat_core.specs.declared.answer.Answer.TheVariants.{Unsat, Sat, Lines, Rows, Range, Memory}
 use Rattle.sat_core.specs.Answers.{IsEasy, IsRefuted, IsExhausted, IsAnswer, ShowsNone}

@@ -13,14 +13,14 @@ use Rattle.proof_kernel.specs.Rules.{next, start}
 use Rattle.std.proofs.lemmas.Bool.{and_parts, and_from, ltb-true}
 use Rattle.line_rows.proofs.Names.{all-resolvent}
 use Rattle.line_rows.proofs.Certificates.{all_at}
-use Rattle.search_logs.specs.Fresh.{IsFresh}
-use Rattle.search_logs.specs.Forcing.{are_plain}
-use Rattle.search_logs.specs.SearchLogs.{with_clause, with_row, standing, is_split, splits, resolved_on}
-use Rattle.search_logs.proofs.Trails.{all_has}
-use Rattle.search_logs.proofs.Chain.{longer, grows-refl, grows-push}
-use Rattle.search_logs.proofs.Bound.{few_new}
-use Rattle.search_logs.proofs.Taken.{run-push}
-use Rattle.search_logs.proofs.Shown.{splits-push}
+use Rattle.sat_core.specs.Fresh.{IsFresh}
+use Rattle.sat_core.specs.Forcing.{are_plain}
+use Rattle.sat_core.specs.SearchLogs.{with_clause, with_row, standing, is_split, splits, resolved_on}
+use Rattle.sat_core.proofs.Trails.{all_has}
+use Rattle.sat_core.proofs.Chain.{longer, grows-refl, grows-push}
+use Rattle.sat_core.proofs.Bound.{few_new}
+use Rattle.sat_core.proofs.Taken.{run-push}
+use Rattle.sat_core.proofs.Shown.{splits-push}
 use Rattle.sat_core.specs.Answers.{IsShort}
 use Rattle.sat_core.specs.Searching.{Aim, Keeps}
 

@@ -1,3 +1,13 @@
+pub mod Trails
+pub mod Chain
+pub mod Begins
+pub mod Free
+pub mod Bound
+pub mod Forcing
+pub mod Taken
+pub mod Shown
+pub mod Valued
+pub mod Seats
 pub mod Keeping
 pub mod Resolving
 pub mod Ends

@@ -18,14 +18,14 @@ use Rattle.std.proofs.lemmas.Bool.{and_parts, or_cases, or_parts, eqb-true}
 use Rattle.proof_lines.proofs.Sets.{same_lit-is}
 use Rattle.theory_api.specs.Laws.{all_below, are_given, IsConflict, IsSplit, IsTooMany, IsBeyond}
 use Rattle.theory_api.proofs.Standing.{lit_at}
-use Rattle.search_logs.specs.declared.trail.Entry.{Entry}
-use Rattle.search_logs.specs.Trails.{in_trail, is_assigned, is_false, is_unit, has_decision, Settled, NoneFalse, IsStep}
-use Rattle.search_logs.specs.Forcing.{AreRefuted}
-use Rattle.search_logs.specs.SearchLogs.{none, with_row}
-use Rattle.search_logs.proofs.Free.{free-top, free-falls}
-use Rattle.search_logs.proofs.Forcing.{refuted_none, unit_forced, unit_parts}
-use Rattle.search_logs.proofs.Taken.{farkas_taken}
-use Rattle.search_logs.proofs.Valued.{stand-of}
+use Rattle.sat_core.specs.declared.trail.Entry.{Entry}
+use Rattle.sat_core.specs.Trails.{in_trail, is_assigned, is_false, is_unit, has_decision, Settled, NoneFalse, IsStep}
+use Rattle.sat_core.specs.Forcing.{AreRefuted}
+use Rattle.sat_core.specs.SearchLogs.{none, with_row}
+use Rattle.sat_core.proofs.Free.{free-top, free-falls}
+use Rattle.sat_core.proofs.Forcing.{refuted_none, unit_forced, unit_parts}
+use Rattle.sat_core.proofs.Taken.{farkas_taken}
+use Rattle.sat_core.proofs.Valued.{stand-of}
 use Rattle.sat_core.specs.declared.checking.Outcome.{Outcome}
 use Rattle.sat_core.specs.declared.checking.Outcome.TheVariants.{Continue, Refuted, Found, BudgetExhausted, Rows, Range, Memory}
 use Rattle.sat_core.specs.declared.analyzing.Analyzed.{Analyzed}

@@ -8,16 +8,16 @@ use Rattle.proof_lines.specs.Problems.{PlainProblem, atoms_below}
 use Rattle.proof_kernel.specs.Rules.{next}
 use Rattle.std.proofs.lemmas.Bool.{and_parts, or_parts, or_left, or_right, lt-ltb, cases_eq}
 use Rattle.proof_lines.proofs.Sets.{same_nat-refl}
-use Rattle.search_logs.specs.declared.trail.Entry.{Entry}
-use Rattle.search_logs.specs.Trails.{after, is_assigned, is_false, open_in, before_last, is_decision, has_decision, IsTrail, older, IsCalm, is_done}
-use Rattle.search_logs.specs.Forcing.{AreRefuted}
-use Rattle.search_logs.specs.Chains.{Cutting}
-use Rattle.search_logs.specs.SearchLogs.{resolve_line, resolved_on, within, between, IsNext, SearchLog, conflict, step, finish, with_clause, is_split, standing}
-use Rattle.search_logs.proofs.Trails.{has_all, starts-open, settled-before, is_assigned-before}
-use Rattle.search_logs.proofs.Chain.{begin_chain, pop_step, Top, top_of, members, resolve_step, is_next, is_fresh, first_cut, more_cut, last_cut, at_new}
-use Rattle.search_logs.proofs.Free.{trail_short}
-use Rattle.search_logs.proofs.Forcing.{conflict_free}
-use Rattle.search_logs.proofs.Taken.{resolve_taken}
+use Rattle.sat_core.specs.declared.trail.Entry.{Entry}
+use Rattle.sat_core.specs.Trails.{after, is_assigned, is_false, open_in, before_last, is_decision, has_decision, IsTrail, older, IsCalm, is_done}
+use Rattle.sat_core.specs.Forcing.{AreRefuted}
+use Rattle.sat_core.specs.Chains.{Cutting}
+use Rattle.sat_core.specs.SearchLogs.{resolve_line, resolved_on, within, between, IsNext, SearchLog, conflict, step, finish, with_clause, is_split, standing}
+use Rattle.sat_core.proofs.Trails.{has_all, starts-open, settled-before, is_assigned-before}
+use Rattle.sat_core.proofs.Chain.{begin_chain, pop_step, Top, top_of, members, resolve_step, is_next, is_fresh, first_cut, more_cut, last_cut, at_new}
+use Rattle.sat_core.proofs.Free.{trail_short}
+use Rattle.sat_core.proofs.Forcing.{conflict_free}
+use Rattle.sat_core.proofs.Taken.{resolve_taken}
 use Rattle.sat_core.specs.Answers.{IsEasy}
 use Rattle.sat_core.specs.declared.state.SearchState.{SearchState}
 use Rattle.sat_core.specs.Searching.{with_trail, Aim, Keeps, InSearch, InChain, GoesOn, IsBefore, IsBackjump}

@@ -4,9 +4,9 @@ use Rattle.proof_lines.specs.declared.clause.Lit.{Lit}
 use Rattle.proof_lines.specs.Clauses.{has, same_lit, flip}
 use Rattle.std.proofs.lemmas.Bool.{and_parts, or_left, or_right, false_from_ne_true, not-true}
 use Rattle.proof_lines.proofs.Sets.{same_lit-is, same_lit-refl}
-use Rattle.search_logs.specs.declared.trail.Entry.{Entry}
-use Rattle.search_logs.specs.Trails.{negated, is_assigned, is_false, others_false, is_unit}
-use Rattle.search_logs.proofs.Trails.{any_has, all_has, in_assigned}
+use Rattle.sat_core.specs.declared.trail.Entry.{Entry}
+use Rattle.sat_core.specs.Trails.{negated, is_assigned, is_false, others_false, is_unit}
+use Rattle.sat_core.proofs.Trails.{any_has, all_has, in_assigned}
 
 -- Which literal may make a clause unit.
 

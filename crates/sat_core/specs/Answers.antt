@@ -16,9 +16,9 @@ use Rattle.proof_kernel.specs.Rules.{State, run}
 use Rattle.line_rows.specs.Evidence.{in_state}
 use Rattle.proof_kernel.specs.Answers.{lines_judged, rows_judged, range_judged}
 use Rattle.theory_api.specs.Laws.{HasChosen}
-use Rattle.search_logs.specs.declared.trail.Entry.{Entry}
-use Rattle.search_logs.specs.Forcing.{AreRefuted, AreSatisfied, are_plain}
-use Rattle.search_logs.specs.SearchLogs.{IsSettledTrail, AreHeldRows, IsSearched, splits}
+use Rattle.sat_core.specs.declared.trail.Entry.{Entry}
+use Rattle.sat_core.specs.Forcing.{AreRefuted, AreSatisfied, are_plain}
+use Rattle.sat_core.specs.SearchLogs.{IsSettledTrail, AreHeldRows, IsSearched, splits}
 use Rattle.sat_core.specs.declared.answer.Answer.{Answer}
 use Rattle.sat_core.specs.declared.answer.Answer.TheVariants.{Unsat, Sat, Lines, Rows, Range, Memory}
 

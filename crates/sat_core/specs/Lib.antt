@@ -1,3 +1,10 @@
+pub mod Trails
+pub mod Codes
+pub mod Fresh
+pub mod Chains
+pub mod SearchLogs
+pub mod Forcing
+pub mod Places
 pub mod Answers
 pub mod Searching
 pub mod Outcomes

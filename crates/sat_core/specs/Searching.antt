@@ -13,12 +13,12 @@ use Rattle.proof_lines.specs.Forced.{Forced}
 use Rattle.line_rows.specs.Steps.{is_negative}
 use Rattle.proof_lines.specs.Problems.{PlainProblem, fits}
 use Rattle.proof_kernel.specs.Rules.{run, next}
-use Rattle.search_logs.specs.declared.trail.Entry.{Entry}
-use Rattle.search_logs.specs.Trails.{in_trail, has_decision, is_decision, before_last, open_in, is_assigned, is_false, is_unit, is_done, Settled, NoneFalse, IsTrail, IsCalm, free}
-use Rattle.search_logs.specs.Fresh.{IsFresh}
-use Rattle.search_logs.specs.Chains.{Grows, Analyzing, Begins}
-use Rattle.search_logs.specs.SearchLogs.{between, within, SearchLog, standing, splits, with_clause}
-use Rattle.search_logs.specs.Forcing.{AreRefuted, are_plain}
+use Rattle.sat_core.specs.declared.trail.Entry.{Entry}
+use Rattle.sat_core.specs.Trails.{in_trail, has_decision, is_decision, before_last, open_in, is_assigned, is_false, is_unit, is_done, Settled, NoneFalse, IsTrail, IsCalm, free}
+use Rattle.sat_core.specs.Fresh.{IsFresh}
+use Rattle.sat_core.specs.Chains.{Grows, Analyzing, Begins}
+use Rattle.sat_core.specs.SearchLogs.{between, within, SearchLog, standing, splits, with_clause}
+use Rattle.sat_core.specs.Forcing.{AreRefuted, are_plain}
 use Rattle.sat_core.specs.declared.finding.Found.{Found}
 use Rattle.sat_core.specs.declared.finding.Found.TheVariants.{Conflict, Forced as OfForced, Nothing}
 use Rattle.sat_core.specs.declared.analyzing.Chained.{Chained}

@@ -3,16 +3,16 @@ ghost use Rattle.std.specs.Prelude.{◌≡◌, ◌<◌, ◌≤◌, ◌^◌, ◌�
 ghost use Rattle.proof_lines.specs.declared.line.Line.TheVariants.{Farkas};
 ghost use Rattle.proof_lines.specs.Clauses.{negations};
 ghost use Rattle.proof_lines.specs.Problems.{atoms_below};
-ghost use Rattle.search_logs.specs.Trails.{is_done};
-ghost use Rattle.search_logs.specs.SearchLogs.{resolve_line, resolved_on, with_clause};
+ghost use Rattle.sat_core.specs.Trails.{is_done};
+ghost use Rattle.sat_core.specs.SearchLogs.{resolve_line, resolved_on, with_clause};
 ghost use Rattle.sat_core.specs.Searching.{IsChain, GoesOn, IsChained, IsAnalyzed, IsBackjumpAfter, IsLevel};
 
 use crate::growing::{add_clause, clause_at, lits_of};
 use crate::state::SearchState;
+use crate::trail::Trail;
 use items::Items;
 use proof_lines::clause::holds;
 use proof_lines::{Clause, Line, Lit, Problem, RowStep};
-use search_logs::Trail;
 use std::alloc::{AllocError, Global};
 
 /// How the resolving of a chain ended, with the number of the clause reached.

@@ -1,12 +1,12 @@
 // What the clauses say under a trail.
 ghost use Rattle.std.specs.Prelude.{◌≡◌, ◌<◌, ◌^◌, ℕ, true, false, length, MatchOption};
 ghost use Rattle.std.specs.List.{list_any};
-ghost use Rattle.search_logs.specs.Trails.{is_assigned, is_unit};
+ghost use Rattle.sat_core.specs.Trails.{is_assigned, is_unit};
 ghost use Rattle.sat_core.specs.Searching.{IsFound};
 
 use crate::growing::{clause_count, lits_of};
+use crate::trail::Trail;
 use proof_lines::{Lit, Problem};
-use search_logs::Trail;
 
 /// What stands in the way of a decision.
 #[derive(Clone, Copy)]

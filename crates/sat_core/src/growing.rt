@@ -4,7 +4,7 @@ ghost use Rattle.lin_rows.specs.Rows.{places_below};
 ghost use Rattle.proof_lines.specs.Clauses.{distinct};
 ghost use Rattle.proof_lines.specs.Problems.{atoms_below};
 ghost use Rattle.proof_lines.specs.declared.problem.AtomKind.TheVariants.{Plain};
-ghost use Rattle.search_logs.specs.SearchLogs.{with_clause, with_row};
+ghost use Rattle.sat_core.specs.SearchLogs.{with_clause, with_row};
 ghost use Rattle.sat_core.specs.Searching.{is_true_at_zero};
 
 use lin_rows::Row;

@@ -26,10 +26,16 @@
 // false is resolved with the clauses that forced its literals, each once, the newest first; so a log of as many lines as there are
 // atoms ends with the empty clause.
 //
-// The layer stands on `proof_lines`, `proof_kernel`, `theory_api` and `search_logs`. What is promised of a solver of rows are the trait's laws, and
-// nothing else is used. Definitions, in the order in which a reader needs them: search_logs has trails and the logs of a search,
-// specs/Answers what each answer promises; specs/Searching and specs/Outcomes are the search's own, and say where it stands between its
-// private functions.
+// The trail is a data type (src/trail): each of its literals was decided, or was forced by a clause whose other literals are all
+// false. It answers what a search asks of it, and for one literal goes through no other. What a log shows that a search wrote is said
+// in specs/: each chain of resolvents begins at a clause that is false under a complete trail, backtracks along the trail, and stops
+// at the first clause that holds one literal of the last decision level.
+//
+// The layer stands on `proof_lines`, `proof_kernel` and `theory_api`. What is promised of a solver of rows are the trait's laws, and
+// nothing else is used. Definitions, in the order in which a reader needs them: specs/Trails (what is false, unit and settled under a
+// trail, and when a list is a trail), specs/Fresh (each clause of a log is new), specs/SearchLogs (the logs of a search), specs/Forcing
+// (what follows by forced literals alone), specs/Answers (what each answer promises); specs/Searching and specs/Outcomes are the
+// search's own, and say where it stands between its private functions.
 //
 // In the field's words: a decision with what was forced after it is a decision level, and to cut
 // whole levels off the trail after a conflict is backtracking.
@@ -46,6 +52,9 @@
 //   `&mut`, and the log is taken out at the end (`take_log`): what a loop owns is gone through in a
 //   proof at each of its returns.
 // - The problem so far is a problem itself and no kernel: each line is proved to keep its rule.
+// - A trail keeps the place of the oldest entry, by atom and sign. A literal is before the last
+//   decision exactly where its place is below the number of entries that are kept then, so one
+//   index serves all questions, also of a trail with an atom twice.
 #![tactic(auto)]
 
 /// The value of a call; where it fails, lets go of these values and ends with its error. Values that are let go by name are let go
@@ -65,12 +74,16 @@ macro_rules! or_drop {
 pub mod analyzing;
 pub mod answer;
 pub mod checking;
+mod decisions;
 pub mod finding;
 pub mod growing;
+mod places;
 pub mod plain;
 pub mod row_assignments;
 pub mod state;
+mod trail;
 
 pub use answer::Answer;
 pub use plain::solve_plain;
 pub use state::SearchState;
+pub use trail::{Entry, Trail};

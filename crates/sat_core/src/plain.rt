@@ -13,10 +13,10 @@ use crate::checking::Outcome;
 use crate::finding::{Found, find, unassigned};
 use crate::growing::{atom_count, sign_of};
 use crate::state::SearchState;
+use crate::trail::{Entry, Trail};
 use items::Items;
 use proof_lines::problem::law_rows;
 use proof_lines::{Lit, Problem, RangeEvidence, RowsEvidence};
-use search_logs::{Entry, Trail};
 use std::alloc::Global;
 use theory_api::Theory;
 

@@ -3,14 +3,14 @@ ghost use Rattle.std.specs.Prelude.{◌≡◌, ◌<◌, ◌^◌, nat_lt, ℕ, co
 ghost use Rattle.std.specs.List.{list_all};
 ghost use Rattle.lin_rows.specs.Rows.{is_row, negated};
 ghost use Rattle.proof_lines.specs.Clauses.{lit_of};
-ghost use Rattle.search_logs.specs.Trails.{in_trail, is_assigned};
+ghost use Rattle.sat_core.specs.Trails.{in_trail, is_assigned};
 ghost use Rattle.sat_core.specs.Searching.{IsRowAssignment, lit_at};
 
 use crate::growing::atom_count;
+use crate::trail::Trail;
 use items::Items;
 use lin_rows::{Row, negate};
 use proof_lines::{AtomKind, Lit, Problem};
-use search_logs::Trail;
 use std::alloc::{AllocError, Global};
 
 /// Literals whose atoms stand for rows, and the row of each.

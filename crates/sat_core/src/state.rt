@@ -4,9 +4,9 @@ ghost use Rattle.std.specs.List.{list_any};
 ghost use Rattle.proof_lines.specs.Clauses.{is_empty};
 ghost use Rattle.sat_core.specs.Searching.{InSearch};
 
+use crate::trail::Trail;
 use items::Items;
 use proof_lines::{Line, Problem};
-use search_logs::Trail;
 use std::alloc::{AllocError, Global};
 use std::mem;
 

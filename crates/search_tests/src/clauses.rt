@@ -1,6 +1,6 @@
 // The search on clauses over plain atoms, with the solver of no rows.
 ghost use Rattle.std.specs.Prelude.{◌≡◌, ◌<◌, ◌≤◌, true};
-ghost use Rattle.search_logs.specs.Forcing.{is_plain, are_plain};
+ghost use Rattle.sat_core.specs.Forcing.{is_plain, are_plain};
 
 use crate::summaries::{Summary, is_found, made, summary_of};
 use items::Items;

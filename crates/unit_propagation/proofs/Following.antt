@@ -2,9 +2,9 @@ use Rattle.std.proofs.Common.{◌≡◌, ◌≢◌, ℕ, ◌+◌, ◌<◌, Bool,
 use Rattle.std.proofs.lemmas.Bool.{and_parts, and_from, or_cases, or_left, or_right, cases_eq, eq-eqb, not-true, not_from_false}
 use Rattle.proof_lines.specs.declared.clause.Lit.{Lit}
 use Rattle.proof_lines.specs.Clauses.{same_lit, flip}
-use Rattle.search_logs.specs.declared.trail.Entry.{Entry}
-use Rattle.search_logs.specs.Trails.{in_trail, negated, is_false, is_unit, Settled, NoneFalse, IsTrail}
-use Rattle.search_logs.proofs.Trails.{flip_back}
+use Rattle.sat_core.specs.declared.trail.Entry.{Entry}
+use Rattle.sat_core.specs.Trails.{in_trail, negated, is_false, is_unit, Settled, NoneFalse, IsTrail}
+use Rattle.sat_core.proofs.Trails.{flip_back}
 use Rattle.unit_propagation.specs.declared.looking.Watched.{Watched}
 use Rattle.unit_propagation.specs.declared.looking.ClauseStatus.{ClauseStatus}
 use Rattle.unit_propagation.specs.declared.looking.ClauseStatus.TheVariants.{False, Unit as OfUnit, Open}

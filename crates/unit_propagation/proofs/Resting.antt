@@ -4,10 +4,10 @@ use Rattle.std.proofs.lemmas.Bool.{and_parts, and_from, or_cases, false_from_ne_
 use Rattle.proof_lines.specs.declared.clause.Lit.{Lit}
 use Rattle.proof_lines.specs.Clauses.{has, same_lit, flip, lit_of}
 use Rattle.proof_lines.proofs.Sets.{same_lit-is, same_lit-refl}
-use Rattle.search_logs.specs.declared.trail.Entry.{Entry}
-use Rattle.search_logs.specs.Trails.{in_trail, negated, is_assigned, is_false, others_false, is_unit, quiet, IsTrail}
-use Rattle.search_logs.proofs.Trails.{all_has, any_has, in_assigned, one-way}
-use Rattle.search_logs.proofs.Forcing.{assigned_one}
+use Rattle.sat_core.specs.declared.trail.Entry.{Entry}
+use Rattle.sat_core.specs.Trails.{in_trail, negated, is_assigned, is_false, others_false, is_unit, quiet, IsTrail}
+use Rattle.sat_core.proofs.Trails.{all_has, any_has, in_assigned, one-way}
+use Rattle.sat_core.proofs.Forcing.{assigned_one}
 use Rattle.unit_propagation.specs.declared.looking.Watched.{Watched}
 use Rattle.unit_propagation.specs.Watches.{rests, is_open}
 

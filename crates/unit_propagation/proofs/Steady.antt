@@ -4,9 +4,9 @@ use Rattle.std.proofs.lemmas.Bool.{and_from, or_cases, or_parts, or_left, or_rig
 use Rattle.proof_lines.specs.declared.clause.Lit.{Lit}
 use Rattle.proof_lines.specs.Clauses.{has, same_lit, flip, distinct}
 use Rattle.proof_lines.proofs.Sets.{same_lit-is, same_lit-refl}
-use Rattle.search_logs.specs.declared.trail.Entry.{Entry}
-use Rattle.search_logs.specs.Trails.{in_trail, negated, is_assigned, is_false, others_false, is_unit, after, before_last, has_decision, open_in}
-use Rattle.search_logs.proofs.Trails.{all_has, has_all, open_two}
+use Rattle.sat_core.specs.declared.trail.Entry.{Entry}
+use Rattle.sat_core.specs.Trails.{in_trail, negated, is_assigned, is_false, others_false, is_unit, after, before_last, has_decision, open_in}
+use Rattle.sat_core.proofs.Trails.{all_has, has_all, open_two}
 use Rattle.sat_core.specs.Searching.{IsBefore}
 use Rattle.sat_core.proofs.Backjumps.{before-last, before-in, before-decided}
 use Rattle.unit_propagation.specs.declared.looking.Watched.{Watched}

@@ -3,8 +3,8 @@ use Rattle.std.proofs.lemmas.Bool.{and_parts, and_from, or_cases, or_left, or_ri
 use Rattle.std.proofs.lemmas.List.{get_or-set_same}
 use Rattle.proof_lines.specs.declared.clause.Lit.{Lit}
 use Rattle.proof_lines.specs.Clauses.{has}
-use Rattle.search_logs.specs.declared.trail.Entry.{Entry}
-use Rattle.search_logs.specs.Trails.{in_trail, negated}
+use Rattle.sat_core.specs.declared.trail.Entry.{Entry}
+use Rattle.sat_core.specs.Trails.{in_trail, negated}
 use Rattle.unit_propagation.specs.declared.looking.Watched.{Watched}
 use Rattle.unit_propagation.specs.Watches.{is_among, list_at, code, rests, is_open, turned, is_listed, is_quiet, Keeps, IsSteady, IsKept}
 use Rattle.unit_propagation.proofs.Steady.{steady-turned, restless}

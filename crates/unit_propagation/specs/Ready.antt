@@ -1,8 +1,8 @@
 -- Where the watched literals stand between the steps of a search.
 use Rattle.std.specs.Prelude.{◌≡◌, ℕ, ◌<◌, ◌^◌, true, List, [], length, slice_index_or, Option, Some, None}
 use Rattle.proof_lines.specs.declared.clause.Lit.{Lit}
-use Rattle.search_logs.specs.declared.trail.Entry.{Entry}
-use Rattle.search_logs.specs.Trails.{is_false}
+use Rattle.sat_core.specs.declared.trail.Entry.{Entry}
+use Rattle.sat_core.specs.Trails.{is_false}
 use Rattle.sat_core.specs.declared.finding.Found.{Found}
 use Rattle.sat_core.specs.declared.finding.Found.TheVariants.{Conflict, Forced as OfForced, Nothing}
 use Rattle.unit_propagation.specs.declared.watches.Watches.{Watches}

@@ -3,8 +3,8 @@ use Rattle.std.specs.Prelude.{◌≡◌, ◌≢◌, ℕ, ◌+◌, ◌*◌, ◌<�
 use Rattle.std.specs.List.{list_any}
 use Rattle.proof_lines.specs.declared.clause.Lit.{Lit}
 use Rattle.proof_lines.specs.Clauses.{has, same_lit}
-use Rattle.search_logs.specs.declared.trail.Entry.{Entry}
-use Rattle.search_logs.specs.Trails.{in_trail, negated, is_false, is_unit, before_last, has_decision, open_in, NoneFalse}
+use Rattle.sat_core.specs.declared.trail.Entry.{Entry}
+use Rattle.sat_core.specs.Trails.{in_trail, negated, is_false, is_unit, before_last, has_decision, open_in, NoneFalse}
 use Rattle.sat_core.specs.Searching.{IsBefore}
 use Rattle.unit_propagation.specs.declared.looking.Watched.{Watched}
 use Rattle.unit_propagation.specs.declared.looking.ClauseStatus.{ClauseStatus}

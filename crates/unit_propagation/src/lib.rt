@@ -22,7 +22,7 @@
 // Where a false clause is met while a list is gone through, what is left of the list goes back to its place, since watches have to last.
 // So a conflict costs what its chain and its further clauses take, and the others aren't looked at.
 //
-// The layer stands on `sat_core`, whose contract of `find` its own has word for word, on `search_logs` and on `short_lists`. Definitions, in
+// The layer stands on `sat_core`, whose contract of `find` its own has word for word, on `sat_core` and on `short_lists`. Definitions, in
 // the order in which a reader needs them: specs/Watches (clauses at rest, what is watched), specs/Ready (where the watched literals stand
 // between the steps of a search).
 //

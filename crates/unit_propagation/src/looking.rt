@@ -1,11 +1,11 @@
 // What a clause is under a trail, and which of its literals it is to watch.
 ghost use Rattle.std.specs.Prelude.{◌≡◌, ◌≤◌, ◌⊎◌, not, true, false, MatchOption};
 ghost use Rattle.proof_lines.specs.Clauses.{has, same_lit, distinct};
-ghost use Rattle.search_logs.specs.Trails.{in_trail, negated, is_false, others_false, before_last, has_decision, open_in};
+ghost use Rattle.sat_core.specs.Trails.{in_trail, negated, is_false, others_false, before_last, has_decision, open_in};
 ghost use Rattle.unit_propagation.specs.Watches.{rests, turned, IsSteady, IsLook};
 
 use proof_lines::Lit;
-use search_logs::Trail;
+use sat_core::Trail;
 
 /// The literals that a clause watches. A clause with one literal watches that one twice.
 #[derive(Clone, Copy)]

@@ -1,8 +1,8 @@
 // Propagation: what stands in the way of a decision, by the watched literals.
 ghost use Rattle.std.specs.Prelude.{◌≡◌, ◌<◌, ◌^◌, ◌∷◌, [], ℕ, List, length, IfOk, OnOk, None};
 ghost use Rattle.proof_lines.specs.declared.clause.Lit.{Lit as PlainLit};
-ghost use Rattle.search_logs.specs.declared.trail.Entry.{Entry as PlainEntry};
-ghost use Rattle.search_logs.specs.Trails.{IsTrail};
+ghost use Rattle.sat_core.specs.declared.trail.Entry.{Entry as PlainEntry};
+ghost use Rattle.sat_core.specs.Trails.{IsTrail};
 ghost use Rattle.sat_core.specs.Searching.{IsFound};
 ghost use Rattle.unit_propagation.specs.Watches.{code, AreKept, AreWatched, IsResumed};
 ghost use Rattle.unit_propagation.specs.Ready.{IsReady, StayWatched, MayPush};
@@ -13,7 +13,7 @@ use crate::watches::Watches;
 use proof_lines::{Lit, Problem};
 use sat_core::finding::Found;
 use sat_core::growing::{clause_count, lits_of};
-use search_logs::{Entry, Trail};
+use sat_core::{Entry, Trail};
 use short_lists::ShortList;
 use std::alloc::{AllocError, Global};
 

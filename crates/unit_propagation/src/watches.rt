@@ -1,14 +1,14 @@
 // The literals that the clauses watch.
 ghost use Rattle.std.specs.Prelude.{◌≡◌, ◌≢◌, ◌<◌, ◌≤◌, ◌∷◌, ◌+◌, [], ℕ, true, false, length, slice_set, IfOk, OnOk, ◌⊎◌};
 ghost use Rattle.proof_lines.specs.Clauses.{distinct};
-ghost use Rattle.search_logs.specs.Trails.{is_false, before_last, has_decision, open_in};
+ghost use Rattle.sat_core.specs.Trails.{is_false, before_last, has_decision, open_in};
 ghost use Rattle.unit_propagation.specs.Watches.{is_among, list_at, code, pair_at, rests, is_quiet, Keeps, IsKept, IsMoved, IsLooked, IsLook};
 
 use crate::lists::{code, enter};
 use crate::looking::{ClauseStatus, Watched, look_at, pair_of, rests};
 use items::Items;
 use proof_lines::Lit;
-use search_logs::Trail;
+use sat_core::Trail;
 use short_lists::ShortList;
 use std::alloc::{AllocError, Global};
 

@@ -1,6 +1,6 @@
 use Rattle.std.proofs.Common.{◌≡◌, ℕ, Bool, ◌⊎◌, inl, inr, List, length, sym, subst}
 use Rattle.proof_lines.specs.declared.clause.Lit.{Lit}
-use Rattle.search_logs.specs.Trails.{NoneFalse}
+use Rattle.sat_core.specs.Trails.{NoneFalse}
 use Rattle.sat_core.specs.declared.checking.Outcome.{Outcome}
 use Rattle.sat_core.specs.declared.checking.Outcome.TheVariants.{Continue, Refuted, Found as OfFound, BudgetExhausted, Rows, Range, Memory}
 use Rattle.sat_core.specs.declared.analyzing.Analyzed.{Analyzed}

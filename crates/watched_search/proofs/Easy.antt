@@ -9,7 +9,7 @@ use Rattle.proof_lines.specs.Clauses.{has, same_lit, flip, lit_of, lit_true, cla
 use Rattle.proof_lines.specs.Forced.{Forced, by_clause}
 use Rattle.proof_lines.specs.Problems.{PlainProblem, Meaning, HasNoInterpretation, kind_true, atom_true}
 use Rattle.proof_lines.proofs.Sets.{same_lit-is, same_lit-refl}
-use Rattle.search_logs.specs.Forcing.{AreRefuted, AreSatisfied, is_plain, are_plain}
+use Rattle.sat_core.specs.Forcing.{AreRefuted, AreSatisfied, is_plain, are_plain}
 use Rattle.sat_core.specs.Answers.{IsEasy}
 
 any_there : (p : Lit → Bool) (c : List Lit) (l : Lit) → has c l ≡ true → p l ≡ true → list_any p c ≡ true

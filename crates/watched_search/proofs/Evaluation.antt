@@ -16,7 +16,7 @@ use Rattle.proof_lines.specs.Forced.{Forced, by_clause}
 use Rattle.proof_lines.specs.Problems.{PlainProblem, Meaning, row_true, kind_true, atom_true, meaning_of}
 use Rattle.line_rows.proofs.Certificates.{all_at}
 use Rattle.proof_lines.proofs.Sets.{same_lit-is, by_true}
-use Rattle.search_logs.specs.Forcing.{AreRefuted}
+use Rattle.sat_core.specs.Forcing.{AreRefuted}
 use Rattle.sat_core.specs.Answers.{IsModelOf}
 use Rattle.watched_search.specs.Reduced.{truth_in, HasTruth, HaveTruths}
 

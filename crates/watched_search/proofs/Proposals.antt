@@ -10,7 +10,7 @@ use Rattle.proof_lines.specs.Problems.{PlainProblem}
 use Rattle.proof_kernel.specs.declared.answer.Checked.{Checked}
 use Rattle.proof_kernel.specs.Rules.{State, run}
 use Rattle.proof_kernel.specs.Answers.{IsJudged}
-use Rattle.search_logs.specs.SearchLogs.{is_split, splits}
+use Rattle.sat_core.specs.SearchLogs.{is_split, splits}
 use Rattle.sat_core.specs.Answers.{IsEasy, IsRefuted, IsShort}
 
 -- ---- a log without a Split line

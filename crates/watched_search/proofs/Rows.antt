@@ -13,11 +13,11 @@ use Rattle.proof_lines.specs.Problems.{PlainProblem}
 use Rattle.line_rows.specs.Steps.{row_of_kind, lit_row}
 use Rattle.theory_api.specs.Laws.{all_below, IsConflict}
 use Rattle.theory_api.proofs.Standing.{lit_at}
-use Rattle.search_logs.specs.declared.trail.Entry.{Entry}
-use Rattle.search_logs.specs.Trails.{in_trail, Settled}
-use Rattle.search_logs.specs.Forcing.{are_plain}
-use Rattle.search_logs.proofs.Taken.{farkas_taken}
-use Rattle.search_logs.proofs.Valued.{stand-of}
+use Rattle.sat_core.specs.declared.trail.Entry.{Entry}
+use Rattle.sat_core.specs.Trails.{in_trail, Settled}
+use Rattle.sat_core.specs.Forcing.{are_plain}
+use Rattle.sat_core.proofs.Taken.{farkas_taken}
+use Rattle.sat_core.proofs.Valued.{stand-of}
 use Rattle.sat_core.specs.declared.analyzing.Analyzed.{Analyzed}
 use Rattle.sat_core.specs.declared.analyzing.Analyzed.TheVariants.{Empty, Cut, BudgetExhausted as ExhaustedThere, Memory as NoMemory}
 use Rattle.sat_core.specs.Answers.{AreRowsOf}

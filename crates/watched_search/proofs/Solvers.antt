@@ -8,7 +8,7 @@ use Rattle.proof_lines.specs.declared.problem.AtomKind.{AtomKind}
 use Rattle.proof_lines.specs.declared.problem.AtomKind.TheVariants.{Plain, Row as OfRow}
 use Rattle.proof_lines.specs.Problems.{PlainProblem}
 use Rattle.line_rows.specs.Steps.{atom_row, lit_row}
-use Rattle.search_logs.specs.Forcing.{are_plain}
+use Rattle.sat_core.specs.Forcing.{are_plain}
 use Rattle.sat_core.specs.declared.answer.Answer.{Answer}
 use Rattle.sat_core.specs.declared.answer.Answer.TheVariants.{Unsat, Sat, Lines, Rows, Range, Memory}
 use Rattle.sat_core.specs.Answers.{AreRowsOf, IsShort, IsAnswer}

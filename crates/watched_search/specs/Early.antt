@@ -9,10 +9,10 @@ use Rattle.proof_lines.specs.declared.line.Line.TheVariants.{Farkas}
 use Rattle.proof_lines.specs.Clauses.{negations}
 use Rattle.proof_lines.specs.Problems.{PlainProblem}
 use Rattle.proof_kernel.specs.Rules.{next}
-use Rattle.search_logs.specs.declared.trail.Entry.{Entry}
-use Rattle.search_logs.specs.Trails.{in_trail}
-use Rattle.search_logs.specs.Forcing.{are_plain}
-use Rattle.search_logs.specs.SearchLogs.{standing, with_clause}
+use Rattle.sat_core.specs.declared.trail.Entry.{Entry}
+use Rattle.sat_core.specs.Trails.{in_trail}
+use Rattle.sat_core.specs.Forcing.{are_plain}
+use Rattle.sat_core.specs.SearchLogs.{standing, with_clause}
 use Rattle.sat_core.specs.Answers.{AreRowsOf}
 use Rattle.watched_search.specs.declared.early.Said.{Said}
 use Rattle.watched_search.specs.declared.early.Said.TheVariants.{Model, Clash, Nothing}

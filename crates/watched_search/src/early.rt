@@ -15,8 +15,8 @@ use guided_ints::tested;
 use items::Items;
 use lin_rows::Row;
 use proof_lines::{AtomKind, Lit, Problem, RowStep};
+use sat_core::Trail;
 use sat_core::row_assignments::{RowAssignment, pick, row_of_sign};
-use search_logs::Trail;
 use std::alloc::{AllocError, Global};
 use theory_api::{Theory, TheoryAnswer};
 

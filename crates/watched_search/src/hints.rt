@@ -1,12 +1,12 @@
 // What helps a search to decide well. Nothing is promised of it but that what it names has no value.
 ghost use Rattle.std.specs.Prelude.{◌≡◌, ◌<◌, ◌^◌, ℕ, true, false, length, MatchOption, IfSome};
-ghost use Rattle.search_logs.specs.Trails.{is_assigned};
+ghost use Rattle.sat_core.specs.Trails.{is_assigned};
 
 use crate::row_hints::RowHints;
 use decision_queue::{DecisionQueue, Order};
 use proof_lines::{AtomKind, Lit, Problem};
+use sat_core::Trail;
 use sat_core::finding::unassigned;
-use search_logs::Trail;
 use std::alloc::{AllocError, Global};
 use std::cmp::min;
 

@@ -1,7 +1,7 @@
 // What a search proposes that promises nothing, tested: a log by the proof kernel, values by evaluation.
 ghost use Rattle.std.specs.Prelude.{◌≡◌, ℕ, Bool, not, length, IsTrue, IfOk, IfSome};
 ghost use Rattle.std.specs.List.{list_all};
-ghost use Rattle.search_logs.specs.SearchLogs.{is_split};
+ghost use Rattle.sat_core.specs.SearchLogs.{is_split};
 ghost use Rattle.sat_core.specs.Answers.{IsAnswer, IsRefuted};
 
 use crate::evaluating::evaluated;

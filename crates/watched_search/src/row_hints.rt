@@ -5,7 +5,7 @@ use items::Items;
 use lin_rows::Row;
 use line_rows::splitting::is_negative;
 use proof_lines::{AtomKind, Lit, Problem};
-use search_logs::Trail;
+use sat_core::Trail;
 use std::alloc::{AllocError, Global};
 use std::cmp::{max, min};
 

@@ -1,6 +1,6 @@
 use Rattle.std.proofs.Common.{◌≡◌, true}
 use Rattle.std.specs.Prelude.{IfSome}
-use Rattle.search_logs.specs.Trails.{in_trail}
+use Rattle.sat_core.specs.Trails.{in_trail}
 use Rattle.implicants.proofs.choosing.only_in.Given as goal
 
 abbrev pub invariant-loop-lit : goal.invariant-loop-lit

@@ -1,7 +1,7 @@
 use Rattle.std.proofs.Common.{◌≡◌, ◌⊎◌, inl, inr, ℕ, ◌<◌, Bool, true, false, List, length, refl, sym, ◌∙◌, subst}
-use Rattle.search_logs.specs.declared.trail.Entry.{Entry}
-use Rattle.search_logs.specs.Trails.{is_false, is_assigned, open_in, before_last, IsTrail, Settled}
-use Rattle.search_logs.proofs.Trails.{zero-open, open_zero, trail-before, settled-before, is_assigned-before}
+use Rattle.sat_core.specs.declared.trail.Entry.{Entry}
+use Rattle.sat_core.specs.Trails.{is_false, is_assigned, open_in, before_last, IsTrail, Settled}
+use Rattle.sat_core.proofs.Trails.{zero-open, open_zero, trail-before, settled-before, is_assigned-before}
 use Rattle.sat_core.specs.Searching.{IsBefore}
 use Rattle.sat_core.proofs.Resolving.{before-shorter}
 use Rattle.sat_core.proofs.Backjumps.{last-before, before-either}

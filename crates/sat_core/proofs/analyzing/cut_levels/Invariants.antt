@@ -1,6 +1,6 @@
 use Rattle.std.proofs.Common.{◌≡◌, ◌⊎◌, ℕ, true, List, length}
 use Rattle.proof_lines.specs.declared.clause.Lit.{Lit}
-use Rattle.search_logs.specs.Trails.{is_false, is_assigned, IsTrail, Settled}
+use Rattle.sat_core.specs.Trails.{is_false, is_assigned, IsTrail, Settled}
 use Rattle.sat_core.specs.Searching.{IsBefore}
 use Rattle.sat_core.proofs.analyzing.cut_levels.Given as goal
 

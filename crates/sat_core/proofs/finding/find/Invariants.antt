@@ -1,5 +1,5 @@
 use Rattle.std.proofs.Common.{◌≡◌, ◌<◌, ℕ, false, true, get_or, []}
-use Rattle.search_logs.specs.Trails.{is_false, quiet, NoneFalse}
+use Rattle.sat_core.specs.Trails.{is_false, quiet, NoneFalse}
 use Rattle.sat_core.proofs.finding.find.Given as goal
 
 abbrev pub invariant-loop-i : goal.invariant-loop-i

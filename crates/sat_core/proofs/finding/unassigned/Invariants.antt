@@ -1,5 +1,5 @@
 use Rattle.std.proofs.Common.{◌≡◌, ◌<◌, ℕ, true}
-use Rattle.search_logs.specs.Trails.{is_assigned}
+use Rattle.sat_core.specs.Trails.{is_assigned}
 use Rattle.sat_core.proofs.finding.unassigned.Given as goal
 
 abbrev pub invariant-loop-atom : goal.invariant-loop-atom

@@ -1,5 +1,5 @@
 use Rattle.std.proofs.Common.{◌≡◌, true, take}
-use Rattle.search_logs.specs.Trails.{is_false}
+use Rattle.sat_core.specs.Trails.{is_false}
 use Rattle.sat_core.proofs.finding.unit_literal.Given as goal
 
 abbrev pub invariant-loop-lit : goal.invariant-loop-lit

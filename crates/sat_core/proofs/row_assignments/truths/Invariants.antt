@@ -1,6 +1,6 @@
 use Rattle.std.proofs.Common.{◌≡◌, ◌<◌, ℕ, true, false, length, get_or}
 use Rattle.proof_lines.specs.Clauses.{lit_of}
-use Rattle.search_logs.specs.Trails.{in_trail}
+use Rattle.sat_core.specs.Trails.{in_trail}
 use Rattle.sat_core.proofs.row_assignments.truths.Given as goal
 
 abbrev pub invariant-loop-atom : goal.invariant-loop-atom

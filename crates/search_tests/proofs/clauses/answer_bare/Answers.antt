@@ -5,7 +5,7 @@ use Rattle.proof_lines.specs.declared.clause.Lit.{Lit}
 use Rattle.proof_lines.specs.declared.problem.AtomKind.{AtomKind}
 use Rattle.proof_lines.specs.declared.problem.AtomKind.TheVariants.{Plain, Row as OfRow}
 use Rattle.line_rows.specs.Steps.{atom_row, lit_row}
-use Rattle.search_logs.specs.Forcing.{are_plain}
+use Rattle.sat_core.specs.Forcing.{are_plain}
 use Rattle.sat_core.specs.Answers.{AreRowsOf}
 use Rattle.search_tests.proofs.clauses.answer_bare.Goals as goal
 

@@ -1,5 +1,5 @@
 use Rattle.std.proofs.Common.{◌==◌, ◌∙◌}
-use Rattle.search_logs.specs.Trails.{before_last}
+use Rattle.sat_core.specs.Trails.{before_last}
 use Rattle.unit_propagation.proofs.Steady.{open-one}
 use Rattle.unit_propagation.proofs.looking.is_open_before.Goals as goal
 

@@ -1,7 +1,7 @@
 use Rattle.std.proofs.Common.{◌≡◌, ◌≤◌, true, List, length, subst, arith}
 use Rattle.std.proofs.lemmas.List.{take_all}
 use Rattle.proof_lines.specs.declared.clause.Lit.{Lit}
-use Rattle.search_logs.specs.Trails.{others_false, before_last}
+use Rattle.sat_core.specs.Trails.{others_false, before_last}
 use Rattle.unit_propagation.proofs.looking.open_before_beside.Goals as goal
 
 pub returns : goal.returns

@@ -1,5 +1,5 @@
 use Rattle.std.proofs.Common.{◌≡◌, true, take}
-use Rattle.search_logs.specs.Trails.{others_false, before_last}
+use Rattle.sat_core.specs.Trails.{others_false, before_last}
 use Rattle.unit_propagation.proofs.looking.open_before_beside.Given as goal
 
 abbrev pub invariant-loop-lit : goal.invariant-loop-lit

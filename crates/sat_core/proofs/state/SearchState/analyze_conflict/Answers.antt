@@ -1,5 +1,5 @@
 use Rattle.std.proofs.Common.{◌≡◌, true, sym, ◌∙◌, ap}
-use Rattle.search_logs.specs.Trails.{has_decision, before_last}
+use Rattle.sat_core.specs.Trails.{has_decision, before_last}
 use Rattle.sat_core.proofs.Ends.{chain_refutes, chain_exhausts}
 use Rattle.sat_core.proofs.Backjumps.{backjump-from, before-same}
 use Rattle.sat_core.proofs.state.SearchState.analyze_conflict.Goals as goal

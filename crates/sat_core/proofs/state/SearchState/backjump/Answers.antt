@@ -1,6 +1,6 @@
 use Rattle.std.proofs.Common.{◌≡◌, ◌<◌, ◌≤◌, Bool, true, false, List, [], length, get_or, sym, ◌∙◌, ap, subst, arith}
-use Rattle.search_logs.specs.declared.trail.Entry.{Entry}
-use Rattle.search_logs.specs.Trails.{open_in, before_last}
+use Rattle.sat_core.specs.declared.trail.Entry.{Entry}
+use Rattle.sat_core.specs.Trails.{open_in, before_last}
 use Rattle.sat_core.specs.Searching.{with_trail}
 use Rattle.sat_core.proofs.Resolving.{InCut, cut_begins, cut_more, cut_ends, before-shorter}
 use Rattle.sat_core.proofs.state.SearchState.backjump.Goals as goal

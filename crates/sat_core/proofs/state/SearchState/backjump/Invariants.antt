@@ -1,5 +1,5 @@
 use Rattle.std.proofs.Common.{◌≡◌, ℕ, true, get_or, [], length}
-use Rattle.search_logs.specs.Trails.{has_decision, is_done}
+use Rattle.sat_core.specs.Trails.{has_decision, is_done}
 use Rattle.sat_core.specs.Searching.{with_trail, Aim, InChain}
 use Rattle.sat_core.proofs.Resolving.{InCut}
 use Rattle.sat_core.proofs.state.SearchState.backjump.Given as goal

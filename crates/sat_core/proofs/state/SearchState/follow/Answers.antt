@@ -8,7 +8,7 @@ use Rattle.line_rows.specs.Splits.{at_most}
 use Rattle.line_rows.proofs.LineRows.{splits-in_range}
 use Rattle.theory_api.specs.declared.answer.TheoryAnswer.{TheoryAnswer}
 use Rattle.theory_api.specs.Laws.{rows_at, IsAnswer}
-use Rattle.search_logs.proofs.Valued.{stand-of}
+use Rattle.sat_core.proofs.Valued.{stand-of}
 use Rattle.sat_core.specs.declared.checking.Outcome.{Outcome}
 use Rattle.sat_core.specs.Answers.{IsModelOf}
 use Rattle.sat_core.specs.Outcomes.{IsOutcome, IfContinue, IsStay, IsSplitOff}

@@ -1,6 +1,6 @@
 use Rattle.std.proofs.Common.{◌≤◌, ◌<◌, length, arith}
 use Rattle.proof_lines.specs.Clauses.{negations}
-use Rattle.search_logs.proofs.Shown.{false-negations, false-below}
+use Rattle.sat_core.proofs.Shown.{false-negations, false-below}
 use Rattle.sat_core.proofs.Ends.{search_exhausts}
 use Rattle.sat_core.proofs.Checked.{none_false, refute_chain, learned-so}
 use Rattle.sat_core.proofs.state.SearchState.refute.Goals as goal

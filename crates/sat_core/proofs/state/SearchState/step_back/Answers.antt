@@ -2,10 +2,10 @@ use Rattle.std.proofs.Common.{◌≡◌, ◌+◌, ◌^◌, ◌<◌, true, false,
 use Rattle.proof_lines.specs.declared.clause.Lit.{Lit}
 use Rattle.proof_lines.specs.Clauses.{has, distinct, flip}
 use Rattle.proof_lines.specs.Problems.{PlainProblem}
-use Rattle.search_logs.specs.declared.trail.Entry.{Entry}
-use Rattle.search_logs.specs.Trails.{is_done}
-use Rattle.search_logs.specs.SearchLogs.{with_clause, resolved_on, resolve_line}
-use Rattle.search_logs.proofs.Chain.{longer}
+use Rattle.sat_core.specs.declared.trail.Entry.{Entry}
+use Rattle.sat_core.specs.Trails.{is_done}
+use Rattle.sat_core.specs.SearchLogs.{with_clause, resolved_on, resolve_line}
+use Rattle.sat_core.proofs.Chain.{longer}
 use Rattle.sat_core.specs.declared.state.SearchState.{SearchState}
 use Rattle.sat_core.specs.Searching.{with_trail, InChain, GoesOn}
 use Rattle.sat_core.proofs.Resolving.{chain_pops, has_reason, chain_steps, state-so, moved_on}

@@ -1,5 +1,5 @@
 use Rattle.std.proofs.Common.{List, length, refl, sym, ◌∙◌, ap, subst}
-use Rattle.search_logs.specs.declared.trail.Entry.{Entry}
+use Rattle.sat_core.specs.declared.trail.Entry.{Entry}
 use Rattle.unit_propagation.specs.Watches.{code, list_at, AreWatched}
 use Rattle.unit_propagation.proofs.Following.{pushed_watched}
 use Rattle.unit_propagation.proofs.propagation.Propagation.push.Goals as goal

@@ -1,6 +1,6 @@
 use Rattle.std.proofs.Common.{◌≡◌, ℕ, List, length}
 use Rattle.proof_lines.specs.declared.clause.Lit.{Lit}
-use Rattle.search_logs.specs.declared.trail.Entry.{Entry}
+use Rattle.sat_core.specs.declared.trail.Entry.{Entry}
 use Rattle.unit_propagation.specs.Watches.{code, AreKept}
 use Rattle.unit_propagation.proofs.propagation.Propagation.put_back.Given as goal
 

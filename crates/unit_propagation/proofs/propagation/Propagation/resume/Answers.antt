@@ -1,6 +1,6 @@
 use Rattle.std.proofs.Common.{false, ◌≡◌, ◌≤◌, ◌<◌, ℕ, List, [], length, refl, sym, subst, arith, Option}
 use Rattle.proof_lines.specs.declared.clause.Lit.{Lit}
-use Rattle.search_logs.specs.Trails.{is_false, open_in, before_last}
+use Rattle.sat_core.specs.Trails.{is_false, open_in, before_last}
 use Rattle.unit_propagation.specs.declared.watches.Watches.{Watches}
 use Rattle.unit_propagation.specs.Watches.{pair_at, IsKept, AreWatched}
 use Rattle.unit_propagation.specs.Ready.{IsReadyWith}

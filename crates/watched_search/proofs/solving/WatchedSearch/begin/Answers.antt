@@ -1,6 +1,6 @@
 use Rattle.std.proofs.Common.{List, [], false, sym, subst}
-use Rattle.search_logs.specs.declared.trail.Entry.{Entry}
-use Rattle.search_logs.specs.Trails.{NoneFalse, older}
+use Rattle.sat_core.specs.declared.trail.Entry.{Entry}
+use Rattle.sat_core.specs.Trails.{NoneFalse, older}
 use Rattle.sat_core.specs.declared.state.SearchState.{SearchState}
 use Rattle.sat_core.specs.Searching.{InSearch}
 use Rattle.sat_core.proofs.Outcomes.{aim_of}

@@ -1,6 +1,0 @@
-use Rattle.std.proofs.Common.{arith}
-use Rattle.search_logs.proofs.Seats.{place-in}
-use Rattle.search_logs.proofs.trail.Trail.holds.Goals as goal
-
-pub returns : goal.returns
-returns c = let e = place-in c.args.self.now c.args.lit in grind (arith, e)
