@@ -10,9 +10,8 @@ ghost use Rattle.stage_defs.specs.Settings.{IsMade};
 ghost use Rattle.ground_groups.specs.Limited.{Appends};
 
 use ground_atoms::{Atom, Atoms, GroundFormula};
-use ground_constants::assigning::as_number;
-use ground_groups::GroundRefused;
 use ground_groups::adding::has_room;
+use ground_groups::{GroundRefused, as_number};
 use items::Items;
 use std::alloc::{AllocError, Global};
 

@@ -23,7 +23,7 @@ use Rattle.ground_atoms.specs.declared.call.GroundCall.{GroundCall}
 use Rattle.stage_defs.specs.Settings.{caller_at}
 use Rattle.ground_atoms.specs.Calls.{calls_from, calls_of}
 use Rattle.ground_groups.specs.Defined.{no_call, call_at, defined_at, defined_by}
-use Rattle.ground_constants.proofs.Gathered.{calls-params}
+use Rattle.ground_groups.proofs.Gathered.{calls-params}
 
 call-op : (d : Specification) (os : List ℕ) (m n i : ℕ) → (get_or (calls_from d n i os) m no_call).op ≡ slice_index os m
 call-op d [] m n i = refl

@@ -1,3 +1,7 @@
+pub mod Gathered
+pub mod Counted
+pub mod Arguments
+pub mod MoreThings
 pub mod Lists
 pub mod Ends
 pub mod Defined

@@ -12,7 +12,7 @@ use Rattle.ground_atoms.specs.declared.formula.GroundFormula.{GroundFormula}
 use Rattle.ground_atoms.specs.Known.{Known}
 use Rattle.ground_atoms.specs.Making.{MadeList}
 use Rattle.ground_atoms.proofs.Numbering.{readings_after-made}
-use Rattle.ground_constants.specs.Calls.{numbered_arguments}
+use Rattle.ground_groups.specs.Calls.{numbered_arguments}
 use Rattle.ground_groups.specs.Limited.{make_upto, Appends}
 use Rattle.ground_groups.specs.declared.refused.GroundRefused.{GroundRefused}
 use Rattle.ground_groups.proofs.Lists.{seq, upto_made}

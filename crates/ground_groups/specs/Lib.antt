@@ -1,3 +1,4 @@
+pub mod Calls
 pub mod Limited
 pub mod Lines
 pub mod Defined

@@ -9,16 +9,16 @@ ghost use Rattle.ground_problem.specs.Entry as entry;
 ghost use Rattle.ground_atoms.specs.Formulas.{form_of};
 ghost use Rattle.stage_defs.specs.Settings.{caller_in, IsMade};
 ghost use Rattle.stage_defs.specs.Parts.{make_parts};
-ghost use Rattle.ground_constants.specs.Calls.{constants_in};
+ghost use Rattle.ground_groups.specs.Calls.{constants_in};
 ghost use Rattle.ground_groups.specs.Limited.{Appends};
 ghost use Rattle.ground_groups.specs.Rules.{unmatched_as};
 
 use crate::adding::has_room;
 use crate::entry::args_of;
+use crate::gathering::Named;
 use crate::parts::{all_of, join_same};
 use crate::refused::GroundRefused;
 use ground_atoms::{Atoms, GroundFormula};
-use ground_constants::constants::Named;
 use items::Items;
 use spec_core::{Elem, Rule, Spec, Take};
 use stage_defs::setting::const_of;

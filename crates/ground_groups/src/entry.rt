@@ -9,15 +9,15 @@ ghost use Rattle.ground_problem.specs.Problem.{most_formulas};
 ghost use Rattle.spec_core.specs.Specification.{op_of};
 ghost use Rattle.stage_defs.specs.Settings.{readings_in, caller_in};
 ghost use Rattle.ground_groups.specs.Limited.{Appends, HasRoomFor};
-ghost use Rattle.ground_constants.specs.Calls.{constants_in};
+ghost use Rattle.ground_groups.specs.Calls.{constants_in};
 ghost use Rattle.ground_groups.specs.Lines.{line_at, lines_at};
 
 use crate::adding::MOST_FORMULAS;
+use crate::assigning::{count_choices, options_of};
+use crate::gathering::Named;
 use crate::instancing::{add_instances, add_true};
 use crate::refused::GroundRefused;
 use ground_atoms::{Atoms, GroundArg, GroundFormula};
-use ground_constants::assigning::{count_choices, options_of};
-use ground_constants::constants::Named;
 use items::Items;
 use spec_core::{Invariant, Prefix, Prefixed, Spec};
 use stage_defs::{Setting, Stage};

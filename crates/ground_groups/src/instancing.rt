@@ -10,14 +10,14 @@ ghost use Rattle.ground_problem.specs.Problem.{most_formulas};
 ghost use Rattle.ground_problem.specs.Constants.{choices};
 ghost use Rattle.stage_defs.specs.Settings.{readings_in, caller_in};
 ghost use Rattle.ground_groups.specs.Limited.{Appends, HasRoomFor};
-ghost use Rattle.ground_constants.specs.Calls.{constants_in};
+ghost use Rattle.ground_groups.specs.Calls.{constants_in};
 ghost use Rattle.ground_groups.specs.Lines.{signed};
 
 use crate::adding::{MOST_FORMULAS, has_room};
+use crate::assigning::{count_choices, options_of};
+use crate::gathering::Named;
 use crate::refused::GroundRefused;
 use ground_atoms::{Atoms, GroundFormula};
-use ground_constants::assigning::{count_choices, options_of};
-use ground_constants::constants::Named;
 use items::Items;
 use spec_core::Formula;
 use stage_defs::{Setting, formula, negated};

@@ -4,13 +4,13 @@ ghost use Rattle.ground_problem.specs.Formulas.{caller};
 ghost use Rattle.ground_problem.specs.Entry as entry;
 ghost use Rattle.spec_core.specs.Specification.{op_of};
 ghost use Rattle.ground_groups.specs.Limited.{Appends};
-ghost use Rattle.ground_constants.specs.Calls.{constants_in};
+ghost use Rattle.ground_groups.specs.Calls.{constants_in};
 
 use crate::entry::add_call_ready;
+use crate::gathering::Named;
+use crate::numbering::as_small;
 use crate::refused::GroundRefused;
 use ground_atoms::{Atoms, GroundFormula};
-use ground_constants::constants::Named;
-use ground_constants::numbering::as_small;
 use items::Items;
 use spec_core::Spec;
 use std::alloc::Global;

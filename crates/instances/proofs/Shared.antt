@@ -26,7 +26,7 @@ use Rattle.ground_atoms.specs.declared.formula.GroundFormula.{GroundFormula}
 use Rattle.ground_atoms.proofs.Numbering.{make_all-is}
 use Rattle.ground_atoms.proofs.Cutting.{Begins, then_more, front_of, Grows, grows_then, all_grows, forms_begin, cut-grown}
 use Rattle.clausify.specs.Kept.{AreClausesOf}
-use Rattle.ground_constants.specs.Calls.{numbered_arguments}
+use Rattle.ground_groups.specs.Calls.{numbered_arguments}
 use Rattle.ground_groups.specs.Limited.{make_upto, Appends}
 use Rattle.ground_groups.proofs.Lists.{upto_then, upto_none, upto_made}
 use Rattle.instances.specs.declared.entry.Entry.{Entry}

@@ -19,7 +19,7 @@ use Rattle.instances.specs.Ground.{IsGround}
 use Rattle.ground_groups.specs.declared.refused.GroundRefused.{GroundRefused}
 use Rattle.ground_groups.specs.declared.refused.GroundRefused.TheVariants.{TooMany, Memory}
 use Rattle.ground_atoms.specs.declared.formula.GroundFormula.{GroundFormula}
-use Rattle.ground_constants.specs.Calls.{numbered_arguments}
+use Rattle.ground_groups.specs.Calls.{numbered_arguments}
 use Rattle.ground_groups.proofs.Lists.{upto_beyond, upto_is_all, upto_made}
 
 -- the readings that a list names are those that were named as it was made

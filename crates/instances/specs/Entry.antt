@@ -12,7 +12,7 @@ use Rattle.ground_atoms.specs.declared.formula.GroundFormula.{GroundFormula}
 use Rattle.ground_atoms.specs.Known.{Known}
 use Rattle.ground_atoms.specs.Sizes.{size_of, cut_back}
 use Rattle.clausify.specs.Kept.{AreClausesOf}
-use Rattle.ground_constants.specs.Calls.{numbered_arguments}
+use Rattle.ground_groups.specs.Calls.{numbered_arguments}
 use Rattle.ground_groups.specs.Limited.{make_upto}
 use Rattle.ground_groups.specs.declared.refused.GroundRefused.{GroundRefused}
 use Rattle.ground_groups.specs.declared.refused.GroundRefused.TheVariants.{TooMany, Memory}

@@ -3,15 +3,14 @@ ghost use Rattle.std.specs.Prelude.{◌≡◌};
 ghost use Rattle.ground_problem.specs.Conclusion as conclusion;
 ghost use Rattle.stage_defs.specs.Settings.{readings_in, caller_in};
 ghost use Rattle.obligation_list.specs.Obligations.{IsObligation};
-ghost use Rattle.ground_constants.specs.Calls.{constants_in};
+ghost use Rattle.ground_groups.specs.Calls.{constants_in};
 ghost use Rattle.ground_groups.specs.Limited.{Appends};
 
 use ground_atoms::{Atoms, GroundFormula};
-use ground_constants::constants::{Named, invariant_line, requires_line};
-use ground_groups::GroundRefused;
 use ground_groups::differing::add_differs;
 use ground_groups::entry::args_of;
 use ground_groups::instancing::{add_false, add_false_instances};
+use ground_groups::{GroundRefused, Named, invariant_line, requires_line};
 use items::Items;
 use obligation_list::Obligation;
 use spec_core::{Prefix, Prefixed, Spec};

@@ -10,16 +10,15 @@ ghost use Rattle.ground_problem.specs.Entry as entry;
 ghost use Rattle.ground_numbers.specs.Numbered.{Numbered, is_below};
 ghost use Rattle.ground_atoms.specs.Formulas.{form_of};
 ghost use Rattle.ground_atoms.specs.Sizes.{size_of, cut_back};
-ghost use Rattle.ground_constants.specs.Calls.{constants_in, numbered_arguments};
+ghost use Rattle.ground_groups.specs.Calls.{constants_in, numbered_arguments};
 ghost use Rattle.ground_groups.specs.Limited.{Appends};
 ghost use Rattle.clausify.specs.Kept.{AreClausesOf};
 ghost use Rattle.instances.specs.Entry.{known_from, HasClausesOf, IsEntry, IsSharedOr, IsBegunOr, IsCutBack};
 
 use clausify::{KeptClauses, keep_clauses};
 use ground_atoms::{Atoms, GroundFormula, KnownSize};
-use ground_constants::constants::Named;
-use ground_groups::GroundRefused;
 use ground_groups::entry::add_invariants;
+use ground_groups::{GroundRefused, Named};
 use items::Items;
 use obligation_list::Obligation;
 use spec_core::Spec;

@@ -5,7 +5,7 @@ ghost use Rattle.obligation_list.specs.Obligations.{IsObligation};
 use crate::entry::{Entry, is_alike};
 use crate::grounding::numbered;
 use ground_atoms::Atoms;
-use ground_constants::constants::{constants, operations_of};
+use ground_groups::{constants, operations_of};
 use items::Items;
 use obligation_list::Obligation;
 use spec_core::Spec;

@@ -9,15 +9,14 @@ ghost use Rattle.ground_problem.specs.Constants.{constants_of};
 ghost use Rattle.ground_groups.specs.Limited.{Appends, make_upto};
 ghost use Rattle.ground_atoms.specs.Formulas.{form_of};
 ghost use Rattle.ground_atoms.specs.Calls.{calls_of};
-ghost use Rattle.ground_constants.specs.Calls.{constants_in, numbered_arguments};
+ghost use Rattle.ground_groups.specs.Calls.{constants_in, numbered_arguments};
 
 use crate::concluding::add_conclusion;
 use ground_atoms::{Atoms, GroundFormula};
-use ground_constants::constants::Named;
-use ground_groups::GroundRefused;
 use ground_groups::conflicting::add_free;
 use ground_groups::defining::add_definitions;
 use ground_groups::ready::add_all_ready;
+use ground_groups::{GroundRefused, Named};
 use items::Items;
 use obligation_list::Obligation;
 use spec_core::Spec;

@@ -21,7 +21,7 @@ use Rattle.ground_atoms.specs.Known.{Known}
 use Rattle.ground_atoms.specs.Symbols.{reading_of}
 use Rattle.ground_atoms.specs.declared.atom.NamedReading.{NamedReading}
 use Rattle.ground_atoms.specs.declared.formula.GroundFormula.{GroundFormula}
-use Rattle.ground_constants.specs.Calls.{numbered_arguments}
+use Rattle.ground_groups.specs.Calls.{numbered_arguments}
 use Rattle.ground_groups.specs.Limited.{make_upto, Appends}
 use Rattle.ground_groups.specs.declared.refused.GroundRefused.{GroundRefused}
 use Rattle.ground_groups.specs.declared.refused.GroundRefused.TheVariants.{TooMany, Memory}

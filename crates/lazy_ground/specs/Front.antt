@@ -12,7 +12,7 @@ use Rattle.ground_atoms.specs.Formulas.{form_of}
 use Rattle.ground_atoms.specs.Known.{Known}
 use Rattle.ground_atoms.specs.Symbols.{reading_of}
 use Rattle.ground_atoms.specs.declared.formula.GroundFormula.{GroundFormula}
-use Rattle.ground_constants.specs.Calls.{constants_in, numbered_arguments}
+use Rattle.ground_groups.specs.Calls.{constants_in, numbered_arguments}
 use Rattle.ground_groups.specs.Limited.{make_upto}
 use Rattle.ground_numbers.specs.Numbered.{Numbered}
 use Rattle.ground_atoms.proofs.Cutting.{Begins, Grows}

@@ -1,5 +1,5 @@
 use Rattle.stage_defs.specs.Settings.{readings_in, caller_in}
-use Rattle.ground_constants.specs.Calls.{constants_in}
+use Rattle.ground_groups.specs.Calls.{constants_in}
 use Rattle.ground_groups.proofs.Lists.{invariants_beyond}
 use Rattle.ground_groups.proofs.entry.add_all.Goals as goal
 

@@ -5,7 +5,7 @@ use Rattle.ground_problem.specs.Entry.{lines_hold}
 use Rattle.ground_atoms.specs.Formulas.{consts_of_args}
 use Rattle.spec_core.specs.Specification.{op_of}
 use Rattle.ground_groups.specs.Limited.{Appends}
-use Rattle.ground_constants.specs.Calls.{constants_in}
+use Rattle.ground_groups.specs.Calls.{constants_in}
 use Rattle.ground_groups.specs.Lines.{lines_at}
 use Rattle.ground_groups.proofs.Ends.{lines_at_entry}
 use Rattle.ground_groups.proofs.entry.add_call_ready.Goals as goal

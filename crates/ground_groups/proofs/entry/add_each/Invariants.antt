@@ -4,7 +4,7 @@ use Rattle.ground_problem.specs.Formulas.{instances}
 use Rattle.ground_atoms.specs.Formulas.{form_of}
 use Rattle.stage_defs.specs.Settings.{readings_in, caller_in}
 use Rattle.ground_groups.specs.Limited.{make_upto}
-use Rattle.ground_constants.specs.Calls.{constants_in}
+use Rattle.ground_groups.specs.Calls.{constants_in}
 use Rattle.ground_groups.proofs.entry.add_each.Given as goal
 
 abbrev pub invariant-loop-invariant : goal.invariant-loop-invariant

@@ -2,7 +2,7 @@ use Rattle.std.proofs.Common.{◌≡◌, map, drop}
 use Rattle.ground_atoms.specs.Formulas.{form_of}
 use Rattle.stage_defs.specs.Settings.{readings_in, caller_in}
 use Rattle.ground_groups.specs.Limited.{make_upto}
-use Rattle.ground_constants.specs.Calls.{constants_in}
+use Rattle.ground_groups.specs.Calls.{constants_in}
 use Rattle.ground_groups.specs.Lines.{lines_at}
 use Rattle.ground_groups.proofs.entry.add_lines.Given as goal
 

@@ -1,7 +1,7 @@
 use Rattle.std.proofs.Common.{◌+◌, ◌≤◌, length, drop}
 use Rattle.std.specs.List.{flat_map}
 use Rattle.ground_problem.specs.Constants.{assignments}
-use Rattle.ground_constants.specs.Calls.{constants_in}
+use Rattle.ground_groups.specs.Calls.{constants_in}
 use Rattle.ground_groups.proofs.entry.count_all.Given as goal
 
 abbrev pub invariant-loop-invariant : goal.invariant-loop-invariant

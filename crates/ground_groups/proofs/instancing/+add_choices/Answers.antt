@@ -6,7 +6,7 @@ use Rattle.ground_problem.specs.Formulas.{formula}
 use Rattle.ground_problem.specs.Constants.{choices}
 use Rattle.ground_atoms.specs.Formulas.{form_of}
 use Rattle.stage_defs.specs.Settings.{readings_in, caller_in}
-use Rattle.ground_constants.proofs.Counted.{choices_first}
+use Rattle.ground_groups.proofs.Counted.{choices_first}
 use Rattle.ground_groups.specs.Limited.{make_upto}
 use Rattle.ground_groups.specs.Lines.{signed}
 use Rattle.ground_groups.proofs.Lists.{chosen_next, pair_step, pair_refused}

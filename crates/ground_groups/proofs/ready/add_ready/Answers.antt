@@ -4,7 +4,7 @@ use Rattle.ground_problem.specs.Formulas.{caller}
 use Rattle.ground_problem.specs.Entry.{lines_hold, calls_ready}
 use Rattle.ground_atoms.specs.Formulas.{form_of}
 use Rattle.ground_groups.specs.Limited.{make_upto}
-use Rattle.ground_constants.specs.Calls.{constants_in}
+use Rattle.ground_groups.specs.Calls.{constants_in}
 use Rattle.ground_groups.proofs.Lists.{pair_step, pair_refused}
 use Rattle.ground_groups.proofs.Ends.{ready_next, ready_end}
 use Rattle.ground_groups.proofs.ready.add_ready.Goals as goal

@@ -2,7 +2,7 @@ use Rattle.std.proofs.Common.{◌≡◌, map, drop}
 use Rattle.ground_problem.specs.Entry.{calls_ready}
 use Rattle.ground_atoms.specs.Formulas.{form_of}
 use Rattle.ground_groups.specs.Limited.{make_upto}
-use Rattle.ground_constants.specs.Calls.{constants_in}
+use Rattle.ground_groups.specs.Calls.{constants_in}
 use Rattle.ground_groups.proofs.ready.add_ready.Given as goal
 
 abbrev pub invariant-loop-place : goal.invariant-loop-place

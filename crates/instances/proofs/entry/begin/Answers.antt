@@ -2,7 +2,7 @@ use Rattle.std.proofs.Common.{◌≡◌, ap}
 use Rattle.obligation_list.specs.declared.obligation.Obligation.{Obligation}
 use Rattle.ground_problem.specs.Constants.{Constants, constants_of}
 use Rattle.ground_problem.specs.Entry.{entry}
-use Rattle.ground_constants.specs.Calls.{constants_in}
+use Rattle.ground_groups.specs.Calls.{constants_in}
 use Rattle.instances.proofs.Shared.{begun_from}
 use Rattle.instances.proofs.entry.begin.Goals as goal
 

@@ -1,5 +1,5 @@
 use Rattle.ground_problem.specs.Entry.{invariants_hold}
-use Rattle.ground_constants.specs.Calls.{constants_in}
+use Rattle.ground_groups.specs.Calls.{constants_in}
 use Rattle.instances.proofs.Shared.{made_below}
 use Rattle.instances.proofs.entry.made.Goals as goal
 

@@ -7,7 +7,7 @@ use Rattle.ground_problem.specs.Equality.{equality, congruence}
 use Rattle.ground_problem.specs.Problem.{defined}
 use Rattle.ground_atoms.specs.Symbols.{reading_of}
 use Rattle.ground_groups.specs.Limited.{Appends}
-use Rattle.ground_constants.specs.Calls.{constants_in, numbered_arguments}
+use Rattle.ground_groups.specs.Calls.{constants_in, numbered_arguments}
 use Rattle.ground_groups.proofs.Lists.{seq, seq_refused}
 use Rattle.instances.proofs.Whole.{named_are}
 use Rattle.instances.proofs.grounding.add_all.Goals as goal

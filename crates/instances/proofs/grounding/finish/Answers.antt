@@ -2,7 +2,7 @@ use Rattle.std.proofs.Common.{◌≡◌, ap, subst, sym, List, ℕ}
 use Rattle.std.specs.Prelude.{IfSome}
 use Rattle.ground_problem.specs.Constants.{Constants, constants_of}
 use Rattle.ground_problem.specs.Problem.{formulas_of}
-use Rattle.ground_constants.specs.Calls.{constants_in, numbered_arguments}
+use Rattle.ground_groups.specs.Calls.{constants_in, numbered_arguments}
 use Rattle.instances.specs.Entry.{IsEntry, entry_with}
 use Rattle.instances.proofs.Whole.{few_made, table_made, forms_made, ground_refused}
 use Rattle.instances.proofs.Shared.{entry_of, formulas-begin}

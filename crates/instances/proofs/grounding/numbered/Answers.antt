@@ -5,7 +5,7 @@ use Rattle.ground_problem.specs.Constants.{params_of}
 use Rattle.ground_numbers.specs.Numbers.{Table}
 use Rattle.ground_numbers.specs.Problem.{arguments_from}
 use Rattle.ground_atoms.specs.Known.{nothing, know_integer}
-use Rattle.ground_constants.proofs.Arguments.{arguments_known}
+use Rattle.ground_groups.proofs.Arguments.{arguments_known}
 use Rattle.instances.proofs.grounding.numbered.Goals as goal
 
 pub returns : goal.returns

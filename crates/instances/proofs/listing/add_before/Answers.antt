@@ -3,7 +3,7 @@ use Rattle.obligation_list.specs.Breaking.{operations_of}
 use Rattle.ground_problem.specs.Constants.{Constants, constants_of}
 use Rattle.ground_problem.specs.Entry.{entry, calls_ready, calls_free}
 use Rattle.ground_groups.specs.Limited.{Appends}
-use Rattle.ground_constants.specs.Calls.{constants_in, numbered_arguments}
+use Rattle.ground_groups.specs.Calls.{constants_in, numbered_arguments}
 use Rattle.ground_groups.proofs.Lists.{seq}
 use Rattle.instances.proofs.listing.add_before.Goals as goal
 

@@ -2,7 +2,7 @@ use Rattle.std.proofs.Common.{◌≡◌, rules, subst}
 use Rattle.ground_problem.specs.Conclusion.{conclusion}
 use Rattle.ground_problem.specs.Constants.{Constants, constants_of}
 use Rattle.ground_groups.specs.Limited.{Appends}
-use Rattle.ground_constants.specs.Calls.{constants_in}
+use Rattle.ground_groups.specs.Calls.{constants_in}
 use Rattle.ground_groups.proofs.Lists.{seq, seq_refused}
 use Rattle.instances.proofs.listing.add_stated.Goals as goal
 

@@ -1,7 +1,7 @@
 use Rattle.std.proofs.Common.{◌≡◌, Ok, Err, ap, ◌∙◌}
 use Rattle.ground_problem.specs.Constants.{Constants, constants_of}
 use Rattle.ground_problem.specs.Problem.{defined}
-use Rattle.ground_constants.specs.Calls.{constants_in}
+use Rattle.ground_groups.specs.Calls.{constants_in}
 use Rattle.ground_groups.proofs.Lists.{seq_refused}
 use Rattle.instances.proofs.Whole.{named_are}
 use Rattle.lazy_ground.proofs.Parts.{front_seq, front_refused, numbered_stay_in}

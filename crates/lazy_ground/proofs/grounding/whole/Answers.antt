@@ -2,7 +2,7 @@ use Rattle.std.proofs.Common.{◌≡◌, Ok, Err, ap}
 use Rattle.obligation_list.specs.Obligations.{things}
 use Rattle.ground_problem.specs.Constants.{Constants}
 use Rattle.ground_problem.specs.Problem.{formulas_of}
-use Rattle.ground_constants.specs.Calls.{numbered_arguments}
+use Rattle.ground_groups.specs.Calls.{numbered_arguments}
 use Rattle.instances.proofs.Whole.{few_made, table_made, forms_made}
 use Rattle.lazy_ground.specs.Front.{IsFront}
 use Rattle.lazy_ground.proofs.Parts.{whole_then, whole_refused}

@@ -1,4 +1,0 @@
-pub mod Gathered
-pub mod Counted
-pub mod Arguments
-pub mod MoreThings

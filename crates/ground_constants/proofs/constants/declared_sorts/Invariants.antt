@@ -1,5 +1,0 @@
-use Rattle.std.proofs.Common.{◌≡◌, ◌++◌, drop, map}
-use Rattle.ground_constants.proofs.constants.declared_sorts.Given as goal
-
-abbrev pub invariant-loop-constant : goal.invariant-loop-constant
-invariant-loop-constant l = l.sorts ++ map (λ c. c.sort) (drop l.constant-index l.constant-items) ≡ map (λ c. c.sort) l.constant-items
