@@ -1,3 +1,7 @@
+pub mod Triples
+pub mod Tuples
+pub mod Twice
+pub mod Pairs
 pub mod Whole
 pub mod Shared
 pub mod Lists

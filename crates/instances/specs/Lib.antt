@@ -1,2 +1,4 @@
+pub mod Pairs
+pub mod Congruent
 pub mod Ground
 pub mod Entry

@@ -19,12 +19,12 @@ ghost use Rattle.ground_groups.specs.Calls.{constants_in, numbered_arguments};
 ghost use Rattle.instances.specs.Ground.{IsGround};
 ghost use Rattle.instances.specs.Entry.{IsEntry, IsBegun, HasEntry, HasEntryClauses};
 
+use crate::agreeing::add_congruence;
 use crate::entry::{Begun, Entry, EntryPart, begin, kept_clauses};
+use crate::equating::add_equality;
 use crate::listing::add_all_defined;
 use clausify::problem_from;
 use ground_atoms::{Atoms, GroundCall, GroundFormula, NamedReading};
-use ground_equality::agreeing::add_congruence;
-use ground_equality::equating::add_equality;
 use ground_groups::defining::readings_after;
 use ground_groups::{GroundRefused, Named, constants, number_arguments, operations_of, things_of};
 use ground_numbers::law_arguments_are_first;

@@ -1,8 +1,13 @@
 // The ground problem of an obligation: its formulas over numbered atoms.
 //
-// It stands on `ground_groups`, which makes each group of the list. Here the groups stand one after another: what is true at the entry,
-// that the conclusion fails, the definitions of later readings, and equality. What obligations share at the entry is
-// made once (src/entry.rt) and kept for a few kinds of constants (src/caching.rt). Definitions: specs/Ground (what the ground problem is, as a program holds it), specs/Entry (what is shared).
+// It stands on `ground_groups`, which makes the groups that state the obligation, and on `clausify`. Here the groups stand one after
+// another: what is true at the entry, that the conclusion fails, the definitions of later readings, and equality. Equality goes over each
+// of three constants to the other two (src/equating), and equal tuples have equal readings (src/agreeing); pairs are counted before their
+// formulas are made. What obligations share at the entry is made once (src/entry.rt) and kept for a few kinds of constants
+// (src/caching.rt).
+//
+// Definitions: specs/Ground (what the ground problem is, as a program holds it), specs/Entry (what is shared), specs/Pairs (how many pairs
+// there are), specs/Congruent (what the code has of the two parts of a formula on equal readings).
 //
 // In the field's words this is an instantiation: each line of the specification at all choices of
 // constants for its variables.
@@ -15,8 +20,6 @@
 // - `Grounded` keeps nothing by its type. What its parts keep is said once, of the definition
 //   (`law_obligation_fits`), and `ground` says that it answers that (`IsGrounded`): a type that
 //   kept it would want it while the list still grows.
-// - Where the conclusion fails is said in this small crate, so that a wrong body of it is tried in
-//   a short time.
 #![tactic(auto)]
 
 /// The value of a call; where it fails, lets go of these values and ends with its error. Values that are let go by name are let go
@@ -33,16 +36,22 @@ macro_rules! or_drop {
     };
 }
 
+mod agreeing;
 pub mod caching;
 mod concluding;
+mod congruence;
 pub mod entry;
+mod equating;
 pub mod grounding;
 mod keys;
 pub mod listing;
 
+pub use agreeing::{add_congruence, rising};
 pub use caching::EntryCache;
 pub use clausify::KeptClauses;
+pub use congruence::congruent;
 pub use entry::{Entry, EntryPart, EntrySize, kept_clauses};
+pub use equating::add_equality;
 pub use ground_groups::GroundRefused;
 pub use grounding::{Grounded, ground, ground_from};
 pub use keys::EntryKey;

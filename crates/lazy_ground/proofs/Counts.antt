@@ -26,8 +26,8 @@ use Rattle.ground_groups.specs.Limited.{make_upto, Appends}
 use Rattle.ground_groups.specs.declared.refused.GroundRefused.{GroundRefused}
 use Rattle.ground_groups.specs.declared.refused.GroundRefused.TheVariants.{TooMany, Memory}
 use Rattle.ground_groups.proofs.Lists.{upto_length}
-use Rattle.ground_equality.specs.Pairs.{pair_count}
-use Rattle.ground_equality.proofs.Pairs.{pairs_length}
+use Rattle.instances.specs.Pairs.{pair_count}
+use Rattle.instances.proofs.Pairs.{pairs_length}
 use Rattle.instances.proofs.Whole.{few_made, many_made}
 use Rattle.lazy_ground.specs.declared.front.Front.{Front}
 use Rattle.lazy_ground.specs.Front.{front_of, entry_readings, IsFront}

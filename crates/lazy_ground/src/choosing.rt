@@ -5,7 +5,7 @@ ghost use Rattle.obligation_list.specs.Obligations.{things};
 ghost use Rattle.effectors.specs.Effect as effect;
 ghost use Rattle.ground_problem.specs.Equality.{congruence};
 ghost use Rattle.ground_problem.specs.Problem.{formulas_of, most_formulas};
-ghost use Rattle.ground_equality.specs.Pairs.{pair_count};
+ghost use Rattle.instances.specs.Pairs.{pair_count};
 ghost use Rattle.ground_atoms.specs.Symbols.{reading_of};
 ghost use Rattle.lazy_ground.specs.Pairs.{pairs_of};
 ghost use Rattle.lazy_ground.specs.Front.{IsFront, ArePairsFor, IsCount};
@@ -44,7 +44,7 @@ fn count_readings(readings: &[NamedReading], thing: Thing) -> usize
     count
 }
 
-#[tactic(auto, using(ground_equality::proofs::Pairs::pairs_more))]
+#[tactic(auto, using(instances::proofs::Pairs::pairs_more))]
 // How many pairs so many tuples make; nothing where they are more than there may be formulas.
 fn count_pairs(tuples: usize) -> Option<usize>
     ensures count { IsCount result (pair_count tuples) }

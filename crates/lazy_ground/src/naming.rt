@@ -9,7 +9,7 @@ use crate::columns::columns_of;
 use crate::equal::{are_all_known, are_within};
 use crate::pairs::ReadingPairs;
 use ground_atoms::{Atom, Atoms, NamedReading, Tuple};
-use ground_equality::agreeing::rising;
+use instances::rising;
 use items::Items;
 use spec_core::Thing;
 use std::alloc::{AllocError, Global};

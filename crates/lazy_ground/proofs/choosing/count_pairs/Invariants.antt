@@ -1,5 +1,5 @@
 use Rattle.std.proofs.Common.{◌≡◌, ◌≤◌, ◌*◌}
-use Rattle.ground_equality.specs.Pairs.{pair_count}
+use Rattle.instances.specs.Pairs.{pair_count}
 use Rattle.lazy_ground.proofs.choosing.count_pairs.Given as goal
 
 abbrev pub invariant-loop-earlier : goal.invariant-loop-earlier

@@ -1,4 +1,0 @@
-pub mod Triples
-pub mod Tuples
-pub mod Twice
-pub mod Pairs
