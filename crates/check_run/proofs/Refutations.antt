@@ -17,7 +17,7 @@ use Rattle.obligation_list.specs.declared.obligation.Obligation.TheVariants.{Ini
 use Rattle.obligation_list.specs.declared.witness.Witness.{Witness}
 use Rattle.obligation_list.specs.Breaking.{elements_of, BreaksIn}
 use Rattle.obligation_list.specs.Refuting.{IsRefutation}
-use Rattle.report_words.specs.Fields.{most_count}
+use Rattle.report_lines.specs.Fields.{most_count}
 use Rattle.proof_report.specs.declared.verdict.Cause.TheVariants as causes
 use Rattle.proof_report.specs.declared.verdict.Verdict.{Verdict}
 use Rattle.proof_report.specs.declared.verdict.Verdict.TheVariants as verdicts

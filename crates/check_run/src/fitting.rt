@@ -4,9 +4,9 @@
 // log that the kernel accepts are so, and a list in memory may still be longer; such a list can't be numbered.
 ghost use Rattle.std.specs.Prelude.{◌≡◌, nat_le, true, false, IfOk};
 ghost use Rattle.std.specs.List.{list_all};
-ghost use Rattle.report_words.specs.Formats.{counted};
-ghost use Rattle.report_words.specs.Fields.{most_count, integer_format};
-ghost use Rattle.report_words.specs.Entries.{literal_format, step_format};
+ghost use Rattle.report_lines.specs.Formats.{counted};
+ghost use Rattle.report_lines.specs.Fields.{most_count, integer_format};
+ghost use Rattle.report_lines.specs.Entries.{literal_format, step_format};
 ghost use Rattle.report_lines.specs.Logs.{used_words, log_format};
 ghost use Rattle.report_lines.specs.Evidence.{rows_format, range_format};
 ghost use Rattle.proof_report.specs.Verdicts.{is_log};

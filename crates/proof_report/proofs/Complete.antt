@@ -14,7 +14,7 @@ use Rattle.report_lines.specs.declared.head.Outcome.TheVariants as outcomes
 use Rattle.report_lines.specs.declared.witness.Fact.{Fact}
 use Rattle.report_lines.specs.declared.witness.Reading.{Reading}
 use Rattle.report_lines.specs.declared.witness.Shown.TheVariants as shown
-use Rattle.report_words.specs.Fields.{most_count}
+use Rattle.report_lines.specs.Fields.{most_count}
 use Rattle.report_lines.specs.Heads.{title_format, budget_format, outcome_format}
 use Rattle.report_lines.specs.Logs.{log_format}
 use Rattle.report_lines.specs.Evidence.{rows_format, range_format}

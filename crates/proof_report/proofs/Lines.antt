@@ -21,12 +21,12 @@ use Rattle.report_lines.specs.declared.verdict.VerdictWord.{VerdictWord}
 use Rattle.report_lines.specs.declared.witness.Shown.{Shown}
 use Rattle.report_lines.specs.declared.witness.Shown.TheVariants as shown
 use Rattle.report_lines.specs.declared.witness.Due.{Due}
-use Rattle.report_words.specs.Formats.{Format, none, put_some, fits_some, list_put, list_fits, among, read}
-use Rattle.report_words.specs.Fields.{count_format, element_format}
+use Rattle.report_lines.specs.Formats.{Format, none, put_some, fits_some, list_put, list_fits, among, read}
+use Rattle.report_lines.specs.Fields.{count_format, element_format}
 use Rattle.report_lines.specs.Blocks.{obligation_words, obligation_format}
 use Rattle.report_lines.specs.Witnesses.{size_format, const_format, shown_format, tuple_words, argument_format, arguments_words, relation_names, counter_names, operation_names}
-use Rattle.report_words.specs.Formats.{IsExact}
-use Rattle.report_words.proofs.Exact.{case_exact, none_exact, read_ok, read_again}
+use Rattle.report_lines.specs.Formats.{IsExact}
+use Rattle.report_lines.proofs.Exact.{case_exact, none_exact, read_ok, read_again}
 use Rattle.report_lines.proofs.HeadLines.{title_exact, budget_exact, obligations_exact, summary_exact, outcome_exact}
 use Rattle.report_lines.proofs.BlockLines.{obligation_exact, verdict_exact}
 use Rattle.report_lines.proofs.LogLines.{log_exact}

@@ -17,7 +17,7 @@ use Rattle.report_lines.specs.declared.witness.Fact.{Fact}
 use Rattle.report_lines.specs.declared.witness.Reading.{Reading}
 use Rattle.report_lines.specs.declared.witness.Shown.{Shown}
 use Rattle.report_lines.specs.declared.witness.Shown.TheVariants as shown
-use Rattle.report_words.specs.Formats.{Format, fits_some}
+use Rattle.report_lines.specs.Formats.{Format, fits_some}
 use Rattle.report_lines.specs.Heads.{title_format, budget_format, obligations_format, summary_format, outcome_format}
 use Rattle.report_lines.specs.Blocks.{obligation_format, verdict_format}
 use Rattle.report_lines.specs.Logs.{log_format}

@@ -10,9 +10,9 @@ use Rattle.report_lines.specs.declared.head.Tally.{Tally}
 use Rattle.report_lines.specs.declared.witness.Fact.{Fact}
 use Rattle.report_lines.specs.declared.witness.Reading.{Reading}
 use Rattle.report_lines.specs.declared.witness.Shown.TheVariants as shown
-use Rattle.report_words.specs.Fields.{most_count}
-use Rattle.report_words.specs.Formats.{read}
-use Rattle.report_words.proofs.Exact.{chosen}
+use Rattle.report_lines.specs.Fields.{most_count}
+use Rattle.report_lines.specs.Formats.{read}
+use Rattle.report_lines.proofs.Exact.{chosen}
 use Rattle.proof_report.specs.declared.event.Event.{Event}
 use Rattle.proof_report.specs.declared.event.Event.TheVariants as events
 use Rattle.proof_report.specs.declared.place.PartialWitness.{PartialWitness}

@@ -14,12 +14,12 @@ use Rattle.proof_lines.specs.declared.line.RowsEvidence.{RowsEvidence}
 use Rattle.proof_lines.specs.declared.line.RangeEvidence.{RangeEvidence}
 use Rattle.report_lines.specs.declared.head.Tally.{Tally}
 use Rattle.report_lines.specs.declared.verdict.VerdictWord.TheVariants as word
-use Rattle.report_words.specs.Words.{line_text}
+use Rattle.report_lines.specs.Words.{line_text}
 use Rattle.report_lines.specs.Heads.{title_format, budget_format, obligations_format, summary_format, outcome_format}
 use Rattle.report_lines.specs.Blocks.{obligation_words, verdict_format}
 use Rattle.report_lines.specs.Logs.{line_format}
 use Rattle.report_lines.specs.Evidence.{rows_format, range_format}
-use Rattle.report_words.specs.Fields.{count_format}
+use Rattle.report_lines.specs.Fields.{count_format}
 use Rattle.report_lines.specs.Witnesses.{size_format, call_format}
 use Rattle.proof_report.specs.declared.verdict.Verdict.{Verdict}
 use Rattle.proof_report.specs.declared.verdict.Verdict.TheVariants as verdicts

@@ -17,7 +17,7 @@ use Rattle.report_lines.specs.declared.evidence.RowsLine.{RowsLine}
 use Rattle.report_lines.specs.declared.evidence.RangeLine.{RangeLine}
 use Rattle.report_lines.specs.declared.witness.Fact.{Fact}
 use Rattle.report_lines.specs.declared.witness.Reading.{Reading}
-use Rattle.report_words.specs.Fields.{most_count}
+use Rattle.report_lines.specs.Fields.{most_count}
 use Rattle.report_lines.specs.Heads.{title_format, budget_format}
 use Rattle.report_lines.specs.Logs.{log_format}
 use Rattle.report_lines.specs.Evidence.{rows_format, range_format}

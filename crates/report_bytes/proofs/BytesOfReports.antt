@@ -18,9 +18,9 @@ use Rattle.proof_lines.specs.declared.line.RangeWhat.TheVariants as whats
 use Rattle.report_lines.specs.Evidence.{range_format}
 use Rattle.obligation_list.specs.declared.obligation.Obligation.{Obligation}
 use Rattle.obligation_list.specs.declared.obligation.Obligation.TheVariants.{Init, Safety, Commute, Stable}
-use Rattle.report_words.specs.Words.{parts, joined, line_text, is_part}
+use Rattle.report_lines.specs.Words.{parts, joined, line_text, is_part}
 use Rattle.report_lines.specs.Blocks.{obligation_words}
-use Rattle.report_words.proofs.Splitting.{parts_joined, joined_parts}
+use Rattle.report_lines.proofs.Splitting.{parts_joined, joined_parts}
 use Rattle.proof_report.specs.declared.event.Event.{Event}
 use Rattle.proof_report.specs.declared.event.Event.TheVariants as events
 use Rattle.proof_report.specs.declared.place.State.{State}

@@ -14,9 +14,9 @@ use Rattle.obligation_list.specs.Obligations.{obligations_of, IsObligation}
 use Rattle.obligation_list.proofs.LineFits.{few_requires}
 use Rattle.obligation_list.proofs.Listed.{listed_is_obligation}
 use Rattle.report_lines.specs.declared.head.Tally.{Tally}
-use Rattle.report_words.specs.Words.{is_part}
-use Rattle.report_words.specs.Formats.{IsClean}
-use Rattle.report_words.proofs.Clean.{case_clean, none_clean}
+use Rattle.report_lines.specs.Words.{is_part}
+use Rattle.report_lines.specs.Formats.{IsClean}
+use Rattle.report_lines.proofs.Clean.{case_clean, none_clean}
 use Rattle.report_lines.proofs.SpecNames.{names_of, name_part}
 use Rattle.report_lines.proofs.HeadLines.{title_clean, budget_clean, obligations_clean, summary_clean, outcome_clean}
 use Rattle.report_lines.proofs.BlockLines.{IsCounted, obligation_clean, verdict_clean}

@@ -4,9 +4,9 @@ use Rattle.spec_core.specs.Specification.{Specification}
 use Rattle.spec_core.specs.Typed.{is_specification}
 use Rattle.proof_lines.specs.declared.line.Line.{Line}
 use Rattle.report_lines.specs.declared.verdict.VerdictWord.{VerdictWord}
-use Rattle.report_words.specs.Words.{parts}
-use Rattle.report_words.specs.Formats.{read}
-use Rattle.report_words.proofs.Exact.{chosen}
+use Rattle.report_lines.specs.Words.{parts}
+use Rattle.report_lines.specs.Formats.{read}
+use Rattle.report_lines.proofs.Exact.{chosen}
 use Rattle.proof_report.specs.declared.event.Event.{Event}
 use Rattle.proof_report.specs.declared.kind.Fault.{Fault}
 use Rattle.proof_report.specs.declared.kind.ReportKind.{ReportKind}

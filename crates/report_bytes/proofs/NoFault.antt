@@ -3,7 +3,7 @@ use Rattle.std.proofs.Common.{◌≡◌, ℕ, suc, true, List, [], ◌∷◌, ma
 use Rattle.std.proofs.lemmas.Bool.{and_from, eq-eqb}
 use Rattle.spec_core.specs.Specification.{Specification}
 use Rattle.spec_core.specs.Typed.{is_specification}
-use Rattle.report_words.specs.Words.{parts}
+use Rattle.report_lines.specs.Words.{parts}
 use Rattle.report_lines.specs.Heads.{title_format, budget_format}
 use Rattle.proof_report.specs.declared.event.Event.{Event}
 use Rattle.proof_report.specs.declared.kind.ReportKind.{ReportKind}

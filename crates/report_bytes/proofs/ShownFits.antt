@@ -26,7 +26,7 @@ use Rattle.obligation_list.specs.declared.obligation.Obligation.{Obligation}
 use Rattle.obligation_list.specs.declared.witness.Witness.{Witness}
 use Rattle.report_lines.specs.declared.witness.Fact.{Fact}
 use Rattle.report_lines.specs.declared.witness.Reading.{Reading}
-use Rattle.report_words.specs.Fields.{most_count, element_format}
+use Rattle.report_lines.specs.Fields.{most_count, element_format}
 use Rattle.report_lines.specs.Witnesses.{tuple_words, relation_names, counter_names, operation_names, call_format, is_other, argument_format, arguments_words}
 use Rattle.proof_report.specs.Verdicts.{call_count, are_sizes, are_consts, are_facts, are_readings, are_calls, const_at, no_const, fact_behind, relation_due, reading_behind, counter_due, is_witness}
 use Rattle.report_reader.proofs.Ordered.{first_agrees, first_differs}

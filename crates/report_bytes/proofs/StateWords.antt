@@ -18,9 +18,9 @@ use Rattle.spec_states.specs.StateText.{true_line, count_line, relation_lines, c
 use Rattle.report_lines.specs.declared.witness.Fact.{Fact}
 use Rattle.report_lines.specs.declared.witness.Reading.{Reading}
 use Rattle.report_lines.specs.declared.witness.Shown.TheVariants as shown
-use Rattle.report_words.specs.Words.{joined, line_text, spaced}
+use Rattle.report_lines.specs.Words.{joined, line_text, spaced}
 use Rattle.report_lines.specs.Witnesses.{relation_names, counter_names, is_other}
-use Rattle.report_words.proofs.Splitting.{joined_spaced, spaced-append}
+use Rattle.report_lines.proofs.Splitting.{joined_spaced, spaced-append}
 use Rattle.proof_report.specs.Events.{shown_words}
 use Rattle.report_bytes.specs.Showing.{fact_of, reading_of, facts_from, readings_from}
 

@@ -21,8 +21,8 @@ use Rattle.report_lines.specs.declared.witness.Fact.{Fact}
 use Rattle.report_lines.specs.declared.witness.Reading.{Reading}
 use Rattle.report_lines.specs.declared.witness.Shown.TheVariants as shown
 use Rattle.report_lines.specs.declared.verdict.VerdictWord.TheVariants as word
-use Rattle.report_words.specs.Words.{line_text}
-use Rattle.report_words.specs.Fields.{count_format}
+use Rattle.report_lines.specs.Words.{line_text}
+use Rattle.report_lines.specs.Fields.{count_format}
 use Rattle.report_lines.specs.Witnesses.{arguments_words, argument_format, call_format}
 use Rattle.proof_report.specs.declared.event.Event.{Event}
 use Rattle.proof_report.specs.declared.event.Event.TheVariants as events

@@ -2,7 +2,7 @@
 use Rattle.std.specs.Prelude.{ℕ, ◌==◌, List, [], ◌∷◌}
 use Rattle.std.specs.List.{slice_split, flat_map}
 use Rattle.spec_core.specs.Specification.{Specification}
-use Rattle.report_words.specs.Words.{line_text}
+use Rattle.report_lines.specs.Words.{line_text}
 use Rattle.proof_report.specs.Verdicts.{ReportForm}
 use Rattle.proof_report.specs.Events.{text}
 

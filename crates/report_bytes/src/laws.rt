@@ -3,7 +3,7 @@
 ghost use Rattle.std.specs.Prelude.{◌≡◌, ℕ, List, [], map, true, None};
 ghost use Rattle.spec_core.specs.Specification.{Specification};
 ghost use Rattle.spec_core.specs.Typed.{is_specification};
-ghost use Rattle.report_words.specs.Words.{parts};
+ghost use Rattle.report_lines.specs.Words.{parts};
 ghost use Rattle.proof_report.specs.declared.event.Event.{Event};
 ghost use Rattle.proof_report.specs.Verdicts.{ReportForm, is_report, is_witness};
 ghost use Rattle.proof_report.specs.Events.{report_lines};

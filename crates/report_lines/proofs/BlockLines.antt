@@ -16,14 +16,14 @@ use Rattle.obligation_list.specs.declared.obligation.Obligation.{Obligation}
 use Rattle.obligation_list.specs.declared.obligation.Obligation.TheVariants.{Init, Safety, Commute, Stable}
 use Rattle.report_lines.specs.declared.verdict.VerdictWord.{VerdictWord}
 use Rattle.report_lines.specs.declared.verdict.VerdictWord.TheVariants as words
-use Rattle.report_words.specs.Words.{is_part}
-use Rattle.report_words.specs.Formats.{Format, IsExact, IsClean, nothing, behind}
-use Rattle.report_words.specs.Fields.{count_format}
+use Rattle.report_lines.specs.Words.{is_part}
+use Rattle.report_lines.specs.Formats.{Format, IsExact, IsClean, nothing, behind}
+use Rattle.report_lines.specs.Fields.{count_format}
 use Rattle.report_lines.specs.Blocks.{invariant_name, operation_name, thing_name, obligation_words, obligation_format, to_verdict, of_verdict, cause_words, undecided_words, verdict_words, verdict_format}
-use Rattle.report_words.proofs.Exact.{nothing_exact, these_exact, behind_exact, seen_exact, or_exact, or_apart, behind_apart}
-use Rattle.report_words.proofs.Clean.{decimal_part, nothing_clean, these_clean, behind_clean, seen_clean, or_clean}
+use Rattle.report_lines.proofs.Exact.{nothing_exact, these_exact, behind_exact, seen_exact, or_exact, or_apart, behind_apart}
+use Rattle.report_lines.proofs.Clean.{decimal_part, nothing_clean, these_clean, behind_clean, seen_clean, or_clean}
 use Rattle.report_lines.proofs.SpecNames.{names_of, name_part}
-use Rattle.report_words.proofs.NumberFields.{count_exact, count_clean}
+use Rattle.report_lines.proofs.NumberFields.{count_exact, count_clean}
 
 -- ---- the obligation
 

@@ -5,13 +5,13 @@ use Rattle.proof_lines.specs.declared.clause.Lit.{Lit}
 use Rattle.proof_lines.specs.declared.line.RowStep.{RowStep}
 use Rattle.proof_lines.specs.declared.line.RangeWhat.{RangeWhat}
 use Rattle.proof_lines.specs.declared.line.RangeWhat.TheVariants.{Product, Value, Sum}
-use Rattle.report_words.specs.Formats.{Format, IsExact, IsClean, behind}
-use Rattle.report_words.specs.Fields.{integer_format}
+use Rattle.report_lines.specs.Formats.{Format, IsExact, IsClean, behind}
+use Rattle.report_lines.specs.Fields.{integer_format}
 use Rattle.report_lines.specs.Logs.{used_words}
 use Rattle.report_lines.specs.Evidence.{to_rows, of_rows, rows_format, product_words, values_words, RangeParts, to_range, of_what, of_range, range_words, range_format}
-use Rattle.report_words.proofs.Exact.{chain_exact, behind_exact, seen_exact, or_exact, or_apart, behind_apart}
-use Rattle.report_words.proofs.Clean.{chain_clean, behind_clean, seen_clean, or_clean}
-use Rattle.report_words.proofs.NumberFields.{count_exact, count_clean, integer_exact, integer_clean, list_exact, list_clean}
+use Rattle.report_lines.proofs.Exact.{chain_exact, behind_exact, seen_exact, or_exact, or_apart, behind_apart}
+use Rattle.report_lines.proofs.Clean.{chain_clean, behind_clean, seen_clean, or_clean}
+use Rattle.report_lines.proofs.NumberFields.{count_exact, count_clean, integer_exact, integer_clean, list_exact, list_clean}
 use Rattle.report_lines.proofs.LogLines.{used_exact, used_clean}
 
 pub rows_exact : IsExact rows_format

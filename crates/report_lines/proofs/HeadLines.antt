@@ -3,11 +3,11 @@ use Rattle.std.proofs.Common.{◌≡◌, ◌⊎◌, inl, inr, refl, lit≤}
 use Rattle.std.specs.Prelude.{codes, nat_le}
 use Rattle.report_lines.specs.declared.head.Outcome.{Outcome}
 use Rattle.report_lines.specs.declared.head.Outcome.TheVariants as outcomes
-use Rattle.report_words.specs.Formats.{IsExact, IsClean, nothing, key, number}
+use Rattle.report_lines.specs.Formats.{IsExact, IsClean, nothing, key, number}
 use Rattle.report_lines.specs.Heads.{title_format, most_budget, budget_format, obligations_format, to_tally, of_tally, counts_format, summary_format, to_outcome, of_outcome, outcome_words, outcome_format}
-use Rattle.report_words.proofs.Exact.{nothing_exact, key_exact, number_exact, chain_exact, behind_exact, seen_exact, only_exact, or_exact, or_apart, key_apart}
-use Rattle.report_words.proofs.Clean.{nothing_clean, key_clean, number_clean, chain_clean, behind_clean, seen_clean, only_clean, or_clean}
-use Rattle.report_words.proofs.NumberFields.{count_exact, count_clean}
+use Rattle.report_lines.proofs.Exact.{nothing_exact, key_exact, number_exact, chain_exact, behind_exact, seen_exact, only_exact, or_exact, or_apart, key_apart}
+use Rattle.report_lines.proofs.Clean.{nothing_clean, key_clean, number_clean, chain_clean, behind_clean, seen_clean, only_clean, or_clean}
+use Rattle.report_lines.proofs.NumberFields.{count_exact, count_clean}
 
 pub title_exact : IsExact title_format
 title_exact = behind_exact _ _ (behind_exact _ _ (only_exact (nat_le 1) (number 2) (number_exact 2 (lit≤ tt))))

@@ -1,3 +1,14 @@
+pub mod Exact
+pub mod Among
+pub mod Clean
+pub mod NumberFields
+pub mod EntryWords
+pub mod FirstWord
+pub mod Loops
+pub mod Finding
+pub mod Splitting
+pub mod WholeLines
+mod ShortNumbers
 pub mod HeadLines
 pub mod LogLines
 pub mod EvidenceLines

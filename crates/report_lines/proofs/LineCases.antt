@@ -5,8 +5,8 @@ use Rattle.std.specs.Str.{bytes_eq}
 use Rattle.proof_lines.specs.declared.clause.Lit.{Lit}
 use Rattle.proof_lines.specs.declared.line.RowStep.{RowStep}
 use Rattle.proof_lines.specs.declared.line.Line.{Line}
-use Rattle.report_words.specs.Words.{next_of}
-use Rattle.report_words.specs.Formats.{Read, Format, mapped, behind, or_else}
+use Rattle.report_lines.specs.Words.{next_of}
+use Rattle.report_lines.specs.Formats.{Read, Format, mapped, behind, or_else}
 use Rattle.report_lines.specs.Logs.{used_words, resolve_words, split_words, drop_words, LineParts, to_line, line_format}
 use Rattle.report_lines.proofs.ShownCases.{first_word, other_word}
 

@@ -3,14 +3,14 @@ use Rattle.std.proofs.Common.{◌≡◌, ℕ, Bool, List, inl, inr, refl}
 use Rattle.std.specs.Prelude.{codes}
 use Rattle.proof_lines.specs.declared.line.Line.{Line}
 use Rattle.proof_lines.specs.declared.line.Line.TheVariants.{Resolve, Farkas, Split, Drop}
-use Rattle.report_words.specs.Formats.{Format, IsExact, IsClean, behind}
-use Rattle.report_words.specs.Fields.{count_format, integer_format}
-use Rattle.report_words.specs.Entries.{literal_format, step_format}
+use Rattle.report_lines.specs.Formats.{Format, IsExact, IsClean, behind}
+use Rattle.report_lines.specs.Fields.{count_format, integer_format}
+use Rattle.report_lines.specs.Entries.{literal_format, step_format}
 use Rattle.report_lines.specs.Logs.{used_words, resolve_words, decision_words, split_words, drop_words, LineParts, to_line, of_line, line_words, line_format, may_stand, log_format}
-use Rattle.report_words.proofs.Exact.{chain_exact, behind_exact, seen_exact, only_exact, or_exact, or_apart, behind_apart}
-use Rattle.report_words.proofs.Clean.{chain_clean, behind_clean, seen_clean, only_clean, or_clean}
-use Rattle.report_words.proofs.NumberFields.{count_exact, count_clean, integer_exact, integer_clean, list_exact, list_clean}
-use Rattle.report_words.proofs.EntryWords.{literal_exact, literal_clean, step_exact, step_clean}
+use Rattle.report_lines.proofs.Exact.{chain_exact, behind_exact, seen_exact, only_exact, or_exact, or_apart, behind_apart}
+use Rattle.report_lines.proofs.Clean.{chain_clean, behind_clean, seen_clean, only_clean, or_clean}
+use Rattle.report_lines.proofs.NumberFields.{count_exact, count_clean, integer_exact, integer_clean, list_exact, list_clean}
+use Rattle.report_lines.proofs.EntryWords.{literal_exact, literal_clean, step_exact, step_clean}
 
 -- ---- used literals and steps
 

@@ -6,8 +6,8 @@ use Rattle.std.proofs.lemmas.Option.{none-some, some_pair_parts}
 use Rattle.spec_core.specs.declared.world.World.{World}
 use Rattle.spec_core.specs.declared.world.Call.{Call}
 use Rattle.spec_core.specs.Specification.{Specification}
-use Rattle.report_words.specs.Words.{next_of}
-use Rattle.report_words.specs.Formats.{Read, Format, mapped, behind, or_else}
+use Rattle.report_lines.specs.Words.{next_of}
+use Rattle.report_lines.specs.Formats.{Read, Format, mapped, behind, or_else}
 use Rattle.report_lines.specs.declared.witness.Reading.{Reading}
 use Rattle.report_lines.specs.declared.witness.Due.{Due}
 use Rattle.report_lines.specs.declared.witness.Shown.{Shown}

@@ -13,7 +13,7 @@ use Rattle.spec_core.specs.State.{is_in}
 use Rattle.spec_core.specs.Typed.{all_distinct, names_from_invariants, names_from_tokens, names_from_counters, names_from_relations, names_from_consts, global_names, is_specification}
 use Rattle.spec_core.proofs.Parts.{parts_of}
 use Rattle.std.specs.Str.{bytes_eq}
-use Rattle.report_words.specs.Words.{is_part}
+use Rattle.report_lines.specs.Words.{is_part}
 use Rattle.report_lines.specs.Witnesses.{relation_names, counter_names, operation_names}
 
 -- ---- distinct names

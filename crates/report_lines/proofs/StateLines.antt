@@ -11,9 +11,9 @@ use Rattle.spec_core.specs.Truth.{int_eq}
 use Rattle.spec_core.specs.Fits.{fits_places}
 use Rattle.spec_states.specs.StateText
 use Rattle.spec_states.specs.StateText.{true_line, count_line}
-use Rattle.report_words.specs.Words.{joined, line_text, spaced}
+use Rattle.report_lines.specs.Words.{joined, line_text, spaced}
 use Rattle.report_lines.specs.Witnesses.{relation_names, counter_names, fact_format, reading_format, tuple_words, is_other}
-use Rattle.report_words.proofs.Splitting.{joined_spaced, spaced-append}
+use Rattle.report_lines.proofs.Splitting.{joined_spaced, spaced-append}
 
 -- elements that fit are written one by one
 pub tuple_put : (w : World) (ss es : List ℕ) → fits_places w ss es ≡ true → (tuple_words w ss).put es ≡ map decimal es

@@ -14,15 +14,15 @@ use Rattle.report_lines.specs.declared.witness.Reading.{Reading}
 use Rattle.report_lines.specs.declared.witness.Due.{Due}
 use Rattle.report_lines.specs.declared.witness.Shown.{Shown}
 use Rattle.report_lines.specs.declared.witness.Shown.TheVariants as shown
-use Rattle.report_words.specs.Words.{is_part}
-use Rattle.report_words.specs.Formats.{Format, IsExact, IsClean, among, both, behind, only, or_else}
-use Rattle.report_words.specs.Fields.{count_format, value_format, element_format}
+use Rattle.report_lines.specs.Words.{is_part}
+use Rattle.report_lines.specs.Formats.{Format, IsExact, IsClean, among, both, behind, only, or_else}
+use Rattle.report_lines.specs.Fields.{count_format, value_format, element_format}
 use Rattle.report_lines.specs.Witnesses.{size_format, const_format, tuple_words, relation_names, counter_names, operation_names, to_fact, of_fact, fact_words, fact_format, to_reading, of_reading, is_other, reading_words, reading_format, natural, natural_of, argument_format, arguments_words, to_call, of_call, call_words, call_format, at_format, ShownParts, to_shown, of_shown, shown_words, shown_format}
-use Rattle.report_words.proofs.Exact.{IsCase, chain_exact, behind_exact, seen_exact, only_exact, case_exact, times_exact, each_exact, or_exact, or_apart, behind_apart}
-use Rattle.report_words.proofs.Clean.{chain_clean, behind_clean, seen_clean, only_clean, case_clean, times_clean, each_clean, or_clean, among_clean}
-use Rattle.report_words.proofs.Among.{among_exact}
+use Rattle.report_lines.proofs.Exact.{IsCase, chain_exact, behind_exact, seen_exact, only_exact, case_exact, times_exact, each_exact, or_exact, or_apart, behind_apart}
+use Rattle.report_lines.proofs.Clean.{chain_clean, behind_clean, seen_clean, only_clean, case_clean, times_clean, each_clean, or_clean, among_clean}
+use Rattle.report_lines.proofs.Among.{among_exact}
 use Rattle.report_lines.proofs.SpecNames.{names_of}
-use Rattle.report_words.proofs.NumberFields.{count_exact, count_clean, value_exact, value_clean, elements_exact, elements_clean, element_exact, element_clean}
+use Rattle.report_lines.proofs.NumberFields.{count_exact, count_clean, value_exact, value_clean, elements_exact, elements_clean, element_exact, element_clean}
 
 -- ---- the world
 

@@ -9,8 +9,8 @@ use Rattle.obligation_list.specs.declared.obligation.Obligation.{Obligation}
 use Rattle.obligation_list.specs.declared.obligation.Obligation.TheVariants.{Init, Safety, Commute, Stable}
 use Rattle.report_lines.specs.declared.verdict.VerdictWord.{VerdictWord}
 use Rattle.report_lines.specs.declared.verdict.VerdictWord.TheVariants as words
-use Rattle.report_words.specs.Formats.{Format, nothing, behind, these, seen, or_else}
-use Rattle.report_words.specs.Fields.{count_format}
+use Rattle.report_lines.specs.Formats.{Format, nothing, behind, these, seen, or_else}
+use Rattle.report_lines.specs.Fields.{count_format}
 
 -- ---- the obligation
 

@@ -7,8 +7,8 @@ use Rattle.proof_lines.specs.declared.line.RangeWhat.{RangeWhat}
 use Rattle.proof_lines.specs.declared.line.RangeWhat.TheVariants.{Product, Value, Sum}
 use Rattle.report_lines.specs.declared.evidence.RowsLine.{RowsLine}
 use Rattle.report_lines.specs.declared.evidence.RangeLine.{RangeLine}
-use Rattle.report_words.specs.Formats.{Format, both, behind, seen, or_else}
-use Rattle.report_words.specs.Fields.{count_format}
+use Rattle.report_lines.specs.Formats.{Format, both, behind, seen, or_else}
+use Rattle.report_lines.specs.Fields.{count_format}
 use Rattle.report_lines.specs.Logs.{used_words, decision_words}
 
 -- ---- too many rows

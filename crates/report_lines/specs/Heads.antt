@@ -4,8 +4,8 @@ use Rattle.std.proofs.Common.{inl, inr}
 use Rattle.report_lines.specs.declared.head.Tally.{Tally}
 use Rattle.report_lines.specs.declared.head.Outcome.{Outcome}
 use Rattle.report_lines.specs.declared.head.Outcome.TheVariants as outcomes
-use Rattle.report_words.specs.Formats.{Format, nothing, key, number, both, behind, seen, only, or_else}
-use Rattle.report_words.specs.Fields.{count_format}
+use Rattle.report_lines.specs.Formats.{Format, nothing, key, number, both, behind, seen, only, or_else}
+use Rattle.report_lines.specs.Fields.{count_format}
 
 -- `cise report N`, with the version, 1 or 2
 abbrev pub title_format : Format ℕ

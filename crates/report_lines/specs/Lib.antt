@@ -1,3 +1,7 @@
+pub mod Words
+pub mod Formats
+pub mod Fields
+pub mod Entries
 pub mod Heads
 pub mod Blocks
 pub mod Logs

@@ -5,9 +5,9 @@ use Rattle.proof_lines.specs.declared.clause.Lit.{Lit}
 use Rattle.proof_lines.specs.declared.line.RowStep.{RowStep}
 use Rattle.proof_lines.specs.declared.line.Line.{Line}
 use Rattle.proof_lines.specs.declared.line.Line.TheVariants.{Resolve, Farkas, Split, Drop}
-use Rattle.report_words.specs.Formats.{Format, both, behind, seen, only, or_else, counted}
-use Rattle.report_words.specs.Fields.{most_count, count_format, integer_format}
-use Rattle.report_words.specs.Entries.{literal_format, step_format}
+use Rattle.report_lines.specs.Formats.{Format, both, behind, seen, only, or_else, counted}
+use Rattle.report_lines.specs.Fields.{most_count, count_format, integer_format}
+use Rattle.report_lines.specs.Entries.{literal_format, step_format}
 
 -- ---- used literals and steps
 

@@ -14,8 +14,8 @@ use Rattle.report_lines.specs.declared.witness.Reading.{Reading}
 use Rattle.report_lines.specs.declared.witness.Due.{Due}
 use Rattle.report_lines.specs.declared.witness.Shown.{Shown}
 use Rattle.report_lines.specs.declared.witness.Shown.TheVariants as shown
-use Rattle.report_words.specs.Formats.{Format, among, chain, both, behind, seen, only, Case, case, or_else, times, each_of}
-use Rattle.report_words.specs.Fields.{count_format, value_format, elements_format, element_format}
+use Rattle.report_lines.specs.Formats.{Format, among, chain, both, behind, seen, only, Case, case, or_else, times, each_of}
+use Rattle.report_lines.specs.Fields.{count_format, value_format, elements_format, element_format}
 
 -- ---- the world
 

@@ -4,17 +4,17 @@ ghost use Rattle.std.specs.Prelude.{◌≡◌, ◌∷◌, ◌++◌, [], OnOk};
 ghost use Rattle.std.specs.Fmt.{decimal};
 ghost use Rattle.proof_lines.specs.declared.line.RangeWhat.TheVariants.{Product};
 ghost use Rattle.std.proofs.Common.{inl, inr};
-ghost use Rattle.report_words.specs.Formats.{both, mapped};
-ghost use Rattle.report_words.specs.Fields.{count_format};
+ghost use Rattle.report_lines.specs.Formats.{both, mapped};
+ghost use Rattle.report_lines.specs.Fields.{count_format};
 ghost use Rattle.report_lines.specs.Evidence.{rows_format, product_words, values_words, to_range, range_format};
-ghost use Rattle.report_words.specs.Words.{left, spaced, line_text, Gives};
+ghost use Rattle.report_lines.specs.Words.{left, spaced, line_text, Gives};
 
+use crate::fields::count;
 use crate::log::{decided, put_used, put_values, used};
+use crate::words::{ReadError, Words, keyword, next};
+use crate::writing::put_number;
 use items::Items;
 use proof_lines::{Lit, RangeWhat, RowStep};
-use report_words::fields::count;
-use report_words::words::{ReadError, Words, keyword, next};
-use report_words::writing::put_number;
 use std::alloc::{AllocError, Global};
 
 /// The used literals and the steps of rows that became too many.

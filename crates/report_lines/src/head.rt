@@ -2,12 +2,12 @@
 
 ghost use Rattle.std.specs.Prelude.{◌≡◌, ◌∷◌, ◌++◌, [], codes, OnOk};
 ghost use Rattle.report_lines.specs.Heads.{title_format, budget_format, obligations_format, summary_format, outcome_format};
-ghost use Rattle.report_words.specs.Words.{left, line_text, Gives};
+ghost use Rattle.report_lines.specs.Words.{left, line_text, Gives};
 
+use crate::fields::{behind, number};
+use crate::words::{ReadError, Words, keyword, next, these};
+use crate::writing::write_words;
 use itoa::Buffer;
-use report_words::fields::{behind, number};
-use report_words::words::{ReadError, Words, keyword, next, these};
-use report_words::writing::write_words;
 use std::alloc::AllocError;
 
 /// How many verdicts of each kind there are.

@@ -4,17 +4,17 @@ ghost use Rattle.std.specs.Prelude.{◌≡◌, ◌∷◌, ◌++◌, [], OnOk};
 ghost use Rattle.std.specs.Fmt.{decimal, signed_decimal};
 ghost use Rattle.proof_lines.specs.declared.line.Line.TheVariants.{Resolve, Farkas, Drop};
 ghost use Rattle.std.proofs.Common.{inl, inr};
-ghost use Rattle.report_words.specs.Formats.{mapped};
+ghost use Rattle.report_lines.specs.Formats.{mapped};
 ghost use Rattle.report_lines.specs.Logs.{used_words, resolve_words, decision_words, split_words, drop_words, to_line, line_format, may_stand, log_format};
-ghost use Rattle.report_words.specs.Words.{left, spaced, Gives, line_text};
+ghost use Rattle.report_lines.specs.Words.{left, spaced, Gives, line_text};
 
 use crate::evidence::RowsLine;
+use crate::fields::{count, pair};
+use crate::list::list;
+use crate::words::{ReadError, Words, next};
+use crate::writing::{put_integer, put_list, put_number};
 use items::Items;
 use proof_lines::{Line, Lit, RowStep};
-use report_words::fields::{count, pair};
-use report_words::list::list;
-use report_words::words::{ReadError, Words, next};
-use report_words::writing::{put_integer, put_list, put_number};
 use std::alloc::{AllocError, Global};
 
 /// The used literals and the steps, each list behind its number.

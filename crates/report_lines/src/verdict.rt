@@ -3,14 +3,14 @@
 ghost use Rattle.std.specs.Prelude.{◌≡◌, ◌+◌, ◌∷◌, ◌++◌, [], codes, OnOk};
 ghost use Rattle.std.specs.Fmt.{decimal};
 ghost use Rattle.report_lines.specs.Blocks.{invariant_name, operation_name, thing_name, obligation_format, cause_words, undecided_words, to_cause, verdict_format};
-ghost use Rattle.report_words.specs.Formats.{mapped};
-ghost use Rattle.report_words.specs.Words.{left, line_text, Gives};
+ghost use Rattle.report_lines.specs.Formats.{mapped};
+ghost use Rattle.report_lines.specs.Words.{left, line_text, Gives};
 
+use crate::fields::count;
+use crate::words::{ReadError, Words, keyword, next, these};
+use crate::writing::write_words;
 use itoa::Buffer;
 use obligation_list::Obligation;
-use report_words::fields::count;
-use report_words::words::{ReadError, Words, keyword, next, these};
-use report_words::writing::write_words;
 use spec_core::{Spec, Thing};
 use std::alloc::AllocError;
 

@@ -3,21 +3,21 @@
 ghost use Rattle.std.specs.Prelude.{◌≡◌, ◌∷◌, ◌++◌, [], length, codes, OnOk};
 ghost use Rattle.std.specs.Fmt.{decimal};
 ghost use Rattle.std.specs.List.{flat_map};
-ghost use Rattle.report_words.specs.Fields.{count_format, value_format};
+ghost use Rattle.report_lines.specs.Fields.{count_format, value_format};
 ghost use Rattle.std.proofs.Common.{inl, inr};
-ghost use Rattle.report_words.specs.Formats.{only, mapped};
+ghost use Rattle.report_lines.specs.Formats.{only, mapped};
 ghost use Rattle.spec_core.specs.Specification.{op_of};
 ghost use Rattle.report_lines.specs.Witnesses.{to_shown, is_other, size_format, const_format, tuple_words, fact_format, reading_format, argument_format, arguments_words, call_format, at_format, shown_format};
-ghost use Rattle.report_words.specs.Words.{left, spaced, line_text, Gives};
+ghost use Rattle.report_lines.specs.Words.{left, spaced, line_text, Gives};
 
+use crate::fields::{count, element, number, value};
+use crate::list::times;
+use crate::names::name_among;
 use crate::verdict::operation_name;
+use crate::words::{ReadError, Words, next, these};
+use crate::writing::{put_entries, put_integer, put_number, put_word, write_words};
 use items::Items;
 use itoa::Buffer;
-use report_words::fields::{count, element, number, value};
-use report_words::list::times;
-use report_words::names::name_among;
-use report_words::words::{ReadError, Words, next, these};
-use report_words::writing::{put_entries, put_integer, put_number, put_word, write_words};
 use spec_core::{Call, Kind, Param, Spec, World};
 use std::alloc::{AllocError, Global};
 

@@ -3,7 +3,7 @@ use Rattle.std.proofs.Common.{◌≡◌, ℕ, zero, suc, ◌+◌, ◌<◌, List,
 use Rattle.spec_core.specs.Specification.{Specification}
 use Rattle.proof_lines.specs.declared.line.Line.{Line}
 use Rattle.report_lines.specs.declared.head.Tally.{Tally}
-use Rattle.report_words.specs.Formats.{read}
+use Rattle.report_lines.specs.Formats.{read}
 use Rattle.proof_report.specs.declared.event.Event.TheVariants as events
 use Rattle.proof_report.specs.declared.place.LogOf.{LogOf}
 use Rattle.proof_report.specs.declared.place.Place.{Place}
@@ -11,7 +11,7 @@ use Rattle.proof_report.specs.declared.place.Place.TheVariants as places
 use Rattle.proof_report.specs.declared.place.State.{State}
 use Rattle.proof_report.specs.declared.verdict.Fed.{Fed}
 use Rattle.report_reader.specs.declared.feeding.Told.{Told}
-use Rattle.report_words.specs.Words.{parts}
+use Rattle.report_lines.specs.Words.{parts}
 use Rattle.proof_report.specs.Feeding.{log_line, drops_in, judged, one_less}
 use Rattle.report_reader.specs.Reader.{ReaderForm, IsEnd, IsStep, IsAnswered, log_end_at, read_behind, read_on, stated, budget_of}
 use Rattle.proof_report.proofs.Sound.{at}

@@ -16,8 +16,8 @@ use Rattle.report_lines.specs.declared.witness.Fact.{Fact}
 use Rattle.report_lines.specs.declared.witness.Reading.{Reading}
 use Rattle.report_lines.specs.declared.witness.Shown.{Shown}
 use Rattle.report_lines.specs.declared.witness.Shown.TheVariants as shown
-use Rattle.report_words.specs.Formats.{Format, fits_some, list_fits, among}
-use Rattle.report_words.specs.Fields.{most_count, element_format}
+use Rattle.report_lines.specs.Formats.{Format, fits_some, list_fits, among}
+use Rattle.report_lines.specs.Fields.{most_count, element_format}
 use Rattle.report_lines.specs.Witnesses.{size_format, const_format, tuple_words, fact_format, reading_format, relation_names, counter_names}
 use Rattle.proof_report.specs.declared.event.Event.{Event}
 use Rattle.proof_report.specs.declared.event.Event.TheVariants as events
@@ -34,7 +34,7 @@ use Rattle.proof_report.specs.Feeding.{line_at, due_line, last_of, says, log_lef
 use Rattle.report_reader.specs.Reader.{fact_fits, reading_fits, IsShowing, AreSizes, AreConsts, IsKept}
 use Rattle.spec_core.specs.Typed.{is_specification}
 use Rattle.obligation_list.proofs.Counting.{few_obligations}
-use Rattle.report_words.specs.Formats.{read}
+use Rattle.report_lines.specs.Formats.{read}
 use Rattle.proof_report.proofs.Lines.{line_ok}
 use Rattle.proof_report.proofs.Sound.{at, one_more}
 

@@ -7,9 +7,9 @@ use Rattle.std.proofs.lemmas.Bool.Decides.{nat_tests}
 use Rattle.std.proofs.lemmas.List.Folds.{list_all_more}
 use Rattle.word_cut.specs.Texts.{is_digit, is_number}
 use Rattle.word_cut.specs.Whole.{number_of, digits_behind, size_read, greatest}
-use Rattle.report_words.specs.Fields.{count_format}
-use Rattle.report_words.specs.Words.{parts, next_of}
-use Rattle.report_words.proofs.FirstWord.{length_of_word, next_last, next_more}
+use Rattle.report_lines.specs.Fields.{count_format}
+use Rattle.report_lines.specs.Words.{parts, next_of}
+use Rattle.report_lines.proofs.FirstWord.{length_of_word, next_last, next_more}
 use Rattle.report_reader.specs.Resolving.{IsShort}
 
 digits_behind-snoc : (n : ℕ) (xs : List ℕ) (b : ℕ) → digits_behind n (xs ++ b ∷ []) ≡ 10 * digits_behind n xs + (b - 48)

@@ -6,10 +6,10 @@ use Rattle.std.proofs.lemmas.Option.{none-some, same_Some}
 use Rattle.spec_core.specs.Specification.{Specification}
 use Rattle.proof_lines.specs.declared.line.Line.TheVariants.{Resolve}
 use Rattle.report_lines.specs.declared.head.Tally.{Tally}
-use Rattle.report_words.specs.Fields.{count_format}
-use Rattle.report_words.specs.Formats.{read, key_at, is_empty}
-use Rattle.report_words.specs.Words.{parts}
-use Rattle.report_words.proofs.Exact.{chosen}
+use Rattle.report_lines.specs.Fields.{count_format}
+use Rattle.report_lines.specs.Formats.{read, key_at, is_empty}
+use Rattle.report_lines.specs.Words.{parts}
+use Rattle.report_lines.proofs.Exact.{chosen}
 use Rattle.proof_report.specs.declared.event.Event.TheVariants as events
 use Rattle.proof_report.specs.declared.place.LogOf.{LogOf}
 use Rattle.proof_report.specs.declared.place.LogOf.TheVariants as log_of

@@ -37,7 +37,7 @@ use Rattle.proof_report.specs.declared.kind.ReportKind.{ReportKind}
 use Rattle.proof_report.specs.declared.kind.ReportKind.TheVariants as kinds
 use Rattle.proof_report.specs.declared.kind.ReportRefused.{ReportRefused}
 use Rattle.proof_report.specs.declared.kind.ReportRefused.TheVariants as refused
-use Rattle.report_words.specs.Words.{parts}
+use Rattle.report_lines.specs.Words.{parts}
 use Rattle.proof_report.specs.Feeding.{shown_at, judged, fed, start, is_over}
 
 -- ---- what a line tells

@@ -3,7 +3,7 @@
 ghost use Rattle.std.specs.Prelude.{◌≡◌, ◌<◌, true, ◌==◌};
 ghost use Rattle.spec_core.specs.Specification.{Specification};
 ghost use Rattle.obligation_list.specs.Obligations.{obligations_of};
-ghost use Rattle.report_words.specs.Words.{parts};
+ghost use Rattle.report_lines.specs.Words.{parts};
 ghost use Rattle.proof_report.specs.Feeding.{line_at, unread, untrue};
 ghost use Rattle.report_reader.specs.Reader.{IsKept, IsTaken, IsStep, budget_of};
 
@@ -15,7 +15,7 @@ use proof_report::event::Event;
 use proof_report::kind::ReportKind;
 use proof_report::place::{Place, State};
 use proof_report::verdict::Fed;
-use report_words::words::ReadError;
+use report_lines::words::ReadError;
 use spec_core::Spec;
 use std::alloc::Global;
 

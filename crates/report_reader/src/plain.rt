@@ -5,9 +5,9 @@ ghost use Rattle.std.specs.List.{list_all};
 ghost use Rattle.std.specs.Prelude.{codes};
 ghost use Rattle.word_cut.specs.Texts.{is_digit};
 ghost use Rattle.word_cut.specs.Whole.{number_of};
-ghost use Rattle.report_words.specs.Fields.{count_format};
-ghost use Rattle.report_words.specs.Formats.{key_at};
-ghost use Rattle.report_words.specs.Words.{parts};
+ghost use Rattle.report_lines.specs.Fields.{count_format};
+ghost use Rattle.report_lines.specs.Formats.{key_at};
+ghost use Rattle.report_lines.specs.Words.{parts};
 ghost use Rattle.report_reader.specs.Resolving.{IsShort};
 
 // The number that the digits in front of bytes write, and how many there are: not all, where the number is a large one. The codes of the

@@ -16,7 +16,7 @@ use proof_report::kind::{Fault, ReportKind, ReportRefused};
 use proof_report::place::{LogOf, Place, State};
 use proof_report::verdict::Fed;
 use report_lines::head::Tally;
-use report_words::words::ReadError;
+use report_lines::words::ReadError;
 use spec_core::Spec;
 use std::alloc::{AllocError, Global};
 use std::marker::Model;

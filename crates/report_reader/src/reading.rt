@@ -2,8 +2,8 @@
 
 ghost use Rattle.std.specs.Prelude.{◌≡◌, ◌==◌, ◌≤◌, length, ℕ};
 ghost use Rattle.obligation_list.specs.Obligations.{obligations_of};
-ghost use Rattle.report_words.specs.Formats.{read as read_as};
-ghost use Rattle.report_words.specs.Words.{left, parts, Gives};
+ghost use Rattle.report_lines.specs.Formats.{read as read_as};
+ghost use Rattle.report_lines.specs.Words.{left, parts, Gives};
 ghost use Rattle.proof_report.specs.Verdicts.{obligation_at, obligation_count, const_at, may_drop, relation_due, counter_due};
 ghost use Rattle.proof_report.specs.Events.{told as told_of};
 ghost use Rattle.proof_report.specs.Feeding.{last_of, line_at, title_line, budget_line, count_line, opened_line, begin_line, log_line, size_line, const_line, shown_line, rows_line, range_line, summary_line, last_line, due_line, drops_in, due_facts, due_readings, due_calls};
@@ -22,7 +22,7 @@ use report_lines::head::{
 use report_lines::log::read_log_line;
 use report_lines::verdict::{read_obligation, read_verdict};
 use report_lines::witness::{Due, Fact, Reading, read_const, read_shown, read_size};
-use report_words::words::{ReadError, Words};
+use report_lines::words::{ReadError, Words};
 use spec_core::{Spec, World};
 use std::alloc::Global;
 
@@ -276,7 +276,7 @@ fn front<'a>(
 }
 
 /// The line of a log that a text is, in which clauses may be dropped or may not.
-#[tactic(auto, unfolding(report_words::specs::Formats::read))]
+#[tactic(auto, unfolding(report_lines::specs::Formats::read))]
 pub fn log_line(alloc: Global, drops: bool, text: &[u8]) -> Result<Line, ReadError>
     ensures { Gives (λ l. Event.Log l) result (read_as (log_line drops) (parts text.now)) }
 {
@@ -289,7 +289,7 @@ pub fn log_line(alloc: Global, drops: bool, text: &[u8]) -> Result<Line, ReadErr
 }
 
 /// What the line that may come says, if this is such a line.
-#[tactic(auto, unfolding(report_words::specs::Formats::read))]
+#[tactic(auto, unfolding(report_lines::specs::Formats::read))]
 pub fn line(
     alloc: Global,
     spec: &Spec,

@@ -14,8 +14,8 @@ use Rattle.report_lines.specs.declared.verdict.VerdictWord.TheVariants as word
 use Rattle.report_lines.specs.declared.witness.Shown.TheVariants as shown
 use Rattle.report_lines.specs.Blocks.{obligation_words}
 use Rattle.report_lines.specs.Evidence.{of_what, range_words}
-use Rattle.report_words.specs.Fields.{most_count, count_format}
-use Rattle.report_words.specs.Formats.{Read, key_at}
+use Rattle.report_lines.specs.Fields.{most_count, count_format}
+use Rattle.report_lines.specs.Formats.{Read, key_at}
 use Rattle.proof_lines.specs.declared.clause.Lit.{Lit}
 use Rattle.proof_lines.specs.declared.line.RowStep.{RowStep}
 use Rattle.proof_report.specs.declared.event.Event.{Event}

@@ -4,7 +4,7 @@ use Rattle.std.specs.Prelude.{nat_le, nat_lt}
 use Rattle.std.specs.List.{list_all}
 use Rattle.std.proofs.lemmas.Bool.{and_parts, and_from, leb-true}
 use Rattle.obligation_list.specs.declared.obligation.Obligation.{Obligation}
-use Rattle.report_words.specs.Fields.{most_count}
+use Rattle.report_lines.specs.Fields.{most_count}
 use Rattle.report_lines.specs.Heads.{title_format, budget_format}
 use Rattle.report_lines.specs.Logs.{line_format, log_format, may_stand}
 use Rattle.spec_core.specs.declared.world.Call.{Call}

@@ -7,9 +7,9 @@ use Rattle.std.proofs.lemmas.Bool.{and_parts, leb-true}
 use Rattle.std.proofs.lemmas.Option.{some_pair_parts}
 use Rattle.proof_lines.specs.declared.line.Line.{Line}
 use Rattle.proof_lines.specs.declared.line.Line.TheVariants.{Resolve, Farkas, Split, Drop}
-use Rattle.report_words.specs.Fields.{most_count, count_format}
+use Rattle.report_lines.specs.Fields.{most_count, count_format}
 use Rattle.report_lines.specs.Logs.{line_format}
-use Rattle.report_words.proofs.NumberFields.{count_exact}
+use Rattle.report_lines.proofs.NumberFields.{count_exact}
 use Rattle.report_verifier.specs.declared.notes.ResolvedPair.{ResolvedPair}
 use Rattle.report_verifier.specs.Notes.{IsPair}
 use Rattle.report_upgrader.specs.Passing.{IsText}

@@ -10,9 +10,9 @@ use Rattle.std.specs.List.{flat_map}
 use Rattle.proof_lines.specs.declared.line.Line.{Line}
 use Rattle.proof_lines.specs.declared.line.Line.TheVariants.{Resolve, Drop}
 use Rattle.proof_lines.specs.Numbers.{stands_in}
-use Rattle.report_words.specs.Fields.{count_format}
-use Rattle.report_words.specs.Words.{line_text, spaced}
-use Rattle.report_words.proofs.Splitting.{written, more}
+use Rattle.report_lines.specs.Fields.{count_format}
+use Rattle.report_lines.specs.Words.{line_text, spaced}
+use Rattle.report_lines.proofs.Splitting.{written, more}
 use Rattle.report_lines.specs.Logs.{line_format}
 use Rattle.proof_report.specs.Texts.{log_text}
 use Rattle.report_upgrader.specs.UpgradedLogs.{rising, named, is_named, last_named, unless_drop, drop_line, upgraded}

@@ -9,7 +9,7 @@ use Rattle.proof_lines.specs.declared.line.Line.{Line}
 use Rattle.proof_lines.specs.declared.line.Line.TheVariants.{Resolve, Farkas, Split, Drop}
 use Rattle.obligation_list.specs.declared.obligation.Obligation.{Obligation}
 use Rattle.report_lines.specs.declared.head.Tally.{Tally}
-use Rattle.report_words.specs.Fields.{most_count}
+use Rattle.report_lines.specs.Fields.{most_count}
 use Rattle.report_lines.specs.Heads.{title_format, budget_format}
 use Rattle.report_lines.specs.Logs.{log_format, line_format, drop_words}
 use Rattle.proof_report.specs.Verdicts.{VerdictForm, proved, refuted, instances, lines, rows, range, ReportForm, is_report, may_drop, is_verdict, are_verdicts, obligation_at, obligation_count}

@@ -13,8 +13,8 @@ use Rattle.report_lines.specs.declared.head.Tally.{Tally}
 use Rattle.report_lines.specs.declared.witness.Fact.{Fact}
 use Rattle.report_lines.specs.declared.witness.Reading.{Reading}
 use Rattle.report_lines.specs.declared.witness.Shown.TheVariants as shown
-use Rattle.report_words.specs.Fields.{most_count}
-use Rattle.report_words.specs.Words.{joined, line_text}
+use Rattle.report_lines.specs.Fields.{most_count}
+use Rattle.report_lines.specs.Words.{joined, line_text}
 use Rattle.proof_report.specs.declared.event.Event.{Event}
 use Rattle.proof_report.specs.declared.event.Event.TheVariants as events
 use Rattle.proof_report.specs.declared.place.PartialWitness.{PartialWitness}

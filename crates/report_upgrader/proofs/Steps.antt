@@ -10,7 +10,7 @@ use Rattle.spec_core.specs.Specification.{Specification}
 use Rattle.spec_core.specs.Typed.{is_specification}
 use Rattle.proof_lines.specs.declared.line.Line.{Line}
 use Rattle.report_lines.specs.declared.verdict.VerdictWord.TheVariants as word
-use Rattle.report_words.specs.Words.{parts, line_text}
+use Rattle.report_lines.specs.Words.{parts, line_text}
 use Rattle.report_lines.specs.Heads.{title_format}
 use Rattle.report_lines.specs.Logs.{line_format}
 use Rattle.proof_report.specs.declared.event.Event.{Event}

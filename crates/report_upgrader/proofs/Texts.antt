@@ -3,10 +3,10 @@ use Rattle.std.proofs.Common.{◌≡◌, ℕ, List, [], ◌∷◌, ◌++◌, len
 use Rattle.spec_core.specs.Specification.{Specification}
 use Rattle.proof_lines.specs.declared.line.Line.{Line}
 use Rattle.report_lines.specs.declared.verdict.VerdictWord.TheVariants as word
-use Rattle.report_words.specs.Words.{parts, line_text}
+use Rattle.report_lines.specs.Words.{parts, line_text}
 use Rattle.report_lines.specs.Blocks.{verdict_format}
 use Rattle.report_lines.specs.Logs.{line_format}
-use Rattle.report_words.proofs.Splitting.{joined_parts}
+use Rattle.report_lines.proofs.Splitting.{joined_parts}
 use Rattle.proof_report.specs.declared.event.Event.{Event}
 use Rattle.proof_report.specs.Verdicts.{proved}
 use Rattle.proof_report.specs.Events.{log_lines, verdict_lines}

@@ -8,8 +8,8 @@ use Rattle.spec_core.specs.Specification.{Specification}
 use Rattle.proof_lines.specs.declared.line.Line.{Line}
 use Rattle.report_lines.specs.declared.verdict.VerdictWord.{VerdictWord}
 use Rattle.report_lines.specs.declared.verdict.VerdictWord.TheVariants as word
-use Rattle.report_words.specs.Words.{parts, line_text}
-use Rattle.report_words.specs.Fields.{most_count}
+use Rattle.report_lines.specs.Words.{parts, line_text}
+use Rattle.report_lines.specs.Fields.{most_count}
 use Rattle.report_lines.specs.Logs.{line_format}
 use Rattle.report_lines.specs.Blocks.{verdict_format}
 use Rattle.proof_report.specs.declared.event.Event.{Event}

@@ -1,6 +1,6 @@
 -- The upgraded report: version 2, the same budget and verdicts, and each log that proves upgraded.
 use Rattle.std.specs.Prelude.{ℕ, nat_le, Bool, true, length, map}
-use Rattle.report_words.specs.Fields.{most_count}
+use Rattle.report_lines.specs.Fields.{most_count}
 use Rattle.proof_report.specs.Verdicts.{VerdictForm, proved, refuted, instances, lines, rows, range, ReportForm}
 use Rattle.report_upgrader.specs.UpgradedLogs.{upgraded}
 

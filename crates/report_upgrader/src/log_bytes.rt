@@ -11,7 +11,7 @@ ghost use Rattle.proof_lines.specs.declared.line.Line.{Line as Given};
 ghost use Rattle.proof_lines.specs.declared.line.Line.TheVariants.{Drop as DropLine};
 ghost use Rattle.report_upgrader.specs.UpgradedLogs.{rising};
 ghost use Rattle.report_lines.specs.Logs.{line_format};
-ghost use Rattle.report_words.specs.Words.{left};
+ghost use Rattle.report_lines.specs.Words.{left};
 ghost use Rattle.report_upgrader.specs.Plans.{IsKind, dropped_by, dropped_from, written_for};
 ghost use Rattle.report_upgrader.specs.Plans.{IsWritten};
 ghost use Rattle.report_verifier.specs.Notes.{IsLong, IsPair};
@@ -19,10 +19,10 @@ ghost use Rattle.report_upgrader.specs.Passing.{IsText};
 
 use crate::gathering::MANY;
 use crate::planning::Rewritten;
+use report_lines::fields::count;
+use report_lines::words::{Words, next};
+use report_lines::writing::put_number;
 use report_verifier::LineNote;
-use report_words::fields::count;
-use report_words::words::{Words, next};
-use report_words::writing::put_number;
 use std::alloc::AllocError;
 
 /// What upgrading has to know of a line of a log.

@@ -9,14 +9,14 @@ ghost use Rattle.proof_report.specs.declared.event.Event.{Event};
 ghost use Rattle.proof_report.specs.Events.{words};
 ghost use Rattle.report_bytes.specs.Bytes.{pieces};
 ghost use Rattle.report_verifier.specs.Notes.{AreNoted};
-ghost use Rattle.report_words.specs.Words.{parts};
+ghost use Rattle.report_lines.specs.Words.{parts};
 ghost use Rattle.report_upgrader.specs.Passing.{is_followed, IsBegun, Task, IsGathered, IsUnderway};
 
 use crate::gathering::write_much;
 use crate::log_writing::{LeftLines, pass_log};
 use byte_ports::{Sink, WriteOut};
-use report_words::fields::count;
-use report_words::words::{ReadError, Words, keyword};
+use report_lines::fields::count;
+use report_lines::words::{ReadError, Words, keyword};
 use std::alloc::{AllocError, Global};
 
 // How many lines the log has that a line begins with the word of a proved verdict; nothing where it

@@ -3,9 +3,9 @@ use Rattle.std.proofs.Common.{◌≡◌, ℕ, suc, Bool, true, false, ◌≤◌,
 use Rattle.spec_core.specs.Specification.{Specification}
 use Rattle.spec_core.specs.Typed.{is_specification}
 use Rattle.report_lines.specs.declared.head.Tally.{Tally}
-use Rattle.report_words.specs.Words.{parts}
-use Rattle.report_words.specs.Formats.{read}
-use Rattle.report_words.proofs.Exact.{chosen}
+use Rattle.report_lines.specs.Words.{parts}
+use Rattle.report_lines.specs.Formats.{read}
+use Rattle.report_lines.proofs.Exact.{chosen}
 use Rattle.proof_report.specs.declared.event.Event.{Event}
 use Rattle.proof_report.specs.declared.kind.Fault.{Fault}
 use Rattle.proof_report.specs.declared.kind.ReportKind.{ReportKind}

@@ -14,8 +14,8 @@ use Rattle.spec_core.specs.World.{size_of}
 use Rattle.spec_core.specs.Fits.{fits_places, lists_fit, values_fit, is_state}
 use Rattle.report_lines.specs.declared.witness.Fact.{Fact}
 use Rattle.report_lines.specs.declared.witness.Reading.{Reading}
-use Rattle.report_words.specs.Formats.{list_fits, among}
-use Rattle.report_words.specs.Fields.{most_count, element_format}
+use Rattle.report_lines.specs.Formats.{list_fits, among}
+use Rattle.report_lines.specs.Fields.{most_count, element_format}
 use Rattle.report_lines.specs.Witnesses.{tuple_words, fact_format, reading_format, relation_names, counter_names}
 use Rattle.proof_report.specs.declared.place.PartialWitness.{PartialWitness}
 use Rattle.obligation_list.specs.declared.obligation.Obligation.{Obligation}

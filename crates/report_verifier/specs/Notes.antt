@@ -2,7 +2,7 @@
 use Rattle.std.specs.Prelude.{◌≡◌, ℕ, ◌/◌, ◌%◌, ◌==◌, if◌then◌else◌, List, [], ◌∷◌, ◌++◌, length, Option, None, Some}
 use Rattle.report_bytes.specs.Bytes.{pieces}
 use Rattle.proof_lines.specs.declared.line.Line.TheVariants.{Resolve}
-use Rattle.report_words.specs.Words.{parts}
+use Rattle.report_lines.specs.Words.{parts}
 use Rattle.report_lines.specs.Logs.{line_format}
 use Rattle.report_verifier.specs.declared.notes.ResolvedPair.{ResolvedPair}
 

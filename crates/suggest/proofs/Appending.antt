@@ -4,7 +4,7 @@ use Rattle.std.proofs.lemmas.Grind.{flat_map-append}
 use Rattle.std.proofs.Math.Seq.{take-suc, take-length}
 use Rattle.std.specs.List.{flat_map}
 use Rattle.spec_core.specs.Specification.{Specification}
-use Rattle.report_words.specs.Words.{line_text}
+use Rattle.report_lines.specs.Words.{line_text}
 use Rattle.report_lines.specs.Blocks.{operation_name}
 use Rattle.conflict_variants.specs.Bare.{bare}
 use Rattle.conflict_variants.specs.Keyed.{keyed}

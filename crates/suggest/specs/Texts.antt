@@ -5,7 +5,7 @@ use Rattle.std.specs.Fmt.{decimal}
 use Rattle.spec_core.specs.declared.operation.Param.{Param}
 use Rattle.spec_core.specs.declared.operation.Kind.TheVariants.{Int}
 use Rattle.spec_core.specs.Specification.{Specification, op_of}
-use Rattle.report_words.specs.Words.{line_text}
+use Rattle.report_lines.specs.Words.{line_text}
 use Rattle.report_lines.specs.Blocks.{operation_name}
 use Rattle.proof_report.specs.declared.verdict.Verdict.TheVariants as verdicts
 use Rattle.proof_report.specs.Texts.{block_text}

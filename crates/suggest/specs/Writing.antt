@@ -11,7 +11,7 @@ use Rattle.check_run.specs.Checking.{Progress}
 use Rattle.conflict_variants.specs.Bare.{bare}
 use Rattle.conflict_variants.specs.Keyed.{keyed}
 use Rattle.suggest.specs.Pairs.{pairs_of}
-use Rattle.report_words.specs.Words.{line_text}
+use Rattle.report_lines.specs.Words.{line_text}
 use Rattle.report_lines.specs.Blocks.{operation_name}
 use Rattle.suggest.specs.Answers.{is_refuted, IsFoundIn, IsAnswer, AreAnswers, AreAnswersSoFar, AreKeyAnswers, with_answer, counted}
 use Rattle.suggest.specs.Texts.{pair_word, found_text, pair_text, key_text, pairs_text, IsSuggestion, IsSuggestionFront}

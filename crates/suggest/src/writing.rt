@@ -6,7 +6,7 @@ ghost use Rattle.obligation_list.specs.Obligations.{IsObligation};
 ghost use Rattle.proof_report.specs.Texts.{block_text, CanStand};
 ghost use Rattle.conflict_variants.specs.Bare.{bare as bare_of};
 ghost use Rattle.conflict_variants.specs.Keyed.{CanBeKeyed};
-ghost use Rattle.report_words.specs.Words.{line_text};
+ghost use Rattle.report_lines.specs.Words.{line_text};
 ghost use Rattle.suggest.specs.Pairs.{IsPair, pairs_of, keys_of};
 ghost use Rattle.suggest.specs.Answers.{HaveLogs, is_refuted as is_refuted_of, keys_after};
 ghost use Rattle.suggest.specs.Answers.{with_answer};
@@ -28,7 +28,7 @@ use itoa::Buffer;
 use obligation_list::Obligation;
 use proof_report::{Verdict, write_verdict};
 use report_lines::verdict::operation_name;
-use report_words::writing::write_words;
+use report_lines::writing::write_words;
 use spec_core::Spec;
 use std::alloc::{AllocError, Global};
 

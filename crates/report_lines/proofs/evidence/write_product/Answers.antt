@@ -2,7 +2,7 @@ use Rattle.std.proofs.Common.{[], ◌∷◌, ◌++◌}
 use Rattle.std.specs.Prelude.{codes}
 use Rattle.std.specs.Fmt.{decimal}
 use Rattle.report_lines.specs.Logs.{used_words}
-use Rattle.report_words.proofs.Splitting.{more, written}
+use Rattle.report_lines.proofs.Splitting.{more, written}
 use Rattle.report_lines.proofs.evidence.write_product.Goals as goal
 
 pub returns : goal.returns

@@ -1,6 +1,6 @@
 use Rattle.std.proofs.Common.{◌++◌}
 use Rattle.report_lines.specs.Logs.{used_words, decision_words}
-use Rattle.report_words.proofs.Splitting.{more, written}
+use Rattle.report_lines.proofs.Splitting.{more, written}
 use Rattle.report_lines.proofs.evidence.write_values.Goals as goal
 
 pub returns : goal.returns

@@ -9,7 +9,7 @@ use Rattle.report_lines.specs.declared.verdict.VerdictWord.TheVariants as words
 use Rattle.obligation_list.proofs.LineFits.{few_requires}
 use Rattle.spec_core.specs.Limits.{most_requires}
 use Rattle.report_lines.specs.Blocks.{obligation_format, verdict_format}
-use Rattle.report_words.proofs.WholeLines.{HasWord, line_of}
+use Rattle.report_lines.proofs.WholeLines.{HasWord, line_of}
 use Rattle.report_lines.proofs.BlockLines.{obligation_exact, obligation_clean, IsCounted, verdict_exact, verdict_clean}
 use Rattle.report_lines.proofs.laws.law_blocks.Goals as goal
 

@@ -1,7 +1,7 @@
 use Rattle.std.proofs.Common.{refl}
 use Rattle.report_lines.specs.declared.head.Outcome.TheVariants as outcomes
 use Rattle.report_lines.specs.Heads.{title_format, budget_format, obligations_format, summary_format, outcome_format}
-use Rattle.report_words.proofs.WholeLines.{HasWord, line_of}
+use Rattle.report_lines.proofs.WholeLines.{HasWord, line_of}
 use Rattle.report_lines.proofs.HeadLines.{title_exact, title_clean, budget_exact, budget_clean, obligations_exact, obligations_clean, summary_exact, summary_clean, outcome_exact, outcome_clean}
 use Rattle.report_lines.proofs.laws.law_heads.Goals as goal
 

@@ -4,10 +4,10 @@ use Rattle.proof_lines.specs.declared.line.RowStep.{RowStep}
 use Rattle.proof_lines.specs.declared.line.Line.TheVariants.{Resolve, Farkas, Split, Drop}
 use Rattle.proof_lines.specs.declared.line.RangeWhat.{RangeWhat}
 use Rattle.proof_lines.specs.declared.line.RangeWhat.TheVariants.{Product, Value, Sum}
-use Rattle.report_words.specs.Formats.{is_empty}
+use Rattle.report_lines.specs.Formats.{is_empty}
 use Rattle.report_lines.specs.Logs.{log_format, line_format}
 use Rattle.report_lines.specs.Evidence.{rows_format, of_what, range_words, range_format}
-use Rattle.report_words.proofs.WholeLines.{HasWord, line_of}
+use Rattle.report_lines.proofs.WholeLines.{HasWord, line_of}
 use Rattle.report_lines.proofs.LogLines.{log_exact, log_clean}
 use Rattle.report_lines.proofs.EvidenceLines.{rows_exact, rows_clean, range_exact, range_clean}
 use Rattle.report_lines.proofs.laws.law_logs.Goals as goal

@@ -4,7 +4,7 @@ use Rattle.spec_core.specs.Specification.{Specification}
 use Rattle.report_lines.specs.declared.witness.Due.{Due}
 use Rattle.report_lines.specs.declared.witness.Shown.TheVariants as shown
 use Rattle.report_lines.specs.Witnesses.{size_format, const_format, shown_format}
-use Rattle.report_words.proofs.WholeLines.{HasWord, line_of}
+use Rattle.report_lines.proofs.WholeLines.{HasWord, line_of}
 use Rattle.report_lines.proofs.WitnessLines.{size_exact, size_clean, const_exact, const_clean, shown_exact, shown_clean}
 use Rattle.report_lines.proofs.laws.law_witnesses.Goals as goal
 

@@ -3,9 +3,9 @@ use Rattle.std.specs.Prelude.{codes}
 use Rattle.std.specs.Str.{bytes_eq}
 use Rattle.std.proofs.lemmas.Grind.{common_steps}
 use Rattle.proof_lines.specs.declared.line.Line.{Line}
-use Rattle.report_words.specs.declared.words.Words.{Words}
-use Rattle.report_words.specs.Words.{left, Gives}
-use Rattle.report_words.specs.Formats.{Read}
+use Rattle.report_lines.specs.declared.words.Words.{Words}
+use Rattle.report_lines.specs.Words.{left, Gives}
+use Rattle.report_lines.specs.Formats.{Read}
 use Rattle.report_lines.proofs.LineCases.{resolve_read, split_read}
 use Rattle.report_lines.proofs.log.line.Goals as goal
 

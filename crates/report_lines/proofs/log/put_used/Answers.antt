@@ -1,7 +1,7 @@
-use Rattle.report_words.specs.Formats.{counted}
-use Rattle.report_words.specs.Fields.{most_count}
-use Rattle.report_words.specs.Entries.{literal_format, step_format}
-use Rattle.report_words.proofs.Splitting.{more}
+use Rattle.report_lines.specs.Formats.{counted}
+use Rattle.report_lines.specs.Fields.{most_count}
+use Rattle.report_lines.specs.Entries.{literal_format, step_format}
+use Rattle.report_lines.proofs.Splitting.{more}
 use Rattle.report_lines.proofs.log.put_used.Goals as goal
 
 pub returns : goal.returns

@@ -1,6 +1,6 @@
 use Rattle.std.proofs.Common.{[], ◌∷◌}
 use Rattle.report_lines.specs.Logs.{drop_words}
-use Rattle.report_words.proofs.Splitting.{written}
+use Rattle.report_lines.proofs.Splitting.{written}
 use Rattle.report_lines.proofs.log.write_dropped.Goals as goal
 
 pub returns : goal.returns

@@ -1,9 +1,9 @@
 use Rattle.std.proofs.Common.{[], ◌∷◌, ◌++◌, ◌≡◌, ◌∙◌, sym, subst}
 use Rattle.std.specs.Fmt.{decimal, signed_decimal}
-use Rattle.report_words.specs.Words.{spaced, line_text}
+use Rattle.report_lines.specs.Words.{spaced, line_text}
 use Rattle.report_lines.specs.Logs.{used_words, decision_words, line_format}
 use Rattle.proof_lines.specs.declared.line.Line.{Line}
-use Rattle.report_words.proofs.Splitting.{more, written}
+use Rattle.report_lines.proofs.Splitting.{more, written}
 use Rattle.report_lines.proofs.log.write_log_line.Goals as goal
 
 pub returns-in_ok-push-in-Split-2 : goal.returns-in_ok-push-in-Split-2

@@ -1,9 +1,9 @@
 use Rattle.std.proofs.Common.{◌≡◌, drop}
 use Rattle.spec_core.specs.declared.operation.Param.{Param as Parameter}
-use Rattle.report_words.specs.Formats.{list_at}
+use Rattle.report_lines.specs.Formats.{list_at}
 use Rattle.report_lines.specs.Witnesses.{argument_format}
-use Rattle.report_words.specs.Words.{left}
-use Rattle.report_words.proofs.Loops.{with_front}
+use Rattle.report_lines.specs.Words.{left}
+use Rattle.report_lines.proofs.Loops.{with_front}
 use Rattle.report_lines.proofs.witness.arguments.Given as goal
 
 abbrev pub invariant-params : goal.invariant-params

@@ -2,9 +2,9 @@ use Rattle.std.proofs.Common.{◌≡◌, ◌∙◌, ◌++◌, ◌∷◌, [], sym
 use Rattle.std.proofs.Math.ListN.{get_or-map}
 use Rattle.spec_core.specs.declared.operation.Operation.{Operation}
 use Rattle.spec_core.specs.Specification.{op_of, no_operation}
-use Rattle.report_words.specs.Words.{spaced}
+use Rattle.report_lines.specs.Words.{spaced}
 use Rattle.report_lines.specs.Witnesses.{arguments_words, operation_names}
-use Rattle.report_words.proofs.Splitting.{more}
+use Rattle.report_lines.proofs.Splitting.{more}
 use Rattle.report_lines.proofs.witness.put_call.Goals as goal
 
 pub returns : goal.returns

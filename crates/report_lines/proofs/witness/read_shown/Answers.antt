@@ -2,9 +2,9 @@ use Rattle.std.proofs.Common.{◌≡◌, ◌∙◌, List, ℕ, true, false, sym,
 use Rattle.std.specs.Prelude.{codes}
 use Rattle.std.specs.Str.{bytes_eq}
 use Rattle.std.proofs.lemmas.Grind.{common_steps}
-use Rattle.report_words.specs.declared.words.Words.{Words}
-use Rattle.report_words.specs.Words.{left, Gives}
-use Rattle.report_words.specs.Formats.{Read}
+use Rattle.report_lines.specs.declared.words.Words.{Words}
+use Rattle.report_lines.specs.Words.{left, Gives}
+use Rattle.report_lines.specs.Formats.{Read}
 use Rattle.report_lines.specs.declared.witness.Shown.{Shown}
 use Rattle.report_lines.proofs.ShownCases.{reading_read}
 use Rattle.report_lines.proofs.witness.read_shown.Goals as goal

@@ -1,9 +1,9 @@
 use Rattle.std.proofs.Common.{◌≡◌, ℕ, drop}
 use Rattle.spec_core.specs.World.{size_of}
-use Rattle.report_words.specs.Formats.{list_at}
-use Rattle.report_words.specs.Fields.{element_format}
-use Rattle.report_words.specs.Words.{left}
-use Rattle.report_words.proofs.Loops.{with_front}
+use Rattle.report_lines.specs.Formats.{list_at}
+use Rattle.report_lines.specs.Fields.{element_format}
+use Rattle.report_lines.specs.Words.{left}
+use Rattle.report_lines.proofs.Loops.{with_front}
 use Rattle.report_lines.proofs.witness.tuple.Given as goal
 
 abbrev pub invariant-sorts : goal.invariant-sorts

@@ -1,7 +1,7 @@
 use Rattle.std.specs.Prelude.{codes}
 use Rattle.std.specs.List.{flat_map}
-use Rattle.report_words.specs.Fields.{count_format}
-use Rattle.report_words.proofs.Splitting.{written}
+use Rattle.report_lines.specs.Fields.{count_format}
+use Rattle.report_lines.proofs.Splitting.{written}
 use Rattle.report_lines.proofs.witness.write_at.Goals as goal
 
 pub returns : goal.returns

@@ -1,6 +1,6 @@
 use Rattle.std.specs.Prelude.{codes}
 use Rattle.report_lines.specs.Witnesses.{call_format}
-use Rattle.report_words.proofs.Splitting.{written}
+use Rattle.report_lines.proofs.Splitting.{written}
 use Rattle.report_lines.proofs.witness.write_call.Goals as goal
 
 pub returns : goal.returns

@@ -1,4 +1,4 @@
-use Rattle.report_words.specs.Words.{left}
+use Rattle.report_lines.specs.Words.{left}
 use Rattle.report_upgrader.proofs.LineKinds.{resolve_kind}
 use Rattle.report_upgrader.proofs.log_bytes.resolve_line.Goals as goal
 

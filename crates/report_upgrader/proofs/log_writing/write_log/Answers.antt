@@ -3,7 +3,7 @@ use Rattle.proof_lines.specs.declared.line.Line.{Line}
 use Rattle.report_bytes.specs.Bytes.{pieces}
 use Rattle.report_lines.specs.declared.verdict.VerdictWord.TheVariants as word
 use Rattle.report_lines.specs.Blocks.{verdict_format}
-use Rattle.report_words.specs.Words.{line_text}
+use Rattle.report_lines.specs.Words.{line_text}
 use Rattle.report_upgrader.specs.UpgradedLogs.{upgraded}
 use Rattle.report_upgrader.specs.declared.planning.Rewritten.{Rewritten}
 use Rattle.report_upgrader.specs.Plans.{AreWritten}

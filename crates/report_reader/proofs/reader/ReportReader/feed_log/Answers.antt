@@ -1,6 +1,6 @@
 use Rattle.std.proofs.Common.{◌≡◌, ◌+◌, Bool, None, Some, Ok, refl, sym, ap, ◌∙◌, subst}
-use Rattle.report_words.specs.Formats.{read}
-use Rattle.report_words.specs.Words.{parts}
+use Rattle.report_lines.specs.Formats.{read}
+use Rattle.report_lines.specs.Words.{parts}
 use Rattle.proof_report.specs.declared.event.Event.TheVariants as events
 use Rattle.report_reader.specs.declared.feeding.Told.{Told}
 use Rattle.proof_report.specs.declared.place.State.{State}

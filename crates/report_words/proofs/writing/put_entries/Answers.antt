@@ -1,5 +1,0 @@
-use Rattle.report_words.proofs.Splitting.{put_more}
-use Rattle.report_words.proofs.writing.put_entries.Goals as goal
-
-pub entries-preserved : goal.entries-preserved
-entries-preserved g c = put_more g.T.Entry.format.put c.args.entries.now c.entries.entry-index c.entry-item.result c.args.out.now.items c.entries.out.items c.write.new.out.items c.entries-test.true c.entry-item.is c.entries.invariant c.in_ok-write.ensures

@@ -1,4 +1,0 @@
-pub mod Words
-pub mod Formats
-pub mod Fields
-pub mod Entries
