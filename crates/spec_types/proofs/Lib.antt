@@ -1,3 +1,5 @@
+mod Entries
+mod FaultLists
 pub mod Least
 mod Lists
 mod Setting

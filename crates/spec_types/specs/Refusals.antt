@@ -7,7 +7,7 @@ use Rattle.spec_types.specs.declared.refusal.Stop.{Stop}
 use Rattle.spec_types.specs.declared.refusal.Stop.TheVariants as stop
 use Rattle.spec_trees.specs.Form.{TreeForm}
 use Rattle.fault_rules.specs.Faults.{IsLeastFault}
-use Rattle.find_faults.specs.Views.{fault_of}
+use Rattle.spec_types.specs.faults.Views.{fault_of}
 
 -- a refusal says which fault it was, unless memory is wanting
 abbrev pub IsTypeRefusal : {A : Type 0} → Result A Fault → TypeRefused → Type 0

@@ -8,12 +8,12 @@ ghost use Rattle.typing_rules.specs.Items.{const_fault as const_fault_of};
 ghost use Rattle.typing_rules.specs.Items.{place_number as place_number_of, with_sort, with_const};
 ghost use Rattle.typing_rules.specs.Items.{with_relation, with_counter, with_token, typed_item};
 ghost use Rattle.spec_types.specs.Refusals.{Makes};
-ghost use Rattle.find_faults.specs.Views.{faulted};
+ghost use Rattle.spec_types.specs.faults.Views.{faulted};
 ghost use Rattle.spec_types.specs.Views.{known_of};
 
+use crate::faults::{Draft, Fault, declared_fault, limit_at, sort_fault, sort_number};
 use crate::known::{Known, heading_fault, scope_in, sort_numbers, sorts_fault};
 use crate::refusal::Stop;
-use find_faults::{Draft, Fault, declared_fault, limit_at, sort_fault, sort_number};
 use spec_core::limits::{
     MOST_CONSTANTS, MOST_COUNTERS, MOST_KEYS, MOST_PLACES, MOST_RELATIONS, MOST_SORTS, MOST_TOKENS,
 };

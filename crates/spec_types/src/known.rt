@@ -7,11 +7,13 @@ ghost use Rattle.typing_rules.specs.Items.{place_fault as place_fault_of};
 ghost use Rattle.typing_rules.specs.Items.{sorts_fault as sorts_fault_of};
 ghost use Rattle.typing_rules.specs.Items.{sort_numbers as sort_numbers_of};
 ghost use Rattle.typing_rules.specs.Items.{nothing_known as nothing_known_of};
-ghost use Rattle.find_faults.specs.Names.{meaning_in};
-ghost use Rattle.find_faults.specs.Views.{faulted, scope_of};
+ghost use Rattle.spec_types.specs.faults.Names.{meaning_in};
+ghost use Rattle.spec_types.specs.faults.Views.{faulted, scope_of};
 ghost use Rattle.spec_types.specs.Views.{known_of};
 
-use find_faults::{Draft, Fault, Names, Scope, declared_fault, limit_at, sort_fault, sort_number};
+use crate::faults::{
+    Draft, Fault, Names, Scope, declared_fault, limit_at, sort_fault, sort_number,
+};
 use items::Items;
 use spec_trees::{Mark, Version};
 use std::alloc::{AllocError, Global};

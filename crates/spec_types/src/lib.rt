@@ -1,9 +1,8 @@
-// From trees to specifications.
+// From trees to specifications: what is wrong with a tree is found without memory, and a tree without a fault is made a specification.
 //
-// It stands on `typing_rules`, whose definitions say which specification a tree is and what is wrong with one that is none, on
-// `fault_rules`, which says it by rules, on `find_faults`, which looks for what is wrong, and on `elaborate_lines`, which makes the lines
-// that have no fault. `known` is what is known after some items; `declaring`, `initials`, `rules` and `operations` have the items,
-// `refusal` the answer with a fault, and `typing` the whole.
+// It stands on `typing_rules`, whose definitions say which specification a tree is and what is wrong with one that is none. `faults` looks
+// for what is wrong, and `elaborating` makes the lines that have no fault. `known` is what is known after some items; `declaring`,
+// `initials`, `rules` and `operations` have the items, `refusal` the answer with a fault, and `typing` the whole.
 //
 // Decisions:
 // - The parts of a specification in the making are a `Draft`, which may be ill formed.
@@ -30,6 +29,8 @@ macro_rules! or_drop {
 }
 
 mod declaring;
+mod elaborating;
+mod faults;
 mod initials;
 mod known;
 mod operations;

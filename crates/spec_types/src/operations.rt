@@ -14,18 +14,18 @@ ghost use Rattle.typing_rules.specs.Items.{param_fault as param_fault_of};
 ghost use Rattle.typing_rules.specs.Items.{params_fault as params_fault_of};
 ghost use Rattle.typing_rules.specs.Items.{without_lines as without_lines_of, typed_operation};
 ghost use Rattle.typing_rules.specs.Items.{typed_item};
-ghost use Rattle.find_faults.specs.Names.{meaning_in};
+ghost use Rattle.spec_types.specs.faults.Names.{meaning_in};
 ghost use Rattle.spec_types.specs.Refusals.{Gives, Makes};
-ghost use Rattle.find_faults.specs.Views.{faulted, scope_of};
+ghost use Rattle.spec_types.specs.faults.Views.{faulted, scope_of};
 ghost use Rattle.spec_types.specs.Views.{known_of};
 
-use crate::known::{Known, heading_fault, scope_in};
-use crate::refusal::Stop;
-use elaborate_lines::{add_line, sentence_of};
-use find_faults::{
+use crate::elaborating::{add_line, sentence_of};
+use crate::faults::{
     Fault, Names, Scope, declared_fault, limit_at, line_fault, sentence_fault, sort_fault,
     sort_number,
 };
+use crate::known::{Known, heading_fault, scope_in};
+use crate::refusal::Stop;
 use items::Items;
 use spec_core::limits::{MOST_INVARIANTS, MOST_OPERATIONS, MOST_PARAMETERS};
 use spec_core::{Invariant, Kind, Name, Operation};

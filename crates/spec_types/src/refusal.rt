@@ -3,10 +3,10 @@
 ghost use Rattle.std.specs.Prelude.{◌≡◌, Err, IfOk};
 ghost use Rattle.spec_core.specs.Specification.{Specification};
 ghost use Rattle.spec_types.specs.Refusals.{IsTypeRefusal};
-ghost use Rattle.find_faults.specs.Views.{fault_of};
+ghost use Rattle.spec_types.specs.faults.Views.{fault_of};
 ghost use Rattle.spec_types.specs.declared.refusal.Stop.TheVariants as stop;
 
-use find_faults::Fault;
+use crate::faults::Fault;
 use spec_core::Name;
 use std::alloc::{AllocError, Global};
 use typing_rules::Which;

@@ -14,12 +14,14 @@ ghost use Rattle.typing_rules.specs.Items.{conflict_fault as conflict_fault_of};
 ghost use Rattle.typing_rules.specs.Items.{variable_number as variable_number_of};
 ghost use Rattle.typing_rules.specs.Items.{pattern_of as pattern_of_reading, with_rule, typed_item};
 ghost use Rattle.spec_types.specs.Refusals.{Makes};
-ghost use Rattle.find_faults.specs.Views.{faulted};
+ghost use Rattle.spec_types.specs.faults.Views.{faulted};
 ghost use Rattle.spec_types.specs.Views.{known_of};
 
+use crate::faults::{
+    Fault, is_of_sort, limit_at, places_fault, small, stranger_fault, token_places,
+};
 use crate::known::{Known, scope_in};
 use crate::refusal::Stop;
-use find_faults::{Fault, is_of_sort, limit_at, places_fault, small, stranger_fault, token_places};
 use items::Items;
 use spec_core::limits::MOST_RULES;
 use spec_core::{Pattern, Rule};

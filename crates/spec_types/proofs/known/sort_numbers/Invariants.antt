@@ -1,6 +1,6 @@
 use Rattle.std.proofs.Common.{◌≡◌, take, map}
 use Rattle.typing_rules.specs.Scope.{sort_number}
-use Rattle.find_faults.specs.Names.{meaning_in}
+use Rattle.spec_types.specs.faults.Names.{meaning_in}
 use Rattle.spec_types.proofs.known.sort_numbers.Given as goal
 
 -- the sorts so far

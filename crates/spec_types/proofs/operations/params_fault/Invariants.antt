@@ -1,7 +1,7 @@
 use Rattle.std.proofs.Common.{◌≡◌, take, drop}
 use Rattle.typing_rules.specs.Fault.{first_fault}
 use Rattle.typing_rules.specs.Items.{with_params, param_fault}
-use Rattle.find_faults.specs.Views.{scope_of}
+use Rattle.spec_types.specs.faults.Views.{scope_of}
 use Rattle.spec_types.proofs.operations.params_fault.Given as goal
 
 -- the first fault is the first of what remains

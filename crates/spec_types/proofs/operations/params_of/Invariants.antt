@@ -1,6 +1,6 @@
 use Rattle.std.proofs.Common.{◌≡◌, take, map}
 use Rattle.typing_rules.specs.Scope.{param_of}
-use Rattle.find_faults.specs.Names.{meaning_in}
+use Rattle.spec_types.specs.faults.Names.{meaning_in}
 use Rattle.spec_types.proofs.operations.params_of.Given as goal
 
 -- the parameters so far

@@ -6,7 +6,7 @@ use Rattle.typing_rules.specs.Scope.{Names, with_name}
 use Rattle.typing_rules.specs.Lines.{unless}
 use Rattle.typing_rules.specs.Items.{Known, heading_fault, with_heading, typed_invariant}
 use Rattle.spec_trees.specs.Form.{sentence_of}
-use Rattle.find_faults.specs.Names.{meaning_in}
+use Rattle.spec_types.specs.faults.Names.{meaning_in}
 use Rattle.spec_types.specs.Refusals.{Makes}
 use Rattle.spec_types.specs.Views.{known_of}
 use Rattle.spec_types.proofs.operations.type_invariant.Goals as goal

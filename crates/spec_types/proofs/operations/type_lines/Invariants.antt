@@ -1,7 +1,7 @@
 use Rattle.std.proofs.Common.{◌≡◌, drop, map}
 use Rattle.spec_trees.specs.Form.{line_of}
 use Rattle.typing_rules.specs.Lines.{typed_lines}
-use Rattle.find_faults.specs.Views.{scope_of}
+use Rattle.spec_types.specs.faults.Views.{scope_of}
 use Rattle.spec_types.proofs.operations.type_lines.Given as goal
 
 -- the operation is that of what remains
