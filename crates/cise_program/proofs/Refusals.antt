@@ -3,7 +3,7 @@ use Rattle.std.proofs.Common.{◌≡◌, ◌↔◌, ℕ, true, List, Option, Som
 use Rattle.std.specs.Io.KnownBytes.{Appends}
 use Rattle.spec_trees.specs.Form.{TreeForm}
 use Rattle.typing_rules.specs.Fault.{Fault}
-use Rattle.fault_rules.specs.Faults.{IsLeastFault}
+use Rattle.typing_rules.specs.FaultRules.{IsLeastFault}
 use Rattle.spec_from_bytes.specs.Refusal.{IsTreeOf, Refusal, faulty, IsRefusal, refusal_text}
 use Rattle.cise_program.specs.declared.words.Task.{Task}
 use Rattle.cise_program.specs.declared.words.Task.TheVariants.{Check, Verify, Upgrade, Replay, Simulate, Suggest, Spell}

@@ -15,7 +15,7 @@ use Rattle.proof_report.specs.declared.verdict.Verdict.{Verdict}
 use Rattle.proof_report.specs.Verdicts.{VerdictForm, refuted, obligation_at, ReportForm}
 use Rattle.report_reader.specs.Reader.{reads_of}
 use Rattle.typing_rules.specs.Fault.{Fault}
-use Rattle.fault_rules.specs.Faults.{IsLeastFault}
+use Rattle.typing_rules.specs.FaultRules.{IsLeastFault}
 use Rattle.spec_from_bytes.specs.Lines.{line}
 use Rattle.spec_from_bytes.specs.Refusal.{IsTreeOf, IsSpecificationOf, Refusal, faulty, IsRefusal, refusal_text}
 use Rattle.schedule_json.specs.declared.schedule.Schedule.{Schedule}

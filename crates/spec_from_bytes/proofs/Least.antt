@@ -7,8 +7,8 @@ use Rattle.spec_trees.specs.Form.{TreeForm}
 use Rattle.spec_trees.specs.Place.{IsRead}
 use Rattle.typing_rules.specs.Fault.{Fault}
 use Rattle.typing_rules.specs.Items.{typing}
-use Rattle.fault_rules.specs.Sites.{specification_of}
-use Rattle.fault_rules.specs.Faults.{IsLeastFault, HasNoFault, IsTypingOf, IsWritten}
+use Rattle.typing_rules.specs.Sites.{specification_of}
+use Rattle.typing_rules.specs.FaultRules.{IsLeastFault, HasNoFault, IsTypingOf, IsWritten}
 use Rattle.spec_from_bytes.specs.Refusal.{IsTreeOf, IsReadAs, faulty, IsRefusal}
 
 module _ (least : (t : TreeForm) (r : Result Specification Fault) → IsWritten t → IsTypingOf t r ↔ (typing t ≡ r))

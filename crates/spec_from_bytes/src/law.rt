@@ -6,12 +6,12 @@ ghost use Rattle.spec_core.specs.Specification.{Specification};
 ghost use Rattle.spec_trees.specs.Form.{TreeForm};
 ghost use Rattle.spec_trees.specs.Place.{IsRead};
 ghost use Rattle.typing_rules.specs.Fault.{Fault};
-ghost use Rattle.fault_rules.specs.Sites.{specification_of};
-ghost use Rattle.fault_rules.specs.Faults.{IsLeastFault, HasNoFault};
+ghost use Rattle.typing_rules.specs.Sites.{specification_of};
+ghost use Rattle.typing_rules.specs.FaultRules.{IsLeastFault, HasNoFault};
 ghost use Rattle.spec_from_bytes.specs.Refusal.{IsTreeOf, IsReadAs, IsSpecificationOf, Refusal};
 ghost use Rattle.spec_from_bytes.specs.Refusal.{faulty, IsRefusal};
 
-use fault_rules::{law_least_fault, law_read_is_written};
+use typing_rules::{law_least_fault, law_read_is_written};
 
 /// Some bytes are read as one tree at most, with the places of all its words.
 pub fn law_one_tree()

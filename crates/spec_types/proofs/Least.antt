@@ -5,7 +5,7 @@ use Rattle.spec_core.specs.Specification.{Specification}
 use Rattle.spec_trees.specs.Form.{TreeForm}
 use Rattle.typing_rules.specs.Fault.{Fault, unknown_fault, twice_fault, kind_fault, count_fault, limit_fault}
 use Rattle.typing_rules.specs.Items.{typing}
-use Rattle.fault_rules.specs.Faults.{IsTypingOf}
+use Rattle.typing_rules.specs.FaultRules.{IsTypingOf}
 use Rattle.spec_types.specs.declared.refusal.TypeRefused.{TypeRefused}
 use Rattle.spec_types.specs.declared.refusal.TypeRefused.TheVariants as refused
 use Rattle.spec_types.specs.Refusals.{IsTypeRefusal, IsLeastRefusal}

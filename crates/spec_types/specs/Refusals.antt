@@ -6,7 +6,7 @@ use Rattle.spec_types.specs.declared.refusal.TypeRefused.TheVariants as refused
 use Rattle.spec_types.specs.declared.refusal.Stop.{Stop}
 use Rattle.spec_types.specs.declared.refusal.Stop.TheVariants as stop
 use Rattle.spec_trees.specs.Form.{TreeForm}
-use Rattle.fault_rules.specs.Faults.{IsLeastFault}
+use Rattle.typing_rules.specs.FaultRules.{IsLeastFault}
 use Rattle.spec_types.specs.faults.Views.{fault_of}
 
 -- a refusal says which fault it was, unless memory is wanting

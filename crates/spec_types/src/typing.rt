@@ -5,7 +5,7 @@ ghost use Rattle.spec_core.specs.Typed.{is_specification};
 ghost use Rattle.spec_trees.specs.Form.{item_of, tree_of};
 ghost use Rattle.spec_trees.specs.Trees.{IsTree};
 ghost use Rattle.typing_rules.specs.Items.{typed_item, typed_items, typing};
-ghost use Rattle.fault_rules.specs.Faults.{IsWritten, IsTypingOf};
+ghost use Rattle.typing_rules.specs.FaultRules.{IsWritten, IsTypingOf};
 ghost use Rattle.spec_types.specs.Refusals.{IsTypeRefusal, IsLeastRefusal, Makes};
 ghost use Rattle.spec_types.specs.Views.{known_of};
 
@@ -15,11 +15,10 @@ use crate::known::{Known, nothing_known};
 use crate::operations::{type_invariant, type_operation};
 use crate::refusal::{Stop, TypeRefused, refused};
 use crate::rules::type_conflict;
-use fault_rules::law_least_fault;
 use spec_core::Spec;
 use spec_trees::{Item, Tree};
 use std::alloc::Global;
-use typing_rules::law_typed_is_well_formed;
+use typing_rules::{law_least_fault, law_typed_is_well_formed};
 
 fn type_item<'t>(alloc: Global, known: &mut Known, item: &'t Item) -> Result<(), Stop<'t>>
     ensures { Makes (typed_item (known_of known.old) (item_of item.now))

@@ -1,3 +1,12 @@
+pub mod Order
+pub mod Standing
+pub mod Declarations
+pub mod Deciding
+pub mod Lists
+pub mod Agreeing
+pub mod WholeTrees
+pub mod Least
+pub mod Reading
 pub mod Basics
 pub mod Extending
 pub mod Elements

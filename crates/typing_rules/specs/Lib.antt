@@ -1,3 +1,5 @@
+pub mod Sites
+pub mod FaultRules
 pub mod Fault
 pub mod Scope
 pub mod Terms

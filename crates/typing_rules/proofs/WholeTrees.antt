@@ -28,10 +28,10 @@ use Rattle.typing_rules.specs.Formulas.{sentence_fault}
 use Rattle.typing_rules.specs.Lines.{unless}
 use Rattle.typing_rules.specs.Items.{Known, scope_in, heading_fault, place_fault, sorts_fault, with_sort, few_consts_fault, const_fault, with_const, with_relation, with_counter, with_token, value_fault, initially_fault, with_initial, rule_sort, rule_variable_fault, rule_variables_fault, pattern_fault_at, pattern_fault, with_rule, with_heading, some_fault, exists_fault, claim_fault, with_invariant, with_params, params_fault, without_lines, with_operation as with_typed_operation, typed_operation, typed_item, going_on, typed_items, nothing_known, typing, first_sort, pattern_places}
 use Rattle.typing_rules.proofs.Elements.{places_none, stranger}
-use Rattle.fault_rules.specs.Sites.{Need, a_sort, meets, Site, used, stated, sentence_sites, lines_sites, operation_behind, param_sites, heading_sites, place_sites, few_const_sites, need_of_value, value_sites, pattern_variable_sites, pattern_sites_at, pattern_sites, some_sites, exists_sites, operation_sites, item_sites, with_operation, with_lines, known_behind, items_sites, known_behind_all, sites_of, specification_of, sorts_at, first_place_sort}
-use Rattle.fault_rules.proofs.Deciding.{met_in_scope, fault_at}
-use Rattle.fault_rules.proofs.Lists.{first_of, none_behind, in_three, behind_none, first_append, parts, unless_both}
-use Rattle.fault_rules.proofs.Agreeing.{stranger_first, sort_agrees, sentence_agrees, all_params_agree, lines_agree}
+use Rattle.typing_rules.specs.Sites.{Need, a_sort, meets, Site, used, stated, sentence_sites, lines_sites, operation_behind, param_sites, heading_sites, place_sites, few_const_sites, need_of_value, value_sites, pattern_variable_sites, pattern_sites_at, pattern_sites, some_sites, exists_sites, operation_sites, item_sites, with_operation, with_lines, known_behind, items_sites, known_behind_all, sites_of, specification_of, sorts_at, first_place_sort}
+use Rattle.typing_rules.proofs.Deciding.{met_in_scope, fault_at}
+use Rattle.typing_rules.proofs.Lists.{first_of, none_behind, in_three, behind_none, first_append, parts, unless_both}
+use Rattle.typing_rules.proofs.Agreeing.{stranger_first, sort_agrees, sentence_agrees, all_params_agree, lines_agree}
 
 -- ---- names
 

@@ -7,13 +7,13 @@ use Rattle.spec_core.specs.Specification.{Specification}
 use Rattle.typing_rules.specs.Fault.{Fault, ◌otherwise◌}
 use Rattle.typing_rules.specs.Lines.{unless}
 use Rattle.typing_rules.specs.Items.{typing}
-use Rattle.fault_rules.specs.Sites.{Site, sites_of, specification_of}
-use Rattle.fault_rules.specs.Faults.{IsWrong, IsTypingOf, IsWritten}
-use Rattle.fault_rules.proofs.Order.{IsSameOrBefore, all_mono, weight, IsAmong, Precedes, InOrder}
-use Rattle.fault_rules.proofs.Declarations.{tree_spelled}
-use Rattle.fault_rules.proofs.Deciding.{fault_at, Decides, decided}
-use Rattle.fault_rules.proofs.Lists.{first_of}
-use Rattle.fault_rules.proofs.Whole.{typing_agrees}
+use Rattle.typing_rules.specs.Sites.{Site, sites_of, specification_of}
+use Rattle.typing_rules.specs.FaultRules.{IsWrong, IsTypingOf, IsWritten}
+use Rattle.typing_rules.proofs.Order.{IsSameOrBefore, all_mono, weight, IsAmong, Precedes, InOrder}
+use Rattle.typing_rules.proofs.Declarations.{tree_spelled}
+use Rattle.typing_rules.proofs.Deciding.{fault_at, Decides, decided}
+use Rattle.typing_rules.proofs.Lists.{first_of}
+use Rattle.typing_rules.proofs.WholeTrees.{typing_agrees}
 
 -- ---- members
 

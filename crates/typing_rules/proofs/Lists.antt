@@ -2,8 +2,8 @@
 use Rattle.std.proofs.Common.{◌≡◌, List, [], ◌∷◌, ◌++◌, Option, None, Some, Result, refl, sym, ◌∙◌, ap}
 use Rattle.typing_rules.specs.Fault.{Fault, ◌otherwise◌}
 use Rattle.typing_rules.specs.Lines.{unless}
-use Rattle.fault_rules.specs.Sites.{Site}
-use Rattle.fault_rules.proofs.Deciding.{fault_at}
+use Rattle.typing_rules.specs.Sites.{Site}
+use Rattle.typing_rules.proofs.Deciding.{fault_at}
 
 abbrev pub first_of : List Site → Option Fault
 first_of [] = None

@@ -31,9 +31,9 @@ use Rattle.typing_rules.specs.Formulas.{atom_fault_at, atom_fault, side_element,
 use Rattle.typing_rules.specs.Lines.{most_observed, spots_fault, target_fault_at, relation_fault_at, counter_fault_at, relation_target_fault, counter_target_fault, guard_fault, taking_fault_at, taking_fault, line_fault, with_line, unless, typed_lines}
 use Rattle.typing_rules.specs.Items.{with_params, param_kind_fault, param_fault, params_fault}
 use Rattle.typing_rules.proofs.Elements.{places_none}
-use Rattle.fault_rules.specs.Sites.{a_sort, a_relation, a_counter, a_number, has_no_keys, Site, used, applied, element_sites, argument_sites, atom_sites, lone_sites, count_sites, amount_sites_by, product_sites, signed_sites, term_sites, compare_sites, part_sites, formula_sites, variable_sites, sentence_sites, spot_sites, target_sites, relation_sites, counter_sites, guard_sites, taking_sites, line_sites, lines_sites, operation_behind, kind_sites, param_sites}
-use Rattle.fault_rules.proofs.Deciding.{fault_at}
-use Rattle.fault_rules.proofs.Lists.{first_of, none_behind, in_three, behind_none, first_append, parts, three_and_more, unless_both}
+use Rattle.typing_rules.specs.Sites.{a_sort, a_relation, a_counter, a_number, has_no_keys, Site, used, applied, element_sites, argument_sites, atom_sites, lone_sites, count_sites, amount_sites_by, product_sites, signed_sites, term_sites, compare_sites, part_sites, formula_sites, variable_sites, sentence_sites, spot_sites, target_sites, relation_sites, counter_sites, guard_sites, taking_sites, line_sites, lines_sites, operation_behind, kind_sites, param_sites}
+use Rattle.typing_rules.proofs.Deciding.{fault_at}
+use Rattle.typing_rules.proofs.Lists.{first_of, none_behind, in_three, behind_none, first_append, parts, three_and_more, unless_both}
 
 pub stranger_first : (sc : Scope) (m : Mark) (o : Option Fault) → (stranger_fault sc m otherwise o) ≡ stranger_fault sc m
 stranger_first sc m o = by (in_scope sc m.text)

@@ -6,8 +6,8 @@ use Rattle.parser_combinators.specs.Words.{Spelt}
 use Rattle.spec_trees.specs.Place.{IsPlaced}
 use Rattle.typing_rules.specs.Fault.{Fault}
 use Rattle.typing_rules.specs.Formulas.{node_count, first_word}
-use Rattle.fault_rules.specs.Sites.{Site, declared, used, applied, one_more, formula, literal, stated, compared, claimed_exists, rule_variable, rule_place}
-use Rattle.fault_rules.specs.Faults.{IsWrong, not_in_scope, in_scope_already, stated_already, not_as_needed, of_two_sorts, not_for_all, global_in_rule, at_two_sorts, wrong_number, one_too_many, too_many_nodes, too_large, word_of, IsBefore}
+use Rattle.typing_rules.specs.Sites.{Site, declared, used, applied, one_more, formula, literal, stated, compared, claimed_exists, rule_variable, rule_place}
+use Rattle.typing_rules.specs.FaultRules.{IsWrong, not_in_scope, in_scope_already, stated_already, not_as_needed, of_two_sorts, not_for_all, global_in_rule, at_two_sorts, wrong_number, one_too_many, too_many_nodes, too_large, word_of, IsBefore}
 
 -- ---- members
 

@@ -24,9 +24,9 @@ use Rattle.typing_rules.specs.Terms.{small, elem_by, elem_named, sort_of_elem, s
 use Rattle.typing_rules.specs.Formulas.{sorts_fault, node_count, first_word, nodes_fault}
 use Rattle.typing_rules.specs.Items.{Known}
 use Rattle.typing_rules.proofs.Elements.{small_is}
-use Rattle.fault_rules.specs.Sites.{Need, a_sort, an_element_of, an_element, a_relation, a_counter, a_token, a_number, has_no_keys, meets, Site, declared, used, applied, one_more, formula, literal, stated, compared, claimed_exists, rule_variable, rule_place, first_place_sort}
-use Rattle.fault_rules.specs.Faults.{IsWrong, not_in_scope, in_scope_already, stated_already, not_as_needed, of_two_sorts, not_for_all, global_in_rule, at_two_sorts, wrong_number, one_too_many, too_many_nodes, too_large}
-use Rattle.fault_rules.proofs.Order.{weight}
+use Rattle.typing_rules.specs.Sites.{Need, a_sort, an_element_of, an_element, a_relation, a_counter, a_token, a_number, has_no_keys, meets, Site, declared, used, applied, one_more, formula, literal, stated, compared, claimed_exists, rule_variable, rule_place, first_place_sort}
+use Rattle.typing_rules.specs.FaultRules.{IsWrong, not_in_scope, in_scope_already, stated_already, not_as_needed, of_two_sorts, not_for_all, global_in_rule, at_two_sorts, wrong_number, one_too_many, too_many_nodes, too_large}
+use Rattle.typing_rules.proofs.Order.{weight}
 
 -- ---- what is as it has to be is in scope
 

@@ -8,7 +8,7 @@ ghost use Rattle.spec_trees.specs.Form.{TreeForm};
 ghost use Rattle.spec_trees.specs.Place.{IsRead};
 ghost use Rattle.typing_rules.specs.Fault.{Fault};
 ghost use Rattle.typing_rules.specs.Items.{typing};
-ghost use Rattle.fault_rules.specs.Faults.{IsWritten, IsTypingOf};
+ghost use Rattle.typing_rules.specs.FaultRules.{IsWritten, IsTypingOf};
 
 /// Of a tree that stands in a text, `typing` answers what the tree declares, where it has no fault, and else the least of its faults;
 /// and there is one such answer.

@@ -26,9 +26,9 @@ use Rattle.typing_rules.specs.Scope.{Scope, counter_meant}
 use Rattle.typing_rules.specs.Terms.{number_named, sort_named}
 use Rattle.typing_rules.specs.Formulas.{lone_of_reading, lone_of_more, lone_name, sorted_only, element_by, element_alone, is_equality, side_element, node_count, first_word, with_vars, vars_of}
 use Rattle.typing_rules.specs.Lines.{with_line}
-use Rattle.fault_rules.specs.Sites.{Need, a_number, a_counter, an_element, an_element_of, a_sort, Site, declared, used, applied, one_more, formula, literal, element_sites, argument_sites, lone_sites, amount_sites_by, amount_sites, product_sites, signed_sites, term_sites, compare_sites, part_sites, formula_sites, variable_sites, sentence_sites, spot_sites, target_sites, guard_sites, line_sites, lines_sites}
-use Rattle.fault_rules.specs.Faults.{IsWrong, not_in_scope, in_scope_already, not_as_needed, wrong_number, one_too_many, too_many_nodes}
-use Rattle.fault_rules.proofs.Order.{all_mono, site_word, Member, Claims, claims_right, IsAmong, Precedes, Spelled, joint, quiet, before, behind, headed, on_top}
+use Rattle.typing_rules.specs.Sites.{Need, a_number, a_counter, an_element, an_element_of, a_sort, Site, declared, used, applied, one_more, formula, literal, element_sites, argument_sites, lone_sites, amount_sites_by, amount_sites, product_sites, signed_sites, term_sites, compare_sites, part_sites, formula_sites, variable_sites, sentence_sites, spot_sites, target_sites, guard_sites, line_sites, lines_sites}
+use Rattle.typing_rules.specs.FaultRules.{IsWrong, not_in_scope, in_scope_already, not_as_needed, wrong_number, one_too_many, too_many_nodes}
+use Rattle.typing_rules.proofs.Order.{all_mono, site_word, Member, Claims, claims_right, IsAmong, Precedes, Spelled, joint, quiet, before, behind, headed, on_top}
 
 -- ---- two faults at one word
 

@@ -22,10 +22,10 @@ use Rattle.typing_rules.specs.declared.meaning.Meaning.TheVariants as meaning
 use Rattle.typing_rules.specs.Scope.{Scope, in_scope, sort_meant}
 use Rattle.typing_rules.specs.Formulas.{with_vars, vars_of}
 use Rattle.typing_rules.specs.Items.{Known, scope_in, with_heading, with_params, without_lines, with_const, nothing_known}
-use Rattle.fault_rules.specs.Sites.{Need, a_sort, a_token, Site, declared, used, applied, one_more, literal, stated, claimed_exists, rule_variable, rule_place, formula_sites, variable_sites, sentence_sites, lines_sites, kind_sites, param_sites, heading_sites, place_sites, few_const_sites, need_of_value, value_sites, pattern_variable_sites, pattern_sites_at, pattern_sites, some_sites, exists_sites, operation_sites, item_sites, known_behind, items_sites, sites_of}
-use Rattle.fault_rules.specs.Faults.{not_in_scope, stated_already, not_as_needed, global_in_rule, at_two_sorts}
-use Rattle.fault_rules.proofs.Order.{Precedes, Spelled, joint, quiet, before, behind, headed, on_top}
-use Rattle.fault_rules.proofs.Standing.{one_use, use_applied, use_limit, twice_limited, one_listed, in_group, formula_spelled, variables_spelled, vars_spelled, led, lines_spelled}
+use Rattle.typing_rules.specs.Sites.{Need, a_sort, a_token, Site, declared, used, applied, one_more, literal, stated, claimed_exists, rule_variable, rule_place, formula_sites, variable_sites, sentence_sites, lines_sites, kind_sites, param_sites, heading_sites, place_sites, few_const_sites, need_of_value, value_sites, pattern_variable_sites, pattern_sites_at, pattern_sites, some_sites, exists_sites, operation_sites, item_sites, known_behind, items_sites, sites_of}
+use Rattle.typing_rules.specs.FaultRules.{not_in_scope, stated_already, not_as_needed, global_in_rule, at_two_sorts}
+use Rattle.typing_rules.proofs.Order.{Precedes, Spelled, joint, quiet, before, behind, headed, on_top}
+use Rattle.typing_rules.proofs.Standing.{one_use, use_applied, use_limit, twice_limited, one_listed, in_group, formula_spelled, variables_spelled, vars_spelled, led, lines_spelled}
 
 -- ---- sorts of places
 

@@ -17,7 +17,7 @@ use Rattle.typing_rules.specs.Scope.{Scope, in_scope}
 use Rattle.typing_rules.specs.Terms.{sort_named}
 use Rattle.typing_rules.specs.Formulas.{node_count, first_word}
 use Rattle.typing_rules.specs.Items.{Known}
-use Rattle.fault_rules.specs.Sites.{Need, meets, Site, declared, used, applied, one_more, formula, literal, stated, compared, claimed_exists, rule_variable, rule_place, first_place_sort, sites_of, specification_of}
+use Rattle.typing_rules.specs.Sites.{Need, meets, Site, declared, used, applied, one_more, formula, literal, stated, compared, claimed_exists, rule_variable, rule_place, first_place_sort, sites_of, specification_of}
 
 -- The rules: what is wrong with what stands at a word.
 pub data IsWrong : Site → Fault → Type 0 where

@@ -10,7 +10,7 @@ use Rattle.parser_combinators.specs.Texts.{text_of as symbol_text}
 use Rattle.spec_trees.specs.Form.{TreeForm}
 use Rattle.spec_trees.specs.Spelling.{tree}
 use Rattle.spec_trees.specs.Place.{IsRead}
-use Rattle.fault_rules.specs.Faults.{IsWritten}
+use Rattle.typing_rules.specs.FaultRules.{IsWritten}
 
 length-plain : (xs : List Spelt) → length (plain xs) ≡ length xs
 length-plain [] = refl

@@ -1,9 +1,0 @@
-pub mod Order
-pub mod Standing
-pub mod Declarations
-pub mod Deciding
-pub mod Lists
-pub mod Agreeing
-pub mod Whole
-pub mod Least
-pub mod Reading
