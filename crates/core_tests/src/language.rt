@@ -1,6 +1,6 @@
 // Tests of words, trees and spelling by their public calls: tables of texts, with the answer to each.
 //
-// The contracts of `word_cut`, `spec_reader` and `spec_writer` say which words some bytes have, which tree they are read as, where reading stops,
+// The contracts of `word_cut`, `spec_reader` and `spec_trees` say which words some bytes have, which tree they are read as, where reading stops,
 // and how a tree is spelled. The tables show the same on small texts, worked out by hand from docs/users/LANGUAGE.md; and that texts
 // nested as deep as the language allows are read. They stand in a crate of their own so that no crate below is proved again with
 // its tests. `words` has the cutting of bytes, `numbers` the reading of whole numbers, `reading` makes texts and reads them,

@@ -1,12 +1,14 @@
-// The trees of specifications, and how they are spelled.
+// The trees of specifications, how they are spelled, and their text.
 //
 // `tree` has the types. The definitions are in specs/, over plain data, in this order: `Form`
 // (trees wherever they lie in memory), `Spelling` (the words of a tree: the grammar of both
 // versions of the language), `Trees` (which trees there are, and which differ in the places of
 // their words alone), `Depth` (how deep a formula nests), `Place` (which bytes are read as which
-// tree, and how far some spelling goes) and `Layout` (the text of a tree). `spec_reader` makes
-// trees of words, `spec_writer` makes text of trees. The crate stands on `word_cut` (words),
-// `parser_combinators` (what is spelled by which words) and `spec_core` (names).
+// tree, and how far some spelling goes) and `Layout` (the text of a tree). `putting` gives the
+// words of a tree, one after the other, as `Spelling` says; `spelling` writes them with the white
+// space that `Layout` asks for. `spec_reader` makes trees of words; that what is spelled is read as
+// the same tree is a law there. The crate stands on `word_cut` (words), `parser_combinators` (what
+// is spelled by which words) and `spec_core` (names).
 //
 // Decisions:
 // - The trees are below reading and writing, with all definitions of how they are spelled, so that
@@ -21,10 +23,13 @@
 #![tactic(auto)]
 
 mod laws;
+mod putting;
+mod spelling;
 mod tree;
 
 pub use laws::law_depth;
 pub use parser_combinators::Version;
+pub use spelling::spell;
 pub use tree::{
     Comparison, Connective, Figure, Formula, Item, Line, Mark, Mode, Param, ParamKind, Prefix,
     Prefixed, Product, Quantifier, Reading, Sign, Signed, Spot, Summand, Term, Tree, Value,

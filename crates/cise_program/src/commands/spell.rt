@@ -6,8 +6,7 @@ ghost use Rattle.spec_trees.specs.Form.{tree_of};
 ghost use Rattle.cise_program.specs.commands.Spell.{IsSpelled, IsSpellFront};
 
 use byte_ports::{MEMORY, Sink, write_answer};
-use spec_trees::Tree;
-use spec_writer::spell;
+use spec_trees::{Tree, spell};
 use std::alloc::Global;
 
 /// Spells the tree of a specification.

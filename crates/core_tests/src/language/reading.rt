@@ -1,6 +1,6 @@
 // Texts that are made, read and spelled for the tests.
 use spec_reader::{SyntaxRefused, parse};
-use spec_writer::spell;
+use spec_trees::spell;
 use std::alloc::{AllocError, Global};
 use word_cut::cut;
 
