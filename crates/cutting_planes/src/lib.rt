@@ -32,7 +32,7 @@
 //
 // Decisions:
 // - The tableau has no proved invariant: a wrong one would cost answers and prove nothing.
-// - Rows are a plain list with a table of the given ones, and not those of `indexed_rows`: the rows
+// - Rows are a plain list with a table of the given ones, and not those of `elimination`: the rows
 //   of a name are asked for only where it is moved, and pairs never.
 // - A contradiction may be a partial sum. Rows after it are never made, and those that it doesn't
 //   rest on are trimmed away.

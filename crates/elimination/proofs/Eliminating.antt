@@ -12,7 +12,7 @@ use Rattle.proof_lines.specs.Numbers.{stands_in, are_different}
 use Rattle.theory_api.specs.Elimination.{stage}
 use Rattle.elimination.specs.declared.tableau.Tableau.{Tableau}
 use Rattle.theory_api.specs.Ends.{names_none}
-use Rattle.indexed_rows.proofs.Standing.{stands-there}
+use Rattle.elimination.proofs.Standing.{stands-there}
 use Rattle.elimination.specs.Pairs.{place_at, IsCombined, IsCombinedAt, Pair, Paired, Eliminated}
 use Rattle.elimination.specs.Tableaux.{IsTableau, IsElimination, Grown, IsGrown, CanAllMeet, AreCombined, AreTaken}
 use Rattle.elimination.specs.Sides.{is_on, IsSide}

@@ -1,3 +1,5 @@
+pub mod Standing
+pub mod Fingerprinting
 pub mod Signs
 pub mod Names
 pub mod Stages

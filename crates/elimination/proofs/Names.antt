@@ -9,7 +9,7 @@ use Rattle.lin_rows.specs.declared.term.RowTerm.{RowTerm}
 use Rattle.lin_rows.specs.Rows.{rises_from, coefficient_at}
 use Rattle.lin_rows.proofs.Kept.{Rises, rises, first_of_both}
 use Rattle.proof_lines.proofs.Sets.{same_nat-refl}
-use Rattle.indexed_rows.specs.Places.{names}
+use Rattle.elimination.specs.Places.{names}
 
 unnamed : (p least : ℕ) (ts : List RowTerm) → nat_le (suc p) least ≡ true → rises_from least ts ≡ true → coefficient_at ts p ≡ pos 0
 unnamed p least [] h k = refl

@@ -6,7 +6,7 @@ use Rattle.std.proofs.lemmas.Bool.{and_parts, and_from, eqb-true, ltb-true, lt-l
 use Rattle.lin_rows.specs.Rows.{Row}
 use Rattle.proof_lines.specs.Numbers.{stands_in}
 use Rattle.line_rows.specs.Steps.{row_at}
-use Rattle.indexed_rows.specs.Places.{names}
+use Rattle.elimination.specs.Places.{names}
 use Rattle.elimination.specs.Sides.{is_on, is_on_at, IsSide}
 use Rattle.elimination.proofs.Signs.{on-named}
 use Rattle.elimination.proofs.Names.{names-there}

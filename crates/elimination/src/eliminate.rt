@@ -5,11 +5,11 @@ ghost use Rattle.proof_lines.specs.Numbers.{stands_in};
 ghost use Rattle.elimination.specs.Stops.{IsEarlyStop};
 ghost use Rattle.elimination.specs.Tableaux.{IsElimination};
 
+use crate::choosing::fewest;
 use crate::sides::side_of;
 use crate::steps::combine_all;
 use crate::stop::Stop;
 use crate::tableau::Tableau;
-use indexed_rows::fewest;
 use items::Items;
 use lin_rows::Row;
 use std::alloc::{AllocError, Global};

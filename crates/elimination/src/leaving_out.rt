@@ -9,12 +9,14 @@
 ghost use Rattle.std.specs.Prelude.{IfSome};
 ghost use Rattle.theory_api.specs.Laws.{IsConflict};
 
+use crate::choosing::fewest;
 use crate::eliminate::without;
+use crate::held::Held;
+use crate::order::{Order, prefix};
 use crate::sides::of_side;
 use crate::steps::{is_needed, step_of};
 use crate::tableau::ROW_LIMIT;
 use crate::trim::{Conflict, conflict_in};
-use indexed_rows::{Held, Order, fewest, prefix};
 use items::Items;
 use lin_rows::{Combined, Row, combine};
 use line_rows::splitting::{is_negative, is_positive};

@@ -16,18 +16,24 @@
 // it still comes to is a conflict; where it comes to none, the Product is the answer, with the steps up to it.
 //
 // What it costs. One place with m upper and n lower rows takes m * n steps, and so the next place with the fewest pairs is taken each
-// time. The rows may grow doubly exponentially in the number of places; the limit of rows bounds this. Whether a new row is held, which
-// rows name a place and how many pairs it has is asked of the indexes of `indexed_rows`; the next place is looked for among all that are
-// left.
+// time. The rows may grow doubly exponentially in the number of places; the limit of rows bounds this. `Held` is the list of the held
+// rows, with three indexes beside it. Whether an equal row is held is asked of a map by fingerprints, numbers that equal rows share and
+// different ones seldom. The rows of a place are found in a list of the place, so each term of a held row is met a few times in all. How
+// many pairs a place has is counted as rows are held and as they are set aside. `Order` is the list of the eliminated places, with a flag
+// for each place. Contracts see the lists alone. The next place is looked for among all that are left.
 //
-// The layer stands on `theory_api`, which says what the certificates of a solver are, and on `indexed_rows`, which has the rows that are
-// held and the places that are eliminated; both stand on `items`, `lin_rows` and `proof_lines`. It chooses no values.
+// The layer stands on `theory_api`, which says what the certificates of a solver are, and on `items`, `lin_rows` and `proof_lines`. It
+// chooses no values.
 //
-// Files, in the order in which a reader needs them: src/tableau and src/stop (the held rows with the eliminated places, and why a solver
-// stops), src/take (the given rows), src/sides and src/steps (the rows of a place, and their pairs), src/eliminate (all places),
-// src/trim (what a conflict rests on), src/leaving_out (going on without a combination).
-// Definitions: specs/Pairs (when a pair is combined, and what holds when all places are eliminated), specs/Tableaux (what a tableau
-// keeps), specs/Stops (the reasons to stop), specs/Sides (the rows of a place), specs/Needed (which combinations are held).
+// Files, in the order in which a reader needs them: src/naming and src/counts (the rows and the pairs of each place), src/held (the list
+// of rows with its indexes), src/choosing (the place with the fewest pairs), src/order (the places in an order), src/places (the places
+// that rows name); src/tableau and src/stop (the held rows with the eliminated places, and why a solver stops), src/take (the given
+// rows), src/sides and src/steps (the rows of a place, and their pairs), src/eliminate (all places), src/trim (what a conflict rests
+// on), src/leaving_out (going on without a combination).
+// Definitions: specs/Places (which places a row names), specs/Naming (the index of the rows of a place), specs/Fingerprints (the number
+// by which a row is looked up); specs/Pairs (when a pair is combined, and what holds when all places are eliminated), specs/Tableaux
+// (what a tableau keeps), specs/Stops (the reasons to stop), specs/Sides (the rows of a place), specs/Needed (which combinations are
+// held).
 //
 // Decisions:
 // - The invariant of the tableau is the certificate itself, so an answer's evidence is never put
@@ -37,10 +43,20 @@
 //   names out of those contracts. `Stop` has gaps for the solver above, so that it needs no reasons
 //   of its own.
 // - Which place is next is free in the proof. Only places that a row names are eliminated.
+// - Where the row under a fingerprint is another one, all rows are compared.
+// - The index of a place may hold more numbers than it must: only that none is missing is kept, so
+//   a failed addition leaves it sound. How many pairs a place has is in no clause, since it decides
+//   only the order of elimination.
 #![tactic(auto)]
 
+mod choosing;
+mod counts;
 pub mod eliminate;
+mod held;
 pub mod leaving_out;
+mod naming;
+mod order;
+mod places;
 pub mod sides;
 pub mod steps;
 pub mod stop;
@@ -49,7 +65,10 @@ pub mod take;
 pub mod trim;
 
 pub use eliminate::eliminate_all;
+pub use held::Held;
 pub use leaving_out::{Rest, conflict_past};
+pub use order::{Order, prefix};
+pub use places::named_places;
 pub use sides::is_on_at;
 pub use stop::Stop;
 pub use tableau::Tableau;

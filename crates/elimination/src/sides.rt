@@ -7,8 +7,8 @@ ghost use Rattle.line_rows.specs.Steps.{is_negative, is_positive};
 ghost use Rattle.theory_api.specs.Ends.{names_none};
 ghost use Rattle.elimination.specs.Sides.{is_on, is_on_at, IsSide};
 
+use crate::order::Order;
 use crate::tableau::Tableau;
-use indexed_rows::Order;
 use items::Items;
 use lin_rows::{Row, RowTerm};
 use line_rows::splitting::{is_negative, is_positive};

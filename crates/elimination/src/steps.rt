@@ -7,9 +7,9 @@ ghost use Rattle.elimination.specs.Pairs.{IsCombinedAt};
 ghost use Rattle.elimination.specs.Stops.{IsEarlyStop};
 ghost use Rattle.elimination.specs.Tableaux.{AreCombined, CanAllMeet, CanMeet, IsGrown, IsTableau};
 
+use crate::held::Held;
 use crate::stop::Stop;
 use crate::tableau::{ROW_LIMIT, Tableau};
-use indexed_rows::Held;
 use lin_rows::{Combined, Row, RowRefused, combine};
 use proof_lines::{RangeWhat, RowStep};
 use std::alloc::Global;

@@ -1,7 +1,8 @@
 // The rows that are held while places are eliminated.
 ghost use Rattle.std.specs.Prelude.{◌≡◌, [], ◌∷◌, ◌++◌, OnOk};
 
-use indexed_rows::{Held, Order};
+use crate::held::Held;
+use crate::order::Order;
 use items::Items;
 use lin_rows::Row;
 use proof_lines::RowStep;

@@ -51,7 +51,7 @@ use Rattle.linear_ints.proofs.Ranges.{beyond-value, beyond-sum}
 use Rattle.elimination.proofs.Runs.{combined-sum}
 use Rattle.elimination.proofs.Stopping.{given-some}
 use Rattle.linear_ints.proofs.Unsettled.{unsettled-one, none-settles}
-use Rattle.indexed_rows.proofs.Standing.{stands-there}
+use Rattle.elimination.proofs.Standing.{stands-there}
 use Rattle.elimination.proofs.Eliminating.{eliminated}
 
 -- THE STAGE of a row on a side

@@ -14,7 +14,7 @@ use Rattle.theory_api.specs.Laws.{all_below}
 use Rattle.elimination.specs.declared.tableau.Tableau.{Tableau}
 use Rattle.elimination.specs.declared.stop.Stop.{Stop}
 use Rattle.elimination.specs.declared.stop.Stop.TheVariants.{Contradiction, Full, Gap, Beyond, Memory}
-use Rattle.indexed_rows.specs.Places.{names}
+use Rattle.elimination.specs.Places.{names}
 use Rattle.linear_ints.specs.Stops.{IsStop}
 use Rattle.elimination.specs.Stops.{IsEarlyStop}
 use Rattle.linear_ints.specs.Descending.{AreZeros}

@@ -11,8 +11,7 @@ ghost use Rattle.linear_ints.specs.Bounds.{IsBoundAt, IsGreatest, IsGreatestOf};
 ghost use Rattle.elimination.specs.Pairs.{place_at};
 
 use crate::ceiling::bound;
-use elimination::{Tableau, is_on_at};
-use indexed_rows::Order;
+use elimination::{Order, Tableau, is_on_at};
 use lin_rows::{Row, RowTerm, add_product};
 use line_rows::splitting::is_above;
 

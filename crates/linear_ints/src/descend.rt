@@ -13,8 +13,7 @@ ghost use Rattle.linear_ints.specs.Stops.{IsStop};
 ghost use Rattle.elimination.specs.Tableaux.{IsElimination};
 
 use crate::bounds::{Bound, Fault, FaultAt, side_bound, value_of};
-use elimination::{Stop, Tableau};
-use indexed_rows::prefix;
+use elimination::{Stop, Tableau, prefix};
 use items::Items;
 use lin_rows::Row;
 use lin_rows::number::minus;

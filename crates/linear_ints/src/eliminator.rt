@@ -7,8 +7,10 @@ ghost use Rattle.linear_ints.specs.Stops.{IsStop};
 ghost use Rattle.elimination.specs.Tableaux.{IsTaking};
 
 use crate::descend::descend;
-use elimination::{Conflict, Rest, Stop, Tableau, conflict_past, eliminate_all, take_all, trimmed};
-use indexed_rows::{Held, Order, named_places};
+use elimination::{
+    Conflict, Held, Order, Rest, Stop, Tableau, conflict_past, eliminate_all, named_places,
+    take_all, trimmed,
+};
 use items::Items;
 use lin_rows::Row;
 use proof_lines::RangeWhat;

@@ -19,7 +19,7 @@
 //
 // What it costs. Elimination, which makes nearly all of it; then each place takes one look at the rows that name it.
 //
-// The layer stands on `theory_api`, whose trait it keeps, on `elimination`, and on `indexed_rows`, in whose lists elimination leaves the
+// The layer stands on `theory_api`, whose trait it keeps, on `elimination`, and on `elimination`, in whose lists elimination leaves the
 // rows of each place; all of them stand on `items`, `lin_rows` and `proof_lines`.
 //
 // Files, in the order in which a reader needs them: src/ceiling and src/bounds (what a row says of a value), src/descend (the values),

@@ -1,5 +1,0 @@
-use Rattle.std.proofs.Common.{◌+◌, ◌-◌, length}
-use Rattle.indexed_rows.proofs.counts.make_room.Given as goal
-
-abbrev pub decreases-loop-counts : goal.decreases-loop-counts
-decreases-loop-counts l = (l.place + 1) - length l.counts.items

@@ -1,4 +1,0 @@
--- The definitions of the crate, in the order in which they stand on one another.
-pub mod Places
-pub mod Naming
-pub mod Fingerprints
