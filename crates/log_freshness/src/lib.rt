@@ -2,8 +2,8 @@
 // line contains no earlier one, holds no atom both ways and isn't empty.
 //
 // A log makes many thousands of clauses, most of them of a few literals. The literals of all of them stand in one list, so a clause takes
-// no memory of its own and no call of the allocator. Dropped clauses keep their numbers; their literals go when they are half of all.
-// No more than a stated number of literals is held (specs/Held). Contracts see the list of the clauses, with none where one was
+// no memory of its own and no call of the allocator. Dropped clauses keep their numbers; their literals go when they are more than half
+// of all. No more than a stated number of literals is held (specs/Held). Contracts see the list of the clauses, with none where one was
 // dropped (src/store; specs/Spans mirrors where the literals stand).
 //
 // That a clause contains no earlier one is forward subsumption. A log whose lines are all new can't go on for ever, so evidence of a
@@ -12,11 +12,6 @@
 //
 // Definitions: specs/Freshness. Two private indexes make the test fast, and no clause of a call names them: src/freshness.rt (lists of the
 // literals of earlier clauses, specs/Index, specs/Puts) and src/blocks.rt (blocks of clauses with masks, specs/Blocks).
-//
-// A log makes many thousands of clauses, most of them of a few literals. The literals of all of them stand in one list, so a clause takes
-// no memory of its own and no call of the allocator. Dropped clauses keep their numbers; their literals go when they are more than half
-// of all. No more than a stated number of literals is held (specs/Held). Contracts see the list of the clauses, with none where one was
-// dropped. The layer stands on `proof_lines` alone.
 //
 // Decisions:
 // - Of the masks of a block it is proved that a set bit is right, and no more. Which clauses are in
