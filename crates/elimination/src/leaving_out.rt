@@ -5,7 +5,8 @@
 // what was left out, and rows that were never made make neither a gap nor too many. So the answer is a conflict, or else the
 // first combination that was left out, with the steps up to it.
 //
-// Nothing is promised of the way to a contradiction. What it rests on is tested by the rule of a Farkas line.
+// Nothing is promised of the way to a contradiction. What it rests on is tested by the rule of a Farkas line. Combinations of such rows have
+// long numbers and may be made by the million without one that is new, so the way ends after some pairs of rows.
 ghost use Rattle.std.specs.Prelude.{IfSome};
 ghost use Rattle.theory_api.specs.Laws.{IsConflict};
 
@@ -22,6 +23,9 @@ use lin_rows::{Combined, Row, combine};
 use line_rows::splitting::{is_negative, is_positive};
 use proof_lines::RowStep;
 use std::alloc::{AllocError, Global};
+
+/// The most pairs of rows that are combined after that.
+const PAIR_LIMIT: u32 = 10_000;
 
 /// What stands when a combination is left out.
 #[derive(Drop)]
@@ -40,7 +44,7 @@ enum Going {
     On,
     /// The last held row is a contradiction.
     Refuted,
-    /// All places are eliminated, as many rows as the limit says are held, or there is no memory.
+    /// All places are eliminated, as many rows as the limit says are held or pairs are combined, or there is no memory.
     Over,
 }
 
@@ -84,8 +88,19 @@ fn hold(rest: &mut Rest, alloc: Global, upper: u32, lower: u32, sum: Combined) -
 }
 
 // Combines an upper row with each of some lower ones.
-fn combine_one(rest: &mut Rest, alloc: Global, place: u32, upper: u32, lowers: &[u32]) -> Going {
+fn combine_one(
+    rest: &mut Rest,
+    alloc: Global,
+    place: u32,
+    upper: u32,
+    lowers: &[u32],
+    pairs: &mut u32,
+) -> Going {
     for lower in lowers {
+        let Some(left) = pairs.checked_sub(1) else {
+            return Going::Over;
+        };
+        *pairs = left;
         if let Some(sum) = combination(alloc, rest.held.as_slice(), upper, *lower, place) {
             match hold(rest, alloc, upper, *lower, sum) {
                 Going::On => {}
@@ -103,9 +118,10 @@ fn combine_all(
     place: u32,
     uppers: &[u32],
     lowers: &[u32],
+    pairs: &mut u32,
 ) -> Going {
     for upper in uppers {
-        match combine_one(rest, alloc, place, *upper, lowers) {
+        match combine_one(rest, alloc, place, *upper, lowers, pairs) {
             Going::On => {}
             other => return other,
         }
@@ -134,20 +150,27 @@ fn sides_of(rest: &Rest, alloc: Global, before: &Order, place: u32) -> Result<Si
 }
 
 // Makes all pairs of both sides of a place.
-fn combine_sides(rest: &mut Rest, alloc: Global, place: u32, sides: Sides) -> Going {
+fn combine_sides(
+    rest: &mut Rest,
+    alloc: Global,
+    place: u32,
+    sides: Sides,
+    pairs: &mut u32,
+) -> Going {
     let going = combine_all(
         rest,
         alloc,
         place,
         sides.uppers.as_slice(),
         sides.lowers.as_slice(),
+        pairs,
     );
     drop(sides);
     going
 }
 
 // Makes the pairs that are left at the place that was eliminated last. The others are made once more and found to be held.
-fn finish_place(rest: &mut Rest, alloc: Global) -> Going {
+fn finish_place(rest: &mut Rest, alloc: Global, pairs: &mut u32) -> Going {
     let count = rest.order.len().saturating_sub(1);
     let Some(place) = rest.order.as_slice().get(count).copied() else {
         return Going::Over;
@@ -158,7 +181,7 @@ fn finish_place(rest: &mut Rest, alloc: Global) -> Going {
     let sides = sides_of(rest, alloc, &before, place);
     drop(before);
     match sides {
-        Ok(sides) => combine_sides(rest, alloc, place, sides),
+        Ok(sides) => combine_sides(rest, alloc, place, sides, pairs),
         Err(_) => Going::Over,
     }
 }
@@ -173,12 +196,12 @@ fn pass_on(rest: &mut Rest, alloc: Global, place: u32, sides: &Sides) -> Result<
 }
 
 // Eliminates a place that is left.
-fn eliminate_place(rest: &mut Rest, alloc: Global, place: u32) -> Going {
+fn eliminate_place(rest: &mut Rest, alloc: Global, place: u32, pairs: &mut u32) -> Going {
     let Ok(sides) = sides_of(rest, alloc, &rest.order, place) else {
         return Going::Over;
     };
     match pass_on(rest, alloc, place, &sides) {
-        Ok(()) => combine_sides(rest, alloc, place, sides),
+        Ok(()) => combine_sides(rest, alloc, place, sides, pairs),
         Err(_) => {
             drop(sides);
             Going::Over
@@ -196,7 +219,8 @@ fn next_place(held: &Held, left: &[u32]) -> Option<u32> {
 
 // Eliminates all places that are left. Whether a contradiction was made.
 fn go_on(rest: &mut Rest, alloc: Global) -> bool {
-    let mut going = finish_place(rest, alloc);
+    let mut pairs = PAIR_LIMIT;
+    let mut going = finish_place(rest, alloc, &mut pairs);
     for _place in 0..rest.left.len() {
         match going {
             Going::On => {}
@@ -204,7 +228,7 @@ fn go_on(rest: &mut Rest, alloc: Global) -> bool {
             Going::Over => return false,
         }
         going = match next_place(&rest.held, rest.left.as_slice()) {
-            Some(place) => eliminate_place(rest, alloc, place),
+            Some(place) => eliminate_place(rest, alloc, place, &mut pairs),
             None => Going::Over,
         };
     }
