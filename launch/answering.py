@@ -124,10 +124,15 @@ def tell(program: str, words: "list[str]", status: int, marks: "list[object]") -
         tell_words(words)
     elif status in MEANINGS:
         found = unread(words) if status == NOT_READ else []
-        held = HELD if status == NO_MEMORY and words[0] in ("verify", "upgrade") else ""
-        say(MEANINGS[status] + held + (": " if found else "") + ", ".join(found))
+        say(meaning(status, words[0]) + (": " if found else "") + ", ".join(found))
     elif status in REFUSED_INPUT:
         view().places(program, words, status, lambda: marks_of(words) == marks)
+
+
+def meaning(status: int, command: str) -> str:
+    """What a status of a command means, which the program doesn't say itself."""
+    held = HELD if status == NO_MEMORY and command in ("verify", "upgrade") else ""
+    return MEANINGS[status] + held
 
 
 def unread(words):

@@ -5,10 +5,11 @@ import re
 import shutil
 import subprocess
 import tempfile
+from typing import Callable
 
 from launch import kit
 from launch.paths import BAD_WORDS, BY_SIGNAL, NO_PROGRAM, at, say
-from launch.answering import MEANINGS, NOT_READ, PATHS, is_view
+from launch.answering import MEANINGS, NOT_READ, PATHS, is_view, meaning
 from launch.stopping import Stopped, end_all, stop_by_signals
 
 # The program reads no more than this of any input, and one byte to see whether there is more.
@@ -43,7 +44,7 @@ def is_command(words):
     return bool(words) and words[0] in PATHS and len(words) > max(1, PATHS[words[0]])
 
 
-def answer_unproved(words, room, list_commands):
+def answer_unproved(words: "list[str]", room: str, list_commands: "Callable[[], None]") -> int:
     """Answers by a program that isn't proved, with what it reads and writes in the room."""
     try:
         words, given = with_copies(words, room)
@@ -57,7 +58,7 @@ def answer_unproved(words, room, list_commands):
         if status == BAD_WORDS:
             list_commands()
         elif status in MEANINGS:
-            say(MEANINGS[status])
+            say(meaning(status, words[0]))
         return status if is_written(f"{room}/stdout") else NOT_WRITTEN
     say(f"the unproved program didn't come to an end: {' | '.join(lines[-3:])}")
     say(f"{PROVE}, which has no such limits")

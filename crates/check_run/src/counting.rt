@@ -98,7 +98,8 @@ fn decide_each(
 }
 
 /// Decides each obligation of a specification, with logs of at most `budget` lines, and answers how many verdicts of each kind
-/// there are. Nothing is written, and one obligation's problem is kept at a time.
+/// there are. Nothing is written. One obligation's problem is kept at a time, and the
+/// formulas that later ones share with it.
 pub fn decide_all(alloc: Global, spec: &Spec, budget: u32) -> Result<Tally, AllocError>
     requires least { 1 ≤ budget }
     ensures { IfOk result (λ tally. IsDecided spec.now budget tally) }
