@@ -43,6 +43,8 @@
 //   names out of those contracts. `Stop` has gaps for the solver above, so that it needs no reasons
 //   of its own.
 // - Which place is next is free in the proof. Only places that a row names are eliminated.
+// - A combination beyond the range of a row is left out, and the way goes on for 10,000 pairs of rows
+//   at most: rows of long numbers may be combined by the million, and few end in a contradiction.
 // - Where the row under a fingerprint is another one, all rows are compared.
 // - The index of a place may hold more numbers than it must: only that none is missing is kept, so
 //   a failed addition leaves it sound. How many pairs a place has is in no clause, since it decides

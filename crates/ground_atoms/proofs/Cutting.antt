@@ -8,16 +8,12 @@ use Rattle.ground_problem.specs.Symbols.{Integer, Part, number, multiple, Symbol
 use Rattle.ground_problem.specs.Definitions.{reading_of_integer}
 use Rattle.ground_numbers.specs.Numbered.{Numbered}
 use Rattle.ground_numbers.specs.Numbers.{Atom, same_atom, has_atom, row_atom, has_number, has_integer}
+pub use Rattle.ground_atoms.specs.Staying.{Begins, Grows}
 use Rattle.ground_atoms.specs.Known.{Known, reading_of_atom, know_atom, know_integer}
 use Rattle.ground_atoms.specs.Making.{make_terms, make_row, make, MadeList, make_all}
 use Rattle.ground_atoms.specs.Sizes.{size_of, cut_back}
 
 -- ---- lists that begin with others
-
--- a list is another one and some more
-pub record Begins {A : Type 0} (xs ys : List A) : Type 0 where
-  pub more : List A
-  pub is : ys ≡ xs ++ more
 
 pub same_list : {A : Type 0} (xs : List A) → Begins xs xs
 same_list xs = record { more = []; is = sym (append-nil xs) }
@@ -28,7 +24,7 @@ then_more xs ys zs p q = record {
   is = q.is ∙ ap (λ l. l ++ q.more) p.is ∙ append_assoc xs p.more q.more;
 }
 
-unless : {A : Type 0} (b : Bool) (xs more : List A) → Begins xs (cond b xs (xs ++ more))
+pub unless : {A : Type 0} (b : Bool) (xs more : List A) → Begins xs (cond b xs (xs ++ more))
 unless true xs more = same_list xs
 unless false xs more = record { more = more; is = refl }
 
@@ -36,12 +32,6 @@ pub front_of : {A : Type 0} (xs ys : List A) → Begins xs ys → take (length x
 front_of xs ys p = ap (take (length xs)) p.is ∙ take-append_seam xs p.more
 
 -- ---- what is known
-
--- what is known begins with what was known
-pub record Grows (k l : Known) : Type 0 where
-  pub atoms : Begins k.table.atoms l.table.atoms
-  pub ints : Begins k.table.ints l.table.ints
-  pub named : Begins k.named l.named
 
 pub stays : (k : Known) → Grows k k
 stays k = record { atoms = same_list k.table.atoms; ints = same_list k.table.ints; named = same_list k.named }

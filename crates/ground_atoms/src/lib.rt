@@ -3,8 +3,7 @@
 // It stands on `ground_numbers`, whose tables it holds, and on `lin_rows`. Formulas are numbered as they are made, from left to
 // right; the readings that they name are kept in the order in which they are first named. Definitions, in specs/: `Symbols` (what
 // atoms, names, readings and summands of a program stand for), `Known` (what a numbering knows), `Sizes` (a numbering cut back to an earlier size), `Staying`
-// (numbers stay where it grows), `Making` (formulas that are
-// numbered as they are made), `Formulas` (what formulas of a program are); `Keys` serves the hashing of rows.
+// (numbers stay where it grows), `Making` (formulas that are numbered as they are made), `Formulas` (what formulas of a program are); `Keys` serves the hashing of rows.
 //
 // Decisions:
 // - The readings are kept in the order in which they were first named: atoms and integers are
