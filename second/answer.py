@@ -1,45 +1,33 @@
 """REPORT, "Statuses and other texts": which status and which text answer some words."""
-from typing import List, Tuple
-
+from __future__ import annotations
 from second import grammar, report, runs, schedule, words
 from second.specification import Specification
-from second.typed import type_tree
-
-BAD_WORDS, BAD_SPECIFICATION, BAD_SCHEDULE, NOT_READ, NO_MEMORY = 2, 3, 4, 6, 8
 
 
-def answer(given: List[str]) -> Tuple[int, str]:
-    """The status and the text."""
+def answer(given: list[str]) -> tuple[int, str]:
+    """The status and the text: "Statuses 2, 3 and 4 are examined in this order"."""
     command = given[0] if len(given) == 3 else "verify"
     if len(given) not in (2, 3) or command not in ("verify", "replay", "simulate"):
-        return BAD_WORDS, "refused words\n"
+        return 2, "refused words\n"
     try:
-        return _answer(command, given[-2], given[-1])
-    except OSError:
-        return NOT_READ, ""
-    except MemoryError:
-        return NO_MEMORY, ""
-
-
-def _answer(command: str, spec_path: str, other_path: str) -> Tuple[int, str]:
-    """The answer of a command: its specification is looked at first."""
-    try:
-        spec = specification(_bytes_of(spec_path, words.MOST_BYTES))
+        spec = specification(_bytes_of(given[-2], words.MOST_BYTES))
+        if command == "verify":
+            return report.verified(spec, _bytes_of(given[-1], report.MOST_BYTES))
+        steps = schedule.read_schedule(spec, _bytes_of(given[-1], schedule.MOST_BYTES))
+        return (runs.Run if command == "replay" else runs.Simulation)(spec, steps).text()
     except words.SpecRefused as refused:
-        return BAD_SPECIFICATION, f"refused specification {refused}\n"
-    if command == "verify":
-        return report.verified(spec, _bytes_of(other_path, report.MOST_BYTES))
-    try:
-        given = schedule.read_schedule(spec, _bytes_of(other_path, schedule.MOST_BYTES))
+        return 3, f"refused specification {refused}\n"
     except schedule.ScheduleRefused as refused:
-        return BAD_SCHEDULE, f"refused schedule {refused}\n"
-    return (runs.Run if command == "replay" else runs.Simulation)(spec, given).text()
+        return 4, f"refused schedule {refused}\n"
+    except OSError:
+        return 6, ""
+    except MemoryError:
+        return 8, ""
 
 
 def specification(text: bytes) -> Specification:
     """The specification that a text is."""
-    _, items = grammar.parse(words.cut(text))
-    return type_tree(items)
+    return grammar.Reader(words.cut(text)).specification()
 
 
 def _bytes_of(path: str, most: int) -> bytes:

@@ -1,23 +1,19 @@
 """REPORT, "The evidence of undecided verdicts": what can be checked of it."""
-from typing import Dict, List, NamedTuple, Sequence, Tuple
+from __future__ import annotations
+from typing import NamedTuple, Optional, Sequence, Tuple
 
-from second.log import Broken, Log, Step
+from second.log import Log, Step
 from second.meaning import MOST_VALUE
 from second.numbering import Clause
-from second.rows import OutOfRange, Row, combined, least_factors, names_besides, rest
+from second.rows import (Broken, OutOfRange, Row, combined, least_factors, names_besides,
+                         rest)
 
 ROW_LIMIT = 10_000
-
-
-class Evidence(NamedTuple):
-    """A line `rows`, `product`, `value` or `sum`: used literals, steps, its rows and name
-    (`I J V` of a product, `I V` of the others), and the values."""
-
-    kind: str
-    used: Tuple[int, ...]
-    steps: Tuple[Step, ...]
-    numbers: Tuple[int, ...]
-    values: Tuple[int, ...]
+# A line `rows`, `product`, `value` or `sum`: used literals and steps, its rows and its name (`I J
+# V` of a product, `I V` of the last two), and the values.
+Evidence = NamedTuple("Evidence", [
+    ("kind", str), ("used", Tuple[int, ...]), ("steps", Tuple[Step, ...]),
+    ("numbers", Tuple[int, ...]), ("values", Tuple[int, ...])])
 
 
 def is_fresh(log: Log) -> bool:
@@ -26,8 +22,8 @@ def is_fresh(log: Log) -> bool:
     if log.dropped:
         return False
     # A clause that is contained in another has its least literal there.
-    by_least: Dict[int, List[Clause]] = {}
-    for clause in log.problem.all_clauses():
+    by_least: dict[int, list[Clause]] = {}
+    for clause in map(log.problem.clause, range(log.problem.clause_count)):
         if not clause:
             # The empty clause is contained in each.
             return not log.clauses
@@ -41,10 +37,13 @@ def is_fresh(log: Log) -> bool:
     return True
 
 
-def holds(log: Log, evidence: Evidence) -> bool:
+def holds(log: Log, evidence: Optional[Evidence], is_spent: bool) -> bool:
     """"In all three the lines keep their rules and the log is fresh"; "Where literals are used, no
     atom is used both ways, and the rows and the steps keep the rules of a Farkas line but for
     contradiction." """
+    if evidence is None:
+        # "the log has exactly as many lines as the budget"
+        return is_spent and is_fresh(log)
     used = set(evidence.used)
     if not is_fresh(log) or any(literal ^ 1 in used for literal in used):
         return False
@@ -57,9 +56,12 @@ def holds(log: Log, evidence: Evidence) -> bool:
     if evidence.kind == "rows":
         # "there are exactly 10,000 rows, no two are equal, and each step cancels"
         return len(rows) == ROW_LIMIT and len(set(rows)) == ROW_LIMIT
+    *places, name = evidence.numbers
+    if max(places) >= len(rows):
+        return False
     if evidence.kind == "product":
-        return product_leaves(rows, evidence.numbers)
-    return values_leave(rows, evidence)
+        return product_leaves(rows[places[0]], rows[places[1]], name)
+    return values_leave(rows[places[0]], name, evidence)
 
 
 def cancels(rows: Sequence[Row], step: Step) -> bool:
@@ -70,30 +72,22 @@ def cancels(rows: Sequence[Row], step: Step) -> bool:
                for name, _ in left.terms)
 
 
-def product_leaves(rows: Sequence[Row], numbers: Sequence[int]) -> bool:
+def product_leaves(left: Row, right: Row, name: int) -> bool:
     """"the left row has a positive and the right row a negative coefficient at the name, and the
     least sum that cancels it leaves the range of a row" """
-    left, right, name = numbers
-    if left >= len(rows) or right >= len(rows):
-        return False
-    factors = least_factors(rows[left], rows[right], name)
-    if factors is None:
-        return False
+    factors = least_factors(left, right, name)
     try:
-        combined(rows[left], factors[0], rows[right], factors[1])
+        if factors:
+            combined(left, factors[0], right, factors[1])
     except OutOfRange:
         return True
     return False
 
 
-def values_leave(rows: Sequence[Row], evidence: Evidence) -> bool:
+def values_leave(row: Row, name: int, evidence: Evidence) -> bool:
     """The evidence `value` and `sum`, "with values from -10^15 to 10^15 for its other names"."""
-    place, name = evidence.numbers
-    if place >= len(rows) or not rows[place].coefficient(name):
-        return False
-    row = rows[place]
-    names = names_besides(name, [row])
-    if len(names) != len(evidence.values):
+    names = names_besides(name, row)
+    if not row.coefficient(name) or len(names) != len(evidence.values):
         return False
     if any(abs(value) > MOST_VALUE for value in evidence.values):
         return False

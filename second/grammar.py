@@ -1,311 +1,235 @@
-"""LANGUAGE, "Grammar" and "Syntax refusals": the words of a specification are read as a tree.
+"""LANGUAGE, "Grammar": the words of a specification are read by its rules, and typed at once. The
+faults of typing are looked at behind the last word."""
+from __future__ import annotations
+from typing import Callable, Optional
 
-Each reading function takes the words from one place on and refuses at the first word with which
-no specification goes on. No function looks further ahead than the word at which it stands, so
-"the number is the length of the longest front of the words with which some specification begins".
-"""
-from dataclasses import dataclass, field
-from typing import List, NoReturn, Optional, Tuple
+from second.specification import Form, Line, Operation, Specification, Take, Thing, Update
+from second.typed import Reading, Scope, SummandTree
+from second.words import Cursor, SpecRefused, Word
 
-from second.words import SpecRefused, Word
-
+# "A formula nests at most 200 deep."
 MOST_DEPTH = 200
-# "In version 2 shared, exclusive and observes are no NAMEs. In version 1 they are names."
-WORDS_OF_TWO = ("shared", "exclusive", "observes")
 CONNECTIVES = ("and", "or", "implies")
 COMPARISONS = ("=", "!=", "<", "<=", ">", ">=")
+LINES = ("requires", "insert", "remove", "add", "set", "takes")
 
 
-@dataclass
-class Name:
-    """A name, or a sign in its place, and the number of its word."""
+class Reader(Cursor):
+    def __init__(self, words: list[Word]) -> None:
+        super().__init__(words)
+        self.spec, self.scope = Specification(), Scope()
+        self.stated: set[str] = set()
 
-    text: str
-    word: int
-
-
-@dataclass
-class ReadingTree:
-    """reading = NAME [ "(" NAME { "," NAME } ")" ], and patterns and updates with their spots."""
-
-    name: Name
-    args: List[Name]
-
-
-@dataclass
-class SummandTree:
-    """A summand with its sign, and the word of that sign where one is written."""
-
-    sign: int
-    sign_word: int
-    number: Optional[Name]
-    reading: Optional[ReadingTree]
-
-
-@dataclass
-class FormulaTree:
-    """A formula: its first word, what it is, and its parts."""
-
-    word: int
-    kind: str
-    parts: List["FormulaTree"] = field(default_factory=list)
-    reading: Optional[ReadingTree] = None
-    sides: List[List[SummandTree]] = field(default_factory=list)
-
-
-@dataclass
-class PrefixedTree:
-    """prefixed = [ quantifier variable { "," variable } "." ] formula"""
-
-    quantifier: Optional[Name]
-    variables: List[Tuple[Name, Name]]
-    body: FormulaTree
-
-
-@dataclass
-class LineTree:
-    """A line of an operation: its first word, and what stands behind it."""
-
-    kind: Name
-    prefixed: Optional[PrefixedTree] = None
-    target: Optional[ReadingTree] = None
-    amount: Optional[List[SummandTree]] = None
-    guard: Optional[FormulaTree] = None
-    shared: bool = False
-
-
-@dataclass
-class ItemTree:
-    """An item: its first word, its name, and what its kind of item has besides."""
-
-    kind: Name
-    name: Name
-    sort: Optional[Name] = None
-    places: List[Name] = field(default_factory=list)
-    value: Optional[Name] = None
-    patterns: List[ReadingTree] = field(default_factory=list)
-    prefixed: Optional[PrefixedTree] = None
-    params: List[Tuple[Name, Name]] = field(default_factory=list)
-    lines: List[LineTree] = field(default_factory=list)
-
-
-class Reader:
-    """Reads words from the first on; `at` is the number of the word that is next."""
-
-    def __init__(self, words: List[Word]) -> None:
-        self.words = words
-        self.at = 0
-        self.version = 1
-
-    def next_text(self) -> str:
-        """The next word as it is spelled, and nothing at the end."""
-        return self.words[self.at].text if self.at < len(self.words) else ""
-
-    def refuse(self) -> NoReturn:
-        """No specification goes on with the next word."""
-        raise SpecRefused(f"syntax word {self.at}")
-
-    def take(self, *texts: str) -> Name:
-        """One of these words."""
-        if self.next_text() not in texts:
-            self.refuse()
-        self.at += 1
-        return Name(self.words[self.at - 1].text, self.at - 1)
-
-    def skip(self, text: str) -> bool:
-        """Takes this word where it is next, and says whether it was."""
-        if self.next_text() != text:
-            return False
-        self.at += 1
-        return True
-
-    def is_name(self) -> bool:
-        """Whether the next word is a NAME: "a name that isn't reserved"."""
-        if self.at == len(self.words) or self.words[self.at].kind != "name":
-            return False
-        return self.version == 1 or self.next_text() not in WORDS_OF_TWO
-
-    def name(self) -> Name:
-        """A NAME."""
-        if not self.is_name():
-            self.refuse()
-        return self.take(self.next_text())
-
-    def is_number(self) -> bool:
-        """Whether the next word is a NUMBER."""
-        return self.at < len(self.words) and self.words[self.at].kind == "number"
-
-    def number(self) -> Name:
-        """A NUMBER."""
-        if not self.is_number():
-            self.refuse()
-        return self.take(self.next_text())
-
-    def specification(self) -> List[ItemTree]:
-        """specification = "cise" "1" { item }, and version 2 begins with "cise" "2"."""
+    def specification(self) -> Specification:
+        """specification = "cise" "1" { item }, and "Version 2 begins with cise 2"."""
+        items: dict[str, Callable[[Word], None]] = {
+            "sort": self.sort, "const": self.const, "relation": self.thing, "counter": self.thing,
+            "initially": self.initially, "token": self.thing, "conflict": self.conflict,
+            "invariant": self.invariant, "operation": self.operation}
         self.take("cise")
         self.version = int(self.take("1", "2").text)
-        items: List[ItemTree] = []
-        while self.at < len(self.words):
-            items.append(self.item())
-        return items
+        while self.next():
+            first = self.take(*items)
+            items[first.text](first)
+        if self.scope.faults:
+            # "Of all faults of a tree the least is answered: the one with the least word"
+            raise SpecRefused(min(self.scope.faults)[2])
+        return self.spec
 
-    def item(self) -> ItemTree:
-        """One alternative of `item`."""
-        kind = self.take(*ITEMS)
-        if kind.text == "conflict":
-            patterns = [self.reading(), self.reading()]
-            return ItemTree(kind, patterns[0].name, patterns=patterns)
-        item = ItemTree(kind, self.name())
-        if kind.text == "const":
-            self.take(":")
-            item.sort = self.name()
-        elif kind.text in ("relation", "counter", "token"):
-            item.places = self.names_in_brackets()
-        elif kind.text == "initially":
-            item.value = self.value()
-        elif kind.text == "invariant":
-            item.prefixed = self.prefixed()
-        elif kind.text == "operation":
-            self.operation(item)
-        return item
+    def sort(self, _: Word) -> None:
+        """item = "sort" NAME"""
+        name = self.name()
+        self.scope.declare("sort", name, len(self.spec.sorts))
+        self.spec.sorts.append(name.text)
 
-    def names_in_brackets(self, *others: str) -> List[Name]:
-        """[ "(" NAME { "," NAME } ")" ], where other words may stand in the place of a NAME."""
-        names: List[Name] = []
-        if self.skip("("):
-            names.append(self.spot(others))
-            while self.skip(","):
-                names.append(self.spot(others))
-            self.take(")")
-        return names
+    def const(self, _: Word) -> None:
+        """item = "const" NAME ":" NAME"""
+        name = self.name()
+        declared = self.scope.declare("constant", name, 0)
+        self.take(":")
+        sort = self.scope.sort(self.name())
+        declared.sorts.append(sort)
+        self.spec.consts[name.text] = sort
+        # "4 of one sort"
+        self.scope.limit("constants", list(self.spec.consts.values()).count(sort), name.number)
 
-    def spot(self, others: Tuple[str, ...]) -> Name:
-        """spot = NAME | "*", where others has the star."""
-        return self.take(*others) if self.next_text() in others else self.name()
+    def thing(self, kind: Word) -> None:
+        """item = "relation" NAME [ places ], and so of a counter and a token"""
+        name = self.name()
+        things = {"relation": self.spec.relations, "counter": self.spec.counters,
+                  "token": self.spec.tokens}[kind.text]
+        sorts = self.scope.declare(kind.text, name, len(things)).sorts
+        # "3 of a relation or token, 2 keys of a counter"
+        for count, place in enumerate(self.bracketed(self.name), 1):
+            sorts.append(self.scope.sort(place))
+            self.scope.limit("places", count, place.number, 2 if kind.text == "counter" else 3)
+        things[name.text] = Thing(kind.text, name.text, sorts)
 
-    def value(self) -> Name:
-        """value = "true" | "false" | [ "-" ] NUMBER; a number is placed at its own word."""
-        if self.next_text() in ("true", "false"):
-            return self.take("true", "false")
-        sign = "-" if self.skip("-") else ""
-        number = self.number()
-        return Name(sign + number.text, number.word)
+    def initially(self, _: Word) -> None:
+        """item = "initially" NAME value; value = "true" | "false" | [ "-" ] NUMBER"""
+        name = self.name()
+        # "initially needs a relation with true or false, or a counter with a number"
+        if self.next() in ("true", "false"):
+            kind, things = "relation", self.spec.relations
+            value = int(self.take("true", "false").text == "true")
+        else:
+            kind, things = "counter", self.spec.counters
+            sign = -1 if self.skip("-") else 1
+            value = sign * self.scope.literal(self.number())
+        self.scope.use(name, kind)
+        if name.text in self.stated:
+            # stated_already: "a second initial value is stated for a name that is in scope"
+            self.scope.fault("twice", name)
+        self.stated.add(name.text)
+        if name.text in things:
+            things[name.text].initial = value
 
-    def operation(self, item: ItemTree) -> None:
-        """"operation" NAME [ "(" param { "," param } ")" ] { line } "end\""""
-        if self.skip("("):
-            item.params.append(self.named_kind("int"))
-            while self.skip(","):
-                item.params.append(self.named_kind("int"))
-            self.take(")")
+    def conflict(self, first: Word) -> None:
+        """item = "conflict" reading reading"""
+        patterns = [self.reading(), self.reading()]
+        self.scope.rule(patterns)
+        left, right = [Take(name.text, tuple(it.text for it in args), False)
+                       for name, args in patterns]
+        self.spec.rules.append((left, right))
+        self.scope.limit("conflicts", len(self.spec.rules), first.number)
+
+    def invariant(self, _: Word) -> None:
+        """item = "invariant" NAME prefixed"""
+        name = self.name()
+        self.scope.declare("invariant", name, len(self.spec.invariants))
+        if self.next() == "exists":
+            # not_for_all: "an invariant begins with exists"
+            self.scope.fault("kind", self.words[self.at])
+        self.spec.invariants[name.text] = self.prefixed()
+
+    def operation(self, _: Word) -> None:
+        """item = "operation" NAME [ "(" param { "," param } ")" ] { line } "end\""""
+        name = self.name()
+        self.scope.declare("operation", name, len(self.spec.operations))
+        operation = self.spec.operations[name.text] = Operation(name.text)
+        # "Parameters are in scope in their operation"
+        outer, self.scope.names = self.scope.names, dict(self.scope.names)
+        self.bracketed(lambda: self.named("parameter", operation.params))
         while not self.skip("end"):
-            item.lines.append(self.line())
+            self.line(operation)
+        self.scope.names = outer
 
-    def named_kind(self, *others: str) -> Tuple[Name, Name]:
+    def named(self, kind: str, found: dict[str, str]) -> None:
         """param = NAME ":" NAME | NAME ":" "int", and variable = NAME ":" NAME"""
         name = self.name()
+        declared = self.scope.declare(kind, name, len(found))
         self.take(":")
-        return name, self.spot(others)
-
-    def line(self) -> LineTree:
-        """One alternative of `line`; version 2 has `observes` and the modes of `takes` besides."""
-        observes = ("observes",) if self.version == 2 else ()
-        kind = self.take("requires", "insert", "remove", "add", "set", "takes", *observes)
-        if kind.text in ("requires", "observes"):
-            return LineTree(kind, prefixed=self.prefixed())
-        if kind.text == "takes":
-            line = LineTree(kind, target=self.reading())
-            if self.version == 2 and self.next_text() in ("shared", "exclusive"):
-                line.shared = self.take("shared", "exclusive").text == "shared"
-            return line
-        line = LineTree(kind, target=ReadingTree(self.name(), self.names_in_brackets("*")))
-        if kind.text in ("add", "set"):
-            line.amount = self.term()
-        if self.skip("when"):
-            line.guard = self.formula(1)
-        return line
-
-    def prefixed(self) -> PrefixedTree:
-        """prefixed = [ quantifier variable { "," variable } "." ] formula"""
-        quantifier: Optional[Name] = None
-        variables: List[Tuple[Name, Name]] = []
-        if self.next_text() in ("forall", "exists"):
-            quantifier = self.take("forall", "exists")
-            variables.append(self.named_kind())
-            while self.skip(","):
-                variables.append(self.named_kind())
-            self.take(".")
-        return PrefixedTree(quantifier, variables, self.formula(1))
-
-    def formula(self, depth: int) -> FormulaTree:
-        """A formula that stands in so many others, itself counted; it "nests at most 200 deep"."""
-        word = self.at
-        if self.next_text() in ("true", "false"):
-            return FormulaTree(word, self.take("true", "false").text)
-        if self.next_text() == "not" and depth < MOST_DEPTH:
-            self.take("not")
-            return FormulaTree(word, "not", [self.formula(depth + 1)])
-        if self.is_name():
-            return FormulaTree(word, "atom", reading=self.reading())
-        self.take("(")
-        formula = self.in_brackets(word, depth)
-        self.take(")")
-        return formula
-
-    def in_brackets(self, word: int, depth: int) -> FormulaTree:
-        """What stands in brackets: formula connective formula, or term comparison term."""
-        if self.is_name():
-            # A reading begins a formula or a term, which the word behind it tells.
-            first, reading = self.at, self.reading()
-            if self.next_text() not in CONNECTIVES or depth == MOST_DEPTH:
-                return self.comparison(word, self.term_from(SummandTree(1, first, None, reading)))
-            left = FormulaTree(first, "atom", reading=reading)
-        elif self.is_number() or self.next_text() == "-":
-            return self.comparison(word, self.term())
-        elif depth == MOST_DEPTH:
-            self.refuse()
+        if kind == "parameter" and self.skip("int"):
+            found[name.text] = "int"
         else:
-            left = self.formula(depth + 1)
+            found[name.text] = self.scope.sort(self.name())
+            declared.sorts.append(found[name.text])
+
+    def line(self, operation: Operation) -> None:
+        """line = "requires" prefixed | .. | "takes" reading [ "shared" | "exclusive" ] |
+        "observes" prefixed, the modes and the last in version 2"""
+        first = self.take(*LINES, *(["observes"] if self.version == 2 else []))
+        which = first.text
+        if which in ("requires", "observes"):
+            lines = operation.requires if which == "requires" else operation.observes
+            lines.append(self.prefixed())
+            count = len(lines)
+        elif which == "takes":
+            reading, mode = self.reading(), ""
+            if self.version == 2 and self.next() in ("shared", "exclusive"):
+                mode = self.take("shared", "exclusive").text
+            names = self.scope.arguments(reading, "token")
+            operation.takes.append(Take(reading.name.text, names, mode == "shared"))
+            count = len(operation.takes)
+        else:
+            operation.updates.append(self.update(which))
+            which, count = "updates", len(operation.updates)
+        self.scope.limit(which, count, first.number)
+
+    def update(self, change: str) -> Update:
+        """"insert" NAME [ spots ] [ "when" formula ] | "add" NAME [ spots ] term [ "when" formula ]
+        and the same of "remove" and of "set" """
+        # "insert and remove need a relation, add and set a counter."
+        kind = "relation" if change in ("insert", "remove") else "counter"
+        # spot = NAME | "*"
+        target = Reading(self.name(), self.bracketed(
+            lambda: self.take("*") if self.next() == "*" else self.name()))
+        spots = self.scope.arguments(target, kind)
+        amount = self.scope.term(self.term()) if kind == "counter" else ()
+        guard = self.formula() if self.skip("when") else Form("true")
+        return Update(change, target.name.text, spots, amount, guard)
+
+    def prefixed(self) -> Line:
+        """prefixed = [ quantifier variable { "," variable } "." ] formula"""
+        # "variables in their line"
+        outer, self.scope.names = self.scope.names, dict(self.scope.names)
+        quantifier = ""
+        variables: dict[str, str] = {}
+        if self.next() in ("forall", "exists"):
+            quantifier = self.take("forall", "exists").text
+            self.several(lambda: self.named("variable", variables))
+            self.take(".")
+        body = self.formula()
+        self.scope.names = outer
+        return Line(quantifier, variables, body)
+
+    def formula(self) -> Form:
+        """A whole formula; too_many_nodes: "a formula has more nodes than it may" """
+        number = self.at
+        form = self.part(1)
+        self.scope.limit("nodes", form.nodes(), number)
+        return form
+
+    def part(self, depth: int) -> Form:
+        """formula = "true" | "false" | "not" formula | reading | and what is in brackets; the
+        depth is that of the formulas around it, with itself."""
+        if self.next() in ("true", "false"):
+            return Form(self.take("true", "false").text)
+        if depth < MOST_DEPTH and self.skip("not"):
+            return Form("not", (self.part(depth + 1),))
+        if self.is_name():
+            return self.scope.atom(self.reading())
+        self.take("(")
+        form = self.in_brackets(depth)
+        self.take(")")
+        return form
+
+    def in_brackets(self, depth: int) -> Form:
+        """formula connective formula, or term comparison term. Which of them a reading begins is
+        told by the word behind it."""
+        is_deep = depth == MOST_DEPTH
+        if self.is_name():
+            number, reading = self.at, self.reading()
+            if is_deep or self.next() not in CONNECTIVES:
+                return self.comparison(self.term(SummandTree(1, number, None, reading)))
+            left = self.scope.atom(reading)
+        elif self.is_number() or self.next() == "-":
+            return self.comparison(self.term())
+        else:
+            left = self.refuse() if is_deep else self.part(depth + 1)
         connective = self.take(*CONNECTIVES).text
-        return FormulaTree(word, connective, [left, self.formula(depth + 1)])
+        return Form(connective, (left, self.part(depth + 1)))
 
-    def comparison(self, word: int, left: List[SummandTree]) -> FormulaTree:
-        """A comparison of which the left term was read."""
+    def comparison(self, left: list[SummandTree]) -> Form:
+        """term comparison term, of which the left term was read"""
         kind = self.take(*COMPARISONS).text
-        return FormulaTree(word, kind, sides=[left, self.term()])
+        return self.scope.comparison(left, kind, self.term())
 
-    def term(self) -> List[SummandTree]:
-        """term = [ "-" ] summand { sign summand }"""
-        word = self.at
-        return self.term_from(self.summand(-1 if self.skip("-") else 1, word))
-
-    def term_from(self, first: SummandTree) -> List[SummandTree]:
-        """A term of which the first summand was read."""
-        summands = [first]
-        while self.next_text() in ("+", "-"):
+    def term(self, first: Optional[SummandTree] = None) -> list[SummandTree]:
+        """term = [ "-" ] summand { sign summand }, of which the first may have been read"""
+        number = self.at
+        summands = [first or self.summand(-1 if self.skip("-") else 1, number)]
+        while self.next() in ("+", "-"):
             sign = self.take("+", "-")
-            summands.append(self.summand(-1 if sign.text == "-" else 1, sign.word))
+            summands.append(self.summand(-1 if sign.text == "-" else 1, sign.number))
         return summands
 
-    def summand(self, sign: int, word: int) -> SummandTree:
+    def summand(self, sign: int, at: int) -> SummandTree:
         """summand = NUMBER | NUMBER "*" reading | reading"""
-        if not self.is_number():
-            return SummandTree(sign, word, None, self.reading())
-        number = self.number()
-        return SummandTree(sign, word, number, self.reading() if self.skip("*") else None)
+        number = self.number() if self.is_number() else None
+        has_reading = number is None or self.skip("*")
+        return SummandTree(sign, at, number, self.reading() if has_reading else None)
 
-    def reading(self) -> ReadingTree:
+    def reading(self) -> Reading:
         """reading = NAME [ "(" NAME { "," NAME } ")" ]"""
-        return ReadingTree(self.name(), self.names_in_brackets())
-
-
-ITEMS = ("sort", "const", "relation", "counter", "initially", "token", "conflict", "invariant",
-         "operation")
-
-
-def parse(words: List[Word]) -> Tuple[int, List[ItemTree]]:
-    """The version and the items of a specification."""
-    reader = Reader(words)
-    items = reader.specification()
-    return reader.version, items
+        return Reading(self.name(), self.bracketed(self.name))

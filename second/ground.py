@@ -1,16 +1,18 @@
 """GROUND, "Names in place of values" to "The list": the formulas of an obligation."""
-from dataclasses import dataclass
+from __future__ import annotations
 from itertools import combinations, product
-from math import comb, prod
-from typing import Iterator, List, Optional, Sequence, Tuple
+from math import prod
+from typing import Dict, Iterable, Iterator, NamedTuple, Optional, Tuple
 
-from second.numbering import (Argument, Folded, Partial, Reading, Stage, Sum, Table, all_of,
-                              some_of)
+from second.meaning import may_match
+from second.numbering import Folded, Partial, Reading, Stage, Sum, Table, joined
 from second.obligations import Obligation
-from second.specification import (Both, Compare, Elem, Form, Has, Line, Not, Same, Specification,
-                                  Take, Term, Thing, Truth, Update)
+from second.specification import (Form, Line, Names, Operation, Sorted, Specification, Term, Thing,
+                                  Update)
 
 ENTRY: Stage = ()
+# Names with the constants that stand for them, and whole-number parameters with their integers.
+Given = Dict[str, int]
 
 
 class Constants:
@@ -19,59 +21,53 @@ class Constants:
     elements at which the conclusion fails." """
 
     def __init__(self, spec: Specification, obligation: Obligation) -> None:
-        self.sorts = [sort for _, sort in spec.consts]
-        operations = [spec.operations[it] for it in obligation.operations]
-        self.params = [[-1 if sort is None else self._new(sort) for sort in operation.params]
-                       for operation in operations]
-        self.chosen = [[[self._new(sort) for sort in line.variables]
-                        if line.quantifier == "exists" else [] for line in operation.requires]
-                       for operation in operations]
-        self.elements = [self._new(sort) for sort in obligation.elements(spec)]
+        self.sorts: list[str] = []
+        self.arguments = 0
+        self.declared = self._new(spec.consts)
+        operations = obligation.operations
+        self.calls = [{**self.declared, **self._new(it.params)} for it in operations]
+        self.chosen = [[self._new(line.variables if line.quantifier == "exists" else {})
+                        for line in operation.requires] for operation in operations]
+        self.elements = self._new(obligation.elements())
 
-    def _new(self, sort: int) -> int:
-        """The next constant, of this sort."""
-        self.sorts.append(sort)
-        return len(self.sorts) - 1
+    def _new(self, names: Sorted) -> Given:
+        """The next constants, for names of these sorts; a whole number is an integer instead."""
+        given: Given = {}
+        for name, sort in names.items():
+            if sort == "int":
+                given[name] = self.arguments
+                self.arguments += 1
+            else:
+                given[name] = len(self.sorts)
+                self.sorts.append(sort)
+        return given
 
-    def of_sort(self, sort: int) -> List[int]:
-        """The constants of a sort, in rising order."""
+    def of_sort(self, sort: str) -> list[int]:
         return [place for place, it in enumerate(self.sorts) if it == sort]
 
-    def assignments(self, variables: Sequence[int]) -> Iterator[Tuple[int, ...]]:
+    def assignments(self, variables: Sorted) -> Iterator[Given]:
         """"An assignment gives each variable a constant of its sort; assignments stand in rising
         order, the last variable fastest." """
-        return product(*[self.of_sort(sort) for sort in variables])
+        for chosen in product(*[self.of_sort(sort) for sort in variables.values()]):
+            yield dict(zip(variables, chosen))
 
     def assignment_count(self, line: Line) -> int:
-        """How many assignments a line has."""
-        return prod(len(self.of_sort(sort)) for sort in line.variables)
+        return prod(len(self.of_sort(sort)) for sort in line.variables.values())
 
-    def triples(self) -> List[Tuple[int, int, int]]:
+    def triples(self) -> list[Tuple[int, int, int]]:
         """Every three constants of one sort: "The triples of all sorts together stand in rising
         order." """
         return [(a, b, c) for a, sort in enumerate(self.sorts)
                 for b, c in combinations([it for it in self.of_sort(sort) if it > a], 2)]
 
 
-@dataclass
-class Where:
-    """Where a formula is written: a stage, or None in the initial state; a call by its place, the
-    constants of its parameters, and those of the line's variables."""
-
+class Where(NamedTuple):
+    """Where a formula is written: a stage, or None in the initial state, and what names mean."""
     stage: Optional[Stage]
-    call: int = 0
-    params: Sequence[int] = ()
-    chosen: Sequence[int] = ()
+    names: Given
 
-    def const(self, elem: Elem) -> int:
-        """The constant that stands for a name of an element."""
-        if elem.kind == "const":
-            return elem.place
-        return (self.params if elem.kind == "param" else self.chosen)[elem.place]
-
-    def consts(self, elems: Sequence[Elem]) -> Tuple[int, ...]:
-        """The constants that stand for names of elements."""
-        return tuple(self.const(elem) for elem in elems)
+    def consts(self, names: Iterable[str]) -> Tuple[int, ...]:
+        return tuple(self.names[name] for name in names)
 
 
 class Writer:
@@ -83,166 +79,165 @@ class Writer:
     def formula(self, where: Where, form: Form, sign: bool) -> Folded:
         """"formula writes a formula of the specification at constants and at the readings of a
         stage"; where the sign is false, its opposite."""
-        if isinstance(form, Truth):
-            return form.value == sign
-        if isinstance(form, Not):
-            return self.formula(where, form.part, not sign)
-        if isinstance(form, Both):
+        kind = form.kind
+        if kind in ("true", "false"):
+            return (kind == "true") == sign
+        if kind == "not":
+            return self.formula(where, form.parts[0], not sign)
+        if kind in ("and", "or", "implies"):
             # "a implies b is not a or b"
-            first = self.formula(where, form.left, sign != (form.connective == "implies"))
-            second = self.formula(where, form.right, sign)
-            is_and = (form.connective == "and") == sign
-            return all_of(first, second) if is_and else some_of(first, second)
-        if isinstance(form, Has):
-            return self.has(where.stage, form.relation, where.consts(form.args), sign)
-        if isinstance(form, Same):
-            return self.table.equality(where.const(form.left), where.const(form.right),
-                                       form.equal == sign)
-        left, right = self.sum(where, form.left), self.sum(where, form.right)
-        return self.table.compare(form.comparison, left, right, sign)
+            left = self.formula(where, form.parts[0], sign != (kind == "implies"))
+            right = self.formula(where, form.parts[1], sign)
+            return joined((kind == "and") == sign, left, right)
+        if kind == "has":
+            return self.has(where.stage, form.relation, where.consts(form.names), sign)
+        if kind in ("same", "differ"):
+            one, other = where.consts(form.names)
+            return self.table.equality(one, other, (kind == "same") == sign)
+        left_sum, right_sum = [self.sum(where, term) for term in form.sums]
+        return self.table.compare(kind, left_sum, right_sum, sign)
 
-    def has(self, stage: Optional[Stage], relation: int, at: Tuple[int, ...],
+    def has(self, stage: Optional[Stage], relation: str, at: Tuple[int, ...],
             sign: bool) -> Folded:
         """A relation's reading: "In the initial state a reading isn't named, since it is known: it
         is its stated value". """
         if stage is None:
-            return self.spec.relations[relation].initial == sign
-        return self.table.literal(Reading(stage, Thing(False, relation), at), sign)
+            return bool(self.spec.relations[relation].initial) == sign
+        return self.table.literal(Reading(stage, relation, at), sign)
 
     def sum(self, where: Where, term: Term) -> Sum:
         """"A sum has numbers and multiples of integer names." """
         parts: Sum = []
-        for coef, body, place, key in term:
-            if body == "one":
+        for coef, kind, name, key in term:
+            if kind == "one":
                 parts.append((coef, None))
-            elif body == "param":
-                parts.append((coef, Argument(where.call, place)))
+            elif kind == "parameter":
+                parts.append((coef, where.names[name]))
             elif where.stage is None:
-                parts.append((coef * self.spec.counters[place].initial, None))
+                parts.append((coef * self.spec.counters[name].initial, None))
             else:
-                parts.append((coef, Reading(where.stage, Thing(True, place), where.consts(key))))
+                parts.append((coef, Reading(where.stage, name, where.consts(key))))
         return parts
 
     def instances(self, where: Where, line: Line, sign: bool) -> Iterator[Folded]:
         """A line's formula "once for each assignment"."""
         for chosen in self.constants.assignments(line.variables):
-            yield self.formula(Where(where.stage, where.call, where.params, chosen), line.body,
-                               sign)
+            yield self.formula(Where(where.stage, {**where.names, **chosen}), line.body, sign)
 
-    # ---- the list
+    def formulas(self, obligation: Obligation) -> Iterator[Folded]:
+        """The groups 1 to 5: "An Init obligation has none of 1 to 3." """
+        if obligation.kind != "init":
+            yield from self.invariants_hold()
+        yield from self.calls_ready(obligation.operations)
+        yield from self.calls_free(obligation.operations)
+        yield from self.conclusion(obligation)
+        # "They stand in the order in which the list, these definitions included, first names the
+        # readings": the loop meets those that a definition names.
+        for reading in self.table.readings:
+            if reading.stage != ENTRY:
+                yield from self.definition(obligation.operations[reading.stage[0]], reading)
 
     def invariants_hold(self) -> Iterator[Folded]:
         """1. "The invariants: each one at the entry, once for each assignment." """
-        for _, line in self.spec.invariants:
-            yield from self.instances(Where(ENTRY), line, True)
+        for line in self.spec.invariants.values():
+            yield from self.instances(Where(ENTRY, self.constants.declared), line, True)
 
-    def calls_ready(self, obligation: Obligation) -> Iterator[Folded]:
+    def calls_ready(self, operations: list[Operation]) -> Iterator[Folded]:
         """2. "The preconditions: each requires line of each call at the entry, once for each
         assignment, or once at its own constants where it has exists." """
-        for call, operation in enumerate(obligation.operations):
-            params = self.constants.params[call]
-            for number, line in enumerate(self.spec.operations[operation].requires):
+        for call, operation in enumerate(operations):
+            where = Where(ENTRY, self.constants.calls[call])
+            for line, chosen in zip(operation.requires, self.constants.chosen[call]):
                 if line.quantifier == "exists":
-                    chosen = self.constants.chosen[call][number]
-                    yield self.formula(Where(ENTRY, call, params, chosen), line.body, True)
+                    yield self.formula(Where(ENTRY, {**where.names, **chosen}), line.body, True)
                 else:
-                    yield from self.instances(Where(ENTRY, call, params), line, True)
+                    yield from self.instances(where, line, True)
 
-    def calls_free(self, obligation: Obligation) -> Iterator[Folded]:
+    def calls_free(self, operations: list[Operation]) -> Iterator[Folded]:
         """3. "No conflict: for two calls, each conflict rule, first with its left pattern at the
         first call and then at the second, and each takes line of the one with each of the other";
         "each takes line of the first call meets each of the second call in turn, also where the
         left pattern is at the second call". """
-        if len(obligation.operations) < 2:
+        if len(operations) < 2:
             return
-        firsts, seconds = [self.spec.operations[it].takes for it in obligation.operations]
-        for number in range(len(self.spec.rules)):
-            for swapped in (False, True):
-                for take, other in product(firsts, seconds):
-                    sides = [(0, take), (1, other)]
-                    yield from self.unmatched(number, sides[::-1] if swapped else sides)
+        ones, others = [[(take, Where(ENTRY, names).consts(take.names)) for take in it.takes]
+                        for it, names in zip(operations, self.constants.calls)]
+        pairs = list(product(ones, others))
+        for rule in self.spec.rules:
+            for one, other in pairs + [(other, one) for one, other in pairs]:
+                if may_match(rule, one[0], other[0]):
+                    yield self.unmatched(rule[0].names + rule[1].names, one[1] + other[1])
 
-    def unmatched(self, number: int, sides: Sequence[Tuple[int, Take]]) -> Iterator[Folded]:
+    def unmatched(self, variables: Names, consts: Tuple[int, ...]) -> Folded:
         """"Where the tokens are those of the patterns and the lines aren't both shared, one
         assignment to the rule's variables does not give both lists of elements: not that the
         first place of each variable is equal to each later place of it." """
-        rule = self.spec.rules[number]
-        if sides[0][1].shared and sides[1][1].shared:
-            return
-        if [rule[0].token, rule[1].token] != [take.token for _, take in sides]:
-            return
-        variables = rule[0].variables + rule[1].variables
-        args = [Where(ENTRY, call, self.constants.params[call]).const(elem)
-                for call, take in sides for elem in take.args]
-        equal = [(args[one], args[later]) for one in range(len(args))
-                 if variables.index(variables[one]) == one
-                 for later in range(one + 1, len(args)) if variables[later] == variables[one]]
-        yield some_of(*[self.table.equality(one, later, False) for one, later in equal])
+        # "variable by variable, in the order of their first places"
+        places: dict[str, list[int]] = {}
+        for variable, const in zip(variables, consts):
+            places.setdefault(variable, []).append(const)
+        return joined(False, *[self.table.equality(of[0], later, False)
+                               for of in places.values() for later in of[1:]])
 
     def conclusion(self, obligation: Obligation) -> Iterator[Folded]:
         """4. "The conclusion fails: not the body of the invariant or line, at its constants and
         at the last stage; for a line with exists once for each assignment. For two orders of two
         calls, the thing reads differently after them." """
-        thing, line = obligation.thing, obligation.conclusion
-        elements = tuple(self.constants.elements)
-        if thing is not None:
-            yield self.differ(thing, (1, 0), (0, 1), elements)
-        elif line is not None:
+        elements, line = self.constants.elements, obligation.line
+        if obligation.thing:
+            yield self.differ(obligation.thing, tuple(elements.values()))
+        elif line:
             stages = {"init": None, "safety": (0,), "stable": (1,)}
-            is_stable = obligation.kind() == "stable"
-            params = self.constants.params[0] if is_stable else ()
-            where = Where(stages[obligation.kind()], 0, params, elements)
+            is_stable = obligation.kind == "stable"
+            names = self.constants.calls[0] if is_stable else self.constants.declared
+            where = Where(stages[obligation.kind], {**names, **elements})
             if line.quantifier == "exists":
                 yield from self.instances(where, line, False)
             else:
                 yield self.formula(where, line.body, False)
 
-    def differ(self, thing: Thing, one: Stage, other: Stage, at: Tuple[int, ...]) -> Folded:
-        """"In group 4 a relation reads differently where (h and not k) or (not h and k)"; "A
-        counter's two readings are h != k". """
-        if thing.is_counter:
-            left, right = [[(1, Reading(stage, thing, at))] for stage in (one, other)]
-            return self.table.compare("!=", list(left), list(right), True)
-        literals = [self.table.literal(Reading(stage, thing, at), True) for stage in (one, other)]
-        return some_of(all_of(literals[0], literals[1] ^ 1), all_of(literals[0] ^ 1, literals[1]))
+    def differ(self, thing: Thing, at: Tuple[int, ...]) -> Folded:
+        """"In group 4 a relation reads differently where (h and not k) or (not h and k). Here h is
+        the reading after the first call and then the second, and k the one after the second and
+        then the first. A counter's two readings are h != k." """
+        first, second = [Reading(stage, thing.name, at) for stage in ((1, 0), (0, 1))]
+        if thing.kind == "counter":
+            return self.table.compare("!=", [(1, first)], [(1, second)], True)
+        h, k = [self.table.literal(it, True) for it in (first, second)]
+        return joined(False, joined(True, h, k ^ 1), joined(True, h ^ 1, k))
 
-    # ---- definitions
-
-    def definition(self, obligation: Obligation, reading: Reading) -> Iterator[Folded]:
+    def definition(self, operation: Operation, reading: Reading) -> Iterator[Folded]:
         """5. "Definitions: what each reading after a call is, from the readings before the
         call." "A definition goes through the updates of its thing in the call, in their order." """
         call, before = reading.stage[0], reading.stage[1:]
-        operation = self.spec.operations[obligation.operations[call]]
         updates = [it for it in operation.updates if it.thing == reading.thing]
-        where = Where(before, call, self.constants.params[call])
-        if reading.thing.is_counter:
+        where = Where(before, self.constants.calls[call])
+        if reading.thing in self.spec.counters:
             yield from self.define_count(where, updates, reading)
         else:
-            # "the definition says that the reading is the last value, by two formulas"
+            # "not h or v and h or not v, for the reading h and its last value v"
             for sign in (True, False):
                 literal = self.table.literal(reading, not sign)
-                yield some_of(literal, self.updated(where, updates, reading, sign))
+                yield joined(False, literal, self.updated(where, updates, reading, sign))
 
-    def acts(self, where: Where, update: Update, at: Sequence[int], sign: bool) -> Folded:
-        """"An update acts where each spot other than * equals the constant at its place, and its
-        guard is true before the call." """
-        parts = [self.table.equality(where.const(spot), const, sign)
-                 for spot, const in zip(update.spots, at) if spot is not None]
-        parts.append(self.formula(where, update.guard, sign))
-        return all_of(*parts) if sign else some_of(*parts)
+    def acts(self, where: Where, update: Update, at: Iterable[int], sign: bool) -> Folded:
+        """"That an update acts is an and of the equalities of its spots, in their order, and of its
+        guard." """
+        parts = [self.table.equality(where.names[spot], const, sign)
+                 for spot, const in zip(update.spots, at) if spot != "*"]
+        return joined(sign, *parts, self.formula(where, update.guard, sign))
 
-    def updated(self, where: Where, updates: Sequence[Update], reading: Reading,
+    def updated(self, where: Where, updates: list[Update], reading: Reading,
                 sign: bool) -> Folded:
         """"insert makes the value before it acts or value, and remove makes it not acts and
-        value": the value after updates, of which the last is named first."""
+        value"; "the last update is named first". """
         if not updates:
-            return self.has(where.stage, reading.thing.place, reading.at, sign)
+            return self.has(where.stage, reading.thing, reading.at, sign)
         is_insert = updates[-1].change == "insert"
         acts = self.acts(where, updates[-1], reading.at, is_insert == sign)
-        value = self.updated(where, updates[:-1], reading, sign)
-        return some_of(acts, value) if is_insert == sign else all_of(acts, value)
+        return joined(is_insert != sign, acts, self.updated(where, updates[:-1], reading, sign))
 
-    def define_count(self, where: Where, updates: Sequence[Update],
+    def define_count(self, where: Where, updates: list[Update],
                      reading: Reading) -> Iterator[Folded]:
         """"For a counter each update has two formulas: where it acts, the next value is the value
         before plus the amount (add) or the amount (set); elsewhere it is the value before. The
@@ -252,26 +247,11 @@ class Writer:
         if not updates:
             yield self.table.compare("=", [(1, reading)], value, True)
         for number, update in enumerate(updates, 1):
-            is_last = number == len(updates)
-            following: Sum = [(1, reading if is_last else Partial(number, reading))]
+            following: Sum = [(1, Partial(number, reading) if number < len(updates) else reading)]
             amount = self.sum(where, update.amount)
-            given = value + amount if update.change == "add" else amount
-            for sign, sum_then in ((False, given), (True, value)):
+            changed = value + amount if update.change == "add" else amount
+            # "not acts or next = changed", "and acts or next = before"
+            for sign, then in ((False, changed), (True, value)):
                 acts = self.acts(where, update, reading.at, sign)
-                yield some_of(acts, self.table.compare("=", following, sum_then, True))
+                yield joined(False, acts, self.table.compare("=", following, then, True))
             value = following
-
-
-def stated_count(spec: Specification, obligation: Obligation, constants: Constants) -> int:
-    """How many formulas the groups 1 and 2 have; they are counted before they are made."""
-    if obligation.kind() == "init":
-        return 0
-    lines = [line for _, line in spec.invariants]
-    lines += [line for it in obligation.operations for line in spec.operations[it].requires
-              if line.quantifier != "exists"]
-    return sum(constants.assignment_count(line) for line in lines)
-
-
-def pair_count(tuples: int) -> int:
-    """How many pairs some tuples have."""
-    return comb(tuples, 2)

@@ -1,154 +1,119 @@
 """RULE, "Obligations": the list of a specification's obligations, and what breaks one."""
-from dataclasses import dataclass
-from math import prod
-from typing import List, NamedTuple, Optional, Sequence
+from __future__ import annotations
+from typing import Iterator, NamedTuple, Optional
 
-from second.meaning import (MOST_VALUE, After, At, Call, State, World, broken_at, conflict,
-                            first_false, initial_state)
-from second.specification import Line, Specification, Thing
+from second.meaning import MOST_VALUE, After, At, Call, State, World, at_call, conflict
+from second.specification import Line, Operation, Sorted, Specification, Thing
 
 MOST_ELEMENTS = 100
+# "A witness is such values as a program holds them."
+Witness = NamedTuple("Witness", [("world", World), ("state", State), ("calls", "list[Call]"),
+                                 ("elements", "list[int]")])
 
 
 class Obligation(NamedTuple):
-    """An obligation: its line in a report, its calls' operations, and what its conclusion is of."""
+    """An obligation: its kind and its line in a report, the operations of its calls, and what its
+    conclusion is of."""
+    kind: str
+    text: str
+    operations: list[Operation]
+    line: Optional[Line] = None
+    thing: Optional[Thing] = None
 
-    line: str
-    operations: List[int]
-    conclusion: Optional[Line]
-    thing: Optional[Thing]
-
-    def kind(self) -> str:
-        """`init`, `safety`, `commute` or `stable`."""
-        return self.line.split(" ")[0]
-
-    def elements(self, spec: Specification) -> List[int]:
+    def elements(self) -> Sorted:
         """"a choice for the variables of the invariant or line, or a tuple or key of the thing. A
-        line with exists fails as a whole, so it has no elements": their sorts."""
-        if self.thing is not None:
-            return spec.places(self.thing)
-        if self.conclusion is None or self.conclusion.quantifier == "exists":
-            return []
-        return self.conclusion.variables
+        line with exists fails as a whole, so it has no elements": with their sorts."""
+        if self.thing:
+            return {str(place): sort for place, sort in enumerate(self.thing.sorts)}
+        return self.line.variables if self.line and self.line.quantifier != "exists" else {}
 
 
-def obligations(spec: Specification) -> List[Obligation]:
+def obligations(spec: Specification) -> Iterator[Obligation]:
     """"First come all Init, by invariants; then all Safety, by operations, then invariants. Then
     come all Commute by the first operation, then the second from the first on, then relations and
     then counters; and last all Stable, by operations, then requires lines, then the other
     operation." """
-    names = [it.name for it in spec.operations]
-    everyone = range(len(names))
-    found = [Obligation(f"init {name}", [], line, None) for name, line in spec.invariants]
-    for one in everyone:
-        for name, line in spec.invariants:
-            found.append(Obligation(f"safety {names[one]} {name}", [one], line, None))
-    for one in everyone:
-        for other in range(one, len(names)):
+    operations = list(spec.operations.values())
+    for name, line in spec.invariants.items():
+        yield Obligation("init", f"init {name}", [], line)
+    for one in operations:
+        for name, line in spec.invariants.items():
+            yield Obligation("safety", f"safety {one.name} {name}", [one], line)
+    for place, one in enumerate(operations):
+        for other in operations[place:]:
             # "each relation or counter that one of them writes"; "An operation writes the things
             # of its updates".
-            written = {it.thing for place in (one, other) for it in spec.operations[place].updates}
-            for thing in spec.things():
-                if thing in written:
-                    line_text = f"commute {names[one]} {names[other]} {spec.name(thing)}"
-                    found.append(Obligation(line_text, [one, other], None, thing))
-    for one in everyone:
-        for number, line in enumerate(spec.operations[one].requires):
-            for other in everyone:
-                line_text = f"stable {names[one]} {number + 1} {names[other]}"
-                found.append(Obligation(line_text, [one, other], line, None))
-    return found
-
-
-@dataclass
-class Witness:
-    """"such values as a program holds them": a world, a state, calls, and elements."""
-
-    world: World
-    state: State
-    calls: List[Call]
-    elements: List[int]
+            written = {it.thing for it in one.updates + other.updates}
+            for name, thing in spec.things().items():
+                if name in written:
+                    text = f"commute {one.name} {other.name} {name}"
+                    yield Obligation("commute", text, [one, other], None, thing)
+    for one in operations:
+        for number, line in enumerate(one.requires, 1):
+            for other in operations:
+                text = f"stable {one.name} {number} {other.name}"
+                yield Obligation("stable", text, [one, other], line)
 
 
 def breaks(spec: Specification, obligation: Obligation, witness: Witness) -> bool:
-    """Whether a witness breaks an obligation "and keeps the bounds of what runs": "at most
-    100 elements of each sort, numbers from -10^15 to 10^15". """
-    if not _fits(spec, obligation, witness):
+    """Whether a witness breaks an obligation "and keeps the bounds of what runs"."""
+    world, state, calls, elements = witness
+    if not _fits(obligation, witness):
         return False
-    world, calls = witness.world, witness.calls
-    start = At(world, witness.state)
-    if obligation.kind() == "init":
+    start = At(world, state, world.consts)
+    if obligation.kind == "init":
         # "the state is the initial one"
-        return _is_initial(spec, witness) and not _line_at(start, obligation, witness.elements)
+        return _is_initial(spec, witness) and _fails(start, obligation, elements)
     # "in the state: every invariant, the precondition of a"
-    if broken_at(spec, world, witness.state) is not None:
+    entries = [at_call(world, state, call) for call in calls]
+    if start.first_false(spec.invariants.values()) is not None or any(
+            at.first_false(call.operation.requires) is not None
+            for at, call in zip(entries, calls)):
         return False
-    entries = [At(world, witness.state, call.args) for call in calls]
-    for call, entry in zip(calls, entries):
-        if first_false(spec.operations[call.operation].requires, entry) is not None:
-            return False
-    if obligation.kind() == "safety":
-        # "the invariant after a, at the elements"
-        after = After(spec, entries[0], spec.operations[calls[0].operation])
-        return not _line_at(At(world, after), obligation, witness.elements)
     # "a and b don't conflict"
-    if conflict(spec, world, calls[0], calls[1]):
+    if len(calls) == 2 and conflict(spec, world, *calls):
         return False
-    if obligation.thing is not None:
-        # "after a then b and after b then a, the thing reads the same at the elements"
-        ends = [_after_two(spec, witness, order) for order in ((0, 1), (1, 0))]
-        place, at = obligation.thing.place, tuple(witness.elements)
-        if obligation.thing.is_counter:
-            return ends[0].count(place, at) != ends[1].count(place, at)
-        return ends[0].has(place, at) != ends[1].has(place, at)
-    # "the requires line of a after b, at the elements"
-    after = After(spec, entries[1], spec.operations[calls[1].operation])
-    return not _line_at(At(world, after, calls[0].args), obligation, witness.elements)
+    after = [After(at, call.operation) for at, call in zip(entries, calls)]
+    if obligation.kind == "safety":
+        # "the invariant after a, at the elements"
+        return _fails(At(world, after[0], world.consts), obligation, elements)
+    if obligation.thing is None:
+        # "the requires line of a after b, at the elements"
+        return _fails(At(world, after[1], entries[0].names), obligation, elements)
+    # "after a then b and after b then a, the thing reads the same at the elements"
+    ends = [After(at_call(world, after[first], calls[second]), calls[second].operation)
+            for first, second in ((0, 1), (1, 0))]
+    first_end, second_end = [end.read(obligation.thing.name, tuple(elements)) for end in ends]
+    return first_end != second_end
 
 
-def _line_at(at: At, obligation: Obligation, elements: Sequence[int]) -> bool:
-    """The truth of the obligation's line at elements, or of the whole line with `exists`."""
-    line = obligation.conclusion
+def _fails(at: At, obligation: Obligation, elements: list[int]) -> bool:
+    """"A line with exists fails as a whole": whether the obligation's line is false."""
+    line = obligation.line
     if line is None or line.quantifier == "exists":
-        return line is None or at.line(line)
-    return At(at.world, at.state, at.args, elements).truth(line.body)
+        return line is not None and not at.line(line)
+    return not at.body(line, elements)
 
 
-def _after_two(spec: Specification, witness: Witness, order: Sequence[int]) -> After:
-    """The readings after both calls in an order."""
-    first, second = [witness.calls[place] for place in order]
-    before = At(witness.world, witness.state, first.args)
-    between = At(witness.world, After(spec, before, spec.operations[first.operation]), second.args)
-    return After(spec, between, spec.operations[second.operation])
-
-
-def _fits(spec: Specification, obligation: Obligation, witness: Witness) -> bool:
-    """"all parts fit": calls of the obligation's operations, elements below their sizes."""
-    world = witness.world
+def _fits(obligation: Obligation, witness: Witness) -> bool:
+    """"all parts fit", and "at most 100 elements of each sort, numbers from -10^15 to 10^15". """
+    sizes = witness.world.sizes
     if [call.operation for call in witness.calls] != obligation.operations:
         return False
-    if any(size > MOST_ELEMENTS for size in world.sizes):
+    if any(size > MOST_ELEMENTS for size in sizes.values()):
         return False
-    for call in witness.calls:
-        for sort, arg in zip(spec.operations[call.operation].params, call.args):
-            if abs(arg) > MOST_VALUE if sort is None else not 0 <= arg < world.sizes[sort]:
-                return False
-    sorts = obligation.elements(spec)
-    return len(sorts) == len(witness.elements) and all(
-        element < world.sizes[sort] for sort, element in zip(sorts, witness.elements))
+    values = [pair for call in witness.calls
+              for pair in zip(call.operation.params.values(), call.args)]
+    values += zip(obligation.elements().values(), witness.elements)
+    return all(abs(value) <= MOST_VALUE if sort == "int" else 0 <= value < sizes[sort]
+               for sort, value in values)
 
 
 def _is_initial(spec: Specification, witness: Witness) -> bool:
     """"Two states are equal where all readings agree": here with the initial state."""
-    initial, state, world = initial_state(spec), witness.state, witness.world
-    for thing in spec.things():
-        place = thing.place
-        if thing.is_counter:
-            default, values = initial.default_count[place], list(state.counters[place].values())
-        else:
-            default, values = initial.default_has[place], [*state.relations[place].values()]
-        # What a witness lists isn't false or 0, so it lists all tuples, or none, or it differs.
-        size = prod(world.sizes[sort] for sort in spec.places(thing))
-        if len(values) != (size if default else 0) or any(it != default for it in values):
+    for name, thing in spec.things().items():
+        # A witness lists neither false nor 0, so it lists each tuple or none.
+        tuples = witness.world.tuples(thing.sorts) if thing.initial else ()
+        if witness.state.listed[name] != {at: thing.initial for at in tuples}:
             return False
     return True

@@ -1,11 +1,14 @@
 """SCHEDULE, "What a step does" and "The text", and TOKENS, "A schedule under the protocol"."""
+from __future__ import annotations
 from dataclasses import dataclass, field
-from typing import Dict, Iterator, List, NamedTuple, NoReturn, Optional, Set, Tuple
+from typing import Iterator, NamedTuple, Optional, Tuple
 
-from second.meaning import (MOST_VALUE, At, Call, State, apply, broken_at, conflict, first_false,
-                            initial_state, state_lines)
+from second.meaning import MOST_VALUE, At, Call, State, World, apply, at_call, conflict
 from second.schedule import CallStep, Schedule, Step, TakeStep
 from second.specification import Specification
+
+# "the replica that made it, and which of that replica's turns it used up"
+Id = NamedTuple("Id", [("replica", int), ("turn", int)])
 
 
 class Refused(Exception):
@@ -16,31 +19,22 @@ class Broken(Exception):
     """The state of a replica breaks the invariant of this name."""
 
 
-class Id(NamedTuple):
-    """"the replica that made it, and which of that replica's turns it used up" """
-
-    replica: int
-    turn: int
-
-
 @dataclass
 class Event:
     """A call that was run, and the events that its replica had taken, in that order."""
-
     call: Call
-    seen: List[int]
+    seen: list[int]
     own: Id
 
 
 @dataclass
 class Replica:
     """What a replica holds: its state, what it has taken, and what the protocol needs besides."""
-
     number: int
     state: State
-    taken: List[int] = field(default_factory=list)
+    taken: list[int] = field(default_factory=list)
     turn: int = 0
-    void: Set[Id] = field(default_factory=set)
+    void: set[Id] = field(default_factory=set)
     waiting: Optional[Tuple[Id, Call]] = None
 
 
@@ -52,10 +46,10 @@ class Run:
     def __init__(self, spec: Specification, schedule: Schedule) -> None:
         self.spec, self.schedule, self.world = spec, schedule, schedule.world
         self.replicas = [Replica(it, initial_state(spec)) for it in range(schedule.replicas)]
-        self.events: List[Event] = []
-        self.lines: List[str] = [f"cise {self.title} 1"]
+        self.events: list[Event] = []
+        self.lines: list[str] = [f"cise {self.title} 1"]
 
-    def text(self) -> Tuple[int, str]:
+    def text(self) -> tuple[int, str]:
         """The status and the text: the steps, "One line that says how the replay stopped", and "For
         each replica a line replica R taken M", and its state. """
         status, stop = self.course()
@@ -65,7 +59,7 @@ class Run:
             lines.extend(state_lines(self.spec, self.world, replica.state))
         return status, "".join(f"{line}\n" for line in lines)
 
-    def course(self) -> Tuple[int, str]:
+    def course(self) -> tuple[int, str]:
         """The steps in turn: "The invariants are asked of the initial state, and after each
         accepted step of the state of its replica." """
         where = "start"
@@ -82,9 +76,10 @@ class Run:
 
     def ask(self, replica: Replica) -> None:
         """Asks the invariants; "the first such one" that is broken stops the run."""
-        broken = broken_at(self.spec, self.world, replica.state)
+        at = At(self.world, replica.state, self.world.consts)
+        broken = at.first_false(self.spec.invariants.values())
         if broken is not None:
-            raise Broken(self.spec.invariants[broken][0])
+            raise Broken(list(self.spec.invariants)[broken])
 
     def step(self, place: int, step: Step) -> None:
         """A step; "a refused step changes nothing, and the first cause in these orders is the one
@@ -104,19 +99,16 @@ class Run:
     def fitting(self, step: CallStep) -> Call:
         """The call of a step."""
         # operation: "the name is no operation"
-        names = [it.name for it in self.spec.operations]
-        if step.name not in names:
+        operation = self.spec.operations.get(step.name)
+        if operation is None:
             raise Refused("operation")
-        place = names.index(step.name)
         # arguments: "there isn't an argument for each parameter, an element isn't below the size
         # of its sort, or a number is beyond -10^15 to 10^15"
-        params = self.spec.operations[place].params
-        fits = len(params) == len(step.args) and all(
-            abs(arg) <= MOST_VALUE if sort is None else 0 <= arg < self.world.sizes[sort]
-            for sort, arg in zip(params, step.args))
-        if not fits:
+        if len(operation.params) != len(step.args) or not all(
+                abs(arg) <= MOST_VALUE if sort == "int" else 0 <= arg < self.world.sizes[sort]
+                for sort, arg in zip(operation.params.values(), step.args)):
             raise Refused("arguments")
-        return Call(place, step.args)
+        return Call(operation, step.args)
 
     def call(self, before: str, replica: Replica, call: Call) -> None:
         """"A call is asked of its replica's own state." """
@@ -133,11 +125,10 @@ class Run:
     def not_ready(self, replica: Replica, call: Call) -> Optional[str]:
         """precondition L: "requires line L, counted from 1, is false in the replica's state; the
         first one", and then the same of `observation L`. """
-        operation = self.spec.operations[call.operation]
-        at = At(self.world, replica.state, call.args)
-        for word, lines in (("precondition", operation.requires),
-                            ("observation", operation.observes)):
-            place = first_false(lines, at)
+        at = at_call(self.world, replica.state, call)
+        for word, lines in (("precondition", call.operation.requires),
+                            ("observation", call.operation.observes)):
+            place = at.first_false(lines)
             if place is not None:
                 return f"{word} {place + 1}"
         return None
@@ -183,8 +174,8 @@ class Simulation(Run):
 
     def __init__(self, spec: Specification, schedule: Schedule) -> None:
         super().__init__(spec, schedule)
-        self.granted: List[Tuple[Id, Call]] = []
-        self.grants: Dict[Id, List[Id]] = {}
+        self.granted: list[Tuple[Id, Call]] = []
+        self.grants: dict[Id, list[Id]] = {}
 
     def call(self, before: str, replica: Replica, call: Call) -> None:
         """"While one waits, the node refuses further calls." "A call whose operation takes no
@@ -193,7 +184,7 @@ class Simulation(Run):
             raise Refused("waiting")
         own = Id(replica.number, replica.turn)
         replica.turn += 1
-        if not self.spec.operations[call.operation].takes:
+        if not call.operation.takes:
             self.run(before, replica, call, own)
             return
         replica.waiting = (own, call)
@@ -246,3 +237,18 @@ class Simulation(Run):
             return
         self.effect(before, replica, step.event)
         self.hear_grant(before, replica)
+
+
+def initial_state(spec: Specification) -> State:
+    """"gives each relation and each counter its one stated value at all tuples or keys" """
+    return State({name: thing.initial for name, thing in spec.things().items()})
+
+
+def state_lines(spec: Specification, world: World, state: State) -> Iterator[str]:
+    """"true NAME E E for each tuple that a relation holds, relation by relation and in rising
+    order. Then comes a line count NAME E E V for each value that isn't 0" """
+    for name, thing in spec.things().items():
+        for at in world.tuples(thing.sorts) if thing.initial else sorted(state.listed[name]):
+            value, shown = state.read(name, at), " ".join(map(str, (name, *at)))
+            if value:
+                yield f"true {shown}" if thing.kind == "relation" else f"count {shown} {value}"

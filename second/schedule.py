@@ -1,9 +1,9 @@
 """SCHEDULE, "The format" and "What is checked, and in which order": the schedule that bytes are."""
+from __future__ import annotations
 import json
 import math
 import re
-from dataclasses import dataclass, field
-from typing import Dict, List, NamedTuple, NoReturn, Union
+from typing import Iterable, List, NamedTuple, NoReturn, Union
 
 from second.meaning import World
 from second.specification import Specification
@@ -24,32 +24,17 @@ HALF = re.compile(r"\\u[dD][89abAB]..\\u[dD][c-fC-F]..|(\\u[dD][89a-fA-F])|\\.",
 class ScheduleRefused(Exception):
     """Bytes are no schedule, for this reason."""
 
-
-class CallStep(NamedTuple):
-    """A replica makes a call."""
-
-    replica: int
-    name: str
-    args: List[int]
-
-
-class TakeStep(NamedTuple):
-    """A replica takes an event."""
-
-    replica: int
-    event: int
-
-
+# A replica makes a call, or it takes an event.
+CallStep = NamedTuple("CallStep", [("replica", int), ("name", str), ("args", List[int])])
+TakeStep = NamedTuple("TakeStep", [("replica", int), ("event", int)])
 Step = Union[CallStep, TakeStep]
 
 
-@dataclass
-class Schedule:
+class Schedule(NamedTuple):
     """A world, how many replicas there are, and the steps."""
-
     world: World
     replicas: int
-    steps: List[Step] = field(default_factory=list)
+    steps: List[Step]
 
 
 def read_schedule(spec: Specification, data: bytes) -> Schedule:
@@ -58,16 +43,12 @@ def read_schedule(spec: Specification, data: bytes) -> Schedule:
         raise ScheduleRefused("long")
     top = _object(_json(data), ["sizes", "constants", "replicas", "steps"], "top")
     sizes = _object(top["sizes"], spec.sorts, "sizes")
-    world = World()
-    for sort in spec.sorts:
-        world.sizes.append(_within(sizes[sort], f"sizes {sort}", MOST_SIZE))
-    constants = _object(top["constants"], [name for name, _ in spec.consts], "constants")
-    for name, place in spec.consts:
-        most = world.sizes[place] - 1
-        world.consts.append(_within(constants[name], f"constants {name}", most))
-    if not _is_whole(top["replicas"]):
-        _refuse("shape", "replicas")
-    replicas = _number(top["replicas"])
+    world = World({sort: _within(sizes[sort], f"sizes {sort}", MOST_SIZE) for sort in spec.sorts})
+    constants = _object(top["constants"], spec.consts, "constants")
+    for name, sort in spec.consts.items():
+        most = world.sizes[sort] - 1
+        world.consts[name] = _within(constants[name], f"constants {name}", most)
+    replicas = _whole(top["replicas"], "replicas")
     if not 1 <= replicas <= MOST_REPLICAS:
         _refuse("size", "replicas")
     steps = top["steps"]
@@ -115,49 +96,45 @@ def _double(text: str) -> float:
     return float(text)
 
 
-def _is_whole(value: object) -> bool:
-    """Whether a value is a whole number; a truth value is none."""
-    return isinstance(value, int) and not isinstance(value, bool)
-
-
-def _number(value: object) -> int:
-    """A value that is a whole number."""
-    return value if isinstance(value, int) else 0
-
-
-def _object(value: object, keys: List[str], path: str) -> Dict[str, object]:
+def _object(value: object, keys: Iterable[str], path: str) -> dict[str, object]:
     """"an object with exactly" these keys."""
     if not isinstance(value, dict) or set(value) != set(keys):
         _refuse("shape", path)
     return value
 
 
+def _whole(value: object, path: str) -> int:
+    """A whole number; a truth value is none."""
+    if not isinstance(value, int) or isinstance(value, bool):
+        _refuse("shape", path)
+    return value
+
+
 def _within(value: object, path: str, most: int) -> int:
     """"a whole number that isn't negative, then at most" so much."""
-    if not _is_whole(value) or _number(value) < 0:
+    number = _whole(value, path)
+    if not 0 <= number <= most:
+        _refuse("shape" if number < 0 else "size", path)
+    return number
+
+
+def _count(value: object, path: str) -> int:
+    """"Replicas and events are whole numbers from 0 to 4,294,967,295" """
+    number = _whole(value, path)
+    if not 0 <= number <= MOST_NUMBER:
         _refuse("shape", path)
-    if _number(value) > most:
-        _refuse("size", path)
-    return _number(value)
+    return number
 
 
 def _step(value: object, path: str) -> Step:
     """"A step is one of two objects, with exactly these keys"."""
-    if not isinstance(value, dict) or not _is_count(value.get("replica")):
-        _refuse("shape", path)
-    if set(value) == {"replica", "take"} and _is_count(value["take"]):
-        return TakeStep(value["replica"], value["take"])
-    if set(value) != {"replica", "call", "args"}:
-        _refuse("shape", path)
+    if isinstance(value, dict) and set(value) == {"replica", "take"}:
+        return TakeStep(_count(value["replica"], path), _count(value["take"], path))
+    call = _object(value, ["replica", "call", "args"], path)
     # "call, the name of an operation, a text of 1 to 32 bytes; args, a list of whole numbers"
-    name, args = value["call"], value["args"]
+    name, args = call["call"], call["args"]
     if not isinstance(name, str) or not 1 <= len(name.encode("utf-8")) <= 32:
         _refuse("shape", path)
-    if not isinstance(args, list) or not all(_is_whole(it) for it in args):
+    if not isinstance(args, list):
         _refuse("shape", path)
-    return CallStep(value["replica"], name, args)
-
-
-def _is_count(value: object) -> bool:
-    """"Replicas and events are whole numbers from 0 to 4,294,967,295" """
-    return _is_whole(value) and 0 <= _number(value) <= MOST_NUMBER
+    return CallStep(_count(call["replica"], path), name, [_whole(it, path) for it in args])

@@ -1,172 +1,71 @@
-"""LANGUAGE, "What a specification means": a record of lists, and of places."""
+"""LANGUAGE, "What a specification means": a record of lists, each in written order. What they list
+is referred to by its name, and of two things with one name the inner one is meant."""
+from __future__ import annotations
 from dataclasses import dataclass, field
-from typing import List, NamedTuple, Optional, Tuple, Union
+from typing import Dict, NamedTuple, Tuple
 
-
-class Elem(NamedTuple):
-    """A name for an element: a `const`, a `param` of the call or a `var` of the line."""
-
-    kind: str
-    place: int
-
-
-class Summand(NamedTuple):
-    """A coefficient times `one`, times a whole-number `param`, or times a `count`er's reading."""
-
-    coef: int
-    body: str
-    place: int
-    key: Tuple[Elem, ...]
-
-
+Names = Tuple[str, ...]
+# Names with their sorts, in written order; a parameter that is a whole number has `int`.
+Sorted = Dict[str, str]
+# A coefficient times `one`, a whole-number `parameter`, or a `counter`'s reading at a key.
+Summand = NamedTuple("Summand", [("coef", int), ("kind", str), ("name", str), ("key", Names)])
 Term = Tuple[Summand, ...]
 
 
-class Truth(NamedTuple):
-    """`true` or `false`."""
+class Form(NamedTuple):
+    """A formula by its kind: `true`, `false`, `not`, `and`, `or` and `implies` with their parts;
+    `has`, the reading of a relation at elements; `same` and `differ`, of two elements; and each
+    comparison of two sums, as `<=`."""
+    kind: str
+    parts: Tuple[Form, ...] = ()
+    relation: str = ""
+    names: Names = ()
+    sums: Tuple[Term, ...] = ()
 
-    value: bool
-
-
-class Not(NamedTuple):
-    """`not` before a formula."""
-
-    part: "Form"
-
-
-class Both(NamedTuple):
-    """Two formulas with `and`, `or` or `implies` between."""
-
-    connective: str
-    left: "Form"
-    right: "Form"
+    def nodes(self) -> int:
+        """"truth values, not, connectives, atoms, comparisons" """
+        return 1 + sum(part.nodes() for part in self.parts)
 
 
-class Has(NamedTuple):
-    """A relation's reading."""
-
-    relation: int
-    args: Tuple[Elem, ...]
-
-
-class Same(NamedTuple):
-    """Two elements are equal, or where `equal` is false unequal."""
-
-    left: Elem
-    right: Elem
-    equal: bool
-
-
-class Compare(NamedTuple):
-    """Two sums with a comparison between."""
-
-    comparison: str
-    left: Term
-    right: Term
-
-
-Form = Union[Truth, Not, Both, Has, Same, Compare]
+# A formula with its prefix: `forall`, `exists` or none, and its variables.
+Line = NamedTuple("Line", [("quantifier", str), ("variables", Sorted), ("body", Form)])
+# `insert`, `remove`, `add` or `set`, of a thing at spots, which are names or `*`.
+Update = NamedTuple("Update", [("change", str), ("thing", str), ("spots", Names), ("amount", Term),
+                               ("guard", Form)])
+# A line of `takes`, or a pattern of a rule, whose names are the rule's variables.
+Take = NamedTuple("Take", [("token", str), ("names", Names), ("shared", bool)])
 
 
 @dataclass
-class Line:
-    """A formula with its prefix: `forall`, `exists` or none, and the sorts of its variables."""
-
-    quantifier: str
-    variables: List[int]
-    body: Form
-
-
-@dataclass
-class Relation:
-    """A relation, the sorts of its places, and its initial value."""
-
+class Thing:
+    """A relation, a counter or a token; the sorts of its places or keys; its initial value."""
+    kind: str
     name: str
-    places: List[int]
-    initial: bool = False
-
-
-@dataclass
-class Counter:
-    """A counter, the sorts of its keys, and its initial value."""
-
-    name: str
-    places: List[int]
+    sorts: list[str]
     initial: int = 0
-
-
-class Pattern(NamedTuple):
-    """A token, and for each place the number of the rule's variable there."""
-
-    token: int
-    variables: List[int]
-
-
-class Thing(NamedTuple):
-    """A relation or a counter, by its place among its kind."""
-
-    is_counter: bool
-    place: int
-
-
-@dataclass
-class Update:
-    """`insert`, `remove`, `add` or `set`, where a spot of None is `*`."""
-
-    change: str
-    thing: Thing
-    spots: List[Optional[Elem]]
-    amount: Term
-    guard: Form
-
-
-@dataclass
-class Take:
-    """A line of `takes`."""
-
-    token: int
-    args: List[Elem]
-    shared: bool
 
 
 @dataclass
 class Operation:
-    """An operation; a parameter has a sort, or None where it is a whole number."""
-
     name: str
-    params: List[Optional[int]] = field(default_factory=list)
-    requires: List[Line] = field(default_factory=list)
-    updates: List[Update] = field(default_factory=list)
-    takes: List[Take] = field(default_factory=list)
-    observes: List[Line] = field(default_factory=list)
+    params: Sorted = field(default_factory=dict)
+    requires: list[Line] = field(default_factory=list)
+    observes: list[Line] = field(default_factory=list)
+    updates: list[Update] = field(default_factory=list)
+    takes: list[Take] = field(default_factory=list)
 
 
 @dataclass
 class Specification:
-    """All that a specification declares, each list in written order."""
+    sorts: list[str] = field(default_factory=list)
+    consts: Sorted = field(default_factory=dict)
+    relations: dict[str, Thing] = field(default_factory=dict)
+    counters: dict[str, Thing] = field(default_factory=dict)
+    tokens: dict[str, Thing] = field(default_factory=dict)
+    rules: list[tuple[Take, Take]] = field(default_factory=list)
+    invariants: dict[str, Line] = field(default_factory=dict)
+    operations: dict[str, Operation] = field(default_factory=dict)
 
-    sorts: List[str] = field(default_factory=list)
-    consts: List[Tuple[str, int]] = field(default_factory=list)
-    relations: List[Relation] = field(default_factory=list)
-    counters: List[Counter] = field(default_factory=list)
-    tokens: List[List[int]] = field(default_factory=list)
-    rules: List[Tuple[Pattern, Pattern]] = field(default_factory=list)
-    invariants: List[Tuple[str, Line]] = field(default_factory=list)
-    operations: List[Operation] = field(default_factory=list)
-
-    def things(self) -> List[Thing]:
+    def things(self) -> dict[str, Thing]:
         """The relations and then the counters."""
-        relations = [Thing(False, place) for place in range(len(self.relations))]
-        return relations + [Thing(True, place) for place in range(len(self.counters))]
-
-    def places(self, thing: Thing) -> List[int]:
-        """The sorts of a thing's places or keys."""
-        if thing.is_counter:
-            return self.counters[thing.place].places
-        return self.relations[thing.place].places
-
-    def name(self, thing: Thing) -> str:
-        """The name of a thing."""
-        if thing.is_counter:
-            return self.counters[thing.place].name
-        return self.relations[thing.place].name
+        return {**self.relations, **self.counters}

@@ -1,75 +1,112 @@
-"""LANGUAGE, "Words": a text is cut into words, or refused at one byte."""
+"""LANGUAGE, "Words" and "Syntax refusals": a text is cut into words, which are taken in turn."""
+from __future__ import annotations
 import re
-from dataclasses import dataclass
-from typing import List
+from typing import Callable, NamedTuple, NoReturn, TypeVar
 
 MOST_BYTES = 65_536
-NAME_BYTES, NUMBER_DIGITS = 32, 38
 # "These names are reserved".
 RESERVED = frozenset(
     "cise sort const relation counter initially token conflict invariant operation end requires"
     " insert remove add set takes when forall exists true false not and or implies int".split()
 )
-# "White space is space, tab, carriage return and line feed. A `#` begins a comment, which ends
-# before the next line feed or at the end of the text."
-NOTHING = re.compile(r"(?:[ \t\r\n]|#[^\n]*)*")
-# "A name is a letter, a to z or A to Z, and all letters, digits and _ that follow."
-NAME = re.compile(r"[A-Za-z][A-Za-z0-9_]*")
-# "A number is 0 alone, or a digit from 1 to 9 and all digits that follow."
-NUMBER = re.compile(r"0|[1-9][0-9]*")
-# "The signs are ( ) , : . * + - = != < <= > >=. The longest one that stands there is taken."
-SIGN = re.compile(r"!=|<=|>=|[(),:.*+\-=<>]")
+KINDS = {
+    # "White space is space, tab, carriage return and line feed. A `#` begins a comment, which ends
+    # before the next line feed or at the end of the text."
+    "nothing": r"[ \t\r\n]+|#[^\n]*",
+    # "A name is a letter, a to z or A to Z, and all letters, digits and _ that follow."
+    "name": r"[A-Za-z][A-Za-z0-9_]*",
+    # "A number is 0 alone, or a digit from 1 to 9 and all digits that follow."
+    "number": r"0|[1-9][0-9]*",
+    # "The signs are ( ) , : . * + - = != < <= > >=. The longest one that stands there is taken."
+    "sign": r"!=|<=|>=|[(),:.*+\-=<>]",
+}
+WORD = re.compile("|".join(f"(?P<{kind}>{form})" for kind, form in KINDS.items()))
+# "In version 2 shared, exclusive and observes are no NAMEs. In version 1 they are names".
+WORDS_OF_TWO = ("shared", "exclusive", "observes")
+# A word of a text: a name, number, sign or reserved one, how it is spelled, and its number.
+Word = NamedTuple("Word", [("kind", str), ("text", str), ("number", int)])
+T = TypeVar("T")
 
 
 class SpecRefused(Exception):
     """A text is no specification, for this reason."""
 
 
-@dataclass(frozen=True)
-class Word:
-    """A word of a text: `name`, `number`, `sign` or `reserved`, and how it is spelled."""
-
-    kind: str
-    text: str
-
-
-def cut(text: bytes) -> List[Word]:
-    """The words of a text, in their order."""
+def cut(text: bytes) -> list[Word]:
+    """The words of a text, in their order, and behind them one without a letter."""
     # "A specification is a text of at most 65,536 bytes."
     if len(text) > MOST_BYTES:
         raise SpecRefused("long")
-    letters = text.decode("latin-1")
-    words: List[Word] = []
-    place = _behind_nothing(letters, 0)
+    letters, place = text.decode("latin-1"), 0
+    words: list[Word] = []
     while place < len(letters):
-        word = _word_at(letters, place)
-        words.append(word)
-        place = _behind_nothing(letters, place + len(word.text))
-    return words
-
-
-def _behind_nothing(letters: str, place: int) -> int:
-    """The next place at which neither white space nor a comment stands."""
-    match = NOTHING.match(letters, place)
-    return match.end() if match else place
-
-
-def _word_at(letters: str, place: int) -> Word:
-    """The word that begins at a place, which is refused where none does."""
-    name = NAME.match(letters, place)
-    if name:
+        found = WORD.match(letters, place)
+        if not found:
+            # letter: "a byte that is in no white space or comment and begins no word"
+            raise SpecRefused(f"letter at {place}")
+        kind, word = str(found.lastgroup), found.group()
         # name: "the first byte of a name of more than 32 bytes"
-        if len(name.group()) > NAME_BYTES:
-            raise SpecRefused(f"name at {place}")
-        return Word("reserved" if name.group() in RESERVED else "name", name.group())
-    number = NUMBER.match(letters, place)
-    if number:
         # number: "the first byte of a number of more than 38 digits"
-        if len(number.group()) > NUMBER_DIGITS:
-            raise SpecRefused(f"number at {place}")
-        return Word("number", number.group())
-    sign = SIGN.match(letters, place)
-    if sign:
-        return Word("sign", sign.group())
-    # letter: "a byte that is in no white space or comment and begins no word"
-    raise SpecRefused(f"letter at {place}")
+        if len(word) > {"name": 32, "number": 38}.get(kind, MOST_BYTES):
+            raise SpecRefused(f"{kind} at {place}")
+        if kind != "nothing":
+            words.append(Word("reserved" if word in RESERVED else kind, word, len(words)))
+        place = found.end()
+    return [*words, Word("", "", len(words))]
+
+
+class Cursor:
+    """Words from the first on; `at` is the number of the next one. Nothing looks further ahead, and
+    it is refused where no specification goes on with it: so its number is "the length of the
+    longest front of the words with which some specification begins"."""
+
+    def __init__(self, words: list[Word]) -> None:
+        self.words, self.at, self.version = words, 0, 1
+
+    def next(self) -> str:
+        """The next word as it is spelled, and nothing at the end."""
+        return self.words[self.at].text
+
+    def refuse(self) -> NoReturn:
+        raise SpecRefused(f"syntax word {self.at}")
+
+    def take(self, *texts: str) -> Word:
+        if self.next() not in texts:
+            self.refuse()
+        self.at += 1
+        return self.words[self.at - 1]
+
+    def skip(self, text: str) -> bool:
+        """Takes this word where it is next, and says whether it was."""
+        is_next = self.next() == text
+        self.at += is_next
+        return is_next
+
+    def is_name(self) -> bool:
+        """Whether the next word is a NAME: "a name that isn't reserved"."""
+        kind, text, _ = self.words[self.at]
+        return kind == "name" and (self.version == 1 or text not in WORDS_OF_TWO)
+
+    def name(self) -> Word:
+        return self.take(self.next()) if self.is_name() else self.refuse()
+
+    def is_number(self) -> bool:
+        return self.words[self.at].kind == "number"
+
+    def number(self) -> Word:
+        return self.take(self.next()) if self.is_number() else self.refuse()
+
+    def several(self, read: Callable[[], T]) -> list[T]:
+        """Something, and `{ "," something }`."""
+        found = [read()]
+        while self.skip(","):
+            found.append(read())
+        return found
+
+    def bracketed(self, read: Callable[[], T]) -> list[T]:
+        """`[ "(" something { "," something } ")" ]`"""
+        if not self.skip("("):
+            return []
+        found = self.several(read)
+        self.take(")")
+        return found
