@@ -1,28 +1,36 @@
 """An audit of a log that fits no schedule, or of a part of one, or of all findings: pairs of calls
 by the index of tokens, each confirmed by the program on a schedule of its own; then slices of calls
-that share no element, as many at a time as a schedule holds. A part of N has the tokens, and the
-slices, whose texts fall into it."""
+that share no element, as many at a time as a schedule holds; in a large log each of several
+processes replays some of them. A part of N has the tokens, and the slices, whose texts fall into
+it."""
+import gc
+import json
 import os
 import zlib
 from array import array
-from collections import deque
-from concurrent.futures import Future, ThreadPoolExecutor
-from typing import Any, Deque, Dict, Iterator, List, Set, Tuple
+from concurrent.futures import ThreadPoolExecutor
+from dataclasses import dataclass, field
+from typing import Any, Dict, Iterator, List, Set, Tuple
 
 from view import program
 from view.audit import MOST_ELEMENTS, MOST_REPLICAS, Audit, meaning, schedule_of, stop_of
 from view.audit_findings import BROKEN, REFUSED, Finding
 from view.causes import AT_END, MOST_STEPS, Doubt, Step
 from view.cut_text import bare
+from view.inputs import Copy
 from view.logs import CALL, TAKE, Log
 from view.slice_lines import Sliced, sliced
 from view.token_index import Index, Part
+from view.words import encoded
+from view.workers import shared, worth
 
 # The most elements of a sort in one schedule, by the most variables of a line that the program goes
 # through at each step.
 MOST_BY_VARIABLES = {0: 56, 1: 56, 2: 40, 3: 14}
 # What a step has, as a plain tuple, of which there are millions.
 Row = Tuple[int, int, bool, int, int]
+# Slices of logs with so many calls are replayed by several processes.
+LARGE = 20_000
 # Elements that stand for all of other slices: as many as a line has variables.
 MOST_OUTSIDE = 3
 
@@ -39,7 +47,8 @@ def look(audit: Audit, part: Part) -> None:
             one_schedule(audit)
     else:
         Slices(audit, part).look()
-    audit.findings.sort(key=lambda it: (it.file, it.line, it.word, it.text))
+    found = dict.fromkeys(audit.findings)
+    audit.findings = sorted(found, key=lambda it: (it.file, it.line, it.word, it.text))
 
 
 def one_schedule(audit: Audit) -> None:
@@ -189,7 +198,6 @@ class Slices:
             for params in self.log.params
         ]
         self.most = MOST_BY_VARIABLES[min(3, self.spec.most_variables)]
-        self.steps = self.slices = 0
 
     def find(self, node: int) -> int:
         """The number of an element's slice."""
@@ -248,48 +256,58 @@ class Slices:
         return found
 
     def look(self) -> None:
-        """Replays all slices of the part, many in one schedule."""
+        """Replays all slices of the part, many in one schedule, by several processes where there
+        are many calls."""
         if self.log.states:
             self.audit.left.append(f"{len(self.log.states):,} logged states")
         self.join()
-        self.replay_all(self.batches(self.grouped()))
+        groups = self.grouped()
+        roots = sorted(groups, key=lambda it: self.causes.rank[self.first_call(groups[it])])
+        count = worth(len(self.log.op), LARGE)
+        gc.freeze()
+        found = shared(count, lambda at: self.share(groups, roots[at::count]))
+        gc.unfreeze()
+        for it in found:
+            self.audit.findings += it.findings
+        self.tell_left(sum(it.cut for it in found), sum(it.wide for it in found))
         if self.spec.left:
             self.audit.left.append(f"{', '.join(self.spec.left)}, which read across slices")
         self.audit.looked.append(
-            f"as {self.slices:,} slices of calls that share no element, in {self.steps:,} steps "
-            "that the program replayed"
+            f"as {sum(it.slices for it in found):,} slices of calls that share no element, in "
+            f"{sum(it.steps for it in found):,} steps that the program replayed"
         )
 
-    def replay_all(self, batches: Iterator[List["Slice"]]) -> None:
-        """Replays batches, a few at a time, so that few stand in memory."""
-        running: Deque["Future[List[Finding]]"] = deque()
-        with ThreadPoolExecutor(os.cpu_count()) as pool:
-            for batch in batches:
-                running.append(pool.submit(self.replay, batch))
-                if len(running) > 2 * (os.cpu_count() or 1):
-                    self.audit.findings += running.popleft().result()
-            for it in running:
-                self.audit.findings += it.result()
+    def share(self, groups: Dict[int, "array[int]"], roots: List[int]) -> "Share":
+        """What is found in some slices."""
+        found = Share()
+        text = Copy()
+        try:
+            text.add(encoded(self.spec.text))
+            for batch in self.batches(groups, roots, found):
+                found.findings += self.replay(batch, text.path)
+        finally:
+            text.close()
+        return found
 
-    def batches(self, groups: Dict[int, "array[int]"]) -> Iterator[List["Slice"]]:
+    def batches(
+        self, groups: Dict[int, "array[int]"], roots: List[int], found: "Share"
+    ) -> Iterator[List["Slice"]]:
         """Slices together, up to what a schedule holds."""
         batch = Batch(self.most)
-        cut = wide = 0
-        for root in sorted(groups, key=lambda it: self.causes.rank[self.first_call(groups[it])]):
+        for root in roots:
             one = Slice(self, groups.pop(root))
             if len(one.replicas) > MOST_REPLICAS:
-                wide += 1
+                found.wide += 1
                 continue
-            cut += one.is_cut
-            self.slices += 1
-            self.steps += len(one.steps)
+            found.cut += one.is_cut
+            found.slices += 1
+            found.steps += len(one.steps)
             if batch.slices and not batch.has_room(one):
                 yield batch.slices
                 batch = Batch(self.most)
             batch.add(one)
         if batch.slices:
             yield batch.slices
-        self.tell_left(cut, wide)
 
     def tell_left(self, cut: int, wide: int) -> None:
         """Says how many slices didn't fit a schedule, or not to their ends."""
@@ -309,17 +327,13 @@ class Slices:
         code = codes[0]
         return code // 3 if code % 3 == CALL else self.log.call_of[self.log.taken[code // 3]]
 
-    def replay(self, batch: List["Slice"]) -> List[Finding]:
+    def replay(self, batch: List["Slice"], path: str) -> List[Finding]:
         """Replays slices one behind the other in one schedule; where one stops it, that is a
         finding, and those behind it are replayed without it."""
         found: List[Finding] = []
         left = list(batch)
         while left:
-            schedule = self.schedule_of(left)
-            status, text = program.replay(self.spec.text, schedule)
-            if not text.startswith("cise replay") or status not in (0, 1, 4):
-                raise program.Stopped(("replay",), status, text)
-            stop = stop_of(text)
+            stop = self.replayed(left, path)
             if stop[0] == "done":
                 break
             if stop[1] == "start":
@@ -333,9 +347,21 @@ class Slices:
                 before += left.pop(0).count()
             if stop[2:3] == ["conflict"] and int(stop[3]) < before:
                 # (tokens order calls of two slices, which only together have seen each other)
-                found += self.replay(left[:1])
+                found += self.replay(left[:1], path)
             del left[0]
         return found
+
+    def replayed(self, batch: List["Slice"], path: str) -> List[str]:
+        """How the program stops on slices in one schedule."""
+        schedule = Copy()
+        try:
+            schedule.add(self.schedule_of(batch).encode())
+            status, text = program.run("replay", path, schedule.path)
+        finally:
+            schedule.close()
+        if not text.startswith("cise replay") or status not in (0, 1, 4):
+            raise program.Stopped(("replay",), status, text)
+        return stop_of(text)
 
     def stopped(self, steps: List[Row], step: Step, stop: List[str]) -> List[Finding]:
         """The finding that a slice's stop is; a conflict and a doubted taking are findings of the
@@ -370,29 +396,29 @@ class Slices:
         ]
         return kept[number - 1]
 
-    def steps_of(
-        self, batch: List["Slice"], numbers: Dict[str, Dict[int, int]]
-    ) -> List[Dict[str, Any]]:
-        """The steps of slices as a schedule has them, with the numbers of elements in it."""
-        log = self.log
+    def steps_of(self, batch: List["Slice"], numbers: Dict[str, Dict[int, int]]) -> List[str]:
+        """The steps of slices as they are written in a schedule, with the numbers of elements in
+        it."""
+        log, heads = self.log, [f'"call":{json.dumps(it)}' for it in self.log.operations]
+        ops, args_at, all_args = log.op, log.args_at, log.args
         events: Dict[int, int] = {}
         replicas: Dict[Tuple[int, int], int] = {}
-        found: List[Dict[str, Any]] = []
+        found: List[str] = []
         for one in batch:
             for own, call, is_take, _, _ in one.steps:
                 replica = replicas.setdefault((one.apart, own), len(replicas))
                 if is_take:
-                    found.append({"replica": replica, "take": events[call]})
+                    found.append(f'{{"replica":{replica},"take":{events[call]}}}')
                     continue
                 events[call] = len(events)
-                op = log.op[call]
-                args = log.args[log.args_at[call] : log.args_at[call + 1]].tolist()
+                op = ops[call]
+                args = all_args[args_at[call] : args_at[call + 1]].tolist()
                 for place, sort in self.sorts_at[op]:
                     args[place] = numbers[sort][args[place]]
-                found.append({"replica": replica, "call": log.operations[op], "args": args})
+                found.append(f'{{"replica":{replica},{heads[op]},"args":{args}}}')
         return found
 
-    def schedule_of(self, batch: List["Slice"]) -> Dict[str, Any]:
+    def schedule_of(self, batch: List["Slice"]) -> str:
         """Slices as one schedule, with elements that stand for those of other slices."""
         numbers: Dict[str, Dict[int, int]] = {sort: {} for sort in self.sorts}
         for one in batch:
@@ -403,17 +429,26 @@ class Slices:
             name: local(numbers[str(self.log.spec.consts[name])], element)
             for name, element in self.log.consts.items()
         }
-        found = self.steps_of(batch, numbers)
+        steps = ",".join(self.steps_of(batch, numbers))
         sizes = {
             sort: min(MOST_ELEMENTS, len(its) + min(MOST_OUTSIDE, len(self.texts[sort]) - len(its)))
             for sort, its in numbers.items()
         }
-        return {
-            "sizes": sizes,
-            "constants": consts,
-            "replicas": len({(one.apart, it) for one in batch for it in one.replicas}),
-            "steps": found,
-        }
+        replicas = len({(one.apart, it) for one in batch for it in one.replicas})
+        rest = json.dumps({"sizes": sizes, "constants": consts, "replicas": replicas})
+        return f'{rest[: -len("}")]}, "steps": [{steps}]}}'
+
+
+@dataclass
+class Share:
+    """What one process found in its slices: how many there were, with their steps, how many of them
+    are cut off, and how many have too many replicas."""
+
+    findings: List[Finding] = field(default_factory=list)
+    slices: int = 0
+    steps: int = 0
+    cut: int = 0
+    wide: int = 0
 
 
 class Batch:

@@ -9,13 +9,15 @@ import shutil
 import tempfile
 from dataclasses import dataclass
 from functools import cached_property
-from typing import Dict, Iterator, Optional, Tuple
+from typing import Dict, Iterator, List, Optional, Tuple
 
 from view.words import text_of as text_now
 
 # What the program reads at most of each kind of input.
 MOST_OF_SPECIFICATION, MOST_OF_SCHEDULE, MOST_BYTES = 1 << 16, 1 << 24, 1 << 26
 PIECE = 1 << 20
+# So many bytes of lines are read at a time, or one line.
+PIECE_OF_LINES = 1 << 17
 
 
 class Copy:
@@ -102,13 +104,16 @@ def read(path: str, most: int = MOST_BYTES) -> Input:
     return inputs[copy.path]
 
 
-def lines(path: str) -> Iterator[Tuple[int, bytes]]:
-    """The lines of an input that is too large for a copy, and so is read once, as they come, with
-    their numbers; without those that are empty."""
+def blocks(path: str) -> Iterator[Tuple[List[int], List[bytes]]]:
+    """The lines of an input that is too large for a copy, and so is read once, as they come, some
+    at a time with their numbers; without those that are empty."""
     with open(path, "rb") as file:
-        for number, line in enumerate(file, 1):
-            if line.strip():
-                yield number, line
+        number = 1
+        while found := file.readlines(PIECE_OF_LINES):
+            kept = [at for at, line in enumerate(found) if line.strip()]
+            if kept:
+                yield [number + at for at in kept], [found[at] for at in kept]
+            number += len(found)
 
 
 def is_file(path: str) -> bool:

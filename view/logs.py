@@ -2,10 +2,11 @@
 docs/users/AUDIT.md has the form. A log is read once, line by line, into rows of numbers, so that a
 million calls fit into memory."""
 import json
+import os
 from array import array
 from typing import Any, Dict, Iterator, List, NoReturn, Optional, Tuple
 
-from view.inputs import lines
+from view.inputs import blocks
 
 # The most that a number of a call may be, which is the program's bound.
 MOST_NUMBER = 10**15
@@ -30,6 +31,26 @@ class BadLine(Exception):
     def __init__(self, path: str, line: int, message: str) -> None:
         super().__init__(message)
         self.path, self.line, self.message = path, line, message
+
+
+# Stands between the lines of a block that is read as one list. No line knows it, so none can go on
+# in the next one.
+BETWEEN = int.from_bytes(os.urandom(4), "big")
+
+
+def together(block: List[bytes]) -> Optional[List[Dict[str, Any]]]:
+    """The objects that lines are, read as one list; None where some line isn't one."""
+    if max(map(len, block)) > MOST_LINE:
+        return None
+    try:
+        text = b"[" + (b",%d," % BETWEEN).join(block) + b"]"
+        found = DECODER.decode(text.decode("utf-8"))
+    except (ValueError, RecursionError):
+        return None
+    values, between = found[::2], found[1::2]
+    if len(values) != len(block) or set(map(type, values)) != {dict}:
+        return None
+    return values if between == [BETWEEN] * (len(block) - 1) else None
 
 
 class Place:
@@ -93,6 +114,8 @@ class Log:
         self.logs_takes: List[bool] = []
         self.id_texts: List[str] = []
         self.at = ("", 0)
+        # What lines with these keys say, of those that were seen.
+        self.kinds: Dict[Tuple[str, ...], int] = {}
 
     def wrong(self, message: str) -> NoReturn:
         """The line that is being read isn't of its form."""
@@ -101,12 +124,26 @@ class Log:
     def read(self) -> "Log":
         """Reads all files."""
         for file, path in enumerate(self.paths):
-            for number, line in lines(path):
-                self.at = (path, number)
-                self.line(file, number, self.value(line))
+            for numbers, block in blocks(path):
+                for number, value in self.values(path, numbers, block):
+                    self.at = (path, number)
+                    self.line(file, number, value)
         if not self.has_constants:
             self.set_constants({})
         return self
+
+    def values(
+        self, path: str, numbers: List[int], block: List[bytes]
+    ) -> Iterator[Tuple[int, Dict[str, Any]]]:
+        """The objects that lines are: read as one list, or one after the other up to the first that
+        is none."""
+        known = together(block)
+        if known is not None:
+            yield from zip(numbers, known)
+            return
+        for number, line in zip(numbers, block):
+            self.at = (path, number)
+            yield number, self.value(line)
 
     def value(self, line: bytes) -> Dict[str, Any]:
         """The object that a line is."""
@@ -130,9 +167,13 @@ class Log:
 
     def line(self, file: int, number: int, value: Dict[str, Any]) -> None:
         """Takes what a line says."""
-        kind = self.kind_of(value)
+        keys = tuple(value)
+        kind = self.kinds.get(keys)
         if kind is None:
-            return self.name_constants(value["constants"])
+            kind = self.kind_of(value)
+            if kind is None:
+                return self.name_constants(value["constants"])
+            self.kinds[keys] = kind
         if not self.has_constants:
             self.set_constants({})
         replica = self.replica_of(value["replica"])
@@ -224,14 +265,15 @@ class Log:
         """Takes a clock: for each replica how many of its calls are known."""
         if not isinstance(clock, dict):
             self.wrong("clock: an object is needed, with a number for each replica")
+        numbers, add = self.replica_numbers, self.clock.append
         for name, count in clock.items():
             if type(count) is not int or not 0 <= count < 1 << 32:
                 self.wrong(
                     f"clock: {name}: how many calls of this replica are known is a whole number "
                     "from 0 on"
                 )
-            self.clock.append(self.replica_of(name))
-            self.clock.append(count)
+            add(numbers[name] if name in numbers else self.replica_of(name))
+            add(count)
         if not clock:
             # An empty clock is one all the same.
             self.clock.extend((self.replica[-1], self.turn[-1]))

@@ -9,7 +9,7 @@ import unittest
 from typing import Any, Callable, Dict, List, Tuple
 from unittest import mock
 
-from view import audit, program
+from view import audit, audit_slices, logs, program, workers
 from view.audit_slices import Slices
 from view.logs import Log
 from view.slice_lines import sliced
@@ -161,7 +161,8 @@ FORMS: List[Tuple[str, str]] = [
         "a: a text or a whole number is needed",
     ),
     (
-        '{"id": "e", "replica": "b0", "call": "deposit", "args": ["x", 1], "seen": ["e"], "clock": {}}',
+        '{"id": "e", "replica": "b0", "call": "deposit", "args": ["x", 1], "seen": ["e"], '
+        '"clock": {}}',
         "seen: no clock stands beside it",
     ),
     (
@@ -193,6 +194,57 @@ def audited(spec: str, lines: Lines, **options: Any) -> Tuple[int, str]:
             file.write("".join(json.dumps(it) + "\n" for it in lines))
         status, text = audit.answer(spec, path, **options)
         return status, text.replace(path, "L")
+
+
+# Lines that are no objects each, though all of them together could be read as some.
+APART: List[Tuple[str, int]] = [
+    ('{"replica": "b0"\n"take": "first"}\n', 3),
+    ('{"replica": "b0", "state": {"balance": [["x", 1]\n["x", 1]]}}\n', 3),
+    ('\n{"replica": "b0", "take": "first"}, {"replica": "b0", "take": "first"}\n', 4),
+    ('{"replica": "b1", "take": "first"}\n \n7\n', 5),
+]
+
+
+class Blocks(unittest.TestCase):
+    """Lines are read many at a time, and each is a line all the same."""
+
+    def test_lines_are_apart(self) -> None:
+        for text, line in APART:
+            with self.subTest(text), tempfile.TemporaryDirectory() as folder:
+                path = os.path.join(folder, "log.jsonl")
+                with open(path, "w", encoding="utf-8") as file:
+                    file.write(FIRST + "\n" + text)
+                status, said = audit.answer(BANK, path)
+                self.assertEqual((status, said[: len(path) + 8]), (4, f"{path}:{line}: form"), said)
+
+    def test_blocks_and_lines_say_the_same(self) -> None:
+        lines = [it.encode() + b"\n" for it in BankLog(300, 5).lines()]
+        self.assertEqual(logs.together(lines), list(map(json.loads, lines)))
+        self.assertIsNone(logs.together([*lines, b"[]\n"]))
+        self.assertIsNone(logs.together([*lines, b'{"a": "\xff"}\n']))
+
+
+class Workers(unittest.TestCase):
+    """What processes that share some work find, raise, and leave."""
+
+    def test_answers_are_in_order(self) -> None:
+        self.assertEqual(
+            workers.shared(3, lambda at: [at] * 50_000), [[it] * 50_000 for it in range(3)]
+        )
+
+    def test_what_one_raises(self) -> None:
+        def work(at: int) -> int:
+            if at == 1:
+                raise program.Stopped(("replay",), 3, "refused\n")
+            return at
+
+        with self.assertRaises(program.Stopped) as raised:
+            workers.shared(2, work)
+        self.assertEqual((raised.exception.status, raised.exception.text), (3, "refused\n"))
+
+    def test_one_that_dies(self) -> None:
+        with self.assertRaises(OSError):
+            workers.shared(2, lambda at: os._exit(1) if at else at)
 
 
 class Whole(unittest.TestCase):
@@ -429,6 +481,15 @@ class Sliced(unittest.TestCase):
             ]
             self.assertEqual(sorted(together), found)
 
+    def test_processes(self) -> None:
+        """Several processes find what one finds, and say the same of it."""
+        lines = self.big(1500, 90, {700: 10**12, 1100: 10**12})
+        one = audited(BANK, lines, all=True)
+        with mock.patch.object(audit_slices, "LARGE", 1), mock.patch.object(
+            workers, "processors", lambda: 3
+        ):
+            self.assertEqual(audited(BANK, lines, all=True), one)
+
     def test_first(self) -> None:
         lines = self.big(400, 90, {})
         self.assertEqual(audited(BANK, lines)[0], 0)
@@ -576,7 +637,7 @@ class Sliced(unittest.TestCase):
         """A log of more replicas than a schedule has: slices of few of them are looked at."""
         lines: Lines = []
         for at in range(40):
-            account = {"a": f"acc-{at}"}
+            account: Dict[str, Any] = {"a": f"acc-{at}"}
             name = f"r{at}"
             for number, amount in enumerate((10, 20 if at == 7 else 5)):
                 operation = "withdraw" if number else "deposit"
