@@ -40,16 +40,15 @@ class Choices:
             self.together.setdefault(it.operation, []).append(tuple(self.ints_of(it)))
 
     def in_state(self, facts: Held) -> List[Call]:
-        """The calls that are tried in a state; of an operation with very many some, by chance."""
+        """The calls that are tried in a state; of an operation with very many some, by chance.
+        Those that aren't chosen are counted, and not made."""
         named, numbers = self.named(facts), self.numbers_in(facts)
         share = max(LEAST_OF_ONE, MOST_CALLS // max(1, len(self.operations)))
-        own = {
-            it: list(islice(self.of(it, named, numbers), self.most_of_one)) for it in self.operations
-        }
-        if sum(map(len, own.values())) <= MOST_CALLS:
-            return [it for calls in own.values() for it in calls]
+        own = [Tried(self, it, named, numbers) for it in self.operations]
+        if sum(it.count for it in own) <= MOST_CALLS:
+            return [call for it in own for call in it.calls(range(it.count))]
         random = Random(len(facts))
-        return [it for calls in own.values() for it in some(calls, share, random)]
+        return [call for it in own for call in it.calls(some(it.count, share, random))]
 
     def named(self, facts: Held, *calls: Call) -> Dict[str, List[int]]:
         """By sort the elements that a state, a constant or a call names."""
@@ -76,19 +75,6 @@ class Choices:
         return list(
             dict.fromkeys([*self.numbers[:4], *values, *self.numbers, *(it + 1 for it in values)])
         )
-
-    def of(self, operation: str, named: Dict[str, List[int]], numbers: List[int]) -> Iterator[Call]:
-        """The calls of one operation that are tried."""
-        sorts = self.shape.params[operation]
-        count = sorts.count("int")
-        few = numbers[: MOST_NUMBERS.get(count, FEWEST_NUMBERS)]
-        rows = self.rows(operation, few, count)
-        for chosen in self.chosen([it for it in sorts if it != "int"], named):
-            for values in rows:
-                elements, ints = iter(chosen), iter(values)
-                yield Call(
-                    operation, tuple(next(ints if it == "int" else elements) for it in sorts)
-                )
 
     def rows(self, operation: str, numbers: List[int], count: int) -> List[Tuple[int, ...]]:
         """Numbers for the parameters of an operation: those of the given calls, and others, of
@@ -126,9 +112,37 @@ class Choices:
         return Call(call.operation, tuple(found))
 
 
-def some(calls: List[Call], most: int, random: Random) -> List[Call]:
-    """At most so many of some calls: the first one, and others by chance."""
-    return calls if len(calls) <= most else calls[:1] + random.sample(calls[1:], most - 1)
+class Tried:
+    """The calls of one operation that are tried in a state: elements in all ways, and for each way
+    all rows of numbers. `count` is how many there are, `most_of_one` at most."""
+
+    def __init__(
+        self, choices: Choices, operation: str, named: Dict[str, List[int]], numbers: List[int]
+    ) -> None:
+        self.operation, self.sorts = operation, choices.shape.params[operation]
+        ints = self.sorts.count("int")
+        self.rows = choices.rows(operation, numbers[: MOST_NUMBERS.get(ints, FEWEST_NUMBERS)], ints)
+        ways = choices.chosen([it for it in self.sorts if it != "int"], named)
+        needed = -(-choices.most_of_one // max(1, len(self.rows)))
+        self.ways = list(islice(ways, needed)) if self.rows else []
+        self.count = min(len(self.ways) * len(self.rows), choices.most_of_one)
+
+    def calls(self, places: Iterable[int]) -> List[Call]:
+        """The calls at these places among all."""
+        found = []
+        for it in places:
+            way, row = divmod(it, len(self.rows))
+            elements, ints = iter(self.ways[way]), iter(self.rows[row])
+            arguments = [next(ints if sort == "int" else elements) for sort in self.sorts]
+            found.append(Call(self.operation, tuple(arguments)))
+        return found
+
+
+def some(count: int, most: int, random: Random) -> List[int]:
+    """At most so many places of so many: the first one, and others by chance."""
+    if count <= most:
+        return list(range(count))
+    return [0, *random.sample(range(1, count), most - 1)]
 
 
 class Pattern:

@@ -7,6 +7,7 @@ state; whoever uses it makes a schedule of it, and lets `replay` judge that on t
 itself."""
 import time
 from dataclasses import dataclass, field
+from functools import cached_property
 from typing import Dict, Iterable, Iterator, List, NamedTuple, Optional, Sequence, Tuple
 
 from view import program
@@ -85,6 +86,23 @@ class Reached:
     is_expanded: bool = False
     may: Optional[Dict[Call, bool]] = None
 
+    @cached_property
+    def own(self) -> Dict[str, List[Call]]:
+        """The allowed calls by their operations, once they are known."""
+        found: Dict[str, List[Call]] = {}
+        for call in self.allowed:
+            found.setdefault(call.operation, []).append(call)
+        return found
+
+    @cached_property
+    def own_refused(self) -> Dict[str, List[Call]]:
+        """The calls that a line refuses, by their operations, once they are known."""
+        found: Dict[str, List[Call]] = {}
+        for call, why in self.refused.items():
+            if why.line:
+                found.setdefault(call.operation, []).append(call)
+        return found
+
     def path(self) -> List[Call]:
         """The calls that lead here."""
         calls: List[Call] = []
@@ -100,8 +118,17 @@ class Oracle:
 
     def __init__(self, spec: Spec, world: World, effort: Effort) -> None:
         self.spec, self.world, self.effort = spec, world, effort
-        self.asks, self.acts = Probe(spec, acts=False), Probe(spec, acts=True)
         self.copies: Dict[str, Copy] = {}
+
+    @cached_property
+    def asks(self) -> Probe:
+        """What is asked which calls may be made."""
+        return Probe(self.spec, acts=False)
+
+    @cached_property
+    def acts(self) -> Probe:
+        """What is asked where calls lead."""
+        return Probe(self.spec, acts=True)
 
     def close(self) -> None:
         """Lets go what the program was given."""
@@ -140,10 +167,11 @@ class Oracle:
     ) -> List[Dict[Call, Optional[Refusal]]]:
         """For each state and calls why each call may not be made there, or None where it may."""
         found: List[Dict[Call, Optional[Refusal]]] = [{} for _ in asked]
-        for place, text in enumerate(self.asks.texts):
-            own = [
-                [it for it in calls if self.asks.home[it.operation] == place] for _, calls in asked
-            ]
+        homes: List[List[List[Call]]] = [[[] for _ in asked] for _ in self.asks.texts]
+        for at, (_, calls) in enumerate(asked):
+            for it in calls:
+                homes[self.asks.home[it.operation]][at].append(it)
+        for text, own in zip(self.asks.texts, homes):
             for batch in batches(
                 [len(facts) + 3 + len(it) for (facts, _), it in zip(asked, own)], own
             ):

@@ -6,7 +6,7 @@ from dataclasses import dataclass
 from itertools import count
 from typing import Callable, Dict, Iterator, List, Optional, Sequence, Tuple
 
-from view.choices import Pattern
+from view.choices import Pattern, Tried
 from view.goals import Goal
 from view.harms import BROKEN, REFUSED, Judge, Run
 from view.order import Condition, conditions
@@ -150,7 +150,8 @@ class Seeker:
         found: List[List[Tuple[Call, Call]]] = []
         for a in (it for it in state.allowed if it.operation == f):
             named = choices.named(state.facts, a)
-            found.append([(a, b) for b in choices.of(g, named, choices.numbers_in(state.facts))])
+            tried = Tried(choices, g, named, choices.numbers_in(state.facts))
+            found.append([(a, b) for b in tried.calls(range(min(tried.count, 4 * most)))])
         rows = [
             [it[at] for it in found if at < len(it)]
             for at in range(max(map(len, found), default=0))

@@ -1,4 +1,5 @@
-"""The process that stands for the implementation: it reads lines of JSON and answers each by one."""
+"""The process that stands for the implementation: it reads lines of JSON and answers each by
+one."""
 import json
 import os
 import selectors
@@ -34,7 +35,9 @@ class Adapter:
         """The process, started where it doesn't run yet."""
         if self.process is None:
             try:
-                self.process = subprocess.Popen(self.words, stdin=subprocess.PIPE, stdout=subprocess.PIPE)
+                self.process = subprocess.Popen(
+                    self.words, stdin=subprocess.PIPE, stdout=subprocess.PIPE
+                )
             except (OSError, ValueError) as error:
                 said = getattr(error, "strerror", None) or error
                 raise Failed(f"{self.words[0]} can't be started: {said}") from None
@@ -123,7 +126,13 @@ class Adapter:
     def call(self, replica: int, name: str, operation: str, arguments: Dict[str, Any]) -> str:
         """What it answers to a call."""
         said = self.asked(
-            {"do": "call", "replica": replica, "id": name, "operation": operation, "args": arguments}
+            {
+                "do": "call",
+                "replica": replica,
+                "id": name,
+                "operation": operation,
+                "args": arguments,
+            }
         )
         return self.answer(said)
 
@@ -135,7 +144,9 @@ class Adapter:
         """The answer's word."""
         word = said.get("answer")
         if word not in ANSWERS:
-            raise Failed(f'"answer" is one of {", ".join(ANSWERS)}, and it says {json.dumps(said)[:200]}')
+            raise Failed(
+                f'"answer" is one of {", ".join(ANSWERS)}, and it says {json.dumps(said)[:200]}'
+            )
         return str(word)
 
     def state(self, replica: int) -> State:

@@ -1,21 +1,22 @@
 """What cases have to cover, and in which states and by which calls it can be covered.
 
-States are those that `view/runs.py` reaches from the start; whatever is said of a call there is what
-the program answers."""
-from collections import Counter
+States are those that `view/runs.py` reaches from the start; whatever is said of a call there is
+what the program answers."""
 from dataclasses import dataclass
+from heapq import heapify, heappop, heappush
 from itertools import combinations
 from random import Random
 from typing import Dict, FrozenSet, Iterator, List, Optional, Set, Tuple
 
-from view.runs import Effort, Oracle, Reached, Search
+from view.runs import Effort, Reached, Refusal, Search
 from view.states import Call, Held, World, world_of
-from view.testing.marks import Mark, Marked, marks_of
+from view.testing.marks import Mark, Question, Questions, marks_of
 from view.tree import Spec
 
-# So many states are reached, so many gone on from at once; so many calls of an operation are looked at
-# in one of them, and in all.
+# The lines that a refusal speaks of, by its cause.
 LINES = {"precondition": "requires", "observation": "observes"}
+# So many states are reached, so many gone on from at once; so many calls of an operation are looked
+# at in one of them, and in all.
 MOST_STATES, MOST_EXPANDED, MOST_LOOKED_AT, MOST_OF_ONE = 160, 4, 8, 200
 # Of more operations than these each gets a lesser share of both.
 MANY = 8
@@ -58,13 +59,16 @@ def explored(spec: Spec, effort: Effort) -> Search:
     """The states that are reached. Those in which another set of operations may run go first."""
     search = Search(spec, world_for(spec), numbers_of(spec), effort)
     search.choices.most_of_one = share(spec, search.choices.most_of_one, 1)
-    expanded: Counter[FrozenSet[str]] = Counter()
+    expanded: Dict[FrozenSet[str], int] = {}
     while effort.left() and len(search.reached) < share(spec, MOST_STATES):
         open_ = [it for it in search.reached if not it.is_expanded and it.false is None]
         if not open_:
             break
-        batch = sorted(open_, key=lambda it: (expanded[running(it)], it.depth))[:MOST_EXPANDED]
-        expanded.update(map(running, batch))
+        batch = sorted(open_, key=lambda it: (expanded.get(running(it), 0), it.depth))[
+            :MOST_EXPANDED
+        ]
+        for it in batch:
+            expanded[running(it)] = expanded.get(running(it), 0) + 1
         search.expanded(batch)
     return search
 
@@ -80,28 +84,37 @@ def running(state: Reached) -> FrozenSet[str]:
 
 
 def chances(spec: Spec, search: Search) -> List[Chance]:
-    """What each call that was looked at covers, in the order of the states."""
-    own: Dict[str, List[Mark]] = {}
-    for mark in marks_of(spec):
-        own.setdefault(mark.operation, []).append(mark)
+    """What each call that was looked at covers, in the order of the operations and the states."""
+    made = [one for it in map(str, spec.operations) for one in some_calls(search, it)]
+    allowed = [(state, call) for state, call in made if call not in state.refused]
+    after = dict(zip(allowed, search.after(allowed)))
+    marks, alone = true_marks(spec, search, made), alone_refused(spec, search, made)
     found: List[Chance] = []
-    for operation in map(str, spec.operations):
-        made = some_calls(search, operation)
-        asked = [(it.facts, call) for it, call in made]
-        answers: List[List[Mark]] = [[] for _ in made]
-        if own.get(operation):
-            marked = Marked(spec, search.oracle, own[operation])
-            answers = marked.true_of(asked)
-            marked.close()
-        alone = alone_refused(spec, search, operation, made)
-        for (state, call), marks, after in zip(made, answers, search.oracle.after(asked)):
-            covers = covered(spec, state, call, marks, after, alone)
-            found.append(Chance(state, call, call not in state.refused, tuple(covers)))
+    for (state, call), own in zip(made, marks):
+        covers = covered(spec, state, call, own, after.get((state, call)), alone)
+        found.append(Chance(state, call, call not in state.refused, tuple(covers)))
     return found
 
 
+def true_marks(spec: Spec, search: Search, made: List[Tuple[Reached, Call]]) -> List[List[Mark]]:
+    """The marks that are true of each call in its state."""
+    marks = marks_of(spec)
+    asked = [Question(it.operation, (f"requires {it.formula}",)) for it in marks]
+    questions = Questions(spec, search.oracle, asked)
+    try:
+        true = questions.true_of([(state.facts, call) for state, call in made])
+        return [[marks[it] for it in own] for own in true]
+    finally:
+        questions.close()
+
+
 def covered(
-    spec: Spec, state: Reached, call: Call, marks: List[Mark], after: Optional[Held], alone: Set[Tuple[int, Call]]
+    spec: Spec,
+    state: Reached,
+    call: Call,
+    marks: List[Mark],
+    after: Optional[Held],
+    alone: Set[Tuple[int, Call]],
 ) -> Iterator[str]:
     """What a call in a state covers."""
     why = state.refused.get(call)
@@ -118,27 +131,46 @@ def covered(
 
 def changed(operation: str, before: Held, after: Held) -> Iterator[str]:
     """What a call changes of each thing."""
-    yield from sorted({f"{operation} makes a fact of {thing} true" for thing, _, it in after - before if it is None})
-    yield from sorted({f"{operation} makes a fact of {thing} false" for thing, _, it in before - after if it is None})
+    yield from sorted(
+        {
+            f"{operation} makes a fact of {thing} true"
+            for thing, _, it in after - before
+            if it is None
+        }
+    )
+    yield from sorted(
+        {
+            f"{operation} makes a fact of {thing} false"
+            for thing, _, it in before - after
+            if it is None
+        }
+    )
     values = {(thing, at) for thing, at, it in before ^ after if it is not None}
     yield from sorted({f"{operation} changes {thing}" for thing, _ in values})
 
 
 def alone_refused(
-    spec: Spec, search: Search, operation: str, made: List[Tuple[Reached, Call]]
+    spec: Spec, search: Search, made: List[Tuple[Reached, Call]]
 ) -> Set[Tuple[int, Call]]:
-    """The calls in states that one line alone refuses: without it the program allows them."""
-    found: Set[Tuple[int, Call]] = set()
-    for cause, head in LINES.items():
-        for number, line in enumerate(spec.operations[operation].of(head), 1):
-            own = [it for it in made if it[0].refused.get(it[1]) == (cause, number)]
-            if own:
-                end = line.head.at + len(line.text)
-                oracle = Oracle(Spec(spec.text[: line.head.at] + spec.text[end:]), search.world, search.effort)
-                answers = oracle.refusals([(state.facts, [call]) for state, call in own])
-                found |= {(id(state), call) for (state, call), it in zip(own, answers) if it[call] is None}
-                oracle.close()
-    return found
+    """The calls in states that one line alone refuses: the program says that the others hold."""
+    asked: Dict[Tuple[str, Refusal], Question] = {}
+    for name, operation in spec.operations.items():
+        for cause, head in LINES.items():
+            for number, line in enumerate(operation.of(head), 1):
+                rest = tuple(it.text for it in operation.of(*LINES.values()) if it is not line)
+                asked[str(name), Refusal(cause, number)] = Question(str(name), rest)
+    own = [(state, call) for state, call in made if call in state.refused]
+    places = {it: at for at, it in enumerate(asked)}
+    questions = Questions(spec, search.oracle, list(asked.values()))
+    try:
+        true = questions.true_of([(state.facts, call) for state, call in own])
+    finally:
+        questions.close()
+    return {
+        (id(state), call)
+        for (state, call), its in zip(own, true)
+        if places[call.operation, state.refused[call]] in its
+    }
 
 
 def some_calls(search: Search, operation: str) -> List[Tuple[Reached, Call]]:
@@ -146,15 +178,16 @@ def some_calls(search: Search, operation: str) -> List[Tuple[Reached, Call]]:
     allowed, refused = [], []  # type: List[Tuple[Reached, Call]], List[Tuple[Reached, Call]]
     random = Random(len(operation))
     for state in search.reached:
-        runs = [it for it in state.allowed if it.operation == operation]
-        stays = [it for it, why in state.refused.items() if it.operation == operation and why.line]
+        runs, stays = state.own.get(operation, []), state.own_refused.get(operation, [])
         allowed += [(state, it) for it in random.sample(runs, min(len(runs), MOST_LOOKED_AT))]
         refused += [(state, it) for it in random.sample(stays, min(len(stays), MOST_LOOKED_AT))]
     most = share(search.spec, MOST_OF_ONE)
     return thinned(allowed, random, most) + thinned(refused, random, most)
 
 
-def thinned(made: List[Tuple[Reached, Call]], random: Random, most: int) -> List[Tuple[Reached, Call]]:
+def thinned(
+    made: List[Tuple[Reached, Call]], random: Random, most: int
+) -> List[Tuple[Reached, Call]]:
     """At most so many of some calls in states: the nearest ones, and others by chance."""
     if len(made) <= most:
         return made
@@ -178,7 +211,9 @@ def wanted(spec: Spec) -> List[str]:
         found.append(f"{name} runs")
         for head in LINES.values():
             count = len(operation.of(head))
-            found += [f"{name} is refused by its {head} line {it} alone" for it in range(1, count + 1)]
+            found += [
+                f"{name} is refused by its {head} line {it} alone" for it in range(1, count + 1)
+            ]
         for line in operation.of("insert", "remove"):
             truth = "true" if line.head == "insert" else "false"
             found.append(f"{name} makes a fact of {line.body[0]} {truth}")
@@ -190,17 +225,21 @@ def wanted(spec: Spec) -> List[str]:
 
 
 def picked(found: List[Chance], goals: List[str]) -> Tuple[List[Chance], Set[str]]:
-    """Few chances that cover what can be covered: each time the one that covers most that is left."""
+    """Few chances that cover what can be covered: each time the one that covers most that is left,
+    and of these the nearest. What one covers only gets less, so the others needn't be counted."""
     left, chosen = set(goals), []  # type: Set[str], List[Chance]
-    while left:
-        best: Optional[Chance] = None
-        worth = (0, 0)
-        for it in found:
-            gain = len(left.intersection(it.covers))
-            if gain and (gain, -it.state.depth) > worth:
-                best, worth = it, (gain, -it.state.depth)
-        if best is None:
-            break
-        chosen.append(best)
-        left -= set(best.covers)
+
+    def gain(it: Chance) -> int:
+        return len(left.intersection(it.covers))
+
+    heap = [(-gain(it), it.state.depth, at) for at, it in enumerate(found)]
+    heapify(heap)
+    while heap and left:
+        worth, depth, at = heappop(heap)
+        now = gain(found[at])
+        if now and now == -worth:
+            chosen.append(found[at])
+            left -= set(found[at].covers)
+        elif now:
+            heappush(heap, (-now, depth, at))
     return chosen, left

@@ -16,7 +16,10 @@ SECONDS = 10.0
 
 
 def answer(
-    path: str, junit: Optional[str] = None, seconds: Optional[str] = None, rest: Optional[List[str]] = None
+    path: str,
+    junit: Optional[str] = None,
+    seconds: Optional[str] = None,
+    rest: Optional[List[str]] = None,
 ) -> Tuple[int, str]:
     """The status, and a line for each case that failed with its story."""
     limit = limit_of(seconds)
@@ -61,7 +64,8 @@ def driven(adapter: Adapter, tests: Tests, junit_path: Optional[str]) -> Tuple[i
 
 
 def told(adapter: Adapter, tests: Tests, failed: List[Outcome]) -> str:
-    """The first case that failed as a story, as short as it can be made, and the others by a line."""
+    """The first case that failed as a story, as short as it can be made, and the others by a
+    line."""
     lines = []
     for number, it in enumerate(failed):
         assert it.difference is not None
@@ -69,11 +73,15 @@ def told(adapter: Adapter, tests: Tests, failed: List[Outcome]) -> str:
             case, difference = shortest(adapter, tests, it.case, it.difference)
             lines.append(story(tests.specification, case, difference))
         else:
-            lines.append(f"failed: {it.case.name}, step {it.difference.step}: {it.difference.what}\n")
+            lines.append(
+                f"failed: {it.case.name}, step {it.difference.step}: {it.difference.what}\n"
+            )
     return "".join(lines)
 
 
-def shortest(adapter: Adapter, tests: Tests, case: Case, difference: Difference) -> Tuple[Case, Difference]:
+def shortest(
+    adapter: Adapter, tests: Tests, case: Case, difference: Difference
+) -> Tuple[Case, Difference]:
     """A case made shorter, where the program can say what the shorter ones have to answer."""
     if not tests.specification:
         return case, difference

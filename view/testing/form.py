@@ -102,7 +102,11 @@ def reading(parts: Tuple[str, ...]) -> str:
 def state_of(value: Any, where: str) -> State:
     """A state in the form of files and adapters."""
     try:
-        facts = {(str(name), *map(text, its)) for name, them in value["relations"].items() for its in them}
+        facts = {
+            (str(name), *map(text, its))
+            for name, them in value["relations"].items()
+            for its in them
+        }
         counts = {
             ((str(name), *map(text, its)), whole(number))
             for name, them in value["counters"].items()
@@ -189,8 +193,14 @@ def tests_of(data: str) -> Tests:
 
 
 def written(tests: Tests) -> str:
-    """The text of a file of cases: a line for each step, so that a difference of files reads well."""
-    head = {"form": FORM, "title": tests.title, "specification": tests.specification, "start": tests.start}
+    """The text of a file of cases: a line for each step, so that a difference of files reads
+    well."""
+    head = {
+        "form": FORM,
+        "title": tests.title,
+        "specification": tests.specification,
+        "start": tests.start,
+    }
     lines = [f" {json.dumps(key)}: {json.dumps(value)}," for key, value in head.items()]
     cases = ",\n".join(case_text(it) for it in tests.cases)
     lost = ",\n".join(f"  {json.dumps(it)}" for it in tests.not_covered)

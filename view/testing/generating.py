@@ -1,15 +1,16 @@
 """`./cise tests SPEC`: cases for an implementation, whose states and answers are the program's."""
+from itertools import islice
 from random import Random
 from typing import Dict, Iterator, List, Optional, Set, Tuple
 
 from view import program
-from view.order import conditions
 from view.output import say
 from view.runs import Effort, Reached, Search
 from view.states import Call
 from view.testing.covering import Chance, chances, explored, picked, wanted
-from view.testing.expected import Course, Judge, of_steps
-from view.testing.form import OK, WAITS, Case, State, Step, Tests, written
+from view.testing.expected import NOTHING, Course, Judge
+from view.testing.form import OK, WAITS, Case, Step, Tests, written
+from view.testing.ordered import Ordering
 from view.tree import Spec
 from view.words import text_of
 
@@ -21,7 +22,11 @@ MOST_REPLAYS = 1200
 MOST_TRIED, MOST_CALLS = 24, 3
 # A case of many calls at once has at most so many steps for each pair that it covers.
 STEPS_A_PAIR = 6
-NOTHING = State(frozenset(), frozenset())
+# So many pairs of two operations are looked at in a state for one that is ordered.
+MOST_LOOKED_AT = 64
+# The fewest steps of a case of calls at two replicas, without those that lead to its state.
+SHORTEST = 4
+NO_ROOM = "there is no room for more steps"
 
 
 def answer(path: str, seed: Optional[str] = None, most: Optional[str] = None) -> Tuple[int, str]:
@@ -39,11 +44,6 @@ def answer(path: str, seed: Optional[str] = None, most: Optional[str] = None) ->
     steps = sum(len(it.steps) for it in tests.cases)
     say(f"tests: {len(tests.cases)} cases, {steps} steps, {len(tests.not_covered)} not covered\n")
     return (OPEN if tests.not_covered else GOOD), written(tests)
-
-
-def may_conflict(one: Call, other: Call) -> bool:
-    """Whether two calls share an argument, as calls that conflict mostly do, or have none."""
-    return not one.arguments or not other.arguments or bool({*one.arguments} & {*other.arguments})
 
 
 def whole(word: Optional[str], other: int) -> Optional[int]:
@@ -72,6 +72,9 @@ class Maker:
         self.spec, self.text, self.left, self.random = Spec(text), text, most, Random(seed)
         self.judge = Judge(text)
         self.search: Search = explored(self.spec, Effort(work=MOST_WORK))
+        self.ordering = Ordering(self.spec, self.search.world)
+        # Of states where calls at once were tried the course that leads there.
+        self.both: Dict[int, Course] = {}
         self.cases: List[Case] = []
         self.not_covered: List[Dict[str, str]] = []
 
@@ -87,7 +90,8 @@ class Maker:
         return Tests(title, self.text, initially, self.cases, self.not_covered)
 
     def single_calls(self) -> None:
-        """Cases at one replica, which another follows: each call runs, is refused, and acts in each way."""
+        """Cases at one replica, which another follows: each call runs, is refused, and acts in each
+        way."""
         found = chances(self.spec, self.search)
         goals = wanted(self.spec)
         chosen, lost = picked(found, goals)
@@ -99,7 +103,7 @@ class Maker:
         known = {cover for it in self.cases for cover in it.covers}
         for goal in goals:
             if goal not in known:
-                why = "no call that was tried does it" if goal in lost else "there is no room for more steps"
+                why = "no call that was tried does it" if goal in lost else NO_ROOM
                 self.not_covered.append({"what": goal, "why": why})
 
     def of_state(self, group: List[Chance]) -> None:
@@ -115,52 +119,59 @@ class Maker:
     def followed(self, path: List[Call], calls: List[Call], covers: List[str]) -> None:
         """A case whose calls are made at one replica, and taken by another in their order."""
         course = self.course(f"{calls[-1].operation} at one replica", covers, 2)
-        for call in [*path, *calls]:
-            course.judged(self.step(course, 0, call))
-        for name in list(course.events):
-            course.judged(Step(1, name, None, {}, OK, "", NOTHING))
+        course.judged([self.step(at, 0, call) for at, call in enumerate([*path, *calls])])
+        course.judged([taking(1, name) for name in course.events])
         self.keep(course, list(dict.fromkeys(covers)))
 
-    def keep(self, course: Course, covers: List[str]) -> None:
-        """Keeps a case where there is room for it."""
-        if course.steps and len(course.steps) <= self.left:
-            self.left -= len(course.steps)
-            case = of_steps(course.case, course.steps)
-            self.cases.append(Case(case.name, covers, case.replicas, case.elements, case.constants, case.steps))
+    def keep(self, course: Course, covers: List[str]) -> bool:
+        """Keeps a case where there is room for it, and says whether there was."""
+        if not course.steps or len(course.steps) > self.left:
+            return False
+        self.left -= len(course.steps)
+        it = course.case
+        case = Case(it.name, covers, it.replicas, it.elements, it.constants, course.steps)
+        self.cases.append(case)
+        return True
 
     def conflicts(self) -> None:
-        """Cases in which a call waits for one that conflicts with it, and is made again behind that."""
+        """Cases in which a call waits for one that conflicts with it, and is made again behind
+        that."""
         for f in map(str, self.spec.operations):
             for g in map(str, self.spec.operations):
-                if conditions(self.spec, f, g) and self.goes_on() and not self.has_waited(f, g):
-                    what = f"{g} waits for {f}"
-                    why = "in no state that was tried do two of their calls conflict"
-                    self.not_covered.append({"what": what, "why": why})
+                if self.ordering.conditions(f, g) and self.goes_on():
+                    why = self.waiting(f, g)
+                    if why:
+                        self.not_covered.append({"what": f"{g} waits for {f}", "why": why})
 
     def goes_on(self) -> bool:
         """Whether there is room for more steps, and more is looked for."""
-        return self.left > 0 and self.judge.replays < MOST_REPLAYS
+        return self.left >= SHORTEST and self.judge.replays < MOST_REPLAYS
 
-    def has_waited(self, f: str, g: str) -> bool:
-        """Makes such a case, and says whether one was found."""
+    def why_ended(self) -> str:
+        """Why no more cases are made."""
+        return NO_ROOM if self.left < SHORTEST else "the search ended"
+
+    def waiting(self, f: str, g: str) -> Optional[str]:
+        """Makes such a case, or says why there is none."""
         for state in self.search.reached:
-            pairs = [(a, b) for a in state.allowed for b in state.allowed if (a.operation, b.operation) == (f, g)]
-            for first, second in self.random.sample(pairs, min(len(pairs), 2 * MOST_CALLS)):
-                if not may_conflict(first, second):
-                    continue
+            for first, second in self.some_ordered(state, f, g):
                 course, before = self.at_both(state)
-                if self.runs(course, 0, first) and self.waits(course, second):
-                    course.judged(Step(1, list(course.events)[before], None, {}, OK, "", NOTHING))
-                    course.judged(self.step(course, 1, second))
-                    room = self.left
-                    self.keep(course, [f"{g} waits for {f}"])
-                    return self.left < room
-        return False
+                at, own = course.free(), len(course.steps)
+                course.judged([self.step(at, 0, first), self.step(at + 1, 1, second)], (OK, WAITS))
+                if [it.answer for it in course.steps[own:]] != [OK, WAITS]:
+                    continue
+                name = list(course.events)[before]
+                course.judged([taking(1, name), self.step(at + 2, 1, second)])
+                return None if self.keep(course, [f"{g} waits for {f}"]) else NO_ROOM
+        return "in no state that was tried do two of their calls conflict"
 
-    def waits(self, course: Course, call: Call) -> bool:
-        """Makes a call at the second replica that has to wait there."""
-        found = course.judged(self.step(course, 1, call), (WAITS,))
-        return found is not None and found.answer == WAITS
+    def some_ordered(self, state: Reached, f: str, g: str) -> List[Tuple[Call, Call]]:
+        """Some pairs of calls of two operations that may run in a state and are ordered."""
+        ones, others = state.own.get(f, []), state.own.get(g, [])
+        count = len(ones) * len(others)
+        places = self.random.sample(range(count), min(count, MOST_LOOKED_AT))
+        pairs = ((ones[it // len(others)], others[it % len(others)]) for it in places)
+        return list(islice((it for it in pairs if self.ordering.holds(*it)), MOST_CALLS))
 
     def calls_at_once(self) -> None:
         """Cases in which two replicas call at once and then take each other's calls: each pair of
@@ -181,33 +192,35 @@ class Maker:
             if f <= g:
                 why = "in no state that was tried may both be called at once"
                 if not self.goes_on():
-                    why = "there is no room for more steps" if self.left <= 0 else "the search ended"
+                    why = self.why_ended()
                 self.not_covered.append({"what": f"{f} and {g} at once", "why": why})
 
     def pair_alone(self, f: str, g: str, left: Set[Tuple[str, str]]) -> None:
         """A case in which two operations are called at once, and no others are."""
-        states = [it for it in self.search.reached if {f, g} <= {each.operation for each in it.allowed}]
-        for state in states[:MOST_CALLS]:
+        states = (it for it in self.search.reached if f in it.own and g in it.own)
+        some = islice(states, MOST_TRIED)
+        tried = ((it, pair) for it in some for pair in self.some_apart(it, f, g))
+        for state, (first, second) in islice(tried, MOST_CALLS):
             course, before = self.at_both(state)
-            firsts, seconds = (self.variants(state, it) for it in (f, g))
-            if not any(self.runs(course, 0, it) for it in firsts):
-                continue
-            if any(self.runs(course, 1, it) for it in seconds):
+            at, own = course.free(), len(course.steps)
+            course.judged([self.step(at, 0, first), self.step(at + 1, 1, second)], (OK,))
+            if len(course.steps) == own + 2:
                 self.exchange(course, before)
-                room = self.left
-                self.keep(course, [f"{f} and {g} at once"])
-                if self.left < room:
+                if self.keep(course, [f"{f} and {g} at once"]):
                     left.discard((f, g))
                 return
 
-    def runs(self, course: Course, replica: int, call: Call) -> bool:
-        """Makes a call where it may be made."""
-        found = course.judged(self.step(course, replica, call), (OK,))
-        return found is not None and found.answer == OK
+    def some_apart(self, state: Reached, f: str, g: str) -> List[Tuple[Call, Call]]:
+        """Some pairs of calls of two operations that may run in a state and aren't ordered."""
+        firsts, seconds = (self.variants(state, it) for it in (f, g))
+        pairs = [(a, b) for a in firsts for b in seconds if not self.ordering.holds(a, b)]
+        calls = list(dict.fromkeys(it for pair in pairs for it in pair))
+        may = dict(zip(calls, self.search.may_run([(state, it) for it in calls])))
+        return [(a, b) for a, b in pairs if may[a] and may[b]][:MOST_CALLS]
 
     def variants(self, state: Reached, operation: str) -> List[Call]:
         """Calls of an operation that may run in a state, and the same on the next elements."""
-        own = [it for it in state.allowed if it.operation == operation]
+        own = state.own[operation]
         some = self.random.sample(own, min(len(own), 2 * MOST_CALLS))
         return [*some, *map(self.shifted, some)]
 
@@ -216,16 +229,21 @@ class Maker:
         sizes = dict(self.search.world.sizes)
         sorts = [str(it) for _, it in self.spec.operations[call.operation].params]
         pairs = zip(sorts, call.arguments)
-        return Call(call.operation, tuple(at if it == "int" else (at + 1) % sizes[it] for it, at in pairs))
+        return Call(
+            call.operation, tuple(at if it == "int" else (at + 1) % sizes[it] for it, at in pairs)
+        )
 
     def at_both(self, state: Reached) -> Tuple[Course, int]:
-        """An empty case that has led both replicas to a state, and how many calls that took."""
-        course = self.course("calls at once", [], 2)
-        for call in state.path():
-            made_ = course.judged(self.step(course, 0, call))
-            if made_ is not None and made_.answer == OK:
-                course.judged(Step(1, made_.id, None, {}, OK, "", NOTHING))
-        return course, len(course.events)
+        """A new case that has led both replicas to a state, and how many calls that took."""
+        if id(state) not in self.both:
+            course, path = self.course("", [], 2), []
+            for at, call in enumerate(state.path()):
+                path += [self.step(at, 0, call), taking(1, f"c{at}")]
+            course.judged(path)
+            self.both[id(state)] = course
+        course = self.both[id(state)]
+        new = course.behind(self.course("calls at once", [], 2).case)
+        return new, len(new.events)
 
     def richest(self, left: Set[Tuple[str, str]], tried: Set[int]) -> Optional[Reached]:
         """The state, not yet tried, in which most of the pairs that are left may be called."""
@@ -233,8 +251,7 @@ class Maker:
         for state in self.search.reached:
             if id(state) in tried or len(state.path()) * 2 > self.left:
                 continue
-            own = {it.operation for it in state.allowed}
-            count = sum(f in own and g in own for f, g in left)
+            count = sum(f in state.own and g in state.own for f, g in left)
             if count > most:
                 best, most = state, count
         return best
@@ -242,33 +259,30 @@ class Maker:
     def at_once(self, state: Reached, left: Set[Tuple[str, str]]) -> None:
         """A case in a state: calls at one replica, calls at the other, and then each takes all."""
         course, before = self.at_both(state)
-        done = {0: [], 1: []}  # type: Dict[int, List[str]]
+        done: List[Set[str]] = [set(), set()]
         waits: List[str] = []
-        for replica, call in self.chosen(state, left):
-            if len(course.steps) + len(course.events) - before >= LONGEST:
-                break
-            if call.operation in done[replica]:
-                continue
-            found = course.judged(self.step(course, replica, call), (OK, WAITS))
-            if found is not None and found.answer == OK:
-                done[replica].append(call.operation)
-            elif found is not None and found.answer == WAITS:
-                waits.append(f"{call.operation} waits: {found.why}")
+        rest = list(self.chosen(state, left))
+        while rest:
+            room = LONGEST - len(course.steps) - len(course.events) + before
+            now, rest = first_of_each(rest, done, -(-room // 2))
+            at = course.free()
+            steps = [self.step(at + it, *one) for it, one in enumerate(now)]
+            for found in course.judged(steps, (OK, WAITS)):
+                if found is not None and found.answer == OK:
+                    done[found.replica].add(str(found.operation))
+                elif found is not None and found.answer == WAITS:
+                    waits.append(f"{found.operation} waits: {found.why}")
         self.exchange(course, before)
         covered = {(f, g) for f in done[0] for g in done[1]}
         gain = left & covered
         if len(gain) * STEPS_A_PAIR >= len(course.steps):
             covers = [f"{f} and {g} at once" for f, g in sorted(gain)]
-            room = self.left
-            self.keep(course, covers + waits)
-            if self.left < room:
+            if self.keep(course, covers + waits):
                 left -= covered
 
     def chosen(self, state: Reached, left: Set[Tuple[str, str]]) -> Iterator[Tuple[int, Call]]:
         """Calls in a state, at both replicas in turn, those of operations that pairs lack first."""
-        own: Dict[str, List[Call]] = {}
-        for call in state.allowed:
-            own.setdefault(call.operation, []).append(call)
+        own = state.own
         lacking = {it: sum(it in pair for pair in left) for it in own}
         for name in sorted(own, key=lambda it: -lacking[it]):
             if lacking[name]:
@@ -279,8 +293,8 @@ class Maker:
     def exchange(self, course: Course, before: int) -> None:
         """Each replica takes what the other called, in the order in which it was called there."""
         made_by = {it.id: it.replica for it in course.steps if it.is_call() and it.answer == OK}
-        for name in list(course.events)[before:]:
-            course.judged(Step(1 - made_by[name], name, None, {}, OK, "", NOTHING))
+        new = list(course.events)[before:]
+        course.judged([taking(1 - made_by[name], name) for name in new])
 
     def course(self, name: str, covers: List[str], replicas: int) -> Course:
         """An empty case in the world of the search."""
@@ -290,12 +304,35 @@ class Maker:
         case = Case(f"{len(self.cases) + 1}. {name}", covers, replicas, elements, constants, [])
         return Course(self.judge, case)
 
-    def step(self, course: Course, replica: int, call: Call) -> Step:
-        """A call as a step, under a name of its own."""
+    def step(self, number: int, replica: int, call: Call) -> Step:
+        """A call as a step, under a name of its own, by its number."""
         params = self.spec.operations[call.operation].params
         values = {
             str(name): at if sort == "int" else f"{sort}#{at}"
             for (name, sort), at in zip(params, call.arguments)
         }
-        return Step(replica, f"c{len(course.steps)}", call.operation, values, OK, "", NOTHING)
+        return Step(replica, f"c{number}", call.operation, values, OK, "", NOTHING)
 
+
+def taking(replica: int, name: str) -> Step:
+    """The taking of a call as a step."""
+    return Step(replica, name, None, {}, OK, "", NOTHING)
+
+
+Candidates = List[Tuple[int, Call]]
+
+
+def first_of_each(
+    rest: Candidates, done: List[Set[str]], most: int
+) -> Tuple[Candidates, Candidates]:
+    """The first call of each operation at each replica where none was made, at most so many in
+    all, and those that are left to be tried then."""
+    now: Candidates = []
+    later: Candidates = []
+    seen: Set[Tuple[int, str]] = set()
+    for replica, call in rest if most > 0 else ():
+        key = replica, call.operation
+        if call.operation not in done[replica]:
+            (later if key in seen or len(now) == most else now).append((replica, call))
+            seen.add(key)
+    return now, later

@@ -1,18 +1,19 @@
 """What decides how a call acts: the guards of its updates and the comparisons of its lines.
 
-A mark is a formula over a call's parameters and the state where it is made. Whether it is true there is
-asked of the program: a specification is made whose operation inserts a fact for each mark that holds."""
+A mark is a formula over a call's parameters and the state where it is made. Whether it is true
+there is asked of the program, as are other questions: a specification is made whose operations
+require them."""
 from dataclasses import dataclass
-from typing import Dict, Iterator, List, Sequence, Tuple
+from typing import Dict, Iterator, List, NamedTuple, Sequence, Tuple
 
 from view.outcome import bracketed, declarations, fresh_names
-from view.probes import MOST_UPDATES
 from view.runs import Oracle
 from view.states import Call, Held
 from view.tree import Line, Spec
 
 COMPARISONS = ("<=", "<", ">=", ">", "=", "!=")
-MOST_RELATIONS = 16
+# The most letters of the questions of one specification, half of what one may have.
+MOST_LETTERS = 32_000
 
 
 @dataclass(frozen=True)
@@ -23,6 +24,13 @@ class Mark:
     formula: str
     words: str
     is_of_guard: bool = False
+
+
+class Question(NamedTuple):
+    """Lines that require something of the calls of an operation."""
+
+    operation: str
+    lines: Tuple[str, ...]
 
 
 def marks_of(spec: Spec) -> List[Mark]:
@@ -51,8 +59,11 @@ def line_marks(operation: str, line: Line) -> Iterator[Mark]:
         yield Mark(operation, f"( {one} and not {other} )", f"{said}: the first alone", is_guard)
         yield Mark(operation, f"( {other} and not {one} )", f"{said}: the second alone", is_guard)
     for left, right in comparisons(list(map(str, line.body))):
-        for formula, where in ((f"( {left} = {right} )", "equal"), (f"( {left} = {right} + 1 )", "one above"),
-                               (f"( {left} + 1 = {right} )", "one below")):
+        for formula, where in (
+            (f"( {left} = {right} )", "equal"),
+            (f"( {left} = {right} + 1 )", "one above"),
+            (f"( {left} + 1 = {right} )", "one below"),
+        ):
             yield Mark(operation, formula, f"{operation}: {left} {where} {right}", is_guard)
 
 
@@ -100,40 +111,70 @@ def bracket_behind(body: List[str], at: int) -> int:
     return len(body)
 
 
-class Marked:
-    """Asks which marks of an operation are true of calls in states."""
+class Questions:
+    """Asks of calls in states which of some questions are true there. Each is an operation of a
+    specification that is made for it: it has the parameters of the call's operation, and requires
+    what is asked."""
 
-    def __init__(self, spec: Spec, oracle: Oracle, marks: Sequence[Mark]) -> None:
-        self.world, self.effort = oracle.world, oracle.effort
-        room = max(1, min(MOST_UPDATES, MOST_RELATIONS - len(spec.relations)))
-        self.parts: List[Tuple[Sequence[Mark], List[str], Oracle]] = []
-        for at in range(0, len(marks) if len(spec.relations) < MOST_RELATIONS else 0, room):
-            here = marks[at : at + room]
-            names, text = marking(spec, here)
-            self.parts.append((here, names, Oracle(Spec(text), self.world, self.effort)))
+    def __init__(self, spec: Spec, oracle: Oracle, questions: Sequence[Question]) -> None:
+        self.parts: List[Tuple[Dict[str, List[Tuple[str, int]]], Oracle]] = []
+        for places in parted([sum(map(len, it.lines)) for it in questions]):
+            names, text = asking(spec, [questions[it] for it in places])
+            own: Dict[str, List[Tuple[str, int]]] = {}
+            for name, place in zip(names, places):
+                own.setdefault(questions[place].operation, []).append((name, place))
+            self.parts.append((own, Oracle(Spec(text), oracle.world, oracle.effort)))
 
     def close(self) -> None:
-        """Removes what was written for the program."""
-        for _, _, oracle in self.parts:
+        """Lets go what the program was given."""
+        for _, oracle in self.parts:
             oracle.close()
 
-    def true_of(self, made: Sequence[Tuple[Held, Call]]) -> List[List[Mark]]:
-        """For each call in its state the marks that are true."""
-        found: List[List[Mark]] = [[] for _ in made]
-        for marks, names, oracle in self.parts:
-            for own, after in zip(found, oracle.after(made)):
-                held = {thing for thing, _, _ in after or ()}
-                own += [mark for mark, name in zip(marks, names) if name in held]
+    def true_of(self, made: Sequence[Tuple[Held, Call]]) -> List[List[int]]:
+        """For each call in its state the places of the questions that are true."""
+        found: List[List[int]] = [[] for _ in made]
+        states: Dict[Held, List[int]] = {}
+        for at, (facts, _) in enumerate(made):
+            states.setdefault(facts, []).append(at)
+        for own, oracle in self.parts:
+            asked: List[Tuple[Held, List[Call]]] = []
+            for facts, places in states.items():
+                calls = [
+                    Call(name, made[at][1].arguments)
+                    for at in places
+                    for name, _ in own.get(made[at][1].operation, ())
+                ]
+                asked.append((facts, calls))
+            for places, said in zip(states.values(), oracle.refusals(asked)):
+                for at in places:
+                    call = made[at][1]
+                    found[at] += [
+                        place
+                        for name, place in own.get(call.operation, ())
+                        if said[Call(name, call.arguments)] is None
+                    ]
         return found
 
 
-def marking(spec: Spec, marks: Sequence[Mark]) -> Tuple[List[str], str]:
-    """A specification whose one operation inserts a fact for each mark that holds, and these facts."""
+def parted(sizes: Sequence[int]) -> Iterator[List[int]]:
+    """The places of what has these sizes, as many at a time as a specification has room for."""
+    here, size = [], 0  # type: List[int], int
+    for at, its in enumerate(sizes):
+        if here and size + its > MOST_LETTERS:
+            yield here
+            here, size = [], 0
+        here, size = [*here, at], size + its
+    if here:
+        yield here
+
+
+def asking(spec: Spec, questions: Sequence[Question]) -> Tuple[List[str], str]:
+    """A specification with an operation for each question, and their names."""
     fresh = fresh_names(spec)
-    names = [next(fresh) for _ in marks]
-    operation = spec.operations[marks[0].operation]
-    head = bracketed([f"{a} : {sort}" for a, sort in operation.params])
-    lines = [f"cise {spec.version}", *declarations(spec)[1:], *(f"relation {it}" for it in names)]
-    lines.append(f"operation {operation.name}{head}")
-    lines += [f"  insert {name} when {mark.formula}" for name, mark in zip(names, marks)]
-    return names, "\n".join([*lines, "end"]) + "\n"
+    names = [next(fresh) for _ in questions]
+    lines = [f"cise {spec.version}", *declarations(spec)[1:]]
+    for name, it in zip(names, questions):
+        params = spec.operations[it.operation].params
+        lines.append(f"operation {name}{bracketed([f'{a} : {sort}' for a, sort in params])}")
+        lines += [*it.lines, "end"]
+    return names, "\n".join(lines) + "\n"

@@ -38,7 +38,9 @@ def carried_out(adapter: Adapter, case: Case) -> Outcome:
 
 def difference_of(adapter: Adapter, case: Case) -> Optional[Difference]:
     """The first difference of a case, or None."""
-    adapter.reset({"replicas": case.replicas, "elements": case.elements, "constants": case.constants})
+    adapter.reset(
+        {"replicas": case.replicas, "elements": case.elements, "constants": case.constants}
+    )
     for number, step in enumerate(case.steps):
         found = made(adapter, step)
         if not fits(step.answer, found):

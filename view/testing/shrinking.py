@@ -13,8 +13,11 @@ Judge = Callable[[Case], Optional[Difference]]
 MOST_TRIES = 60
 
 
-def shrunk(case: Case, difference: Difference, expected: Expected, judge: Judge) -> Tuple[Case, Difference]:
-    """The shortest case that is found by leaving steps out, from the last one on, and its difference."""
+def shrunk(
+    case: Case, difference: Difference, expected: Expected, judge: Judge
+) -> Tuple[Case, Difference]:
+    """The shortest case that is found by leaving steps out, from the last one on, and its
+    difference."""
     case = cut(case, difference.step + 1)
     tries, at = 0, len(case.steps) - 2
     while at >= 0 and tries < MOST_TRIES:

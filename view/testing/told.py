@@ -24,7 +24,9 @@ def drawn(case: Case, last: int) -> List[str]:
     """The steps of a case, each in its replica's column."""
     texts = [short(it) for it in case.steps[: last + 1]]
     width = max([len(it) for it in texts] + [9]) + 3
-    lines = ["      " + "".join(f"replica {it}".ljust(width) for it in range(case.replicas)).rstrip()]
+    lines = [
+        "      " + "".join(f"replica {it}".ljust(width) for it in range(case.replicas)).rstrip()
+    ]
     for number, (step, text) in enumerate(zip(case.steps, texts)):
         mark = ">" if number == last else " "
         lines.append(f"  {mark}{number:2}  " + " " * (width * step.replica) + text)
@@ -68,7 +70,11 @@ def case_rows(tests: Tests, outcome: Outcome) -> List[str]:
         return [f'{head} time="{outcome.seconds:.3f}"/>']
     message = attribute(f"step {difference.step}: another {difference.what}")
     body = escape(plain(story(tests.specification, case, difference)))
-    return [f'{head} time="{outcome.seconds:.3f}">', f"<failure message={message}>{body}</failure>", "</testcase>"]
+    return [
+        f'{head} time="{outcome.seconds:.3f}">',
+        f"<failure message={message}>{body}</failure>",
+        "</testcase>",
+    ]
 
 
 def attribute(text: str) -> str:
