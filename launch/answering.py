@@ -1,14 +1,32 @@
-"""Answers a call of `./cise`: finds the program, runs it on the words, and says on standard error what people should know of its status."""
+"""Answers a call of `./cise`: finds the program, runs it on the words, and says on standard error
+what people should know of its status."""
+from __future__ import annotations
+
 import os
 
 import _signal as signal
 
 from launch import allocator, seen, stopping
-from launch.paths import BAD_WORDS, BY_SIGNAL, HOME_PROGRAM, KEPT_PROGRAM, NAME, NO_PROGRAM, TOP, at, say
+from launch.paths import (
+    BAD_WORDS,
+    BY_SIGNAL,
+    HOME_PROGRAM,
+    KEPT_PROGRAM,
+    NAME,
+    NO_PROGRAM,
+    TOP,
+    at,
+    say,
+)
 from launch.saying import printable
 
+TYPE_CHECKING = False
+if TYPE_CHECKING:
+    from types import FrameType, ModuleType
+
 PROGRAMS = {"home": HOME_PROGRAM, "kept": KEPT_PROGRAM}
-# The commands that view/ answers, for people: the words of view/commands.py, which a call of the program has no time to import.
+# The commands that view/ answers, for people: the words of view/commands.py, which a call of the
+# program has no time to import.
 VIEWS = (
     "audit",
     "ci",
@@ -30,10 +48,20 @@ VIEWS = (
 )
 # What asks for help, for which no program is needed.
 HELP = frozenset(("help", "--help", "-h", "--version"))
-# A command of the program that view/ answers where this option is among so many words; the program's own has never so many.
+# A command of the program that view/ answers where this option is among so many words; the
+# program's own has never so many.
 OPTIONS = {"verify": ("--second", 4)}
 # How many of the words behind a command are paths. Each command has one word behind it at least.
-PATHS = {"check": 1, "suggest": 1, "spell": 1, "verify": 2, "upgrade": 2, "replay": 2, "simulate": 2, "sample": 0}
+PATHS = {
+    "check": 1,
+    "suggest": 1,
+    "spell": 1,
+    "verify": 2,
+    "upgrade": 2,
+    "replay": 2,
+    "simulate": 2,
+    "sample": 0,
+}
 # What these statuses of the program mean, which it doesn't say itself.
 MEANINGS = {
     6: "an input couldn't be read",
@@ -41,13 +69,16 @@ MEANINGS = {
     9: "the words couldn't be had from the system, or one of them isn't UTF-8",
 }
 # Why else memory is said to have run out, where a report is gone through.
-HELD = ", or the clauses of one log had more than 134,217,728 literals, the most that are held (1 GiB)"
+HELD = (
+    ", or the clauses of one log had more than 134,217,728 literals, "
+    "the most that are held (1 GiB)"
+)
 REFUSED_INPUT, NOT_READ, NOT_WRITTEN, NO_MEMORY = (3, 4), 6, 7, 8
 # A path at which nothing is.
 NOWHERE = "/proc/self/fd/none"
 
 
-def main(words):
+def main(words: list[str]) -> int:
     status = helped(words) if not HELP.isdisjoint(words) else None
     if status is not None:
         return status
@@ -59,7 +90,8 @@ def main(words):
         from launch import about
 
         return about.main()
-    choice, reasons = seen.chosen(), []
+    choice = seen.chosen()
+    reasons: list[str] = []
     if choice not in PROGRAMS:
         from launch import choosing, packed
 
@@ -73,7 +105,7 @@ def main(words):
     return answer(at(PROGRAMS[choice]), words)
 
 
-def helped(words):
+def helped(words: list[str]) -> int | None:
     """Shows what words ask for, and returns the status; None where they ask for no help."""
     from launch import help as helping
     from view.output import written
@@ -82,44 +114,47 @@ def helped(words):
     return None if text is None else 0 if written(text) else NOT_WRITTEN
 
 
-def answer(program, words):
+def answer(program: str, words: list[str]) -> int:
     """Answers by a program, and returns the status."""
     allocator.set_for_programs()
     if is_view(words):
-        return view().main(program, words)
+        status: int = view().main(program, words)
+        return status
     marks = marks_of(words)
     status = run(program, words)
     try:
         tell(program, words, status, marks)
-    except Exception:  # The program has answered, and nothing that is said behind it may change that.
+    except Exception:
+        # The program has answered, and nothing that is said behind it may change that.
         pass
     return status
 
 
-def inputs_of(words):
+def inputs_of(words: list[str]) -> list[str]:
     """The inputs of a command, which are paths."""
     return words[1 : PATHS.get(words[0], 0) + 1] if words else []
 
 
-def marks_of(words):
+def marks_of(words: list[str]) -> list[str]:
     """What tells of each input whether it has been changed."""
     return [seen.mark_at(it) for it in inputs_of(words)]
 
 
-def is_view(words):
+def is_view(words: list[str]) -> bool:
     """Whether view/ answers these words."""
     option, count = OPTIONS.get(words[0], ("", 0)) if words else ("", 0)
     return bool(words) and (words[0] in VIEWS or len(words) == count and option in words[1:])
 
 
-def view():
+def view() -> ModuleType:
     from view import main
 
     return main
 
 
-def tell(program: str, words: "list[str]", status: int, marks: "list[object]") -> None:
-    """Says what the program doesn't say of its status; of inputs, only where they are what they were for the program."""
+def tell(program: str, words: list[str], status: int, marks: list[str]) -> None:
+    """Says what the program doesn't say of its status; of inputs, only where they are what they
+    were for the program."""
     if status == BAD_WORDS:
         tell_words(words)
     elif status in MEANINGS:
@@ -135,7 +170,7 @@ def meaning(status: int, command: str) -> str:
     return MEANINGS[status] + held
 
 
-def unread(words):
+def unread(words: list[str]) -> list[str]:
     """The inputs of a command that can't be read, each with the reason."""
     found = []
     for it in inputs_of(words):
@@ -148,7 +183,7 @@ def unread(words):
     return found
 
 
-def tell_words(words):
+def tell_words(words: list[str]) -> None:
     """Says what is wrong with words that the program refuses, and where all are listed."""
     from launch.help import said_of
     from view.output import say as said
@@ -156,44 +191,55 @@ def tell_words(words):
     said(said_of(words))
 
 
-def run(program, words):
-    """Runs a program, with standard input and output as they are, and returns its status: as a shell does, 128 and the number for a signal.
-    What is to end the script ends the program, and the script with it."""
-    started = []
+def run(program: str, words: list[str]) -> int:
+    """Runs a program, with standard input and output as they are, and returns its status: as a
+    shell does, 128 and the number for a signal. What is to end the script ends the program, and the
+    script with it."""
+    started: list[int] = []
 
-    def pass_on(number, _):
+    def pass_on(number: int, _: FrameType | None) -> None:
         if started:
             os.kill(started[0], number)
         else:
             stopping.end_by(number)
 
     stopping.handle_by(pass_on)
-    # (a signal that comes while the program is started waits until it is known whom to pass it on to)
+    # (a signal that comes while the program is started waits until it is known whom to pass it on
+    # to)
     mask = signal.pthread_sigmask(signal.SIG_BLOCK, stopping.ENDING)
     try:
-        # (Python has these two ignored, which the program would inherit; its own path may be of any bytes, which its words may not)
+        # (Python has these two ignored, which the program would inherit; its own path may be of any
+        # bytes, which its words may not)
         defaults = [signal.SIGPIPE, signal.SIGXFSZ]
-        started.append(os.posix_spawn(program, [NAME, *readable(words)], os.environ, setsigmask=mask, setsigdef=defaults))
+        started.append(
+            os.posix_spawn(
+                program, [NAME, *readable(words)], os.environ, setsigmask=mask, setsigdef=defaults
+            )
+        )
     except OSError as error:
         say(f"{os.path.relpath(program, TOP)} can't be run: {error.strerror}")
         return NO_PROGRAM
     finally:
         signal.pthread_sigmask(signal.SIG_SETMASK, mask)
-    # (until its status is taken, the program's number is no other one's: so that is taken where no signal is passed on to it)
+    # (until its status is taken, the program's number is no other one's: so that is taken where no
+    # signal is passed on to it)
     os.waitid(os.P_PID, started[0], os.WEXITED | os.WNOWAIT)
     stopping.end_at_once()
     status = os.waitpid(started[0], 0)[1]
     return status >> 8 if not status & 127 else BY_SIGNAL + (status & 127)
 
 
-def readable(words):
-    """The words with a path that the program takes for each input whose own isn't UTF-8: that of the open file. The program, which inherits
-    that, refuses other words of this kind."""
+def readable(words: list[str]) -> list[str]:
+    """The words with a path that the program takes for each input whose own isn't UTF-8: that of
+    the open file. The program, which inherits that, refuses other words of this kind."""
     last = len(inputs_of(words))
-    return [path_of_open(it) if 1 <= place <= last and not is_utf_8(it) else it for place, it in enumerate(words)]
+    return [
+        path_of_open(it) if 1 <= place <= last and not is_utf_8(it) else it
+        for place, it in enumerate(words)
+    ]
 
 
-def is_utf_8(word):
+def is_utf_8(word: str) -> bool:
     try:
         os.fsencode(word).decode()
         return True
@@ -201,7 +247,7 @@ def is_utf_8(word):
         return False
 
 
-def path_of_open(path):
+def path_of_open(path: str) -> str:
     """A path in plain letters of a file; where it can't be opened, one that can't be either."""
     try:
         number = os.open(path, os.O_RDONLY)

@@ -1,5 +1,8 @@
-"""Chooses the program that answers: the one that was proved on this machine, else the one that is kept in the repository, where its record names
-exactly the sources that stand here. Where there is neither, it says why."""
+"""Chooses the program that answers: the one that was proved on this machine, else the one that is
+kept in the repository, where its record names exactly the sources that stand here. Where there is
+neither, it says why."""
+from __future__ import annotations
+
 import os
 import subprocess
 
@@ -20,9 +23,10 @@ TOLD = (
 )
 
 
-def choose():
+def choose() -> tuple[str | None, list[str]]:
     """What is chosen, of HOME and KEPT, or None; and why not the one, and not the other."""
-    looks, reasons = Looks(), []
+    looks = Looks()
+    reasons: list[str] = []
     sources = Sources(looks)
     for choice in (HOME, KEPT):
         reason = why_not(choice, sources, looks)
@@ -37,12 +41,14 @@ def choose():
     return None, reasons
 
 
-def was_told(looks):
+def was_told(looks: Looks) -> bool:
     """Whether the same kept program answered the last time, so that this was said."""
-    return looks.last_choice == KEPT and looks.sum_of(KEPT_PROGRAM) == looks.last_sum_of(KEPT_PROGRAM)
+    return looks.last_choice == KEPT and looks.sum_of(KEPT_PROGRAM) == looks.last_sum_of(
+        KEPT_PROGRAM
+    )
 
 
-def why_not(choice, sources, looks):
+def why_not(choice: str, sources: Sources, looks: Looks) -> str | None:
     """Why a program isn't one of these sources, or None where it is."""
     program = PROGRAMS[choice]
     is_recorded = looks.sum_of(RECORDS[choice])
@@ -60,23 +66,35 @@ def why_not(choice, sources, looks):
     return why_it_does_not_run(program)
 
 
-def named(crates, most=4):
+def named(crates: list[str], most: int = 4) -> str:
     more = f" and {len(crates) - most} more crates" if len(crates) > most else ""
     return ", ".join(crates[:most]) + more
 
 
-def why_it_does_not_run(program):
+def why_it_does_not_run(program: str) -> str | None:
     """Why the machine can't run a program, or None. Without words it refuses them with status 2."""
     try:
-        ran = subprocess.run([NAME], executable=at(program), stdin=subprocess.DEVNULL, capture_output=True, timeout=SECONDS)
+        ran = subprocess.run(
+            [NAME],
+            executable=at(program),
+            stdin=subprocess.DEVNULL,
+            capture_output=True,
+            timeout=SECONDS,
+        )
     except (OSError, subprocess.TimeoutExpired) as error:
-        return f"{program} doesn't run on this machine ({getattr(error, 'strerror', None) or error}); {needed()}"
+        return (
+            f"{program} doesn't run on this machine ({getattr(error, 'strerror', None) or error});"
+            f" {needed()}"
+        )
     if ran.returncode != 2 or ran.stdout != b"refused words\n":
-        said = ran.stderr.decode(errors="replace").strip().split("\n")[0] or f"it ended with status {ran.returncode}"
+        said = (
+            ran.stderr.decode(errors="replace").strip().split("\n")[0]
+            or f"it ended with status {ran.returncode}"
+        )
         return f"{program} doesn't run on this machine ({said}); {needed()}"
     return None
 
 
-def needed():
+def needed() -> str:
     """What the machine lacks, or where all stands that the program needs."""
     return needs.lacking() or f"what it needs stands in {os.path.dirname(KEPT_PROGRAM)}/README.md"

@@ -1,8 +1,9 @@
-"""The record of a program that was proved and built: which kit proved it, by which command, from which rows of crates.txt, and the sums of the
-program and of each source. From its first sum on it is what `sha256sum --check` reads, and the lines before it are comments to that."""
+"""The record of a program that was proved and built: which kit proved it, by which command, from
+which rows of crates.txt, and the sums of the program and of each source. From its first sum on it
+is what `sha256sum --check` reads, and the lines before it are comments to that."""
 import os
 import re
-from typing import Dict
+from typing import Dict, Mapping, Optional
 
 from launch.paths import at
 
@@ -15,14 +16,32 @@ class Damaged(Exception):
 
 class Record:
     def __init__(
-        self, kit: str, proved_by: str, rows: Dict[str, str], program_sum: str, sums: Dict[str, str]
+        self,
+        kit: str,
+        proved_by: str,
+        rows: Dict[str, str],
+        program_sum: str,
+        sums: Mapping[str, Optional[str]],
     ) -> None:
-        self.kit, self.proved_by, self.rows, self.program_sum, self.sums = kit, proved_by, rows, program_sum, sums
+        self.kit, self.proved_by, self.rows, self.program_sum, self.sums = (
+            kit,
+            proved_by,
+            rows,
+            program_sum,
+            sums,
+        )
 
     def write(self, path: str, program: str) -> None:
-        lines = [f"# kit: {self.kit}", f"# proved by: {self.proved_by}", f"# sources: {len(self.sums)}"]
+        lines = [
+            f"# kit: {self.kit}",
+            f"# proved by: {self.proved_by}",
+            f"# sources: {len(self.sums)}",
+        ]
         lines += [f"# row: {it}" for it in self.rows.values()]
-        lines += [f"{self.program_sum}  {program}", *(f"{total}  {it}" for it, total in self.sums.items())]
+        lines += [
+            f"{self.program_sum}  {program}",
+            *(f"{total}  {it}" for it, total in self.sums.items()),
+        ]
         with open(at(f"{path}.new"), "w", encoding="utf-8", errors="surrogateescape") as file:
             file.write("".join(f"{it}\n" for it in lines))
         os.replace(at(f"{path}.new"), at(path))
@@ -41,11 +60,21 @@ def read(path: str, program: str) -> Record:
 def parsed(text: str, path: str, program: str) -> Record:
     """The record that a text is; the text is of the path, and the record of the program."""
     lines = text.split("\n")
-    said = {key: [it[len(key) + 4 :] for it in lines if it.startswith(f"# {key}: ")] for key in ("kit", "proved by", "sources", "row")}
+    said = {
+        key: [it[len(key) + 4 :] for it in lines if it.startswith(f"# {key}: ")]
+        for key in ("kit", "proved by", "sources", "row")
+    }
     sums = [it for it in lines if it and not it.startswith("#")]
     found = [match for match in map(SUM.fullmatch, sums) if match]
-    is_one = found and len(found) == len(sums) and found[0][2] == program and said["sources"] == [str(len(found) - 1)]
+    is_one = (
+        found
+        and len(found) == len(sums)
+        and found[0][2] == program
+        and said["sources"] == [str(len(found) - 1)]
+    )
     if not (is_one and len(said["kit"]) == len(said["proved by"]) == 1 and said["row"]):
         raise Damaged(f"{path} is no record of {program}")
     rows = {it.split()[0].rstrip(":"): it for it in said["row"]}
-    return Record(said["kit"][0], said["proved by"][0], rows, found[0][1], {it[2]: it[1] for it in found[1:]})
+    return Record(
+        said["kit"][0], said["proved by"][0], rows, found[0][1], {it[2]: it[1] for it in found[1:]}
+    )

@@ -1,5 +1,7 @@
 """What the script says on standard error: whatever it is said of, one line stays one line, and a
 terminal takes nothing of it for an order."""
+from __future__ import annotations
+
 import os
 
 STANDARD_ERROR = 2
@@ -25,7 +27,7 @@ def printable(text: str, most: int = 200) -> str:
     """So much of an input's text, of a name or of a path as a line has room for."""
     if len(text) <= most and text.isprintable():
         return text
-    shown: "list[str]" = []
+    shown: list[str] = []
     length = 0
     for it in text[: most + 1]:
         piece = it if it.isprintable() else escape(it)

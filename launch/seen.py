@@ -12,6 +12,8 @@ call.
 A second file has the same for the common case, in which nothing has changed: a line with the
 choice and the folder, the paths, and all marks as one piece of bytes, which is compared with that
 of the marks as they are now."""
+from __future__ import annotations
+
 import marshal
 import os
 import time
@@ -24,12 +26,12 @@ NO_MARK = "none"
 SETTLED_NANOSECONDS = 250_000_000
 
 
-def mark_of(path):
+def mark_of(path: str) -> str:
     """The mark of a file or folder of the repository."""
     return mark_at(at(path))
 
 
-def mark_at(path):
+def mark_at(path: str) -> str:
     """The mark of a file or folder anywhere."""
     try:
         it = os.stat(path)
@@ -38,14 +40,14 @@ def mark_at(path):
     return f"{it.st_size}.{it.st_mtime_ns}.{it.st_ctime_ns}.{it.st_ino}"
 
 
-def settled_mark_of(path):
+def settled_mark_of(path: str) -> str:
     """The mark, or none where the file or folder may still change without a change of its times."""
     now, mark = time.time_ns(), mark_of(path)
     times = [int(it) for it in mark.split(".")[1:3]]
     return NO_MARK if any(it > now - SETTLED_NANOSECONDS for it in times) else mark
 
 
-def read():
+def read() -> tuple[str | None, list[str]]:
     """What was chosen last, and the lines; None and nothing where the file isn't there, or not
     whole."""
     try:
@@ -57,12 +59,12 @@ def read():
         return None, []
 
 
-def parts_of(line):
+def parts_of(line: str) -> tuple[str, str, str]:
     mark, total, path = line.split(" ", 2)
     return mark, total, path
 
 
-def chosen():
+def chosen() -> str | None:
     """What was chosen last, where all that had a part in it is as it was, else None."""
     try:
         with open(at(QUICK), "rb") as file:
@@ -74,9 +76,10 @@ def chosen():
         return None
 
 
-def marks_now(paths):
+def marks_now(paths: list[str]) -> bytes:
     """The marks of whole paths as bytes; those of what isn't there are left out."""
-    found, stat = [len(paths)], os.stat
+    found: list[int | str] = [len(paths)]
+    stat = os.stat
     for at_path in paths:
         try:
             it = stat(at_path)
@@ -90,15 +93,15 @@ class Looks:
     """Looks at files and folders, and takes the sums of files: from the last time, where their
     marks are the same."""
 
-    def __init__(self):
+    def __init__(self) -> None:
         self.last_choice, lines = read()
         try:
             self.known = {path: (mark, total) for mark, total, path in map(parts_of, lines)}
         except ValueError:
             self.known = {}
-        self.seen = {}
+        self.seen: dict[str, tuple[str, str]] = {}
 
-    def sum_of(self, path):
+    def sum_of(self, path: str) -> str | None:
         """The SHA-256 of a file, or None where it can't be read."""
         mark = settled_mark_of(path)
         known_mark, known_sum = self.known.get(path, (NO_MARK, "-"))
@@ -106,14 +109,15 @@ class Looks:
         self.seen[path] = (mark, total)
         return None if total == "-" else total
 
-    def last_sum_of(self, path):
-        return self.known.get(path, (NO_MARK, None))[1]
+    def last_sum_of(self, path: str) -> str | None:
+        known = self.known.get(path)
+        return known[1] if known else None
 
-    def look_at(self, path):
+    def look_at(self, path: str) -> None:
         """Takes a folder, or what isn't there, for a part of what was looked at."""
         self.seen[path] = (settled_mark_of(path), "-")
 
-    def keep(self, choice):
+    def keep(self, choice: str) -> bool:
         """Writes down what was chosen, and says whether it could. Where the folder can't be
         written to, the next call looks at all again."""
         lines = "".join(f"{mark} {total} {path}\n" for path, (mark, total) in self.seen.items())
@@ -122,7 +126,7 @@ class Looks:
             is_kept = self.keep_quick(choice)
         return is_kept
 
-    def keep_quick(self, choice):
+    def keep_quick(self, choice: str) -> bool:
         """Writes the second file, where nothing has changed since it was looked at."""
         paths = [at(it) for it in self.seen]
         marks = marks_now(paths)
@@ -137,7 +141,7 @@ class Looks:
         )
 
 
-def put(path, data):
+def put(path: str, data: bytes) -> bool:
     """Writes a file whole or not at all, and says whether it could."""
     new = at(f"{path}.{os.getpid()}")
     try:
@@ -154,7 +158,7 @@ def put(path, data):
         return False
 
 
-def sum_now(path):
+def sum_now(path: str) -> str:
     import hashlib
 
     try:

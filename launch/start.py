@@ -10,11 +10,15 @@ if sys.argv[1] == "heeded":
 
 import os  # noqa: E402
 
+TYPE_CHECKING = False
+if TYPE_CHECKING:
+    from typing import List
+
 NO_PROGRAM, NOT_WRITTEN, BY_SIGNAL = 10, 7, 128
 TOP = os.path.dirname(os.path.dirname(os.path.realpath(__file__)))
 
 
-def answered(words):
+def answered(words: "List[str]") -> int:
     """The status of the answer; 128 and its number for a signal that ended it."""
     if sys.version_info < (3, 8):
         return fault("this needs Python 3.8, and %s is older" % sys.executable)
@@ -37,11 +41,11 @@ def answered(words):
     except BaseException as error:
         # (whatever raises `Stopped` has seen to it that the next signal ends the script at once)
         if type(error).__name__ == "Stopped":
-            return BY_SIGNAL + error.number
+            return BY_SIGNAL + int(getattr(error, "number"))
         return fault("no answer, by a fault of the script: %s: %s" % (type(error).__name__, error))
 
 
-def fault(text):
+def fault(text: str) -> int:
     """Says in one line why there is no answer."""
     try:
         os.write(2, ascii("cise: " + text[:400])[1:-1].encode() + b"\n")
@@ -50,7 +54,7 @@ def fault(text):
     return NO_PROGRAM
 
 
-def end(status):
+def end(status: int) -> None:
     """Ends with this status and no other: nothing that is left to be done may change it."""
     try:
         if sys.stdout is not None:

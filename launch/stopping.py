@@ -1,10 +1,21 @@
 """How the script ends by a signal: whoever called it sees by which one, and no status of an
 answer."""
+from __future__ import annotations
+
 import os
 
 # (the module `signal` is made over this one, and takes longer to import than all else that a call
 # needs)
 import _signal as signal
+
+# (for those who look at types; importing `typing` takes longer than all else that a call needs)
+TYPE_CHECKING = False
+if TYPE_CHECKING:
+    from subprocess import Popen
+    from types import FrameType
+    from typing import Callable, Iterable, Optional, Union
+
+    Handler = Union[int, Callable[[int, Optional[FrameType]], None]]
 
 ENDING = (signal.SIGINT, signal.SIGTERM, signal.SIGHUP)
 
@@ -17,7 +28,7 @@ class Stopped(BaseException):
         self.number = number
 
 
-def handle_by(handler) -> None:
+def handle_by(handler: Handler) -> None:
     """Has this called for the signals that end a process, but for those that who called has
     ignored."""
     for it in ENDING:
@@ -28,7 +39,7 @@ def handle_by(handler) -> None:
 def stop_by_signals() -> None:
     """Has the first of these signals raise `Stopped`; the next one ends the script at once."""
 
-    def stop(number, _):
+    def stop(number: int, _: FrameType | None) -> None:
         end_at_once()
         raise Stopped(number)
 
@@ -52,7 +63,7 @@ def end_by(number: int) -> int:
     return 128 + number
 
 
-def end_all(processes) -> None:
+def end_all(processes: Iterable[Popen[bytes]]) -> None:
     """Ends processes and waits for them, whatever signals still come."""
     handle_by(signal.SIG_IGN)
     for it in processes:

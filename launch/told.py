@@ -1,4 +1,5 @@
-"""What a user was told once, noted in a folder of the user's: for copies that nothing is written to."""
+"""What a user was told once, noted in a folder of the user's: for copies that nothing is written
+to."""
 import os
 
 

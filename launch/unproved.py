@@ -1,5 +1,8 @@
-"""Answers by a program that isn't proved, where sources were changed and nothing of them is proved: the kit compiles them without proofs, with
-checks where a proof would stand, and runs the program on copies of its inputs (`rt try`). It says at its end with which status the program ended."""
+"""Answers by a program that isn't proved, where sources were changed and nothing of them is proved:
+the kit compiles them without proofs, with checks where a proof would stand, and runs the program on
+copies of its inputs (`rt try`). It says at its end with which status the program ended."""
+from __future__ import annotations
+
 import os
 import re
 import shutil
@@ -20,7 +23,7 @@ ENDED = re.compile(r"run=ended status=([0-9]+) .*proved=no")
 PROVE = "./cise prove proves the program and builds it"
 
 
-def answer(words, reasons, list_commands):
+def answer(words: list[str], reasons: list[str], list_commands: Callable[[], None]) -> int:
     """Answers, and returns the program's status, or the script's where there is no answer."""
     say("; ".join(reasons))
     if is_view(words):
@@ -39,19 +42,25 @@ def answer(words, reasons, list_commands):
     return NO_PROGRAM
 
 
-def is_command(words):
+def is_command(words: list[str]) -> bool:
     """Whether the words can be those of a command, by their first one and by how many there are."""
     return bool(words) and words[0] in PATHS and len(words) > max(1, PATHS[words[0]])
 
 
-def answer_unproved(words: "list[str]", room: str, list_commands: "Callable[[], None]") -> int:
+def answer_unproved(words: list[str], room: str, list_commands: Callable[[], None]) -> int:
     """Answers by a program that isn't proved, with what it reads and writes in the room."""
     try:
         words, given = with_copies(words, room)
     except OSError as error:
-        say(f"no program was run, since {error.filename or 'an input'} can't be read: {error.strerror}")
+        say(
+            f"no program was run, since {error.filename or 'an input'} can't be read:"
+            f" {error.strerror}"
+        )
         return NOT_READ
-    say(f"so an unproved program answers, by rt try, which takes some minutes and 3 GB of memory; {PROVE}")
+    say(
+        "so an unproved program answers, by rt try, which takes some minutes and 3 GB of memory;"
+        f" {PROVE}"
+    )
     status, lines = tried(words, given, room)
     if status is not None:
         say(f"an unproved program gives this answer, with status {status}")
@@ -65,7 +74,7 @@ def answer_unproved(words: "list[str]", room: str, list_commands: "Callable[[], 
     return NO_PROGRAM
 
 
-def is_written(path):
+def is_written(path: str) -> bool:
     """Writes a file on standard output, and says whether it could."""
     try:
         with open(path, "rb") as text, os.fdopen(1, "wb", closefd=False) as out:
@@ -75,11 +84,14 @@ def is_written(path):
         return False
 
 
-def tried(words, given, room):
-    """The status with which the unproved program ended, or None, and the kit's lines. What was printed is left in the room."""
+def tried(words: list[str], given: list[str], room: str) -> tuple[int | None, list[str]]:
+    """The status with which the unproved program ended, or None, and the kit's lines. What was
+    printed is left in the room."""
     command = ["rt", "try", "--seconds", str(SECONDS), *given, "--", *words]
     with open(f"{room}/stdout", "wb") as out, open(f"{room}/stderr", "wb") as err:
-        running = subprocess.Popen(command, cwd=at("crates/cise_cli"), stdin=subprocess.DEVNULL, stdout=out, stderr=err)
+        running = subprocess.Popen(
+            command, cwd=at("crates/cise_cli"), stdin=subprocess.DEVNULL, stdout=out, stderr=err
+        )
         try:
             running.wait()
         except Stopped:
@@ -91,8 +103,9 @@ def tried(words, given, room):
     return (int(ended[1]) if ended else None), lines
 
 
-def with_copies(words, room):
-    """The words with a plain name for each path, and the flags that give the file of that name: a copy, so that a path may also be a pipe."""
+def with_copies(words: list[str], room: str) -> tuple[list[str], list[str]]:
+    """The words with a plain name for each path, and the flags that give the file of that name: a
+    copy, so that a path may also be a pipe."""
     words, given = list(words), []
     for place in range(1, PATHS[words[0]] + 1):
         name = f"input{place}"
