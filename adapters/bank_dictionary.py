@@ -1,11 +1,27 @@
-"""The bank of examples/bank/accepted.cise over a dictionary for each replica, as an adapter of `./cise drive`."""
+"""The bank of examples/bank/accepted.cise over a dictionary for each replica, as an adapter of
+`./cise drive`."""
+from __future__ import annotations
+
 import json
 import sys
+from typing import Any, TypedDict
 
-replicas, calls, withdrawals = [], {}, {}
+
+class Books(TypedDict):
+    """What a replica has: the balance of each account, and the names of the calls that it took."""
+
+    balance: dict[str, int]
+    taken: set[str]
 
 
-def call(replica, name, operation, args):
+replicas: list[Books] = []
+# The account of each call, and by how much it changes.
+calls: dict[str, tuple[str, int]] = {}
+# The names of the withdrawals from each account.
+withdrawals: dict[str, list[str]] = {}
+
+
+def call(replica: int, name: str, operation: str, args: dict[str, Any]) -> str:
     """A call at a replica: whether it may be made there, and its effect."""
     books, account, amount = replicas[replica], args["a"], args["n"]
     if amount < 0 or operation == "withdraw" and books["balance"].get(account, 0) < amount:
@@ -19,7 +35,7 @@ def call(replica, name, operation, args):
     return take(replica, name)
 
 
-def take(replica, name):
+def take(replica: int, name: str) -> str:
     """The effect of a call, at a replica that hears of it."""
     books, (account, change) = replicas[replica], calls[name]
     books["balance"][account] = books["balance"].get(account, 0) + change
@@ -27,7 +43,7 @@ def take(replica, name):
     return "ok"
 
 
-def answer(it):
+def answer(it: dict[str, Any]) -> dict[str, Any]:
     """The answer to a line."""
     if it["do"] == "reset":
         replicas[:] = [{"balance": {}, "taken": set()} for _ in range(it["replicas"])]

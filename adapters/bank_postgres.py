@@ -2,8 +2,8 @@
 
     bank_postgres.py FILE.sql SOCKET ..
 
-Each socket is one of a server, whose database `postgres` is that replica's. FILE.sql is `bank.sql`, or
-what stands in its place."""
+Each socket is one of a server, whose database `postgres` is that replica's. FILE.sql is `bank.sql`,
+or what stands in its place."""
 import json
 import os
 import sys
@@ -37,7 +37,11 @@ class Bank:
             return {"state": {"relations": {}, "counters": {"balance": counts}}}
         if it["do"] == "take":
             account, change = self.changes[it["id"]]
-            return {"answer": replica.value(f"SELECT take({literal(it['id'])}, {literal(account)}, {change})")}
+            return {
+                "answer": replica.value(
+                    f"SELECT take({literal(it['id'])}, {literal(account)}, {change})"
+                )
+            }
         return {"answer": self.call(replica, it["id"], it["operation"], it["args"])}
 
     def call(self, replica: Connection, name: str, operation: str, args: Dict[str, Any]) -> str:

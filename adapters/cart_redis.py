@@ -2,8 +2,9 @@
 
     cart_redis.py SOCKET [FAULT]
 
-A replica is one of the server's databases, with a hash for each counter. FAULT plants a fault, for the
-check that drives this: `lost` loses a taking of items that come back, `asks_less` forgets a test."""
+A replica is one of the server's databases, with a hash for each counter. FAULT plants a fault, for
+the check that drives this: `lost` loses a taking of items that come back, `asks_less` forgets a
+test."""
 import json
 import socket
 import sys
