@@ -1,5 +1,6 @@
-"""The layer for people: it tells in words and pictures what the program's texts say, and claims nothing beyond them. docs/users/VIEW.md says what each
-command writes. The modules, in the order in which they stand on each other:
+"""The layer for people: it tells in words and pictures what the program's texts say, and claims
+nothing beyond them. docs/users/VIEW.md says what each command writes. The modules, in the order in
+which they stand on each other:
 
     words           the words of a specification, with their places
     formulas        a formula as a tree

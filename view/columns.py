@@ -1,4 +1,7 @@
-"""Text in lines of at most 80 columns. A word that is longer than a line stays whole, and an equality stays in one line."""
+"""Text in lines of at most 80 columns. A word that is longer than a line stays whole, and an
+equality stays in one line."""
+from __future__ import annotations
+
 import textwrap
 from typing import List, Optional, Tuple
 
@@ -12,19 +15,29 @@ def wrapped(text: str, first: int = 0, rest: Optional[int] = None) -> List[str]:
     begin, below = " " * first, " " * (first if rest is None else rest)
     glued = text.replace(" = ", f"{KEPT}={KEPT}").replace(" : ", f"{KEPT}:{KEPT}")
     lines = textwrap.wrap(
-        glued, WIDTH, initial_indent=begin, subsequent_indent=below, break_long_words=False, break_on_hyphens=False
+        glued,
+        WIDTH,
+        initial_indent=begin,
+        subsequent_indent=below,
+        break_long_words=False,
+        break_on_hyphens=False,
     )
     return [it.replace(KEPT, " ") for it in lines]
 
 
 def table(rows: List[Tuple[str, str]], indent: int = 0) -> List[str]:
-    """Rows of a name and words. The words stand under each other where there is room for them, else each below its name."""
+    """Rows of a name and words. The words stand under each other where there is room for them, else
+    each below its name."""
     widest = max((len(name) for name, _ in rows), default=0) + 2
     if all(indent + widest + len(words) <= WIDTH for _, words in rows):
         return [f"{' ' * indent}{name:{widest}}{words}".rstrip() for name, words in rows]
-    return [line for name, words in rows for line in wrapped(name, indent, indent + 2) + wrapped(words, indent + 4)]
+    return [
+        line
+        for name, words in rows
+        for line in wrapped(name, indent, indent + 2) + wrapped(words, indent + 4)
+    ]
 
 
-def joined(names):
+def joined(names: list[str]) -> str:
     """As `a`, `a and b`, `a, b and c`."""
     return " and ".join([", ".join(names[:-1]), names[-1]] if len(names) > 1 else names)

@@ -1,5 +1,6 @@
-"""All words of `./cise`, one row each: the script's own, with the module that answers it, its paths and options; and those of the
-program and of `launch/`, for help alone. `view/help/WORD.txt` has the page of each."""
+"""All words of `./cise`, one row each: the script's own, with the module that answers it, its paths
+and options; and those of the program and of `launch/`, for help alone. `view/help/WORD.txt` has the
+page of each."""
 from dataclasses import dataclass, field
 from typing import Dict, List, Optional, Tuple
 
@@ -161,20 +162,30 @@ COMMANDS: Dict[str, Command] = {
         most=2,
         options={"--second": None},
     ),
-    "watch": Command("watch", WORK, "SPEC", "checks at each save, and says what changed", has_inputs=False),
-    "review": Command("review", LOOK, "SPEC", "says what a yes leaves open: what never runs, what is not used"),
+    "watch": Command(
+        "watch", WORK, "SPEC", "checks at each save, and says what changed", has_inputs=False
+    ),
+    "review": Command(
+        "review", LOOK, "SPEC", "says what a yes leaves open: what never runs, what is not used"
+    ),
 }
 
 # The words of the proved program, whose module is none.
 PROGRAM: Dict[str, Command] = {
-    "check": Command("", LOOK, "SPEC [--budget N]", "decides each obligation of a specification: the report"),
+    "check": Command(
+        "", LOOK, "SPEC [--budget N]", "decides each obligation of a specification: the report"
+    ),
     "replay": Command("", TRY, "SPEC SCHEDULE", "carries out a recorded schedule, step by step"),
     "sample": Command("", BUILD, "N", "checks a generated specification, as a trial of speed"),
     "simulate": Command("", TRY, "SPEC SCHEDULE", "carries it out by a protocol of tokens"),
     "spell": Command("", MEND, "SPEC", "writes a specification in the language's layout"),
     "suggest": Command("", LOOK, "SPEC", "finds which pairs of operations must conflict"),
-    "upgrade": Command("", BUILD, "SPEC REPORT", "writes a report anew, in version 2 of the format"),
-    "verify": Command("", LOOK, "SPEC REPORT", "says whether a report stands, and believes none of it"),
+    "upgrade": Command(
+        "", BUILD, "SPEC REPORT", "writes a report anew, in version 2 of the format"
+    ),
+    "verify": Command(
+        "", LOOK, "SPEC REPORT", "says whether a report stands, and believes none of it"
+    ),
 }
 
 # What `launch/` answers itself.
@@ -207,8 +218,11 @@ def taken(command: Command, words: List[str]) -> Optional[Words]:
     return Words(paths, options)
 
 
-def parted_words(command: Command, words: List[str]) -> Optional[Tuple[List[str], Dict[str, object]]]:
-    """Paths and options apart; None where an option isn't the command's, stands twice or lacks its value."""
+def parted_words(
+    command: Command, words: List[str]
+) -> Optional[Tuple[List[str], Dict[str, object]]]:
+    """Paths and options apart; None where an option isn't the command's, stands twice or lacks its
+    value."""
     paths: List[str] = []
     options: Dict[str, object] = {}
     at = 0

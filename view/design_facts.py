@@ -10,7 +10,8 @@ from view.inputs import name_of, text_of
 from view.mend import mended
 from view.order import GROUPS, Advice, Condition, Pair
 from view.places import Finding, Span, findings, line_span
-from view.reach import SECONDS, tried
+from view.reach import SECONDS
+from view.run_text import tried
 from view.reaching import Found, Reach
 from view.report import Report, Suggestion
 from view.review import reviewed

@@ -14,7 +14,7 @@ from view.runs import Effort, Search
 from view.seeking import first_state
 from view.states import World, world_of
 from view.tree import Line, Spec
-from view.words import Word
+from view.words import Word, placed
 
 # The work for looking whether operations ever run, in all and for each.
 WORK, WORK_EACH = 40_000, 12_000
@@ -155,12 +155,14 @@ def invariants_that_say(spec: Spec, questions: Questions) -> Iterator[Doubt]:
     changed = {it for one in spec.operations.values() for it in written(one)}
     for name, line in spec.invariants.items():
         if questions.is_always_true(str(name)):
-            yield at(name, "always-true", f"{name} is true of every state; proved by the program")
+            yield at(
+                placed(name), "always-true", f"{name} is true of every state; proved by the program"
+            )
         elif spec.operations and not read_by_line(line) & changed:
             sentence = (
                 f"no operation changes anything that {name} reads, so it says nothing of them"
             )
-            yield at(name, "unwritten", sentence)
+            yield at(placed(name), "unwritten", sentence)
 
 
 def unused(spec: Spec, _: Questions) -> Iterator[Doubt]:
@@ -177,7 +179,7 @@ def unused(spec: Spec, _: Questions) -> Iterator[Doubt]:
     used |= {it for line in spec.invariants.values() for it in read_by_line(line)}
     for thing in [*spec.relations, *spec.counters]:
         if str(thing) not in used:
-            yield at(thing, "unused", f"no line reads or changes {thing}")
+            yield at(placed(thing), "unused", f"no line reads or changes {thing}")
     for operation in spec.operations.values():
         words = {str(it) for line in operation.lines for it in line.body}
         for param, _sort in operation.params:
@@ -193,10 +195,16 @@ def tokens(spec: Spec, _: Questions) -> Iterator[Doubt]:
     named = {str(side[0]) for left, right, _ in spec.rules for side in (left, right)}
     for token in spec.tokens:
         if str(token) not in taken | named:
-            yield at(token, "unused", f"no rule names the token {token}, and no operation takes it")
+            yield at(
+                placed(token),
+                "unused",
+                f"no rule names the token {token}, and no operation takes it",
+            )
         elif str(token) not in named:
             yield at(
-                token, "token", f"no rule names the token {token}, so taking it orders nothing"
+                placed(token),
+                "token",
+                f"no rule names the token {token}, so taking it orders nothing",
             )
     for left, right, _number in spec.rules:
         lost = [str(side[0]) for side in (left, right) if str(side[0]) not in taken]
@@ -220,7 +228,7 @@ def constants(spec: Spec, _: Questions) -> Iterator[Doubt]:
             sentence = (
                 f"{one} and {other} may be the same {spec.consts[one]}: no line tells them apart"
             )
-            yield at(other, "same", sentence)
+            yield at(placed(other), "same", sentence)
 
 
 def compared(line: Line) -> Iterator[Tuple[str, str]]:
@@ -244,7 +252,7 @@ def raised(spec: Spec, _: Questions) -> Iterator[Doubt]:
             verb = "inserts into" if thing in spec.relations else "changes"
             begins = "false" if thing in spec.relations else spec.initially.get(thing, "0")
             sentence = f"no operation {verb} {thing}, so it stays {begins} in every run"
-            yield at(thing, "constant", sentence)
+            yield at(placed(thing), "constant", sentence)
 
 
 def negative(spec: Spec, report: Report) -> Iterator[Doubt]:
@@ -255,7 +263,7 @@ def negative(spec: Spec, report: Report) -> Iterator[Doubt]:
             if any(str(it) == str(thing) and value < 0 for (it, _), value in values):
                 reading = str(thing) + (" ( .. )" if sorts else "")
                 yield at(
-                    thing,
+                    placed(thing),
                     "negative",
                     f"a story shows {thing} below 0: ( {reading} >= 0 ) is said nowhere",
                 )

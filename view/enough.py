@@ -7,12 +7,15 @@ all together are enough and order least. Where it has none, no one equality is e
 four equalities may be, of which one has to hold; and each may be joined with others, as long as
 the pair stays proved. Each refutation shows two calls that have to be ordered, so it rules out all
 proposals that leave them apart. Where no proposal is enough, all calls of the two are ordered."""
+from __future__ import annotations
+
 import itertools
 from typing import Callable, Dict, List, Optional, Sequence, Tuple
 
 from view import program
 from view.edits import with_tokens
-from view.report import Block, Report
+from view.given import given
+from view.report import Block, Report, SuggestedPair
 from view.tokens import MOST_PLACES, Order, Tokens
 from view.tree import Operation, Spec
 
@@ -62,7 +65,7 @@ class Trials:
         status, report = program.run_on(text, "check")
         if status not in (0, 1, 5):
             return False, []
-        blocks = [it for it in Report(report).blocks if it.pair() and set(it.pair()) == {f, g}]
+        blocks = [it for it in Report(report).blocks if set(it.pair() or ()) == {f, g}]
         refuted = [calls_of(self.spec, f, g, it) for it in blocks if it.verdict == "refuted"]
         return all(it.verdict == "proved" for it in blocks), refuted
 
@@ -76,11 +79,11 @@ def does(operation: Operation) -> Tuple[str, ...]:
 
 def calls_of(spec: Spec, f: str, g: str, block: Block) -> Calls:
     """The call of f and that of g in a refutation."""
-    calls = {}
+    calls: Dict[str, Dict[str, int]] = {}
     for side, (operation, arguments) in zip(
-        ("f", "g") if block.pair()[0] == f else ("g", "f"), block.witness.calls
+        ("f", "g") if given(block.pair())[0] == f else ("g", "f"), given(block.witness).calls
     ):
-        calls[side] = dict(zip((it for it, _ in spec.operations[operation].params), arguments))
+        calls[side] = dict(zip((str(it) for it, _ in spec.operations[operation].params), arguments))
     return calls["f"], calls["g"]
 
 
@@ -200,9 +203,9 @@ class Search:
         return alternatives
 
 
-def by_lines(pair):
+def by_lines(pair: SuggestedPair) -> list[tuple[str, str]]:
     """All equalities that a suggestion says to be enough, as far as a token has places for them."""
-    found = []
+    found: list[tuple[str, str]] = []
     for it in pair.answers:
         longer = found + [(it.left, it.right)]
         if it.word == "by" and all(
@@ -212,7 +215,7 @@ def by_lines(pair):
     return found
 
 
-def order_of(spec, pair, trials: Optional[Trials] = None) -> Optional[Order]:
+def order_of(spec: Spec, pair: SuggestedPair, trials: Optional[Trials] = None) -> Optional[Order]:
     """The order that a pair of a suggestion needs, as the program's answers have it, or None where
     no order is enough. For a pair of `by` lines no run is needed: what they say together is
     proved, and `mend` has the whole text checked anyhow."""

@@ -5,6 +5,18 @@
     formula   ("true",), ("false",), ("not", formula), ("and" | "or" | "implies", formula, formula),
               reading, or ("compare", sign, term, term)
 """
+
+from __future__ import annotations
+
+from typing import Any, List, Optional, Sequence, Tuple
+
+from view.words import Word
+
+# The trees of the list above.
+Reading = Tuple[str, Word, List[Word]]
+Term = List[Tuple[int, Optional[Reading]]]
+Formula = Tuple[Any, ...]
+
 CONNECTIVES = ("and", "or", "implies")
 COMPARISONS = ("=", "!=", "<", "<=", ">", ">=")
 
@@ -12,22 +24,22 @@ COMPARISONS = ("=", "!=", "<", "<=", ">", ">=")
 class Reader:
     """Reads trees from the front of a list of words. `at` is the place of the next word."""
 
-    def __init__(self, words, at=0):
+    def __init__(self, words: list[Word], at: int = 0) -> None:
         self.words, self.at = words, at
 
-    def peek(self):
+    def peek(self) -> str:
         return self.words[self.at] if self.at < len(self.words) else ""
 
-    def next(self):
+    def next(self) -> Word:
         self.at += 1
         return self.words[self.at - 1]
 
-    def takes(self, *words):
+    def takes(self, *words: str) -> bool:
         found = self.peek() in words and self.peek() != ""
         self.at += found
         return found
 
-    def reading(self):
+    def reading(self) -> Reading:
         name, arguments = self.next(), []
         if self.takes("("):
             while True:
@@ -36,7 +48,7 @@ class Reader:
                     break
         return "reading", name, arguments
 
-    def term(self):
+    def term(self) -> Term:
         found, sign = [], -1 if self.takes("-") else 1
         while True:
             if self.peek()[:1].isdigit():
@@ -47,7 +59,9 @@ class Reader:
                 return found
             sign = 1 if self.next() == "+" else -1
 
-    def formula(self):
+    def formula(
+        self,
+    ) -> Formula:
         if self.peek() in ("true", "false"):
             return (str(self.next()),)
         if self.takes("not"):
@@ -56,14 +70,14 @@ class Reader:
             return self.reading()
         if self.begins_formula():
             left = self.formula()
-            found = (str(self.next()), left, self.formula())
+            found: Formula = (str(self.next()), left, self.formula())
         else:
-            left = self.term()
-            found = ("compare", str(self.next()), left, self.term())
+            term = self.term()
+            found = ("compare", str(self.next()), term, self.term())
         self.next()
         return found
 
-    def begins_formula(self):
+    def begins_formula(self) -> bool:
         """Behind a bracket: whether a formula stands there, and not a sum."""
         if self.peek() in ("true", "false", "not", "("):
             return True
@@ -74,12 +88,14 @@ class Reader:
         return ahead.peek() in CONNECTIVES
 
 
-def formula_of(words):
+def formula_of(
+    words: list[Word],
+) -> Formula:
     """The tree of a formula's words."""
     return Reader(words).formula()
 
 
-def readings_of(formula):
+def readings_of(formula: Formula) -> list[tuple[Word, list[Word]]]:
     """The readings in a formula, from left to right: (name, [argument, ..])."""
     if formula[0] == "reading":
         return [(formula[1], formula[2])]

@@ -6,6 +6,7 @@ has one slip at most."""
 from typing import Dict, List, Optional, Set, Tuple
 
 from view import name_slips, program, slips
+from view.given import given
 from view.place import LINE_HEADS, Place
 from view.slips import BEGIN, Slip
 from view.tree import ITEMS, Spec
@@ -189,7 +190,7 @@ class Left:
         if (
             not closes
             and place.expected & {"sort", "requires"}
-            and place.near(-1).line < place.word.line
+            and place.near(-1).line < given(place.word).line
         ):
             start = at
         if closes and (at <= 2 or "end" in place.expected or "sort" in place.expected):

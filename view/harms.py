@@ -8,7 +8,7 @@ the judge. Harms, the worst first:
              what it requires is gone where it is taken. The schedule ends with that call made
              there"""
 from dataclasses import dataclass, replace
-from typing import Dict, List, Optional, Sequence, Tuple
+from typing import Any, Dict, List, Optional, Sequence, Tuple
 
 from view import program
 from view.report import Replay
@@ -17,7 +17,7 @@ from view.tree import Spec
 
 BROKEN, DIFFER, REFUSED = "broken", "differ", "refused"
 RANKS = {BROKEN: 0, DIFFER: 1, REFUSED: 2}
-Step = Dict[str, object]
+Step = Dict[str, Any]
 
 
 @dataclass
@@ -31,7 +31,7 @@ class Run:
     own               how many of the last calls are the refutation's own
     """
 
-    schedule: Dict[str, object]
+    schedule: Dict[str, Any]
     replay: Replay
     harm: str
     what: str = ""

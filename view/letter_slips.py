@@ -1,4 +1,6 @@
 """What people mean where a character begins no word."""
+from __future__ import annotations
+
 import re
 
 INSTEAD = {
@@ -18,7 +20,10 @@ INSTEAD = {
     "@": "names are of letters, digits and _",
     "$": "names are of letters, digits and _",
     "?": "a variable is a name of letters, digits and _",
-    "_": "a name begins with a letter; all elements of a place are * in a line insert, remove, add or set",
+    "_": (
+        "a name begins with a letter; all elements of a place are * in a line insert, remove, add"
+        " or set"
+    ),
     '"': "names stand without quotes",
     "'": "names stand without quotes",
     "`": "names stand without quotes",
@@ -48,30 +53,38 @@ INSTEAD = {
 }
 
 
-def name_of(letter):
+def name_of(letter: str) -> str:
     """A character as people can read it."""
     if "\udc80" <= letter <= "\udcff":
         return f"byte {ord(letter) - 0xDC00}"
-    return letter if letter.isprintable() and letter != "\u00a0" else f"character U+{ord(letter):04X}"
+    return (
+        letter if letter.isprintable() and letter != "\u00a0" else f"character U+{ord(letter):04X}"
+    )
 
 
-def sentence(letter):
+def sentence(letter: str) -> str:
     """What to write in place of a character."""
     if letter in INSTEAD:
         return INSTEAD[letter]
     if "\udc80" <= letter <= "\udcff":
-        return "this byte is no UTF-8; outside comments there are letters, digits and signs of ASCII alone"
+        return (
+            "this byte is no UTF-8; outside comments there are letters, digits and signs of ASCII"
+            " alone"
+        )
     if letter.isalpha():
         return "names are of the letters a to z and A to Z, digits and _"
     return "outside comments there are names, numbers and the signs ( ) , : . * + - = != < <= > >="
 
 
-def sentence_at(text, at):
+def sentence_at(text: str, at: int) -> str:
     """The same at a place of a text: what stands before and behind says more of some characters."""
     letter, before, after = text[at], text[at - 1 : at] if at else "", text[at + 1 : at + 2]
     number = re.compile(r"[0-9][0-9_]*").search(text, text.rfind(" ", 0, at) + 1)
     if letter == "_" and before.isdigit() and after.isdigit() and number:
         return f"a number is written without _ in it: {number.group().replace('_', '')}"
     if letter == "'" and (before.isalnum() or before == "_") and not after.isalnum():
-        return "a value after the call has no name: what changes is said by a line insert, remove, add or set"
+        return (
+            "a value after the call has no name: what changes is said by a line insert, remove, add"
+            " or set"
+        )
     return sentence(letter)

@@ -1,6 +1,10 @@
-"""JSON with the places of its parts, as the program reads it: RFC 8259 in UTF-8, at most 127 arrays and objects within each other, of a key that
-stands twice the last value. Python's own reader tells no places and takes more than JSON, as NaN."""
+"""JSON with the places of its parts, as the program reads it: RFC 8259 in UTF-8, at most 127 arrays
+and objects within each other, of a key that stands twice the last value. Python's own reader tells
+no places and takes more than JSON, as NaN."""
+from __future__ import annotations
+
 import re
+from typing import Any
 
 SPACE = re.compile(r"[ \t\r\n]*")
 NUMBER = re.compile(r"-?(?:0|[1-9][0-9]*)(\.[0-9]+)?([eE][+-]?[0-9]+)?")
@@ -14,26 +18,35 @@ LEAST_WHOLE, MOST_WHOLE = -(2**63), 2**63 - 1
 class NotJson(Exception):
     """What isn't JSON: the place, from 0, and what is wrong there."""
 
-    def __init__(self, at, message):
+    def __init__(self, at: int, message: str) -> None:
         super().__init__(message)
         self.at, self.message = at, message
 
 
 class Value:
-    """A value at a place. `kind` is object, list, text, number, true, false or null. `value` is of an object a dict of Values, of a list a list of
-    them, of a text the text, of a number its spelling. `keys` are the places of an object's keys."""
+    """A value at a place. `kind` is object, list, text, number, true, false or null. `value` is of
+    an object a dict of Values, of a list a list of them, of a text the text, of a number its
+    spelling. `keys` are the places of an object's keys.
+    """
 
-    def __init__(self, kind, at, end, value=None, keys=None):
+    def __init__(
+        self,
+        kind: str,
+        at: int,
+        end: int,
+        value: Any = None,
+        keys: dict[str, int] | None = None,
+    ) -> None:
         self.kind, self.at, self.end, self.value, self.keys = kind, at, end, value, keys
 
-    def whole(self):
+    def whole(self) -> int | None:
         """The whole number that this is, or None."""
         if self.kind != "number" or not WHOLE.fullmatch(self.value):
             return None
         number = int(self.value)
         return number if LEAST_WHOLE <= number <= MOST_WHOLE else None
 
-    def plain(self):
+    def plain(self) -> Any:
         """The value without places."""
         if self.kind == "object":
             return {key: it.plain() for key, it in self.value.items()}
@@ -45,25 +58,28 @@ class Value:
 
 
 class Reader:
-    def __init__(self, text):
+    def __init__(self, text: str) -> None:
         self.text, self.at = text, 0
 
-    def peek(self):
+    def peek(self) -> str:
         """The next character that isn't white space, to which it goes; "" at the end."""
-        self.at = SPACE.match(self.text, self.at).end()
+        space = SPACE.match(self.text, self.at)
+        self.at = space.end() if space else self.at
         return self.text[self.at : self.at + 1]
 
-    def whole(self):
+    def whole(self) -> Value:
         found = self.value(0)
         if self.peek():
             raise NotJson(self.at, "the value has ended, and more stands behind it")
         return found
 
-    def value(self, depth):
+    def value(self, depth: int) -> Value:
         letter, at = self.peek(), self.at
         if letter in ("{", "["):
             if depth == MOST_DEEP:
-                raise NotJson(at, f"more than {MOST_DEEP} arrays and objects stand within each other")
+                raise NotJson(
+                    at, f"more than {MOST_DEEP} arrays and objects stand within each other"
+                )
             return self.object(depth) if letter == "{" else self.list(depth)
         if letter == '"':
             return Value("text", at, self.at, self.string())
@@ -76,7 +92,7 @@ class Reader:
                 return Value(word, at, self.at)
         raise NotJson(at, no_value(self.text, at))
 
-    def number(self, found):
+    def number(self, found: re.Match[str]) -> Value:
         self.at = found.end()
         if self.text[self.at : self.at + 1].isdigit():
             raise NotJson(self.at, "a number doesn't begin with 0")
@@ -86,8 +102,9 @@ class Reader:
             raise NotJson(found.start(), "this number is too large to be read")
         return Value("number", found.start(), self.at, found.group())
 
-    def list(self, depth):
-        start, found = self.at, []
+    def list(self, depth: int) -> Value:
+        start = self.at
+        found: list[Value] = []
         self.at += 1
         if self.peek() == "]":
             self.at += 1
@@ -97,8 +114,10 @@ class Reader:
             if self.goes_on("]", start):
                 return Value("list", start, self.at, found)
 
-    def object(self, depth):
-        start, found, keys = self.at, {}, {}
+    def object(self, depth: int) -> Value:
+        start = self.at
+        found: dict[str, Value] = {}
+        keys: dict[str, int] = {}
         self.at += 1
         if self.peek() == "}":
             self.at += 1
@@ -115,25 +134,29 @@ class Reader:
             if self.goes_on("}", start):
                 return Value("object", start, self.at, found, keys)
 
-    def goes_on(self, end, start):
+    def goes_on(self, end: str, start: int) -> bool:
         """Behind a member: whether the list or the object has ended; else a comma is passed."""
         letter = self.peek()
         if letter not in (",", end) or not letter:
             opened = self.text.count("\n", 0, start) + 1
             what = "array" if end == "]" else "object"
-            raise NotJson(self.at, f"expected , or {end} here" + ("" if letter else f": the {what} of line {opened} isn't closed"))
+            raise NotJson(
+                self.at,
+                f"expected , or {end} here"
+                + ("" if letter else f": the {what} of line {opened} isn't closed"),
+            )
         self.at += 1
         if letter == "," and self.peek() == end:
             raise NotJson(self.at, f"no comma stands before {end}")
         return letter == end
 
-    def string(self):
+    def string(self) -> str:
         start, parts = self.at, []
         self.at += 1
         while True:
             plain = PLAIN.match(self.text, self.at)
-            parts.append(plain.group())
-            self.at = plain.end()
+            parts.append(plain.group() if plain else "")
+            self.at += len(parts[-1])
             letter = self.text[self.at : self.at + 1]
             if any("\udc80" <= it <= "\udcff" for it in parts[-1]):
                 raise NotJson(self.at - 1, "these bytes are no UTF-8")
@@ -141,18 +164,27 @@ class Reader:
                 self.at += 1
                 return "".join(parts)
             if letter != "\\":
-                raise NotJson(start if not letter else self.at, "this text isn't closed in its line")
+                raise NotJson(
+                    start if not letter else self.at, "this text isn't closed in its line"
+                )
             parts.append(self.escape())
 
-    def escape(self):
+    def escape(self) -> str:
         letter = self.text[self.at + 1 : self.at + 2]
         if letter in ESCAPES and letter:
             self.at += 2
             return ESCAPES[letter]
-        pair = re.compile(r"\\u([dD][89abAB][0-9a-fA-F]{2})\\u([dD][c-fC-F][0-9a-fA-F]{2})").match(self.text, self.at)
+        pair = re.compile(r"\\u([dD][89abAB][0-9a-fA-F]{2})\\u([dD][c-fC-F][0-9a-fA-F]{2})").match(
+            self.text, self.at
+        )
         if pair:
             self.at = pair.end()
-            return chr(0x10000 + ((int(pair.group(1), 16) - 0xD800) << 10) + int(pair.group(2), 16) - 0xDC00)
+            return chr(
+                0x10000
+                + ((int(pair.group(1), 16) - 0xD800) << 10)
+                + int(pair.group(2), 16)
+                - 0xDC00
+            )
         found = re.compile(r"\\u([0-9a-fA-F]{4})").match(self.text, self.at)
         if not found or 0xD800 <= int(found.group(1), 16) <= 0xDFFF:
             raise NotJson(self.at, "no character is written so")
@@ -160,7 +192,7 @@ class Reader:
         return chr(int(found.group(1), 16))
 
 
-def no_value(text, at):
+def no_value(text: str, at: int) -> str:
     """What stands where a value was due."""
     letter = text[at : at + 1]
     word = re.compile(r"[A-Za-z]+").match(text, at)
@@ -183,13 +215,17 @@ def no_value(text, at):
     return f"no value begins with {letter if letter.isprintable() else 'this character'}"
 
 
-def no_key(letter):
+def no_key(letter: str) -> str:
     """What stands where a key was due."""
     if letter in ("/", "#") and letter:
         return "there are no comments in JSON"
-    return "a key stands in double quotes" if letter.isalpha() or letter == "'" else "expected a key in double quotes here"
+    return (
+        "a key stands in double quotes"
+        if letter.isalpha() or letter == "'"
+        else "expected a key in double quotes here"
+    )
 
 
-def read(text):
+def read(text: str) -> Value:
     """The value of a text, or NotJson."""
     return Reader(text).whole()

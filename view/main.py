@@ -109,7 +109,8 @@ def answer(words: List[str]) -> Tuple[int, str]:
         inputs.read(it).path if command.has_inputs and at < count and inputs.is_file(it) else it
         for at, it in enumerate(given.paths)
     ]
-    return module.answer(*paths, **given.options)
+    answer: Tuple[int, str] = module.answer(*paths, **given.options)
+    return answer
 
 
 def places(

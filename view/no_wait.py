@@ -1,8 +1,8 @@
 """`./cise mend SPEC --no-wait`: changes of effects by which fewer pairs have to be ordered.
 
-Each change is a template made of `patterns/`. What it gives is tried by `check` and `suggest`, and is
-taken only where every operation keeps its invariants and fewer pairs are needed. Standard error shows
-each change as a difference of lines, with what is promised less."""
+Each change is a template made of `patterns/`. What it gives is tried by `check` and `suggest`, and
+is taken only where every operation keeps its invariants and fewer pairs are needed. Standard error
+shows each change as a difference of lines, with what is promised less."""
 import difflib
 import itertools
 import re
@@ -15,6 +15,7 @@ from view.inputs import text_of
 from view.output import say
 from view.report import Report, Suggestion
 from view.tree import Line, Operation, Spec, between, names
+from view.words import index_of
 
 # So many texts are tried at most; each takes two runs of the program.
 MOST_TRIALS = 60
@@ -34,7 +35,8 @@ class Change:
 
 @dataclass(frozen=True)
 class Worth:
-    """What the program says of a text: the pairs that need an order, and the single calls that break something."""
+    """What the program says of a text: the pairs that need an order, and the single calls that
+    break something."""
 
     needed: FrozenSet[Tuple[str, str]]
     broken: FrozenSet[str]
@@ -77,8 +79,13 @@ def spared(text: str, most: int = MOST_TRIALS) -> Tuple[List[Change], int]:
 
 
 def ways(text: str) -> Tuple[Dict[FrozenSet[str], str], int]:
-    """For each pair that one change alone spares from an order, that change; and how many were tried."""
-    worth, found, tried = worth_of(text), {}, 0  # type: Optional[Worth], Dict[FrozenSet[str], str], int
+    """For each pair that one change alone spares from an order, that change; and how many were
+    tried."""
+    worth, found, tried = (
+        worth_of(text),
+        {},
+        0,
+    )  # type: Optional[Worth], Dict[FrozenSet[str], str], int
     if worth is None:
         return found, tried
     for change in itertools.islice(changes_of(text), MOST_WAYS):
@@ -143,7 +150,8 @@ def observed(spec: Spec) -> Iterator[Change]:
 
 
 def once(spec: Spec) -> Iterator[Change]:
-    """A call that comes twice and acts once: what it required not to be there guards its updates."""
+    """A call that comes twice and acts once: what it required not to be there guards its
+    updates."""
     for name, operation in spec.operations.items():
         for line in operation.of("requires"):
             if not is_absence_of_inserted(operation, line):
@@ -161,8 +169,10 @@ def is_absence_of_inserted(operation: Operation, line: Line) -> bool:
     """Whether a requires line says that a fact isn't there which the operation inserts."""
     if line.prefix or not line.body or line.body[0] != "not":
         return False
-    inserted = [[str(it) for it in (thing, *spots)] for thing, spots in
-                (it.thing() for it in operation.of("insert"))]
+    inserted = [
+        [str(it) for it in (thing, *spots)]
+        for thing, spots in (it.thing() for it in operation.of("insert"))
+    ]
     absent = [str(it) for it in [line.body[1], *names(between(line.body[2:]))]]
     return absent in inserted and ")" not in line.body[line.body.index(line.body[1]) + 1 : -1]
 
@@ -173,7 +183,7 @@ def guards(lines: List[Line], formula: str) -> List[Edit]:
     for line in lines:
         end = line_end(line)
         if "when" in line.body:
-            word = line.body[line.body.index("when")]
+            word = line.body[index_of(line.body, "when")]
             found += [(word.end, word.end, f" ( {formula} and"), (end, end, " )")]
         else:
             found.append((end, end, f" when {formula}"))
@@ -203,7 +213,8 @@ def removals(spec: Spec, relation: str) -> List[Line]:
 
 
 def removal_wins(spec: Spec) -> Iterator[Change]:
-    """What is removed is noted for good, and what would bring it back acts only where it isn't noted."""
+    """What is removed is noted for good, and what would bring it back acts only where it isn't
+    noted."""
     for relation, sorts in spec.relations.items():
         lines = [it for it in removals(spec, relation) if "*" not in it.thing()[1]]
         if not lines:
@@ -215,9 +226,9 @@ def removal_wins(spec: Spec) -> Iterator[Change]:
             edits.append((line_end(line), line_end(line), also(spec, line, gone, spots)))
         for operation in spec.operations.values():
             for line in operation.of("insert"):
-                thing, spots = line.thing()
+                thing, places = line.thing()
                 if thing == relation:
-                    formula = f"not {reading(spec, gone, [str(it) for it in spots])}"
+                    formula = f"not {reading(spec, gone, [str(it) for it in places])}"
                     edits += guards([line], formula)
         yield Change(
             f"a removal from {relation} wins",
@@ -227,7 +238,8 @@ def removal_wins(spec: Spec) -> Iterator[Change]:
 
 
 def marked(spec: Spec) -> Iterator[Change]:
-    """What is removed stays and is marked: it is there where it isn't marked. Calls that ask for it act where it isn't."""
+    """What is removed stays and is marked: it is there where it isn't marked. Calls that ask for it
+    act where it isn't."""
     for relation, sorts in spec.relations.items():
         lines = removals(spec, relation)
         if not lines or any("*" in it.thing()[1] for it in lines):
@@ -255,7 +267,7 @@ def unmarked_readings(spec: Spec, line: Line, relation: str, gone: str) -> List[
     for at, word in enumerate(body):
         if word == relation:
             spots = [str(it) for it in names(between(body[at + 1 :]))]
-            end = body[at + 1 + body[at + 1 :].index(")")].end if spots else word.end
+            end = body[at + 1 + index_of(body[at + 1 :], ")")].end if spots else word.end
             mark = reading(spec, gone, spots)
             found.append((word.at, end, f"( {spec.text[word.at:end]} and not {mark} )"))
     return found
@@ -280,7 +292,9 @@ def counted(before: str, after: str, tried: int) -> str:
     old, new = worth_of(before), worth_of(after)
     assert old is not None and new is not None
     left = f"{pairs_text(len(new.needed))} now; mend orders them" if new.needed else "none now"
-    return f"mend: {pairs_text(len(old.needed))} needed an order, {left}; {tried} changes were tried\n"
+    return (
+        f"mend: {pairs_text(len(old.needed))} needed an order, {left}; {tried} changes were tried\n"
+    )
 
 
 def counts(spec: Spec) -> Iterator[Change]:
@@ -288,8 +302,12 @@ def counts(spec: Spec) -> Iterator[Change]:
     for relation, sorts in spec.relations.items():
         lines = removals(spec, relation)
         others = [it for it in spec.words if it == relation]
-        own = lines + [line for it in spec.operations.values() for line in it.of("insert")
-                       if line.thing()[0] == relation]
+        own = lines + [
+            line
+            for it in spec.operations.values()
+            for line in it.of("insert")
+            if line.thing()[0] == relation
+        ]
         if not lines or len(others) != len(own) + 1 or any("*" in it.thing()[1] for it in lines):
             continue
         yield Change(

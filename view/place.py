@@ -1,19 +1,26 @@
 """The word of a text that the grammar refuses, and what stands about it."""
+from __future__ import annotations
+
+from typing import Sequence
+
 from view.formulas import COMPARISONS, CONNECTIVES
 from view.grammar import NAME, NUMBER, Grammar, expected_at
 from view.tree import ITEMS, LINES
+from view.words import Word
 
 LINE_HEADS = LINES | {"observes"}
 FORMULA = {"not", "true", "false"}
 # Words behind which a formula begins.
 BEFORE_FORMULA = {*CONNECTIVES, "not", "when", ".", "requires", "observes"}
 MOST_SAMPLE = 70
+# What stands where no word does.
+NO_WORD = Word("", 0, 0, 0)
 
 
 class Place:
     """The word that is refused among the words of a text, and what stands about it."""
 
-    def __init__(self, all_words, at):
+    def __init__(self, all_words: list[Word], at: int) -> None:
         self.words, self.at = all_words, at
         self.word = all_words[at] if at < len(all_words) else None
         self.expected = expected_at(all_words, at)
@@ -21,15 +28,24 @@ class Place:
         self.grammar = Grammar(self.version)
         self.item = max((it for it in range(at) if all_words[it] in ITEMS), default=None)
         start = self.item or 0
-        in_operation = self.item is not None and all_words[start] == "operation" and "end" not in all_words[start:at]
+        in_operation = (
+            self.item is not None
+            and all_words[start] == "operation"
+            and "end" not in all_words[start:at]
+        )
         heads = LINE_HEADS if self.version == 2 else LINES
-        self.line = max((it for it in range(start, at) if all_words[it] in heads), default=None) if in_operation else None
+        self.line = (
+            max((it for it in range(start, at) if all_words[it] in heads), default=None)
+            if in_operation
+            else None
+        )
         self.head = all_words[self.begin()] if at > 1 else None
         self.brackets = self.open_brackets(self.begin())
-        # What a sentence proposes to write: the first word that goes, the one behind the last, and the words in their place.
-        self.proposal = None
+        # What a sentence proposes to write: the first word that goes, the one behind the last, and
+        # the words in their place.
+        self.proposal: tuple[int, int, list[str]] | None = None
 
-    def open_brackets(self, start):
+    def open_brackets(self, start: int) -> list[int]:
         found = []
         for it in range(start, self.at):
             if self.words[it] == "(":
@@ -38,26 +54,31 @@ class Place:
                 found.pop()
         return found
 
-    def near(self, step):
-        """The word that many places behind, or before where the number is negative; "" where there is none."""
+    def near(self, step: int) -> Word:
+        """The word that many places behind, or before where the number is negative; "" where there
+        is none."""
         at = self.at + step
-        return self.words[at] if 0 <= at < len(self.words) else ""
+        return self.words[at] if 0 <= at < len(self.words) else NO_WORD
 
-    def begin(self):
+    def begin(self) -> int:
         """The place of the first word of the line or the item that the word stands in or behind."""
         return self.line if self.line is not None else self.item or 0
 
-    def joins(self):
+    def begin_item(self) -> int:
+        """The place of the first word of the item that the word stands in or behind."""
+        return self.item or 0
+
+    def joins(self) -> bool:
         """Whether the word stands right behind the one before, without a space."""
         return self.word is not None and self.at > 0 and self.words[self.at - 1].end == self.word.at
 
-    def is_name(self, word):
-        return bool(word) and self.grammar.kind(word) == NAME
+    def is_name(self, word: str | None) -> bool:
+        return bool(word and self.grammar.kind(word) == NAME)
 
-    def is_number(self, word):
-        return bool(word) and self.grammar.kind(word) == NUMBER
+    def is_number(self, word: str | None) -> bool:
+        return bool(word and self.grammar.kind(word) == NUMBER)
 
-    def formula_start(self):
+    def formula_start(self) -> int:
         """Where the innermost formula that the word stands in or behind begins."""
         at, depth = self.at, 0
         while at > 0:
@@ -70,17 +91,20 @@ class Place:
             at -= 1
         return at
 
-    def sample(self, symbol, parts, other=None):
-        """`: ` and words that are of a symbol, to be written in place of what stands there; where they aren't of it, or are long, the other
-        words as an example."""
+    def sample(self, symbol: str, parts: list[Word], other: str | None = None) -> str:
+        """`: ` and words that are of a symbol, to be written in place of what stands there; where
+        they aren't of it, or are long, the other words as an example."""
         text = " ".join(parts)
         if parts and len(text) <= MOST_SAMPLE and self.grammar.accepts(symbol, parts):
             return f": {text}"
         return f", as {other}" if other else ""
 
-    def proposed(self, start, stop, parts, other=None):
-        """The same of words in place of those from a place up to another. They are proposed only where the grammar goes on behind them with the
-        next word that stands there, so that whoever writes them comes further."""
+    def proposed(
+        self, start: int, stop: int, parts: Sequence[str], other: str | None = None
+    ) -> str:
+        """The same of words in place of those from a place up to another. They are proposed only
+        where the grammar goes on behind them with the next word that stands there, so that whoever
+        writes them comes further."""
         if parts and self.goes_on(start, parts, stop):
             self.proposal = start, stop, list(map(str, parts))
             text = " ".join(parts)
@@ -88,26 +112,31 @@ class Place:
                 return f": {text}"
         return f", as {other}" if other else ""
 
-    def goes_on(self, start, parts, stop):
-        """Whether words may stand in place of those from a place up to another, and the next word behind them."""
+    def goes_on(self, start: int, parts: Sequence[str], stop: int) -> bool:
+        """Whether words may stand in place of those from a place up to another, and the next word
+        behind them."""
         begin = max((it for it in range(2, start) if self.words[it] in ITEMS), default=2)
         ways = self.grammar.begin_items()
         for word in [*self.words[begin:start], *parts, *self.words[stop : stop + 1]]:
             ways = self.grammar.behind(ways, word)
         return bool(ways) and (stop < len(self.words) or 0 in ways)
 
-    def declared(self, *heads):
+    def declared(self, *heads: str) -> set[Word]:
         """The names that items with these first words have declared before the place."""
         return {self.words[it] for it in range(1, self.at) if self.words[it - 1] in heads}
 
-    def named_row(self, start):
+    def named_row(self, start: int) -> list[Word]:
         """The names that stand in a row from a place, in one line of the text."""
         row = self.words[start : start + 1]
-        while start + len(row) < len(self.words) and self.is_name(self.words[start + len(row)]) and self.words[start + len(row)].line == row[0].line:
+        while (
+            start + len(row) < len(self.words)
+            and self.is_name(self.words[start + len(row)])
+            and self.words[start + len(row)].line == row[0].line
+        ):
             row.append(self.words[start + len(row)])
         return row
 
-    def longest(self, symbol, start):
+    def longest(self, symbol: str, start: int) -> list[Word]:
         """The longest row of words from a place that is of a symbol, or nothing."""
         ways, found = self.grammar.begin(symbol), start
         for at in range(start, len(self.words)):
@@ -118,7 +147,7 @@ class Place:
                 found = at + 1
         return self.words[start:found]
 
-    def comparison(self, start):
+    def comparison(self, start: int) -> list[Word]:
         """The words of a comparison without its brackets that begins at a place, or nothing."""
         left = self.longest("term", start)
         sign = start + len(left)
@@ -128,5 +157,5 @@ class Place:
         return self.words[start : sign + 1 + len(right)] if right else []
 
 
-def quoted(word):
+def quoted(word: str) -> str:
     return f"'{word}'"

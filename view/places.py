@@ -5,7 +5,7 @@ The place is the line that fails: the invariant, the requires line, or the first
 two operations that can write what differs. No program is run for it, so that it is there as soon
 as the report is."""
 from dataclasses import dataclass
-from typing import Iterator, List, Optional, Tuple
+from typing import Dict, Iterator, List, Optional, Tuple
 
 from view.outcome import failing_line
 from view.output import printable
@@ -104,8 +104,11 @@ def can_write(spec: Spec, block: Block, line: Line) -> bool:
     for name, arguments in block.witness.calls:
         operation = spec.operations[name]
         if line in operation.lines:
-            elements = dict(zip((str(it) for it, _ in operation.params), arguments))
-            elements.update({"*": None, **block.witness.consts})
+            elements: Dict[str, Optional[int]] = dict(
+                zip((str(it) for it, _ in operation.params), arguments)
+            )
+            elements["*"] = None
+            elements.update(block.witness.consts)
             if all(elements.get(it) in (None, at) for it, at in zip(spots, block.witness.at)):
                 return True
     return False

@@ -4,7 +4,8 @@ from typing import Any, List
 
 from view.holds import Hold, Plan
 
-HEAD = """-- What calls have to hold, as SQL for PostgreSQL. Shown, not proved: it is read off the rules and
+HEAD = """\
+-- What calls have to hold, as SQL for PostgreSQL. Shown, not proved: it is read off the rules and
 -- the takes lines of a specification. Whether they order enough is what `check` says; what it
 -- promises has a premise, which the store has to keep.
 --

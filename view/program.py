@@ -1,8 +1,12 @@
-"""Runs the program, which says all that the layer knows of verdicts, witnesses, steps and states. This is the one place that starts it."""
+"""Runs the program, which says all that the layer knows of verdicts, witnesses, steps and states.
+This is the one place that starts it."""
+from __future__ import annotations
+
 import json
 import os
 import subprocess
 import threading
+from typing import Any, Sequence
 
 from view.inputs import Copy
 
@@ -12,9 +16,10 @@ NAME = "cise"
 
 
 class Stopped(Exception):
-    """The program gave no report, replay or suggestion: its status, and the text that it wrote. `main` writes that text and ends with it."""
+    """The program gave no report, replay or suggestion: its status, and the text that it wrote.
+    `main` writes that text and ends with it."""
 
-    def __init__(self, words, status, text):
+    def __init__(self, words: Sequence[str], status: int, text: str) -> None:
         super().__init__(f"{' '.join(words)} ended with status {status}")
         self.words, self.status, self.text = list(words), status, text
 
@@ -24,12 +29,14 @@ class Cut(Exception):
 
 
 class Job:
-    """Runs of one thread which another may end: the process that runs is killed by its own id, and none is started behind it."""
+    """Runs of one thread which another may end: the process that runs is killed by its own id, and
+    none is started behind it."""
 
-    def __init__(self):
-        self.lock, self.process, self.is_ended = threading.Lock(), None, False
+    def __init__(self) -> None:
+        self.lock, self.is_ended = threading.Lock(), False
+        self.process: subprocess.Popen[bytes] | None = None
 
-    def holds(self, process):
+    def holds(self, process: subprocess.Popen[bytes] | None) -> None:
         """Says which process runs now, or that none does. `Cut` where the job has been ended."""
         with self.lock:
             self.process = process
@@ -38,18 +45,18 @@ class Job:
             if self.is_ended:
                 raise Cut()
 
-    def end(self):
+    def end(self) -> None:
         """Ends the job, from any thread."""
         with self.lock:
             self.is_ended = True
             if self.process and self.process.returncode is None:
                 self.process.kill()
 
-    def __enter__(self):
+    def __enter__(self) -> Job:
         jobs.now = self
         return self
 
-    def __exit__(self, *_):
+    def __exit__(self, *_: object) -> None:
         jobs.now = None
 
 
@@ -57,26 +64,33 @@ class Job:
 jobs = threading.local()
 
 
-def use(program):
+def use(program: str) -> None:
     """Says where the program is, for all runs from now on."""
     global path
     path = program
 
 
-def run(*words):
-    """The status and the text of a run of the program with these words; `OSError` where it can't be run."""
+def run(*words: str) -> tuple[int, str]:
+    """The status and the text of a run of the program with these words; `OSError` where it can't be
+    run."""
     out, returned = output_of([NAME, *words])
     return returned if returned >= 0 else 128 - returned, out.decode("utf-8", "surrogateescape")
 
 
-def output_of(words):
+def output_of(words: list[str]) -> tuple[bytes, int]:
     """What a process writes, and what it returned. It never outlives this call."""
     job = getattr(jobs, "now", None)
     if job:
         job.holds(None)
-    # (copies of inputs are open files, which it inherits; its own path may be of any bytes, so it is called by a plain name)
+    # (copies of inputs are open files, which it inherits; its own path may be of any bytes, so it
+    # is called by a plain name)
     with subprocess.Popen(
-        words, executable=path, stdin=subprocess.DEVNULL, stdout=subprocess.PIPE, stderr=subprocess.DEVNULL, close_fds=False
+        words,
+        executable=path,
+        stdin=subprocess.DEVNULL,
+        stdout=subprocess.PIPE,
+        stderr=subprocess.DEVNULL,
+        close_fds=False,
     ) as process:
         try:
             if job:
@@ -90,40 +104,42 @@ def output_of(words):
     return out, process.returncode
 
 
-def answer(*words):
-    """The same, where the status is 0, 1 or 5; `Stopped` where it is another, as for a specification that is refused."""
+def answer(*words: str) -> tuple[int, str]:
+    """The same, where the status is 0, 1 or 5; `Stopped` where it is another, as for a
+    specification that is refused."""
     status, text = run(*words)
     if status not in (0, 1, 5):
         raise Stopped(words, status, text)
     return status, text
 
 
-def replayed(spec_path, schedule_path):
-    """The status and the replay of a specification and a schedule; the status is 0, 1, or 4 for a step that is refused. `Stopped` where the
-    program wrote no replay."""
+def replayed(spec_path: str, schedule_path: str) -> tuple[int, str]:
+    """The status and the replay of a specification and a schedule; the status is 0, 1, or 4 for a
+    step that is refused. `Stopped` where the program wrote no replay."""
     status, text = run("replay", spec_path, schedule_path)
     if not text.startswith("cise replay") or status not in (0, 1, 4):
         raise Stopped(("replay", spec_path, schedule_path), status, text)
     return status, text
 
 
-def run_on(text, *words, schedule=None):
-    """The status and the text of a run on a specification that is no file: `run_on(text, "check", "--budget", "5")`. With a schedule, a
-    value that is written as JSON, that is the second input."""
+def run_on(text: str, *words: str, schedule: dict[str, Any] | None = None) -> tuple[int, str]:
+    """The status and the text of a run on a specification that is no file: `run_on(text, "check",
+    "--budget", "5")`. With a schedule, a value that is written as JSON, that is the second
+    input."""
     texts = [text.encode("utf-8", "surrogateescape")]
     if schedule is not None:
         texts.append(json.dumps(schedule).encode())
-    copies = []
+    copies: list[Copy] = []
     try:
         for it in texts:
             copies.append(Copy())
             copies[-1].add(it)
         return run(words[0], *[it.path for it in copies], *words[1:])
     finally:
-        for it in copies:
-            it.close()
+        for copy in copies:
+            copy.close()
 
 
-def replay(text, schedule):
+def replay(text: str, schedule: dict[str, Any]) -> tuple[int, str]:
     """The status and the replay of a specification and a schedule that are no files."""
     return run_on(text, "replay", schedule=schedule)

@@ -1,15 +1,20 @@
-"""What the program prints: a report, a replay, a suggestion. Only whole texts of the program come here, as docs/users/REPORT.md, docs/users/SCHEDULE.md and
-docs/users/SUGGEST.md tell them."""
+"""What the program prints: a report, a replay, a suggestion. Only whole texts of the program come
+here, as docs/users/REPORT.md, docs/users/SCHEDULE.md and docs/users/SUGGEST.md tell them."""
+from __future__ import annotations
 
 
 class State:
-    """`true` holds (relation, elements) for what is true, `count` has (counter, elements): value for what isn't 0. All else is false or 0.
-    `listed` has the same in the order of the text: (relation or counter, elements, value or None)."""
+    """`true` holds (relation, elements) for what is true, `count` has (counter, elements): value
+    for what isn't 0. All else is false or 0. `listed` has the same in the order of the text:
+    (relation or counter, elements, value or None).
+    """
 
-    def __init__(self):
-        self.true, self.count, self.listed = set(), {}, []
+    def __init__(self) -> None:
+        self.true: set[tuple[str, tuple[int, ...]]] = set()
+        self.count: dict[tuple[str, tuple[int, ...]], int] = {}
+        self.listed: list[tuple[str, tuple[int, ...], int | None]] = []
 
-    def line(self, parts):
+    def line(self, parts: list[str]) -> None:
         """Takes a line `true` or `count` of a text, cut into its parts."""
         if parts[0] == "true":
             place = parts[1], tuple(map(int, parts[2:]))
@@ -22,12 +27,17 @@ class State:
 
 
 class Witness:
-    """`sizes` and `consts` by name, the state, `calls` as (operation, [argument, ..]), and `at`, the elements at which it fails."""
+    """`sizes` and `consts` by name, the state, `calls` as (operation, [argument, ..]), and `at`,
+    the elements at which it fails."""
 
-    def __init__(self):
-        self.sizes, self.consts, self.state, self.calls, self.at = {}, {}, State(), [], []
+    def __init__(self) -> None:
+        self.state = State()
+        self.sizes: dict[str, int] = {}
+        self.consts: dict[str, int] = {}
+        self.calls: list[tuple[str, list[int]]] = []
+        self.at: list[int] = []
 
-    def line(self, parts):
+    def line(self, parts: list[str]) -> None:
         """Takes a line of a witness, cut into its parts."""
         if parts[0] == "size":
             self.sizes[parts[1]] = int(parts[2])
@@ -44,7 +54,8 @@ class Witness:
 class Block:
     """An obligation with its verdict.
 
-    kind, names      the obligation's line: init, safety, commute or stable, and the rest of its words
+    kind, names      the obligation's line: init, safety, commute or stable, and the rest of its
+                     words
     line_in_report   the number of that line, from 1
     verdict          proved, refuted or undecided
     why              of undecided the limit: instances, lines, rows or range
@@ -53,19 +64,34 @@ class Block:
     log              the lines of the log, and behind them the line of evidence, as text
     """
 
-    def __init__(self, parts, number):
+    def __init__(self, parts: list[str], number: int) -> None:
         self.kind, self.names, self.line_in_report = parts[0], parts[1:], number
-        self.verdict, self.why, self.count, self.witness, self.log = None, None, 0, None, []
+        self.count = 0
+        self.verdict: str | None = None
+        self.why: str | None = None
+        self.witness: Witness | None = None
+        self.log: list[str] = []
 
-    def pair(self):
-        """The two operations of commute and stable, in the order of the calls of a witness; None of the others."""
-        return (self.names[0], self.names[1 if self.kind == "commute" else 2]) if self.kind in ("commute", "stable") else None
+    def pair(self) -> tuple[str, str] | None:
+        """The two operations of commute and stable, in the order of the calls of a witness; None of
+        the others."""
+        return (
+            (self.names[0], self.names[1 if self.kind == "commute" else 2])
+            if self.kind in ("commute", "stable")
+            else None
+        )
 
-    def words(self):
+    def refutation(self) -> Witness:
+        """The witness of a refuted obligation."""
+        if self.witness is None:
+            raise ValueError("this obligation isn't refuted")
+        return self.witness
+
+    def words(self) -> str:
         """The obligation's line."""
         return " ".join([self.kind] + self.names)
 
-    def line(self, line):
+    def line(self, line: str) -> None:
         """Takes a line behind the obligation's line."""
         if self.witness:
             self.witness.line(line.split())
@@ -86,30 +112,44 @@ OBLIGATIONS = ("init ", "safety ", "commute ", "stable ")
 
 
 class Report:
-    """A report: its `version` and `budget`, the `blocks`, how many are `proved`, `refuted` and `undecided`, and the last `word`."""
+    """A report: its `version` and `budget`, the `blocks`, how many are `proved`, `refuted` and
+    `undecided`, and the last `word`."""
 
-    def __init__(self, text):
+    def __init__(self, text: str) -> None:
         lines = text.splitlines()
-        self.version, self.budget, self.blocks = int(lines[0].split()[2]), int(lines[1].split()[1]), []
+        self.version, self.budget, self.blocks = (
+            int(lines[0].split()[2]),
+            int(lines[1].split()[1]),
+            [],
+        )
         for number, line in enumerate(lines[3:-2], 4):
             if line.startswith(OBLIGATIONS):
                 self.blocks.append(Block(line.split(), number))
             else:
                 self.blocks[-1].line(line)
         counts = lines[-2].split()
-        self.proved, self.refuted, self.undecided, self.word = int(counts[2]), int(counts[4]), int(counts[6]), lines[-1]
+        self.proved, self.refuted, self.undecided, self.word = (
+            int(counts[2]),
+            int(counts[4]),
+            int(counts[6]),
+            lines[-1],
+        )
 
-    def with_verdict(self, verdict):
+    def with_verdict(self, verdict: str) -> list[Block]:
         """The blocks with a verdict, in order."""
         return [it for it in self.blocks if it.verdict == verdict]
 
 
 class Replay:
-    """A replay: `steps` are those that were accepted, as (replica, call or take, event); `stop` the parts of the line that says how it
-    stopped; `taken` how many events each replica has taken, and `states` its state."""
+    """A replay: `steps` are those that were accepted, as (replica, call or take, event); `stop` the
+    parts of the line that says how it stopped; `taken` how many events each replica has taken, and
+    `states` its state."""
 
-    def __init__(self, text):
-        self.steps, self.stop, self.taken, self.states = [], None, [], []
+    def __init__(self, text: str) -> None:
+        self.steps: list[tuple[int, str, int]] = []
+        self.stop: list[str] = []
+        self.taken: list[int] = []
+        self.states: list[State] = []
         for line in text.splitlines()[1:]:
             parts = line.split()
             if parts[0] == "step":
@@ -124,9 +164,10 @@ class Replay:
 
 
 class Simulation:
-    """A simulation: `steps` are (step, replica, the parts of what is said of it); `stop`, `taken` and `states` are those of a replay."""
+    """A simulation: `steps` are (step, replica, the parts of what is said of it); `stop`, `taken`
+    and `states` are those of a replay."""
 
-    def __init__(self, text):
+    def __init__(self, text: str) -> None:
         self.steps, rest = [], []
         for line in text.splitlines()[1:]:
             parts = line.split()
@@ -139,36 +180,54 @@ class Simulation:
 
 
 class Answer:
-    """What a suggestion says of one pair of parameters: `word` is by, notby or openby; `block` the refutation of notby."""
+    """What a suggestion says of one pair of parameters: `word` is by, notby or openby; `block` the
+    refutation of notby."""
 
-    def __init__(self, word, left, right):
-        self.word, self.left, self.right, self.block = word, left, right, None
+    def __init__(self, word: str, left: str, right: str) -> None:
+        self.word, self.left, self.right = word, left, right
+        self.block: Block | None = None
 
 
 class SuggestedPair:
-    """A pair of operations: `word` is free, needed or unknown; `block` the refutation of needed; `answers` one for each two parameters."""
+    """A pair of operations: `word` is free, needed or unknown; `block` the refutation of needed;
+    `answers` one for each two parameters."""
 
-    def __init__(self, word, left, right):
-        self.word, self.left, self.right, self.block, self.answers = word, left, right, None, []
+    def __init__(self, word: str, left: str, right: str) -> None:
+        self.word, self.left, self.right = word, left, right
+        self.block: Block | None = None
+        self.answers: list[Answer] = []
 
 
 class Suggestion:
-    """A suggestion: its `pairs`, how many are `needed`, `free` and `unknown`, and the last `word`, complete or undecided."""
+    """A suggestion: its `pairs`, how many are `needed`, `free` and `unknown`, and the last `word`,
+    complete or undecided."""
 
-    def __init__(self, text):
+    def __init__(self, text: str) -> None:
         lines = text.splitlines()
-        self.pairs, owner = [], None
+        self.pairs: list[SuggestedPair] = []
+        owner: SuggestedPair | Answer | None = None
         for number, line in enumerate(lines[2:-2], 3):
             parts = line.split()
             if parts[0] in ("free", "needed", "unknown"):
-                owner = SuggestedPair(*parts)
-                self.pairs.append(owner)
+                pair = SuggestedPair(*parts)
+                self.pairs.append(pair)
+                owner = pair
             elif parts[0] in ("by", "notby", "openby"):
-                owner = Answer(*parts)
-                self.pairs[-1].answers.append(owner)
+                answer = Answer(*parts)
+                self.pairs[-1].answers.append(answer)
+                owner = answer
+            elif owner is None:
+                raise ValueError(f"line {number} stands behind no pair")
             elif line.startswith(OBLIGATIONS):
                 owner.block = Block(parts, number)
+            elif owner.block is None:
+                raise ValueError(f"line {number} stands behind no obligation")
             else:
                 owner.block.line(line)
         counts = lines[-2].split()
-        self.needed, self.free, self.unknown, self.word = int(counts[2]), int(counts[4]), int(counts[6]), lines[-1]
+        self.needed, self.free, self.unknown, self.word = (
+            int(counts[2]),
+            int(counts[4]),
+            int(counts[6]),
+            lines[-1],
+        )

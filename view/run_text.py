@@ -1,4 +1,6 @@
 """A run to a harm in words: a line for each call and taking, and what is wrong at the end."""
+from __future__ import annotations
+
 from typing import Dict, List, Optional, Set, Tuple
 
 from view.columns import joined, wrapped
@@ -223,7 +225,7 @@ def comes_up(spec: Spec, block: Block, run: Run) -> str:
     own = [
         f"{REPLICAS[who]} {it.text()}" for who, it in zip(text.makers[first:], text.calls[first:])
     ][:2]
-    told_calls = block.witness.calls if block.witness else []
+    told_calls: list[tuple[str, list[int]]] = block.witness.calls if block.witness else []
     count = len(told_calls)
     is_same = [(it["call"], it["args"]) for it in run.calls()[first : first + count]] == told_calls
     if is_same:

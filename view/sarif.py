@@ -107,7 +107,7 @@ def slip_result(it: Judged, slip: Slip) -> Object:
     moved lines."""
     line = it.text.split("\n")[slip.line - 1] if it.text else ""
     end = slip.column + max(1, slip.length)
-    place = {
+    place: Object = {
         "startLine": slip.line,
         "startColumn": slip.column,
         "endLine": slip.line,

@@ -7,7 +7,7 @@ from typing import Dict, Iterator, List, Optional, Tuple
 from view.grammar import NAME, Grammar
 from view.place import LINE_HEADS
 from view.tree import ITEMS
-from view.words import Word, words
+from view.words import Word, index_of, words
 
 DECLARING = {
     "sort": "sort",
@@ -172,7 +172,7 @@ class Names:
         """The same of a line of its own, which may have variables."""
         own = []
         if any(it in ("forall", "exists") for it in line):
-            stop = line.index(".") if "." in line else len(line)
+            stop = index_of(line, ".") if "." in line else len(line)
             own = [
                 self.declaration(it, "variable", item, kind)
                 for it, kind in self.kinded(line[:stop])
@@ -229,4 +229,4 @@ def bracket(part: List[Word]) -> List[Word]:
     """What stands in the brackets that a list of words begins with, or nothing."""
     if not part or part[0] != "(":
         return []
-    return part[1 : part.index(")")] if ")" in part else part[1:]
+    return part[1 : index_of(part, ")")] if ")" in part else part[1:]

@@ -5,6 +5,7 @@ from typing import Any, Dict, List, Optional, Tuple
 from view.server.documents import Document
 from view.server.judging import Verdicts
 from view.server.names import Item, Names
+from view.words import placed
 
 # How the protocol numbers kinds of symbols.
 SYMBOLS = {
@@ -87,7 +88,7 @@ def lenses(document: Document, verdicts: Optional[Verdicts]) -> List[Dict[str, A
         return []
     return [
         {
-            "range": document.word_range(name),
+            "range": document.word_range(placed(name)),
             "command": {"title": beside(verdicts, str(name)), "command": ""},
         }
         for name in verdicts.spec.operations
