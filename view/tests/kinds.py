@@ -1,4 +1,5 @@
-"""Specifications for tests: between them they have each kind of obligation and of verdict, and what is out of the ordinary in them."""
+"""Specifications for tests: between them they have each kind of obligation and of verdict, and what
+is out of the ordinary in them."""
 
 # A constant, and a sort without elements.
 COUNTED = """cise 1
@@ -69,7 +70,8 @@ operation fall
 end
 """
 
-# Names that look like those of the small specification, and words that are reserved in version 2 alone.
+# Names that look like those of the small specification, and words that are reserved in version 2
+# alone.
 NAMED = """cise 1
 sort shared
 relation z0 ( shared )
@@ -90,8 +92,15 @@ THINGS = "\n".join(
     ["cise 1", "sort A", "sort B"]
     + [f"relation r{at} ( A , B , A )" for at in range(16)]
     + [f"counter k{at} ( A , B )" for at in range(8)]
-    + ["invariant low forall x : A , y : B . ( k0 ( x , y ) <= 1 )", "operation f ( a : A , b : B )"]
-    + [f"  requires ( r{at} ( a , b , a ) and ( r{at + 8} ( a , b , a ) and ( k{at} ( a , b ) >= 1 ) ) )" for at in range(8)]
+    + [
+        "invariant low forall x : A , y : B . ( k0 ( x , y ) <= 1 )",
+        "operation f ( a : A , b : B )",
+    ]
+    + [
+        f"  requires ( r{at} ( a , b , a ) and ( r{at + 8} ( a , b , a ) and ( k{at} ( a , b ) >= 1"
+        " ) ) )"
+        for at in range(8)
+    ]
     + ["  add k0 ( a , b ) 1", "end", ""]
 )
 
@@ -129,9 +138,12 @@ operation {g} ( {p} : {S} , {q} : {T} )
   set {k} ( {p} , {q} ) 1
   takes {t} ( {c} , {q} )
 end
-""".format(**{it: (it * 32) for it in "STcrktixyzfgpqn"})
+""".format(
+    **{it: it * 32 for it in "STcrktixyzfgpqn"}
+)
 
-# One line, with tabs, carriage returns, and comments that have bytes which aren't UTF-8 and which a terminal would obey.
+# One line, with tabs, carriage returns, and comments that have bytes which aren't UTF-8 and which a
+# terminal would obey.
 LAID_OUT = (
     "cise 1 sort A\trelation up ( A ) initially up true # \u00e9\udcff\x1b[31m\r\n"
     "invariant alive\r\n\tforall x : A .   # all \u00e9\udcff\x1b[31m of them\r\n"
@@ -159,4 +171,6 @@ operation leave ( a : P , b : P )
 end
 """
 
-KINDS = {name: value for name, value in globals().items() if name.isupper() and isinstance(value, str)}
+KINDS = {
+    name: value for name, value in globals().items() if name.isupper() and isinstance(value, str)
+}

@@ -6,11 +6,12 @@ import re
 import tempfile
 import unittest
 import xml.etree.ElementTree as xml
-from typing import Dict, List, Tuple
+from typing import Any, Callable, Dict, List, Tuple
 from unittest import mock
 from urllib.parse import unquote
 
 from view import ci, judged, program, sarif
+from view.given import given
 from view.tests.sarif_rules import broken
 
 TOP = os.path.dirname(os.path.dirname(os.path.dirname(os.path.abspath(__file__))))
@@ -220,7 +221,7 @@ class Sarif(InFolder):
 
     def test_the_rules_find_what_is_wrong(self) -> None:
         log = self.log(REFUTED)
-        for change in (
+        changes: List[Callable[[Dict[str, Any]], object]] = [
             lambda run: run.pop("tool"),
             lambda run: run.update(more=1),
             lambda run: run["results"][0].pop("message"),
@@ -234,7 +235,8 @@ class Sarif(InFolder):
             lambda run: run["results"][0]["relatedLocations"].append(
                 run["results"][0]["relatedLocations"][0]
             ),
-        ):
+        ]
+        for change in changes:
             other = json.loads(json.dumps(log))
             change(other["runs"][0])
             self.assertTrue(broken(other, {"object": "sarifLog"}))
@@ -262,7 +264,7 @@ class Remarks(InFolder):
         (result,) = log["runs"][0]["results"]
         self.assertEqual((result["ruleId"], result["level"]), ("review", "note"))
         suite = xml.parse("a.xml").getroot().find("testsuite")
-        self.assertEqual((suite.get("failures"), suite.get("errors")), ("0", "0"))
+        self.assertEqual((given(suite).get("failures"), given(suite).get("errors")), ("0", "0"))
         (line,) = [it for it in self.lines("e.cise", github=True)[1] if it[:2] == "::"]
         level, at, _ = read_annotation(line)
         self.assertEqual((level, at["line"], at["title"]), ("notice", "4", "unused"))
@@ -287,7 +289,7 @@ class Junit(InFolder):
         for suite in suites[4:]:
             self.assertEqual(len(suite.findall("testcase/error")), 1)
         self.assertIn(
-            "slip.cise:3:24: unknown name Row", suites[4].find("testcase/error").text or ""
+            "slip.cise:3:24: unknown name Row", given(suites[4].find("testcase/error")).text or ""
         )
 
 

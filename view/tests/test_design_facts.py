@@ -1,14 +1,18 @@
 """A specification as JSON: it says what the commands say, and its places are those of the text."""
+from __future__ import annotations
+
 import glob
 import json
 import os
 import tempfile
 import unittest
+from typing import Any
 
 from view import facts, inputs, order, program
 from view.explain import answer as explained
 from view.explain import explained as told
 from view.further_slips import all_slips
+from view.given import given
 from view.mend import mended
 from view.report import Replay, Report
 from view.review import answer as reviewed
@@ -26,11 +30,11 @@ PATHS = [
 ]
 
 
-def row_and_column(span):
+def row_and_column(span: dict[str, int]) -> str:
     return f"{span['line']}:{span['column']}"
 
 
-def piece(text, span):
+def piece(text: str, span: dict[str, int]) -> str:
     rows = text.split("\n")[span["line"] - 1 : span["end_line"]]
     rows[-1] = rows[-1][: span["end_column"] - 1]
     rows[0] = rows[0][span["column"] - 1 :]
@@ -38,7 +42,7 @@ def piece(text, span):
 
 
 class Designs(unittest.TestCase):
-    def test_it_says_what_the_commands_say(self):
+    def test_it_says_what_the_commands_say(self) -> None:
         for path in PATHS:
             with self.subTest(path):
                 status, text = facts.answer(path)
@@ -71,7 +75,7 @@ class Designs(unittest.TestCase):
                     "".join(it + "\n" for it in lines), program.run("suggest", path)[1]
                 )
 
-    def assert_runs(self, path, found):
+    def assert_runs(self, path: str, found: list[dict[str, Any]]) -> None:
         """Each schedule is replayed to a harm, or ends as it is said to."""
         refuted = Report(program.run("check", path)[1]).refuted
         self.assertEqual(len(found), refuted)
@@ -84,7 +88,7 @@ class Designs(unittest.TestCase):
                 )
         self.assertTrue(refuted == 0 or any(it["schedule"] for it in found))
 
-    def assert_stories(self, path, found):
+    def assert_stories(self, path: str, found: dict[str, Any]) -> None:
         """Each fact, value and sentence stands in the text of `explain`."""
         spec, report = Spec(text_of(path)), Report(program.run("check", path)[1])
         said = " ".join(told(spec, report).split())
@@ -113,13 +117,13 @@ class Designs(unittest.TestCase):
             },
         )
 
-    def test_all_of_the_gallery_is_json(self):
+    def test_all_of_the_gallery_is_json(self) -> None:
         for path in sorted(glob.glob("examples/*/accepted.cise"))[:6]:
             self.assertEqual(json.loads(facts.answer(path, quick=True)[1])["explain"], [])
 
 
 class Refused(unittest.TestCase):
-    def in_file(self, text, name="d.cise"):
+    def in_file(self, text: str, name: str = "d.cise") -> tuple[int, str]:
         with tempfile.TemporaryDirectory() as folder:
             path = os.path.join(folder, name)
             with open(path, "w", encoding="utf-8") as file:
@@ -130,7 +134,7 @@ class Refused(unittest.TestCase):
             finally:
                 inputs.close(copy)
 
-    def test_slips_and_what_they_propose(self):
+    def test_slips_and_what_they_propose(self) -> None:
         for design, old, new, place, _, message in SLIPS[:12]:
             text = design.replace(old, new)
             status, said = self.in_file(text)
@@ -146,13 +150,14 @@ class Refused(unittest.TestCase):
             slip = all_slips(text, program.run_on(text, "spell")[1].strip())[0]
             if first["write"]:
                 after = fixed(text, slip)
-                self.assertEqual(first["write"]["text"], slip.fix[2])
+                self.assertEqual(first["write"]["text"], given(slip.fix)[2])
                 self.assertEqual(
-                    piece(text, first["write"]["span"]), text[slip.fix[0] : slip.fix[1]]
+                    piece(text, first["write"]["span"]),
+                    text[given(slip.fix)[0] : given(slip.fix)[1]],
                 )
                 self.assertEqual(program.run_on(after, "spell")[0], 0)
 
-    def test_what_is_no_text_of_either_kind(self):
+    def test_what_is_no_text_of_either_kind(self) -> None:
         self.assertEqual(self.in_file("{}", "x.json"), (4, ""))
         self.assertEqual(self.in_file("cise report 9\n", "x"), (4, ""))
         self.assertEqual(self.in_file(BANK, "without_ending")[0], 1)

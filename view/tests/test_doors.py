@@ -1,9 +1,12 @@
 """One door each: inputs are read by view/inputs.py, the program is run by view/program.py, and
 what people see is written by view/output.py."""
+from __future__ import annotations
+
 import ast
 import glob
 import os
 import unittest
+from typing import Iterator
 
 TOP = os.path.dirname(os.path.dirname(os.path.dirname(os.path.abspath(__file__))))
 # What a module may do past the doors, and why.
@@ -26,7 +29,7 @@ MAY = {
 }
 
 
-def is_reading(call):
+def is_reading(call: ast.Call) -> bool:
     """Whether a call of `open` has no mode that writes."""
     modes = [*call.args[1:2], *(it.value for it in call.keywords if it.arg == "mode")]
     return not any(
@@ -34,7 +37,7 @@ def is_reading(call):
     )
 
 
-def past_doors(text):
+def past_doors(text: str) -> Iterator[str]:
     """What a text reads, runs or writes by itself."""
     for node in ast.walk(ast.parse(text)):
         if isinstance(node, ast.Call) and isinstance(node.func, ast.Name):
@@ -54,7 +57,7 @@ def past_doors(text):
 
 
 class Doors(unittest.TestCase):
-    def test_nothing_goes_past_them(self):
+    def test_nothing_goes_past_them(self) -> None:
         paths = [
             it for it in glob.glob(f"{TOP}/view/**/*.py", recursive=True) if "/tests/" not in it
         ]
@@ -68,8 +71,11 @@ class Doors(unittest.TestCase):
                     f"view/{module}.py goes past the doors of its package",
                 )
 
-    def test_what_is_found(self):
-        text = "print(1)\nopen('a')\nopen('a', 'w')\nopen('a', mode='rb')\nx.open('a')\nsys.stderr.write('a')\nsubprocess.run([])\n"
+    def test_what_is_found(self) -> None:
+        text = (
+            "print(1)\nopen('a')\nopen('a', 'w')\nopen('a',"
+            " mode='rb')\nx.open('a')\nsys.stderr.write('a')\nsubprocess.run([])\n"
+        )
         self.assertEqual(
             sorted(past_doors(text)), ["open", "open", "print", "subprocess.run", "sys.stderr"]
         )

@@ -1,4 +1,7 @@
-"""The text of `explain`, byte for byte for each kind of story; its width and its letters; what it answers for other reports and for bad input."""
+"""The text of `explain`, byte for byte for each kind of story; its width and its letters; what it
+answers for other reports and for bad input."""
+from __future__ import annotations
+
 import functools
 import os
 import re
@@ -16,7 +19,10 @@ from view.tree import Spec
 from view.words import encoded, text_of
 
 STORIES = {
-    ("examples/flags/refuted.cise", "init stored"): """1. stored is false at the start
+    (
+        "examples/flags/refuted.cise",
+        "init stored",
+    ): """1. stored is false at the start
    [init stored, report line 6]
 
   At the start there is:
@@ -26,7 +32,10 @@ STORIES = {
      11 | invariant stored in_step
   where in_step is false
 """,
-    ("COUNTED", "safety undo counted"): """1. undo breaks counted
+    (
+        "COUNTED",
+        "safety undo counted",
+    ): """1. undo breaks counted
    [safety undo counted, report line 6]
 
   User has no element here. A replica holds:
@@ -39,7 +48,10 @@ STORIES = {
       8 | invariant counted forall d : Document . ( edits ( d ) >= 0 )
   where edits(Document#1) is -1
 """,
-    ("examples/cart/refuted.cise", "commute put take_out in_cart"): """1. put and take_out leave in_cart different
+    (
+        "examples/cart/refuted.cise",
+        "commute put take_out in_cart",
+    ): """1. put and take_out leave in_cart different
    [commute put take_out in_cart, report line 35]
 
   Both replicas hold:
@@ -56,7 +68,10 @@ STORIES = {
      10 | insert in_cart ( c , i )
      14 | remove in_cart ( c , i )
 """,
-    ("examples/seats/refuted.cise", "stable book 1 book"): """1. another book takes away what book requires
+    (
+        "examples/seats/refuted.cise",
+        "stable book 1 book",
+    ): """1. another book takes away what book requires
    [stable book 1 book, report line 204]
 
   Both replicas hold:
@@ -71,7 +86,10 @@ STORIES = {
      13 | requires forall q : Passenger . not holds ( q , s )
   where holds(Passenger#0, Seat#0) is true
 """,
-    ("ROOMS", "stable start 1 shut"): """1. shut takes away what start requires
+    (
+        "ROOMS",
+        "stable start 1 shut",
+    ): """1. shut takes away what start requires
    [stable start 1 shut, report line 34]
 
   Both replicas hold:
@@ -85,7 +103,10 @@ STORIES = {
   false: no r : Room is left for which it holds.
       9 | requires exists r : Room . free ( r )
 """,
-    ("WRITTEN", "stable write 1 purge"): """1. purge takes away what write requires
+    (
+        "WRITTEN",
+        "stable write 1 purge",
+    ): """1. purge takes away what write requires
    [stable write 1 purge, report line 96]
 
   Both replicas hold:
@@ -102,7 +123,10 @@ STORIES = {
 
   Note. The witness need not keep what write observes: no obligation asks it.
 """,
-    ("examples/undecided/meals.cise", "stable cook 7 cook"): """1. whether another cook leaves standing what cook requires
+    (
+        "examples/undecided/meals.cise",
+        "stable cook 7 cook",
+    ): """1. whether another cook leaves standing what cook requires
    [stable cook 7 cook, report line 53]
 
   The search for whole numbers reached 10,000 rows.
@@ -110,7 +134,10 @@ STORIES = {
 
      16 | requires ( store >= rice + beans + kale + eggs + corn )
 """,
-    ("SILENT", "safety fall alive"): """1. fall breaks alive
+    (
+        "SILENT",
+        "safety fall alive",
+    ): """1. fall breaks alive
    [safety fall alive, report line 6]
 
   Room#0 is there too. A replica holds:
@@ -124,7 +151,10 @@ STORIES = {
       9 | invariant alive up
   where up is false
 """,
-    ("SETTLED", "commute join leave sum"): """2. join and leave leave sum different
+    (
+        "SETTLED",
+        "commute join leave sum",
+    ): """2. join and leave leave sum different
    [commute join leave sum, report line 121]
 
   Both replicas hold:
@@ -144,7 +174,10 @@ STORIES = {
   Note. join and leave are ordered where both have the same a and the same b.
   These two calls aren't.
 """,
-    ("LAID_OUT", "safety f alive"): """1. f breaks alive
+    (
+        "LAID_OUT",
+        "safety f alive",
+    ): """1. f breaks alive
    [safety f alive, report line 6]
 
   A replica holds:
@@ -159,7 +192,10 @@ STORIES = {
       4 |                 up ( x )
   where up(A#0) is false
 """,
-    ("examples/auction/forgotten.cise", "safety offer highest"): """1. offer breaks highest
+    (
+        "examples/auction/forgotten.cise",
+        "safety offer highest",
+    ): """1. offer breaks highest
    [safety offer highest, report line 31]
 
   A replica holds:
@@ -177,7 +213,10 @@ STORIES = {
         bid(Lot#0, Bidder#0) is 1
         bid(Lot#0, Bidder#1) is 0
 """,
-    ("LONG", "safety"): """1. {f} breaks {i}
+    (
+        "LONG",
+        "safety",
+    ): """1. {f} breaks {i}
    [safety {f} {i},
    report line 6]
 
@@ -197,7 +236,9 @@ STORIES = {
       9 | {line}
   where {k}({S}#1,
           {T}#0) is -1
-""".format(line=KINDS["LONG"].split("\n")[8], **{it: it * 32 for it in "STcrktixyzfgpqn"}),
+""".format(
+        line=KINDS["LONG"].split("\n")[8], **{it: it * 32 for it in "STcrktixyzfgpqn"}
+    ),
 }
 
 HEADS = {
@@ -227,7 +268,7 @@ leave || leave  refuted, see 3, though ordered: same a, b
 
 
 @functools.lru_cache(maxsize=None)
-def told(name):
+def told(name: str) -> tuple[int, str]:
     """The status and the text for a specification of the gallery."""
     with tempfile.TemporaryDirectory() as folder:
         path = os.path.join(folder, "design.cise")
@@ -237,35 +278,37 @@ def told(name):
 
 
 class Folder(unittest.TestCase):
-    def setUp(self):
+    def setUp(self) -> None:
         folder = tempfile.TemporaryDirectory()
         self.addCleanup(folder.cleanup)
         self.folder = folder.name
 
-    def file(self, name, text):
+    def file(self, name: str, text: str) -> str:
         path = os.path.join(self.folder, name)
         with open(path, "wb") as file:
             file.write(encoded(text))
         return path
 
-    def explained(self, text, *report):
-        return explain.answer(self.file("design.cise", text), *[self.file("report", it) for it in report], no_reach=True)
+    def explained(self, text: str, *report: str) -> tuple[int, str]:
+        path = self.file("design.cise", text)
+        given = self.file("report", report[0]) if report else None
+        return explain.answer(path, given, no_reach=True)
 
 
 class Texts(unittest.TestCase):
-    def test_stories(self):
+    def test_stories(self) -> None:
         for (name, _), story in STORIES.items():
             with self.subTest(story=story.split("\n")[0]):
                 text = told(name)[1]
                 self.assertIn("\n\n" + story + "\n", text)
 
-    def test_heads(self):
+    def test_heads(self) -> None:
         for name, head in HEADS.items():
             with self.subTest(name=name):
                 text = told(name)[1]
                 self.assertEqual(text[: len(head) + 1], head + "\n")
 
-    def test_a_whole_text(self):
+    def test_a_whole_text(self) -> None:
         status, text = told("COUNTED")
         story = STORIES["COUNTED", "safety undo counted"]
         origin = (
@@ -278,10 +321,13 @@ class Texts(unittest.TestCase):
             "invariant that was forgotten: no order helps it; reach SPEC writes runs that\n"
             "lead from the start to what is refuted.\n"
         )
-        head, last = "undo alone  refuted, see 1\n1 pair may run at once\n", "rejected: 2 proved, 1 refuted, 0 undecided\n"
+        head, last = (
+            "undo alone  refuted, see 1\n1 pair may run at once\n",
+            "rejected: 2 proved, 1 refuted, 0 undecided\n",
+        )
         self.assertEqual(text, f"{head}\n{story}\n{steps}\n{origin}\n{last}")
 
-    def test_statuses_and_counts(self):
+    def test_statuses_and_counts(self) -> None:
         for name, status, last in (
             ("examples/bank/accepted.cise", 0, "accepted: 12 proved, 0 refuted, 0 undecided"),
             ("examples/bank/refuted.cise", 1, "rejected: 11 proved, 1 refuted, 0 undecided"),
@@ -290,28 +336,37 @@ class Texts(unittest.TestCase):
             found, text = told(name)
             self.assertEqual((found, text.splitlines()[-1]), (status, last))
 
-    def test_width_and_letters(self):
+    def test_width_and_letters(self) -> None:
         for name, text in gallery().items():
-            names = {it.capitalize() for it in Spec(text).words if it[0].islower() and len(it) > 1} - set(Spec(text).words)
+            names = {
+                it.capitalize() for it in Spec(text).words if it[0].islower() and len(it) > 1
+            } - set(Spec(text).words)
             for line in told(name)[1].splitlines():
                 with self.subTest(name=name, line=line):
                     if not re.match(r" *[0-9]+ \|", line):
                         self.assertLessEqual(len(line), 80)
                         self.assertTrue(line.isascii())
                         self.assertEqual(line, line.rstrip())
-                        self.assertFalse(names.intersection(re.findall(r"\w+", line)) - {"There", "At", "Each", "Note", "Next"})
+                        self.assertFalse(
+                            names.intersection(re.findall(r"\w+", line))
+                            - {"There", "At", "Each", "Note", "Next"}
+                        )
 
-    def test_every_story_is_told(self):
+    def test_every_story_is_told(self) -> None:
         for name, text in gallery().items():
             said = told(name)[1]
             for it in checked(text)[1].blocks:
                 head = f"[{it.words()}, report line {it.line_in_report}]"
-                self.assertEqual(" ".join(said.split()).count(head), int(it.verdict != "proved"), name)
+                self.assertEqual(
+                    " ".join(said.split()).count(head), int(it.verdict != "proved"), name
+                )
                 if it.verdict == "refuted" and it.kind == "commute" and f"\n   {head[:20]}" in said:
                     story = said[said.index(f"[{it.kind} {it.names[0]}") :]
-                    self.assertRegex(story, r"(?s)At the end:\n    A  .* is \S+\n    B  .* is \S+\n  though both")
+                    self.assertRegex(
+                        story, r"(?s)At the end:\n    A  .* is \S+\n    B  .* is \S+\n  though both"
+                    )
 
-    def test_long_lists_are_cut(self):
+    def test_long_lists_are_cut(self) -> None:
         text = told("THINGS")[1]
         facts = re.findall(r"^      [rk]\d+\(.*", text, re.M)
         self.assertEqual(len(facts), 11)
@@ -320,51 +375,78 @@ class Texts(unittest.TestCase):
 
 
 class Together(Folder):
-    """Refutations with one state and the same calls have one story, and what is reached stands beside it."""
+    """Refutations with one state and the same calls have one story, and what is reached stands
+    beside it."""
 
-    def test_one_story_for_the_same_calls(self):
+    def test_one_story_for_the_same_calls(self) -> None:
         said = told("examples/review/refuted.cise")[1]
         self.assertEqual(len(re.findall(r"^\d+\. ", said, re.M)), 3)
         self.assertIn(
-            "  The same calls there show more:\n    approve and edit leave approvals different [commute approve edit approvals,\n"
-            "      report line 354]\n",
+            (
+                "  The same calls there show more:\n    approve and edit leave approvals different"
+                " [commute approve edit approvals,\n      report line 354]\n"
+            ),
             said,
         )
-        self.assertRegex(said, r"edit takes away what publish requires \[stable[^]]*]\n +\d+ \| requires")
+        self.assertRegex(
+            said, r"edit takes away what publish requires \[stable[^]]*]\n +\d+ \| requires"
+        )
         self.assertIn("edit || publish     refuted, see 3\n", said)
 
-    def test_stories_have_calls_of_their_own(self):
+    def test_stories_have_calls_of_their_own(self) -> None:
         """No two stories of a pair have the same state and calls."""
         repeated = 0
         for name, text in gallery().items():
             spec, report = checked(text)
-            seen = set()
+            seen: set[tuple[tuple[str, ...], frozenset[str], str]] = set()
             for it in stories(spec, report):
                 if it.verdict == "refuted" and it.calls:
-                    key = (tuple(sorted(call.text() for call in it.calls)), tuple(it.facts), tuple(it.also), str(it.sizes))
+                    key = (
+                        tuple(sorted(call.text() for call in it.calls)),
+                        tuple(it.facts),
+                        tuple(it.also),
+                        str(it.sizes),
+                    )
                     self.assertNotIn((key[0], frozenset(it.facts), key[3]), seen, name)
                     seen.add((key[0], frozenset(it.facts), key[3]))
                     repeated += len(it.others)
         self.assertGreater(repeated, 3)
 
-    def test_one_call_made_twice(self):
+    def test_one_call_made_twice(self) -> None:
         said = told("examples/review/refuted.cise")[1]
-        self.assertEqual(" ".join(said.split()).count("Both calls are the very same one, made twice."), 1)
+        self.assertEqual(
+            " ".join(said.split()).count("Both calls are the very same one, made twice."), 1
+        )
         self.assertNotIn("very same", told("examples/cart/refuted.cise")[1])
 
-    def test_next_steps(self):
+    def test_next_steps(self) -> None:
         for name, words in (
             ("examples/bank/refuted.cise", "mend SPEC writes an order"),
             ("examples/flags/refuted.cise", "wants an initially"),
             ("examples/bank/accepted.cise", "Next: review SPEC says what a yes leaves open."),
-            ("examples/undecided/meals.cise", "Next: what is undecided says what makes it smaller."),
+            (
+                "examples/undecided/meals.cise",
+                "Next: what is undecided says what makes it smaller.",
+            ),
         ):
             self.assertIn(words, " ".join(told(name)[1].split()))
 
-    def test_what_comes_up(self):
+    def test_what_comes_up(self) -> None:
         for name, words in (
-            ("examples/bank/refuted.cise", "It comes up, by these calls after deposit(a = Account#0, n = 1). Then solvent is false at B"),
-            ("examples/auction/forgotten.cise", "Whether it comes up isn't known: a short search found no run to it; reach looks longer."),
+            (
+                "examples/bank/refuted.cise",
+                (
+                    "It comes up, by these calls after deposit(a = Account#0, n = 1). Then solvent"
+                    " is false at B"
+                ),
+            ),
+            (
+                "examples/auction/forgotten.cise",
+                (
+                    "Whether it comes up isn't known: a short search found no run to it; reach"
+                    " looks longer."
+                ),
+            ),
             ("examples/flags/refuted.cise", "It comes up before any call."),
         ):
             path = self.file("design.cise", gallery()[name])
@@ -375,13 +457,13 @@ class Together(Folder):
 class Reports(Folder):
     """With a report the program verifies it, and the stories are the report's."""
 
-    def test_the_same_report(self):
+    def test_the_same_report(self) -> None:
         for name in ("COUNTED", "examples/stock/refuted.cise", "examples/undecided/meals.cise"):
             text = gallery()[name]
             report = report_on(text)
             self.assertEqual(self.explained(text, report), told(name))
 
-    def test_an_upgraded_report(self):
+    def test_an_upgraded_report(self) -> None:
         text = gallery()["examples/stock/refuted.cise"]
         path = self.file("design.cise", text)
         report = program.run("upgrade", path, self.file("report", report_on(text)))[1]
@@ -389,31 +471,52 @@ class Reports(Folder):
         status, said = self.explained(text, report)
         lines = re.compile(r", report line \d+")
         before = told("examples/stock/refuted.cise")[1]
-        self.assertEqual((status, lines.sub("", " ".join(said.split()))), (1, lines.sub("", " ".join(before.split()))))
+        self.assertEqual(
+            (status, lines.sub("", " ".join(said.split()))),
+            (1, lines.sub("", " ".join(before.split()))),
+        )
 
-    def test_without_values(self):
+    def test_without_values(self) -> None:
         """A witness beyond what a replay can have is told without values, and says so."""
         text = gallery()["examples/cart/refuted.cise"]
         report = report_on(text).replace("size Item 1\ncall put", "size Item 100\ncall put")
         status, said = self.explained(text, report)
         self.assertEqual(status, 1)
         self.assertIn(
-            "  Each replica has taken both calls, and in_cart(Customer#0, Item#0) differs.\n"
-            "     10 | insert in_cart ( c , i )\n     14 | remove in_cart ( c , i )\n\n"
-            "  Note. The values at the end aren't shown. Item has 100 elements, and a replay\n  can have 64 of a sort.\n",
+            (
+                "  Each replica has taken both calls, and in_cart(Customer#0, Item#0) differs.\n   "
+                "  10 | insert in_cart ( c , i )\n     14 | remove in_cart ( c , i )\n\n  Note. The"
+                " values at the end aren't shown. Item has 100 elements, and a replay\n  can have"
+                " 64 of a sort.\n"
+            ),
             said,
         )
-        self.assertIn("  Item#1, Item#2, Item#3, Item#4, Item#5 and 94 more elements are there too.\n  Both replicas hold:\n", said)
+        self.assertIn(
+            (
+                "  Item#1, Item#2, Item#3, Item#4, Item#5 and 94 more elements are there too.\n "
+                " Both replicas hold:\n"
+            ),
+            said,
+        )
 
-    def test_beyond_the_range(self):
-        text = KINDS["COUNTED"].replace("initially", "counter pool initially").replace(">= 0", "<= 1")
+    def test_beyond_the_range(self) -> None:
+        text = (
+            KINDS["COUNTED"].replace("initially", "counter pool initially").replace(">= 0", "<= 1")
+        )
         text = text.replace("add edits ( d ) - 1", "add edits ( d ) - pool")
         report = report_on(text)
-        changed = re.sub(r"const draft 0\n(count .*\n)*", f"const draft 0\ncount edits 1 1\ncount pool {-(10**15)}\n", report)
+        changed = re.sub(
+            r"const draft 0\n(count .*\n)*",
+            f"const draft 0\ncount edits 1 1\ncount pool {-(10**15)}\n",
+            report,
+        )
         self.assertNotEqual(changed, report)
         status, said = self.explained(text, changed)
         self.assertEqual(status, 1)
-        note = "Note. The values at the end aren't shown. A value of edits leaves the range of\n  a replay, 10^15 to either side.\n"
+        note = (
+            "Note. The values at the end aren't shown. A value of edits leaves the range of\n  a"
+            " replay, 10^15 to either side.\n"
+        )
         self.assertIn(note, said)
         self.assertNotIn("where edits", said)
 
@@ -421,12 +524,12 @@ class Reports(Folder):
 class Refusals(Folder):
     """The program's own text and status, and nothing else."""
 
-    def refused(self, status, text, *paths):
+    def refused(self, status: int, text: str, *paths: str) -> None:
         with self.assertRaises(program.Stopped) as caught:
-            explain.answer(*paths)
+            explain.answer(paths[0], paths[1] if len(paths) > 1 else None)
         self.assertEqual((caught.exception.status, caught.exception.text), (status, text))
 
-    def test_bad_input(self):
+    def test_bad_input(self) -> None:
         design = self.file("design.cise", KINDS["COUNTED"])
         report = program.run("check", design)[1]
         bad = self.file("bad.cise", "cise 1 sort 5")
@@ -435,23 +538,37 @@ class Refusals(Folder):
         self.refused(6, "", os.path.join(self.folder, "none"))
         self.refused(6, "", self.folder)
         self.refused(6, "", design, os.path.join(self.folder, "none"))
-        self.refused(4, "refused report line 1 form\n", design, self.file("report", "cise report 9\n"))
+        self.refused(
+            4, "refused report line 1 form\n", design, self.file("report", "cise report 9\n")
+        )
         line = report.split("\n").index("refuted") + 1
-        self.refused(4, f"refused report line {line} witness\n", design, self.file("report", report.replace("call undo 1", "call undo 0")))
-        self.refused(4, "refused report line 3 obligation\n", self.file("rooms.cise", KINDS["ROOMS"]), self.file("report", report))
+        self.refused(
+            4,
+            f"refused report line {line} witness\n",
+            design,
+            self.file("report", report.replace("call undo 1", "call undo 0")),
+        )
+        self.refused(
+            4,
+            "refused report line 3 obligation\n",
+            self.file("rooms.cise", KINDS["ROOMS"]),
+            self.file("report", report),
+        )
 
 
 class Cost(Folder):
-    def test_runs(self):
+    def test_runs(self) -> None:
         """One run of the program for the report, and one for each story."""
         for name in ("folders/refuted", "flags/refuted", "undecided/crowd", "bank/accepted"):
             text = gallery()[f"examples/{name}.cise"]
             _, report = checked(text)
             with mock.patch.object(program, "run", side_effect=program.run) as runs:
                 self.explained(text)
-            self.assertEqual(runs.call_count, 1 + sum(it.verdict == "refuted" for it in stories(*checked(text))))
+            self.assertEqual(
+                runs.call_count, 1 + sum(it.verdict == "refuted" for it in stories(*checked(text)))
+            )
 
-    def test_time(self):
+    def test_time(self) -> None:
         """Besides the program's runs a text takes less than 0.2 seconds of the processor's time."""
         text = gallery()["examples/folders/refuted.cise"]
         spent = []

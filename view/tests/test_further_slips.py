@@ -1,10 +1,14 @@
 """All slips of a text at once, and what slips propose to write: the program reads each proposal."""
+from __future__ import annotations
+
 import glob
 import random
 import unittest
+from typing import Any, Iterator
 
 from view import program, slips
 from view.further_slips import MOST_TOLD, all_slips
+from view.given import given
 from view.tests.slips_table import BANK, SEATS, SLIPS
 from view.words import text_of, words
 
@@ -13,21 +17,21 @@ from view.words import text_of, words
 TWO_AT_ONCE = "Account a , int n"
 
 
-def refusal_of(text):
+def refusal_of(text: str) -> str | None:
     status, said = program.run_on(text, "spell")
     return said.strip() if status == 3 else None
 
 
-def slip_of(text, refusal):
+def slip_of(text: str, refusal: str) -> slips.Slip:
     return slips.slip_of(text, refusal[len(slips.BEGIN) :])
 
 
-def fixed(text, slip):
-    start, end, new = slip.fix
+def fixed(text: str, slip: slips.Slip) -> str:
+    start, end, new = given(slip.fix)
     return text[:start] + new + text[end:]
 
 
-def place_of(text, refusal):
+def place_of(text: str, refusal: str) -> Any:
     """Where a refusal is, as the number of letters before it."""
     parts = refusal.split()
     if parts[-2] == "at":
@@ -37,11 +41,11 @@ def place_of(text, refusal):
 
 
 class Proposals(unittest.TestCase):
-    def test_those_of_the_table_are_accepted(self):
+    def test_those_of_the_table_are_accepted(self) -> None:
         proposed = 0
         for design, old, new, *_ in SLIPS:
             text = design.replace(old, new)
-            slip = slip_of(text, refusal_of(text))
+            slip = slip_of(text, given(refusal_of(text)))
             if slip.fix:
                 proposed += 1
                 with self.subTest(f"{old!r} becomes {new!r}"):
@@ -51,7 +55,7 @@ class Proposals(unittest.TestCase):
                         self.assertTrue(slip.message.endswith(": " + slip.fix[2]), slip.message)
         self.assertGreater(proposed, 20)
 
-    def test_formulas_that_lack_brackets_or_have_too_many(self):
+    def test_formulas_that_lack_brackets_or_have_too_many(self) -> None:
         """Each two brackets of a formula away, or doubled: what is proposed then, the program
         reads, or it refuses something behind."""
         chance, proposed, whole = random.Random(11), 0, 0
@@ -74,20 +78,20 @@ class Proposals(unittest.TestCase):
         self.assertGreater(proposed, 40)
         self.assertGreater(whole / proposed, 0.9)
 
-    def test_a_comment_never_goes_with_a_proposal(self):
+    def test_a_comment_never_goes_with_a_proposal(self) -> None:
         text = BANK.replace("( m >= 0 )", "m # how much\n >= 0")
-        self.assertIsNone(slip_of(text, refusal_of(text)).fix)
+        self.assertIsNone(slip_of(text, given(refusal_of(text))).fix)
 
-    def test_an_end_stands_in_its_own_line(self):
+    def test_an_end_stands_in_its_own_line(self) -> None:
         text = BANK.replace(
             "  add balance ( a ) n\nend\n", "  add balance ( a ) n # in\n\n# out\n"
         ).replace("\n", "\r\n")
-        after = fixed(text, slip_of(text, refusal_of(text)))
+        after = fixed(text, slip_of(text, given(refusal_of(text))))
         self.assertIn("# in\r\nend\r\n\r\n# out\r\n", after)
         self.assertIsNone(refusal_of(after))
 
 
-def without_brackets(text, chance):
+def without_brackets(text: str, chance: random.Random) -> Iterator[str]:
     """Texts in each of which two brackets of a formula are away, or stand twice."""
     found, opened, pairs = words(text), [], []
     for it in found:
@@ -101,10 +105,13 @@ def without_brackets(text, chance):
 
 
 class Further(unittest.TestCase):
-    def told(self, text):
-        return [(f"{it.line}:{it.column}", it.message) for it in all_slips(text, refusal_of(text))]
+    def told(self, text: str) -> list[tuple[str, str]]:
+        return [
+            (f"{it.line}:{it.column}", it.message)
+            for it in all_slips(text, given(refusal_of(text)))
+        ]
 
-    def test_one_slip_of_the_table_stays_one(self):
+    def test_one_slip_of_the_table_stays_one(self) -> None:
         alone = 0
         for design, old, new, place, _, message in SLIPS:
             text = design.replace(old, new)
@@ -113,7 +120,7 @@ class Further(unittest.TestCase):
             alone += len(found) == 1
         self.assertGreater(alone / len(SLIPS), 0.95)
 
-    def test_two_slips_are_both_told(self):
+    def test_two_slips_are_both_told(self) -> None:
         chance, seen, both = random.Random(5), 0, 0
         while seen < 60:
             first, second = chance.sample(SLIPS, 2)
@@ -122,13 +129,13 @@ class Further(unittest.TestCase):
                 continue
             seen += 1
             found = [it for it, _ in self.told(text)]
-            own = slip_of(text, refusal_of(text))
+            own = slip_of(text, given(refusal_of(text)))
             self.assertEqual(found[0], f"{own.line}:{own.column}")
             self.assertLessEqual(len(found), 4, text)
             both += {first[3], second[3]} <= set(found)
         self.assertGreater(both / seen, 0.85)
 
-    def test_what_follows_from_a_slip_is_not_told(self):
+    def test_what_follows_from_a_slip_is_not_told(self) -> None:
         self.assertEqual(
             self.told(SEATS.replace("sort Seat\n", "sort Seats\n")), [("5:30", "unknown name Seat")]
         )
@@ -150,13 +157,13 @@ class Further(unittest.TestCase):
             1,
         )
 
-    def test_no_more_than_twenty(self):
+    def test_no_more_than_twenty(self) -> None:
         text = "cise 1\n" + "operation f ( n : int )\n" + "requires n >= 0\n" * 40 + "end\n"
         self.assertEqual(len(self.told(text)), MOST_TOLD)
 
-    def test_the_words_say_which_is_the_programs(self):
+    def test_the_words_say_which_is_the_programs(self) -> None:
         text = BANK.replace("( n >= 0 )", "n >= 0").replace("( m >= 0 )", "m => 0")
-        lines = slips.tell_all("d.cise", text, all_slips(text, refusal_of(text))).split("\n")
+        lines = slips.tell_all("d.cise", text, all_slips(text, given(refusal_of(text)))).split("\n")
         self.assertTrue(lines[0].startswith("d.cise:6:14: "), lines)
         self.assertIn(
             "  The program stops there. Another place, found with the pieces that are wrong "
@@ -165,7 +172,7 @@ class Further(unittest.TestCase):
         )
         self.assertEqual(sum(it.startswith("d.cise:") for it in lines), 2)
 
-    def test_texts_of_any_kind(self):
+    def test_texts_of_any_kind(self) -> None:
         chance, texts = random.Random(3), [BANK, SEATS]
         for _ in range(40):
             text = chance.choice(texts)
@@ -201,7 +208,9 @@ class Further(unittest.TestCase):
                 self.assertEqual(len({(it.line, it.column) for it in found}), len(found))
 
 
-def both_made(first, second):
+def both_made(
+    first: tuple[str, str, str, str, str, str], second: tuple[str, str, str, str, str, str]
+) -> str | None:
     """The text of a design with two slips in lines that are apart, or None where they don't go
     together."""
     if first[0] is not second[0] or "\n" in "".join([*first[1:3], *second[1:3]]):

@@ -1,5 +1,7 @@
 """Nothing grows past its input: the time of a text of blanks, the memory of a refused input, the
 stories of many refutations."""
+from __future__ import annotations
+
 import os
 import resource
 import subprocess
@@ -7,6 +9,7 @@ import sys
 import tempfile
 import time
 import unittest
+from typing import Any, Callable
 
 from view import program, slips
 from view.explain import MOST_STORIES, explained
@@ -15,13 +18,19 @@ from view.tree import Spec
 from view.words import text_of, words
 
 TOP = os.path.dirname(os.path.dirname(os.path.dirname(os.path.abspath(__file__))))
-CALL = f"import sys; sys.path.insert(0, {TOP!r}); from view import main; sys.exit(main.main({os.path.abspath(program.path)!r}, sys.argv[1:]))"
-PLACES = f"import sys; sys.path.insert(0, {TOP!r}); from view import main; main.places({os.path.abspath(program.path)!r}, sys.argv[2:], int(sys.argv[1]))"
+CALL = (
+    f"import sys; sys.path.insert(0, {TOP!r}); from view import main;"
+    f" sys.exit(main.main({os.path.abspath(program.path)!r}, sys.argv[1:]))"
+)
+PLACES = (
+    f"import sys; sys.path.insert(0, {TOP!r}); from view import main;"
+    f" main.places({os.path.abspath(program.path)!r}, sys.argv[2:], int(sys.argv[1]))"
+)
 BANK = f"{TOP}/examples/bank/accepted.cise"
 MEGABYTE = 1 << 20
 
 
-def seconds(function):
+def seconds(function: Callable[..., Any]) -> float:
     """The processor seconds that something takes, at best."""
     found = []
     for _ in range(3):
@@ -32,7 +41,7 @@ def seconds(function):
 
 
 class Blanks(unittest.TestCase):
-    def test_words_take_time_by_their_text(self):
+    def test_words_take_time_by_their_text(self) -> None:
         for blank in (" ", "\t", "\r", "\n", " \t", "# ", " #", "#\n", "  \n"):
             short, long = ("cise 1" + blank * count + "sort A" for count in (8000, 64000))
             with self.subTest(repr(blank)):
@@ -40,14 +49,14 @@ class Blanks(unittest.TestCase):
                     seconds(lambda: words(long)), 16 * seconds(lambda: words(short)) + 0.02
                 )
 
-    def test_lines_and_columns(self):
+    def test_lines_and_columns(self) -> None:
         text = "a \t b\r\n  \t\n # c d\n\n e# f\n  g \x0c h"
         self.assertEqual(
             [(str(it), it.line, it.column, it.at) for it in words(text)],
             [("a", 1, 1, 0), ("b", 1, 5, 4), ("e", 5, 2, 20), ("g", 6, 3, 27), ("h", 6, 7, 31)],
         )
 
-    def test_commands_on_a_text_of_blanks(self):
+    def test_commands_on_a_text_of_blanks(self) -> None:
         text = text_of(BANK)
         with tempfile.TemporaryDirectory() as folder:
             for name, blanks in (("one", ""), ("many", " " * 60000)):
@@ -62,11 +71,11 @@ class Blanks(unittest.TestCase):
 class Used:
     """What a call took, beside its answer."""
 
-    def __init__(self, status, error, seconds, bytes_held):
+    def __init__(self, status: int, error: str, seconds: float, bytes_held: int) -> None:
         self.status, self.error, self.seconds, self.bytes_held = status, error, seconds, bytes_held
 
 
-def used(code, *words):
+def used(code: str, *words: str) -> Used:
     """A call of the layer in a process of its own, and what it took: its processor seconds and the
     most memory that it held."""
     with tempfile.TemporaryFile() as error:
@@ -92,7 +101,7 @@ def used(code, *words):
 class Refused(unittest.TestCase):
     """Places of refused inputs take at most ten times the memory of the input, and 200 MB."""
 
-    def places(self, status, command, data):
+    def places(self, status: int, command: str, data: bytes) -> tuple[Used, str]:
         with tempfile.NamedTemporaryFile() as file:
             file.write(data)
             file.flush()
@@ -100,7 +109,7 @@ class Refused(unittest.TestCase):
             self.assertEqual(found.status, 0)
             return found, file.name
 
-    def test_schedules(self):
+    def test_schedules(self) -> None:
         step, most = b'{"replica":0,"take":7},\n', 4 * MEGABYTE
         begin = b'{"sizes":{"Account":1},"constants":{},"replicas":1,"steps":['
         for data in (
@@ -113,23 +122,29 @@ class Refused(unittest.TestCase):
             self.assertLess(found.bytes_held, 200 * MEGABYTE)
             self.assertRegex(
                 found.error,
-                rf"\A{name}: refused [a-z0-9 ]*; no place is told in a text of more than 1,048,576 bytes\n\Z",
+                (
+                    rf"\A{name}: refused [a-z0-9 ]*; no place is told in a text of more than"
+                    r" 1,048,576 bytes\n\Z"
+                ),
             )
         held = self.places(4, "replay", begin + step * (MEGABYTE // len(step) - 9) + b"{}]}")[0]
         self.assertLess(held.bytes_held, 200 * MEGABYTE)
         self.assertIn(": steps: there are at most 10,000, and this is one more\n", held.error)
 
-    def test_a_report_of_short_lines(self):
+    def test_a_report_of_short_lines(self) -> None:
         report = program.run("check", BANK)[1].encode().replace(b"\nproved", b"\nproofed", 1)
         found, name = self.places(4, "verify", report + b"d 1\n" * (4 * MEGABYTE))
         self.assertRegex(
             found.error,
-            rf"\A{name}:5:1: this line isn't of the form that is expected here, or is missing\n    5 \| proofed \d+\n",
+            (
+                rf"\A{name}:5:1: this line isn't of the form that is expected here, or is missing\n"
+                r"    5 \| proofed \d+\n"
+            ),
         )
         self.assertLess(found.bytes_held, 10 * 16 * MEGABYTE)
         self.assertLess(found.seconds, 2)
 
-    def test_long_lines_and_keys_are_cut(self):
+    def test_long_lines_and_keys_are_cut(self) -> None:
         for data in (
             b'{"' + b"\\u001b[2J\\n" * 9999 + b'":1}',
             b'{"sizes":{"' + b"\\u202e" * 9999 + b'":1},"constants":{},"replicas":1,"steps":[]}',
@@ -141,7 +156,7 @@ class Refused(unittest.TestCase):
 
 
 class ManyStories(unittest.TestCase):
-    def test_the_first_are_told_and_the_others_counted(self):
+    def test_the_first_are_told_and_the_others_counted(self) -> None:
         lines = ["cise 1", "sort A"] + [f"relation r{it} ( A )" for it in range(16)]
         lines += [f"invariant i{it} forall x : A . not r{it} ( x )" for it in range(16)]
         updates = " ".join(f"insert r{it} ( x ) when ( n = {it} )" for it in range(16))

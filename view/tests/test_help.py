@@ -9,6 +9,7 @@ from launch import help as helping
 from launch.answering import OPTIONS, VIEWS
 from launch.version import VERSION
 from view.commands import COMMANDS, PROGRAM, Command, every_word
+from view.given import given
 from view.own import own_text
 
 TOP = os.path.dirname(os.path.dirname(os.path.dirname(os.path.abspath(__file__))))
@@ -64,7 +65,7 @@ class Pages(unittest.TestCase):
             self.assertTrue(
                 it.startswith(INDENT)
                 or PART.match(it)
-                and len(PART.match(it).group()) == len(INDENT),
+                and len(given(PART.match(it)).group()) == len(INDENT),
                 it,
             )
         text = "\n".join(lines)
@@ -111,7 +112,7 @@ class Asked(unittest.TestCase):
         self.assertEqual(helping.text_for(["--version"]), f"cise {VERSION}\n")
 
     def test_what_does_not(self) -> None:
-        for words in (
+        asked: List[List[str]] = [
             [],
             ["check", "help"],
             ["help", "chek"],
@@ -119,7 +120,8 @@ class Asked(unittest.TestCase):
             ["help", "a", "b"],
             ["tests", "a", "--", "b", "--help"],
             ["check", "--version"],
-        ):
+        ]
+        for words in asked:
             self.assertIsNone(helping.text_for(words), words)
 
 

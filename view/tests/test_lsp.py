@@ -1,5 +1,7 @@
 """The language server by a scripted client: over the gallery, over the table of slips, and
 through all that it answers."""
+from __future__ import annotations
+
 import glob
 import json
 import os
@@ -9,9 +11,11 @@ import sys
 import tempfile
 import time
 import unittest
+from typing import Any, Sequence
 
 from view import program
 from view.explain import answer
+from view.given import given
 from view.report import Report
 from view.review import answer as reviewed
 from view.tests.client import CALL, Client, at, edited
@@ -23,7 +27,7 @@ AUCTION = "examples/auction/refuted.cise"
 URI = "file:///somewhere/d.cise"
 
 
-def slow():
+def slow() -> str:
     """A design whose check takes some seconds: a search for whole numbers that reaches its
     limit, for each two of eight operations."""
     head, _, tail = text_of("examples/undecided/meals.cise").partition("operation cook")
@@ -33,18 +37,20 @@ def slow():
 SLOW = slow()
 
 
-def at_position(text, position=None, piece=None, offset=0):
+def at_position(
+    text: str, position: dict[str, int] | None = None, piece: str | None = None, offset: int = 0
+) -> dict[str, Any]:
     """The parameters of a request at a place."""
-    return {"textDocument": {"uri": URI}, "position": position or at(text, piece, offset)}
+    return {"textDocument": {"uri": URI}, "position": position or at(text, given(piece), offset)}
 
 
-def told_place(diagnostic):
+def told_place(diagnostic: dict[str, Any]) -> str:
     """The line and the column of a diagnostic, from 1."""
     start = diagnostic["range"]["start"]
     return f"{start['line'] + 1}:{start['character'] + 1}"
 
 
-def position_of(text, index):
+def position_of(text: str, index: int) -> dict[str, int]:
     before = text[:index]
     return {
         "line": before.count("\n"),
@@ -55,20 +61,22 @@ def position_of(text, index):
 class WithServer(unittest.TestCase):
     """One server for the tests of a class; each test has versions of its own."""
 
-    CAPABILITIES = {}
+    CAPABILITIES: dict[str, Any] = {}
+    client: Client
+    version: int
 
     @classmethod
-    def setUpClass(cls):
+    def setUpClass(cls) -> None:
         cls.client, cls.version = Client(cls.CAPABILITIES), 0
         cls.client.open(URI, "cise 1\n", 0)
         cls.client.diagnostics(URI, 0)
 
     @classmethod
-    def tearDownClass(cls):
+    def tearDownClass(cls) -> None:
         status = cls.client.close()
         assert status == 0 and not cls.client.errors, (status, cls.client.errors)
 
-    def shown(self, text):
+    def shown(self, text: str) -> list[dict[str, Any]]:
         """The first diagnostics of a text that is written in place of the last."""
         type(self).version += 1
         self.client.change(URI, self.version, text)
@@ -76,7 +84,7 @@ class WithServer(unittest.TestCase):
 
 
 class Diagnostics(WithServer):
-    def test_the_gallery_has_its_verdicts(self):
+    def test_the_gallery_has_its_verdicts(self) -> None:
         for path in sorted(glob.glob("examples/*/*.cise")):
             if "undecided" in path:
                 continue
@@ -90,7 +98,7 @@ class Diagnostics(WithServer):
                             [row["message"][0] for row in it["relatedInformation"][:2]], ["A", "B"]
                         )
 
-    def test_each_slip_of_the_table(self):
+    def test_each_slip_of_the_table(self) -> None:
         for design, old, new, place, rule, message in SLIPS:
             with self.subTest(f"{old!r} becomes {new!r}"):
                 found = self.shown(design.replace(old, new))
@@ -101,14 +109,14 @@ class Diagnostics(WithServer):
                 )
                 self.assertEqual((found[0]["code"], found[0]["severity"]), (rule.split()[0], 1))
 
-    def test_further_slips_come_behind_the_first_and_are_named_so(self):
+    def test_further_slips_come_behind_the_first_and_are_named_so(self) -> None:
         text = BANK.replace("( n >= 0 )", "n >= 0").replace("( m >= 0 )", "m => 0")
         self.assertEqual(len(self.shown(text)), 1)
         found = self.client.diagnostics(URI, self.version)[1]
         self.assertEqual([it["code"] for it in found], ["syntax", "further"])
         self.assertIn("the program stops at the first place", found[1]["message"])
 
-    def test_units_of_utf_16(self):
+    def test_units_of_utf_16(self) -> None:
         text = BANK.replace("requires ( n >= 0 )", "requires \U0001f600 ( n >= 0 )")
         (found,) = self.shown(text)
         self.assertEqual(
@@ -116,7 +124,7 @@ class Diagnostics(WithServer):
             {"start": {"line": 5, "character": 11}, "end": {"line": 5, "character": 13}},
         )
 
-    def test_changes_of_pieces(self):
+    def test_changes_of_pieces(self) -> None:
         """Random pieces are exchanged, with letters of two units; the server's text is then the
         client's."""
         chance, text = random.Random(4), "# \U0001f600\U0001f600\r\n" + BANK + "# \u00e9\n"
@@ -153,10 +161,10 @@ class Diagnostics(WithServer):
 
 
 class Names(WithServer):
-    def uses(self, text, name):
+    def uses(self, text: str, name: str) -> list[Any]:
         return [it for it in words(text) if it == name]
 
-    def test_every_name_of_each_design_can_have_another_name(self):
+    def test_every_name_of_each_design_can_have_another_name(self) -> None:
         for design, text in DESIGNS.items():
             self.shown(text)
             before = Report(program.run_on(text, "check")[1])
@@ -189,7 +197,7 @@ class Names(WithServer):
                     self.assertEqual(len(uses), len(found["changes"][URI]))
             self.assertGreater(len(tried), 6)
 
-    def test_a_name_that_cannot_be_had(self):
+    def test_a_name_that_cannot_be_had(self) -> None:
         self.shown(SEATS)
         for new, why in (
             ("holds", "already"),
@@ -212,7 +220,7 @@ class Names(WithServer):
             )
         )
 
-    def test_a_broken_text_has_its_names_too(self):
+    def test_a_broken_text_has_its_names_too(self) -> None:
         text = SEATS.replace("takes place ( s )\nend", "takes place ( s").replace(
             "insert holds ( p , s )", "insert holds ( p ,, s ))"
         )
@@ -225,7 +233,7 @@ class Names(WithServer):
             len(self.client.ask("textDocument/documentSymbol", {"textDocument": {"uri": URI}})), 7
         )
 
-    def test_what_stands_next_is_among_the_completions(self):
+    def test_what_stands_next_is_among_the_completions(self) -> None:
         seen = 0
         for text in DESIGNS.values():
             self.shown(text)
@@ -254,7 +262,7 @@ class Names(WithServer):
                 self.assertEqual(len(labels), len(set(labels)))
         self.assertGreater(seen, 450)
 
-    def test_completions_have_their_kinds(self):
+    def test_completions_have_their_kinds(self) -> None:
         text = SEATS.replace("takes place ( s )", "takes place ( ")
         self.shown(text)
         found = self.client.ask(
@@ -270,7 +278,7 @@ class Names(WithServer):
             [],
         )
 
-    def test_signatures(self):
+    def test_signatures(self) -> None:
         self.shown(SEATS)
         found = self.client.ask(
             "textDocument/signatureHelp",
@@ -295,9 +303,11 @@ class Answers(WithServer):
         }
     }
 
-    def actions(self, text, line, diagnostics=()):
+    def actions(
+        self, text: str, line: int, diagnostics: Sequence[dict[str, Any]] = ()
+    ) -> list[dict[str, Any]]:
         where = {"start": {"line": line, "character": 0}, "end": {"line": line, "character": 1}}
-        return self.client.ask(
+        found: list[dict[str, Any]] = self.client.ask(
             "textDocument/codeAction",
             {
                 "textDocument": {"uri": URI},
@@ -305,8 +315,9 @@ class Answers(WithServer):
                 "context": {"diagnostics": list(diagnostics)},
             },
         )
+        return found
 
-    def test_mend_as_an_edit(self):
+    def test_mend_as_an_edit(self) -> None:
         text = text_of(AUCTION)
         found = self.shown(text)
         (action,) = self.actions(text, 18, found)
@@ -317,7 +328,7 @@ class Answers(WithServer):
         self.assertEqual(edited(text, edit), program_mended(AUCTION))
         self.assertEqual(self.shown(edited(text, edit)), [])
 
-    def test_a_slip_is_mended(self):
+    def test_a_slip_is_mended(self) -> None:
         for design, old, new, *_ in SLIPS[:16]:
             text = design.replace(old, new)
             first = self.shown(text)[0]
@@ -329,11 +340,11 @@ class Answers(WithServer):
                 )
                 self.assertTrue(action["title"].startswith(("Write ", "Put in")))
 
-    def test_no_action_where_nothing_is_wrong(self):
+    def test_no_action_where_nothing_is_wrong(self) -> None:
         self.shown(text_of("examples/bank/accepted.cise"))
         self.assertEqual(self.actions(BANK, 3), [])
 
-    def test_hovers(self):
+    def test_hovers(self) -> None:
         text = text_of(AUCTION)
         self.shown(text)
         for piece, offset, said in (
@@ -358,7 +369,7 @@ class Answers(WithServer):
         self.assertIn("Both replicas hold:", found["contents"]["value"])
         self.assertIn("requires FORMULA", found["contents"]["value"])
 
-    def test_lenses_agree_with_explain(self):
+    def test_lenses_agree_with_explain(self) -> None:
         text = text_of("examples/league/refuted.cise")
         self.shown(text)
         found = self.client.ask("textDocument/codeLens", {"textDocument": {"uri": URI}})
@@ -371,7 +382,7 @@ class Answers(WithServer):
         self.assertGreater(free, 0)
         self.assertEqual(own, 1)
 
-    def test_symbols_and_folds(self):
+    def test_symbols_and_folds(self) -> None:
         self.shown(TOURNAMENT)
         found = self.client.ask("textDocument/documentSymbol", {"textDocument": {"uri": URI}})
         self.assertEqual(
@@ -394,7 +405,7 @@ class Answers(WithServer):
             [(it["startLine"], it["endLine"]) for it in folds], [(8, 9), (10, 16), (17, 20)]
         )
 
-    def test_formatting(self):
+    def test_formatting(self) -> None:
         text = "cise 1\nsort   A # things\n\n\nrelation r(A)\n"
         self.shown(text)
         edits = self.client.ask(
@@ -410,12 +421,12 @@ class Answers(WithServer):
         self.assertIn("refused specification", message["error"]["message"])
 
 
-def program_mended(path):
+def program_mended(path: str) -> str:
     from view.mend import mended
 
     return mended(path, with_ways=False)[1]
 
-    def test_hints_of_review(self):
+    def test_hints_of_review(self: Any) -> None:
         text = text_of("examples/bank/accepted.cise")
         self.shown(text)
         (hint,) = self.hinted()
@@ -425,7 +436,7 @@ def program_mended(path):
         self.shown(text.replace("sort Account\n", "sort Account\nsort Unused\n"))
         self.assertEqual([(it["code"], it["severity"]) for it in self.hinted()][0], ("unused", 3))
 
-    def hinted(self):
+    def hinted(self: Any) -> Any:
         """The next diagnostics of the last text that aren't empty."""
         while True:
             found = self.client.diagnostics(URI, self.version)[1]
@@ -434,16 +445,16 @@ def program_mended(path):
 
 
 class Protocol(unittest.TestCase):
-    def test_shutdown_and_exit(self):
+    def test_shutdown_and_exit(self) -> None:
         self.assertEqual(Client().close(), 0)
         client = Client()
         client.tell("exit", None)
         self.assertEqual((client.process.wait(20), client.close()), (1, 1))
         client = Client()
-        client.process.stdin.close()
+        given(client.process.stdin).close()
         self.assertEqual((client.process.wait(20), client.close()), (1, 1))
 
-    def test_what_is_no_message(self):
+    def test_what_is_no_message(self) -> None:
         client = Client()
         client.raw(b"Content-Length: 7\r\n\r\nno json")
         self.assertEqual(
@@ -487,7 +498,7 @@ class Protocol(unittest.TestCase):
         client.tell("exit", None)
         self.assertEqual((client.process.wait(20), client.close()), (0, 0))
 
-    def test_before_initialize(self):
+    def test_before_initialize(self) -> None:
         server = subprocess.Popen(
             [sys.executable, "-c", CALL], stdin=subprocess.PIPE, stdout=subprocess.PIPE
         )
@@ -497,7 +508,7 @@ class Protocol(unittest.TestCase):
             (json.loads(out.split(b"\r\n\r\n")[1])["error"]["code"], server.returncode), (-32002, 1)
         )
 
-    def test_a_length_that_cannot_be(self):
+    def test_a_length_that_cannot_be(self) -> None:
         for head in (
             b"Content-Length: 99999999999\r\n\r\n",
             b"Content-Length: -1\r\n\r\n",
@@ -508,7 +519,7 @@ class Protocol(unittest.TestCase):
             self.assertEqual(client.process.wait(20), 1)
             client.close()
 
-    def test_a_check_of_an_old_text_ends_and_its_answer_is_dropped(self):
+    def test_a_check_of_an_old_text_ends_and_its_answer_is_dropped(self) -> None:
         client = Client({"window": {"workDoneProgress": True}})
         client.open(URI, SLOW)
         message = client.until(lambda it: it.get("method") == "window/workDoneProgress/create")[1]
@@ -540,7 +551,7 @@ class Protocol(unittest.TestCase):
             ]
         )
 
-    def test_cancellation(self):
+    def test_cancellation(self) -> None:
         client = Client()
         client.open(URI, SLOW)
         asked = client.begin("textDocument/codeLens", {"textDocument": {"uri": URI}})
@@ -569,7 +580,7 @@ class Protocol(unittest.TestCase):
         self.assertEqual(client.reply(asked)["error"]["code"], -32800)
         self.assertEqual(client.close(), 0)
 
-    def test_no_file_is_written(self):
+    def test_no_file_is_written(self) -> None:
         with tempfile.TemporaryDirectory() as folder:
             path = os.path.join(folder, "d.cise")
             with open(path, "w", encoding="utf-8") as file:
@@ -590,11 +601,12 @@ class Protocol(unittest.TestCase):
             client.open(uri, text_of(AUCTION))
             client.diagnostics(uri, 1)
             where = {"start": {"line": 0, "character": 0}, "end": {"line": 40, "character": 1}}
-            for method, more in (
+            requests: list[tuple[str, dict[str, Any]]] = [
                 ("codeAction", {"range": where, "context": {"diagnostics": []}}),
                 ("formatting", {"options": {}}),
                 ("rename", {"position": where["start"], "newName": "x"}),
-            ):
+            ]
+            for method, more in requests:
                 client.reply(
                     client.begin(f"textDocument/{method}", {"textDocument": {"uri": uri}, **more})
                 )
@@ -604,7 +616,7 @@ class Protocol(unittest.TestCase):
             self.assertEqual((os.listdir(folder), text_of(path)), (["d.cise"], "left as it is\n"))
 
 
-def children(number):
+def children(number: int) -> list[str]:
     """The processes that a process has started and that still run."""
     found = []
     for it in os.listdir(f"/proc/{number}/task"):
@@ -614,7 +626,7 @@ def children(number):
 
 
 class Reserved(unittest.TestCase):
-    def test_every_word_has_something_to_be_said(self):
+    def test_every_word_has_something_to_be_said(self) -> None:
         from view.server.telling import WORDS
 
         plain = {"cise", "end", "true", "false", "not", "and", "or"}

@@ -1,11 +1,14 @@
 """Texts that are broken anywhere: nothing of the server stops at them, and a session stays as
 small as it was. `checks/editor --bytes 1` breaks a text of 65,536 bytes at each of them, and
 `checks/editor --edits 10000` makes so many changes."""
+from __future__ import annotations
+
 import io
 import json
 import os
 import random
 import unittest
+from typing import Any
 
 from view import program
 from view.server import completion, diagnostics, renaming, structure, telling
@@ -41,7 +44,7 @@ URI = "file:///d.cise"
 STRIDE = int(os.environ.get("CISE_STRIDE", "997"))
 
 
-def large():
+def large() -> str:
     """A specification of 65,536 bytes: a smaller one, with a comment below each line."""
     lines = text_of("examples/league/refuted.cise").splitlines()
     room = (65536 - sum(len(it) + 1 for it in lines)) // len(lines)
@@ -49,7 +52,7 @@ def large():
     return found + "#" * (65536 - len(found))
 
 
-def all_asked(document, at):
+def all_asked(document: Document, at: int) -> None:
     """All that the server says of a text by itself."""
     names, position = document.names, document.position(at)
     structure.symbols(document, names)
@@ -64,21 +67,21 @@ def all_asked(document, at):
 
 
 class Broken(unittest.TestCase):
-    def test_a_large_text_broken_anywhere(self):
+    def test_a_large_text_broken_anywhere(self) -> None:
         chance, text = random.Random(8), large()
         self.assertEqual((len(text.encode()), program.run_on(text, "spell")[0]), (65536, 0))
         for at in range(0, len(text), STRIDE):
             document = Document(URI, 1, text[:at] + chance.choice(PIECES) + text[at + 1 :])
             all_asked(document, min(at, len(document.text)))
 
-    def test_small_texts_broken_at_each_letter(self):
+    def test_small_texts_broken_at_each_letter(self) -> None:
         chance = random.Random(6)
         for text in (BANK, CHAT, SEATS, STOCK, TOURNAMENT):
             for at in range(len(text)):
                 document = Document(URI, 1, text[:at] + chance.choice(PIECES) + text[at + 1 :])
                 all_asked(document, chance.randrange(len(document.text) + 1))
 
-    def test_places_go_back_and_forth(self):
+    def test_places_go_back_and_forth(self) -> None:
         document = Document(URI, 1, "a\U0001f600b\r\nc\rd\n\u00e9\U0001f600")
         for at in range(len(document.text) + 1):
             if document.text[at - 1 : at + 1] != "\r\n":
@@ -87,7 +90,7 @@ class Broken(unittest.TestCase):
         self.assertEqual(document.index({"line": 99, "character": 0}), len(document.text))
         self.assertEqual(document.position(2), {"line": 0, "character": 3})
 
-    def test_edits_between_texts(self):
+    def test_edits_between_texts(self) -> None:
         chance = random.Random(12)
         for _ in range(200):
             rows = [
@@ -100,11 +103,11 @@ class Broken(unittest.TestCase):
             text, new = "".join(rows), "".join(other)
             self.assertEqual(edited(text, edits_between(Document(URI, 1, text), new)), new)
 
-    def test_whatever_a_client_sends(self):
+    def test_whatever_a_client_sends(self) -> None:
         """Messages with parts exchanged by chance: the session answers each request, and ends by
         `exit` alone."""
         chance = random.Random(21)
-        values = [
+        values: list[Any] = [
             None,
             7,
             -1,
@@ -167,7 +170,7 @@ class Broken(unittest.TestCase):
 
 
 class Sessions(unittest.TestCase):
-    def test_a_session_answers_to_the_end_and_stays_small(self):
+    def test_a_session_answers_to_the_end_and_stays_small(self) -> None:
         chance, text, client = random.Random(1), large(), Client()
         client.open(URI, text, 0)
         sizes = []
@@ -184,14 +187,14 @@ class Sessions(unittest.TestCase):
         self.assertLess(max(sizes) - sizes[0], 8192, sizes)
 
 
-def memory_of(number):
+def memory_of(number: int) -> int:
     """The memory that a process holds, in kilobytes."""
     with open(f"/proc/{number}/status", encoding="ascii") as file:
         return next(int(it.split()[1]) for it in file if it.startswith("VmRSS:"))
 
 
 class Shown(unittest.TestCase):
-    def test_names_of_any_text(self):
+    def test_names_of_any_text(self) -> None:
         for text in (
             "",
             "cise",
@@ -207,7 +210,7 @@ class Shown(unittest.TestCase):
             Names(text)
             all_asked(Document(URI, 1, text), len(text))
 
-    def test_a_slip_at_the_end_of_the_text(self):
+    def test_a_slip_at_the_end_of_the_text(self) -> None:
         from view.further_slips import all_slips
 
         text = "cise 1 sort"

@@ -1,4 +1,5 @@
-"""`./cise mend --no-wait`: what each template gives, and that only what spares an order is taken."""
+"""`./cise mend --no-wait`: what each template gives, and that only what spares an order is
+taken."""
 import os
 import unittest
 from typing import List
@@ -8,7 +9,14 @@ from view.words import text_of
 
 TOP = os.path.dirname(os.path.dirname(os.path.dirname(os.path.abspath(__file__))))
 # The refuted forms, how many of their pairs need an order, and how many do behind the changes.
-SPARED = {"cart": (1, 0), "review": (3, 2), "chat": (5, 2), "seats": (2, 1), "tournament": (2, 1), "access": (2, 1)}
+SPARED = {
+    "cart": (1, 0),
+    "review": (3, 2),
+    "chat": (5, 2),
+    "seats": (2, 1),
+    "tournament": (2, 1),
+    "access": (2, 1),
+}
 NOT_SPARED = ("bank", "shop", "numbers", "register", "wall")
 
 
@@ -34,7 +42,9 @@ class NoWait(unittest.TestCase):
 
     def test_the_counted_cart_is_accepted(self) -> None:
         changes, _ = no_wait.spared(design("cart"))
-        self.assertEqual([it.done for it in changes], ["in_cart is counted: so often put in, so often taken out"])
+        self.assertEqual(
+            [it.done for it in changes], ["in_cart is counted: so often put in, so often taken out"]
+        )
         self.assertEqual(program.run_on(changes[-1].text, "check")[0], 0)
 
     def test_nothing_is_taken_that_spares_no_order(self) -> None:

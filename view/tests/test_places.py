@@ -1,5 +1,7 @@
 """Places of verdicts: each refuted and undecided obligation has a line that is its own, and
 editors read it."""
+from __future__ import annotations
+
 import glob
 import json
 import os
@@ -8,10 +10,12 @@ import subprocess
 import sys
 import tempfile
 import unittest
+from typing import Iterator
 
 from view import program
 from view.explain import answer
-from view.places import Span, finding_of, findings
+from view.given import given
+from view.places import Finding, Span, finding_of, findings
 from view.report import Report
 from view.story import Story, stories
 from view.tests.slips_table import CHAT
@@ -48,7 +52,7 @@ WORKED = [
 ]
 
 
-def gallery():
+def gallery() -> Iterator[tuple[str, Spec, Report]]:
     """Each specification of the gallery that isn't accepted, with its report."""
     for path in sorted(glob.glob("examples/*/*.cise")):
         status, text = program.run("check", path)
@@ -57,7 +61,7 @@ def gallery():
 
 
 class Places(unittest.TestCase):
-    def test_worked_by_hand(self):
+    def test_worked_by_hand(self) -> None:
         for name, sentence, obligation, place in WORKED:
             with self.subTest(name):
                 path = f"examples/{name}.cise"
@@ -66,17 +70,22 @@ class Places(unittest.TestCase):
                     obligation,
                 )
                 self.assertEqual(
-                    (found.sentence, found.obligation, found.span),
+                    (given(found).sentence, given(found).obligation, given(found).span),
                     (sentence, obligation, Span(*place)),
                 )
                 self.assertEqual(
-                    found.line(), f"{path}:{place[0]}:{place[1]}: {found.verdict}: {sentence}"
+                    given(found).line(),
+                    f"{path}:{place[0]}:{place[1]}: {given(found).verdict}: {sentence}",
                 )
 
-    def test_every_obligation_of_the_gallery_has_its_line(self):
+    def test_every_obligation_of_the_gallery_has_its_line(self) -> None:
         seen = 0
         for path, spec, report in gallery():
-            told = {it.words(): Story(spec, it, 1) for story in stories(spec, report) for it in (story.block, *story.others)}
+            told = {
+                it.words(): Story(spec, it, 1)
+                for story in stories(spec, report)
+                for it in (story.block, *story.others)
+            }
             found = findings(path, spec, report)
             self.assertEqual(sorted(it.obligation for it in found), sorted(told))
             self.assertEqual(found, sorted(found, key=lambda it: (it.span.line, it.span.column)))
@@ -86,7 +95,7 @@ class Places(unittest.TestCase):
                     self.assert_is_told(spec, it, told[it.obligation])
         self.assertGreater(seen, 110)
 
-    def assert_is_told(self, spec, found, story):
+    def assert_is_told(self, spec: Spec, found: Finding, story: Story) -> None:
         """A finding says what the story says, and its place is one of the lines that the story
         shows."""
         self.assertEqual(found.sentence, story.title())
@@ -98,7 +107,7 @@ class Places(unittest.TestCase):
             {it.op for it in story.calls} if found.verdict == "refuted" else set(), named
         )
 
-    def test_the_line_that_differs_is_one_that_writes_there(self):
+    def test_the_line_that_differs_is_one_that_writes_there(self) -> None:
         """Two updates write the relation; the witness's element is the one that the second
         writes."""
         text = (
@@ -113,7 +122,7 @@ class Places(unittest.TestCase):
             if it.kind == "commute" and "both" in it.obligation.split()[2]
         ]
         witness = found.block.witness
-        self.assertEqual(witness.at, [witness.consts["a"]])
+        self.assertEqual(given(witness).at, [given(witness).consts["a"]])
         lines = {
             it.line
             for it in [
@@ -121,10 +130,12 @@ class Places(unittest.TestCase):
                 *(it.span for it in found.related if it.sentence == "changes it too"),
             ]
         }
-        self.assertEqual(lines, {4, 9} if witness.consts["a"] != witness.consts["b"] else {4, 8, 9})
+        self.assertEqual(
+            lines, {4, 9} if given(witness).consts["a"] != given(witness).consts["b"] else {4, 8, 9}
+        )
 
 
-def piece(text, span):
+def piece(text: str, span: Span) -> str:
     """The letters of a span, counted anew from lines and columns."""
     rows = text.split("\n")
     starts = [0]
@@ -136,7 +147,7 @@ def piece(text, span):
 
 
 class Command(unittest.TestCase):
-    def test_places_of_a_report_are_those_of_its_check(self):
+    def test_places_of_a_report_are_those_of_its_check(self) -> None:
         path = "examples/league/refuted.cise"
         with tempfile.TemporaryDirectory() as folder:
             report = os.path.join(folder, "report")
@@ -144,10 +155,10 @@ class Command(unittest.TestCase):
                 file.write(program.run("check", path)[1])
             self.assertEqual(answer(path, report, places=True), answer(path, places=True))
 
-    def test_an_accepted_design_has_no_line(self):
+    def test_an_accepted_design_has_no_line(self) -> None:
         self.assertEqual(answer("examples/bank/accepted.cise", places=True), (0, ""))
 
-    def test_the_words(self):
+    def test_the_words(self) -> None:
         call = "import sys; sys.path.insert(0, '.'); from view import main; "
         call += f"sys.exit(main.main({program.path!r}, sys.argv[1:]))"
         for words in (
@@ -161,7 +172,7 @@ class Command(unittest.TestCase):
             said = b"examples/bank/refuted.cise:17:3: refuted: " + sentence + b"\n"
             self.assertEqual((done.returncode, done.stdout, done.stderr), (1, said, b""))
 
-    def test_the_problem_matcher_reads_them(self):
+    def test_the_problem_matcher_reads_them(self) -> None:
         matchers = json.loads(text_of("editors/vscode/package.json"))["contributes"][
             "problemMatchers"
         ]
@@ -170,10 +181,10 @@ class Command(unittest.TestCase):
         self.assertGreater(len(lines), 110)
         for line in lines:
             found = re.match(pattern["regexp"], line)
-            self.assertTrue(os.path.isfile(found.group(pattern["file"])), line)
-            self.assertRegex(found.group(pattern["message"]), "^(refuted|undecided): ")
+            self.assertTrue(os.path.isfile(given(found).group(pattern["file"])), line)
+            self.assertRegex(given(found).group(pattern["message"]), "^(refuted|undecided): ")
 
-    def test_a_version_2_design_with_carriage_returns(self):
+    def test_a_version_2_design_with_carriage_returns(self) -> None:
         text = CHAT.replace("\n", "\r\n").replace("insert member", "\tinsert member")
         report = Report(program.run_on(text, "check")[1])
         for it in findings("x", Spec(text), report):

@@ -137,7 +137,9 @@ class Beyond(unittest.TestCase):
             self.assertIn("tried", said)
             self.assertNotRegex(said, r"can't|cannot|never comes|impossible")
         self.assertIn("In none of these states is there anything of store", said)
-        quota = re.sub(r"operation raise.*?end\n\n", "", text_of("patterns/quota/refuted.cise"), flags=re.S)
+        quota = re.sub(
+            r"operation raise.*?end\n\n", "", text_of("patterns/quota/refuted.cise"), flags=re.S
+        )
         spec, found = looked_for(quota, 3_000)
         self.assertIsNone(found[0][0].run)
         self.assertIn("No operation ever raises part.", " ".join(run_text.tried(spec, found[0][0])))

@@ -2,6 +2,7 @@
 says of the same calls on the specification itself."""
 import glob
 import random
+import typing
 import unittest
 from collections import Counter
 from typing import Iterator, List, Tuple
@@ -41,7 +42,7 @@ def designs() -> Iterator[Tuple[str, Spec]]:
 class AgainstReplay(unittest.TestCase):
     """Each answer of a search is one of a replay."""
 
-    counts: "Counter[str]" = Counter()
+    counts: typing.Counter[str] = Counter()
 
     def test_calls_and_states(self) -> None:
         self.counts = Counter()

@@ -1,11 +1,14 @@
 """A signal at each moment of a call. A call is walked through line by line of the script: at the
 N-th line that it comes to, a signal comes. Whatever N is, the call ends by that signal, or with
 the program's status behind its whole answer; and nobody sees a trace."""
+from __future__ import annotations
+
 import os
 import signal
 import sys
 import tempfile
 import unittest
+from typing import Any
 
 TOP = os.path.dirname(os.path.dirname(os.path.dirname(os.path.abspath(__file__))))
 PROGRAM = os.path.abspath(os.environ.get("CISE_PROGRAM", f"{TOP}/crates/cise_cli/out/cise_cli"))
@@ -21,13 +24,13 @@ NEVER = 10**9
 class Moments:
     """Counts the lines of the script's own text, and sends this process a signal at one of them."""
 
-    def __init__(self, at, number):
+    def __init__(self, at: int, number: signal.Signals) -> None:
         self.at, self.number, self.passed = at, number, 0
 
-    def __call__(self, frame, event, _):
+    def __call__(self, frame: Any, event: str, _: Any) -> Any:
         return self.line if frame.f_code.co_filename.startswith(OWN) else None
 
-    def line(self, frame, event, _):
+    def line(self, frame: Any, event: str, _: Any) -> Any:
         if event == "line":
             self.passed += 1
             if self.passed == self.at:
@@ -35,7 +38,7 @@ class Moments:
         return self.line
 
 
-def begin(words, at, number, told):
+def begin(words: list[str], at: int, number: signal.Signals, told: int) -> None:
     """What a new process does: a call with the program of the tests, as the script begins one."""
     sys.path.insert(0, TOP)
     from launch import answering, seen
@@ -46,12 +49,12 @@ def begin(words, at, number, told):
         signal.signal(it, signal.SIG_IGN if it == signal.SIGPIPE else signal.SIG_DFL)
     moments, leave = Moments(at, number), os._exit
 
-    def left(status):
+    def left(status: int) -> None:
         sys.settrace(None)
         os.write(told, str(moments.passed).encode())
         leave(status)
 
-    os._exit = left
+    setattr(os, "_exit", left)
     sys.argv = [START, "heeded", *words]
     with open(START, encoding="utf-8") as file:
         code = compile(file.read(), START, "exec")
@@ -59,7 +62,9 @@ def begin(words, at, number, told):
     exec(code, {"__name__": "__main__", "__file__": START})
 
 
-def call(words, at=NEVER, number=signal.SIGTERM):
+def call(
+    words: list[str], at: int = NEVER, number: signal.Signals = signal.SIGTERM
+) -> tuple[int, bytes, bytes, int]:
     """How a call ended, what it wrote on standard output and on standard error, and how many lines
     it came to."""
     with tempfile.TemporaryFile() as out, tempfile.TemporaryFile() as error, tempfile.TemporaryFile() as told:
@@ -81,7 +86,7 @@ def call(words, at=NEVER, number=signal.SIGTERM):
 
 
 class EachMoment(unittest.TestCase):
-    def walk(self, words, most):
+    def walk(self, words: list[str], most: int) -> None:
         """Calls with a signal at so many moments, from the first to the last."""
         status, text, _, lines = call(words)
         self.assertGreater(lines, 50)
@@ -96,7 +101,7 @@ class EachMoment(unittest.TestCase):
                     self.assertEqual(ended, status)
                 self.assertNotIn(b"Traceback", error)
 
-    def test_commands_of_the_program(self):
+    def test_commands_of_the_program(self) -> None:
         """Each of the few lines of the script, behind an accepted, a refuted and a refused
         specification, and where there is no input."""
         with tempfile.NamedTemporaryFile(suffix=".cise") as refused:
@@ -110,7 +115,7 @@ class EachMoment(unittest.TestCase):
             ):
                 self.walk(words, most)
 
-    def test_other_commands_of_the_program(self):
+    def test_other_commands_of_the_program(self) -> None:
         report = tempfile.NamedTemporaryFile()
         self.addCleanup(report.close)
         report.write(call(["check", ACCEPTED])[1])
@@ -127,7 +132,7 @@ class EachMoment(unittest.TestCase):
         ):
             self.walk(words, 12)
 
-    def test_commands_of_the_script(self):
+    def test_commands_of_the_script(self) -> None:
         for words, most in (
             (["explain", REFUTED], 40),
             (["page", REFUTED], 12),
@@ -137,7 +142,7 @@ class EachMoment(unittest.TestCase):
         ):
             self.walk(words, most)
 
-    def test_other_commands_of_the_script(self):
+    def test_other_commands_of_the_script(self) -> None:
         for words in (
             ["format", REFUTED],
             ["plan", ACCEPTED],
@@ -152,7 +157,7 @@ class EachMoment(unittest.TestCase):
 
 
 class BehindTheAnswer(unittest.TestCase):
-    def test_a_fault_of_the_script_is_no_answer(self):
+    def test_a_fault_of_the_script_is_no_answer(self) -> None:
         """Where a module is damaged, or memory is short while it is read, the status is none of an
         answer's."""
         for damage in (

@@ -1,4 +1,6 @@
 """Watching a file: each save is checked, and what changed is said."""
+from __future__ import annotations
+
 import os
 import queue
 import signal
@@ -9,6 +11,7 @@ import threading
 import unittest
 
 from view import program
+from view.given import given
 from view.words import text_of
 
 CALL = (
@@ -21,7 +24,7 @@ REFUTED, ACCEPTED = (text_of(f"examples/bank/{it}.cise") for it in ("refuted", "
 class Watched:
     """A file, and a process that watches it."""
 
-    def __init__(self, text):
+    def __init__(self, text: str) -> None:
         self.folder = tempfile.TemporaryDirectory()
         self.path = os.path.join(self.folder.name, "d.cise")
         self.save(text)
@@ -31,28 +34,30 @@ class Watched:
             stderr=subprocess.PIPE,
             text=True,
         )
-        self.lines = queue.Queue()
-        threading.Thread(
-            target=lambda: [self.lines.put(it.rstrip("\n")) for it in self.process.stdout],
-            daemon=True,
-        ).start()
+        self.lines: queue.Queue[str] = queue.Queue()
+        threading.Thread(target=self.read, daemon=True).start()
 
-    def save(self, text):
+    def read(self) -> None:
+        """Takes the lines that it writes."""
+        for line in given(self.process.stdout):
+            self.lines.put(line.rstrip("\n"))
+
+    def save(self, text: str) -> None:
         """As editors do: a new file is put in place of the old one."""
         with open(self.path + "~", "w", encoding="utf-8") as file:
             file.write(text)
         os.replace(self.path + "~", self.path)
 
-    def shown(self):
+    def shown(self) -> list[str]:
         """The lines up to the next empty one."""
-        found = []
+        found: list[str] = []
         while True:
             line = self.lines.get(timeout=60)
             if not line:
                 return found
             found.append(line)
 
-    def close(self, number=signal.SIGTERM):
+    def close(self, number: signal.Signals = signal.SIGTERM) -> tuple[int, str]:
         self.process.send_signal(number)
         out, error = self.process.communicate(timeout=30)
         self.folder.cleanup()
@@ -60,7 +65,7 @@ class Watched:
 
 
 class Watching(unittest.TestCase):
-    def test_what_changes_is_said(self):
+    def test_what_changes_is_said(self) -> None:
         watched = Watched(REFUTED)
         first = watched.shown()
         place = f"{watched.path}:17:3: refuted: another withdraw takes away what withdraw requires"
@@ -82,7 +87,7 @@ class Watching(unittest.TestCase):
         status, error = watched.close()
         self.assertIn((status, error), [(143, ""), (-15, "")])
 
-    def test_a_file_that_is_not_there(self):
+    def test_a_file_that_is_not_there(self) -> None:
         done = subprocess.run(
             [sys.executable, "-c", CALL, "watch", "no/file"],
             stdout=subprocess.PIPE,

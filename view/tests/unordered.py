@@ -1,4 +1,5 @@
-"""Ten designs without tokens, of the kind that is published, in several layouts. Each can be mended by tokens alone."""
+"""Ten designs without tokens, of the kind that is published, in several layouts. Each can be mended
+by tokens alone."""
 
 COURSES = """\
 # Courses of a school.
@@ -157,7 +158,8 @@ operation finish ( m : Match )
 end
 """
 
-BLOG = "\r\n".join("""\
+BLOG = "\r\n".join(
+    """\
 cise 2
 sort User
 relation account ( User )
@@ -181,7 +183,10 @@ operation post ( u : User )
   observes account ( u )
   add posts ( u ) 1
 end
-""".split("\n"))
+""".split(
+        "\n"
+    )
+)
 
 REGISTER = """\
 cise 1
@@ -238,5 +243,15 @@ operation part ( p : Person , q : Person )
 end
 """
 
-UNORDERED = {"courses": COURSES, "projects": PROJECTS, "tickets": TICKETS, "payment": PAYMENT, "mail": MAIL, "league": LEAGUE, "blog": BLOG,
-             "register": REGISTER, "numbers": NUMBERS, "friends": FRIENDS}
+UNORDERED = {
+    "courses": COURSES,
+    "projects": PROJECTS,
+    "tickets": TICKETS,
+    "payment": PAYMENT,
+    "mail": MAIL,
+    "league": LEAGUE,
+    "blog": BLOG,
+    "register": REGISTER,
+    "numbers": NUMBERS,
+    "friends": FRIENDS,
+}
