@@ -10,7 +10,7 @@ import tarfile
 import time
 import zipfile
 from dataclasses import dataclass
-from typing import Dict, List, Optional, Tuple
+from typing import IO, Dict, List, Optional, Tuple, cast
 
 from launch.needs import GLIBC
 from launch.packed import FOLDED, PACKED, folded
@@ -141,8 +141,8 @@ from launch import start  # noqa: E402, F401
 
 
 def is_left_out(path: str) -> bool:
-    """Whether the one file can do without a file: the script, the record, which it has folded, and of
-    the patterns all but the index and what is printed of them."""
+    """Whether the one file can do without a file: the script, the record, which it has folded, and
+    of the patterns all but the index and what is printed of them."""
     if path.startswith("patterns/"):
         return path != "patterns/README.md" and not path.endswith("/accepted.cise")
     return path in ("cise", KEPT_RECORD)
@@ -217,7 +217,9 @@ def tarred(tree: Tree, seconds: int, top: str) -> bytes:
     entries: List[Tuple[str, Optional[File]]] = [(it, None) for it in folders if it]
     entries += list(tree.items())
     with gzip.GzipFile("", "wb", 9, whole, mtime=seconds) as packed:
-        with tarfile.open(fileobj=packed, mode="w", format=tarfile.GNU_FORMAT) as archive:
+        with tarfile.open(
+            fileobj=cast(IO[bytes], packed), mode="w", format=tarfile.GNU_FORMAT
+        ) as archive:
             for path, it in sorted([("", None), *entries], key=lambda entry: entry[0]):
                 info = entry_of(f"{top}/{path}".rstrip("/"), it, seconds)
                 archive.addfile(info, io.BytesIO(it.data) if it and not it.link else None)
