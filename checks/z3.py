@@ -34,6 +34,8 @@ problems of a specification in one run, by several encodings (ENCODINGS); and wh
 table, each problem in a run of its own too. This isn't part of any proof. A sort of z3 is never
 empty, so what breaks only with an empty sort isn't found.
 """
+from __future__ import annotations
+
 import collections
 import glob
 import itertools
@@ -45,49 +47,52 @@ import statistics
 import subprocess
 import sys
 import tempfile
+from typing import Any, Callable, Iterator, Sequence
 
 sys.path.insert(0, os.path.dirname(os.path.dirname(os.path.realpath(__file__))))
 from launch import allocator  # noqa: E402
 from view import program  # noqa: E402
+from view.formulas import Formula, Reading, Term  # noqa: E402
+from view.given import given  # noqa: E402
 from view.report import Report  # noqa: E402
-from view.tree import UPDATES, Spec  # noqa: E402
-from view.words import text_of  # noqa: E402
+from view.tree import UPDATES, Line, Operation, Spec  # noqa: E402
+from view.words import Word, text_of  # noqa: E402
 
 CONNECTIVES = {"and": "and", "or": "or", "implies": "=>"}
 ASK = "(check-sat)"
 VERDICTS = {"unsat": "proved", "sat": "refuted"}
 
 
-def written(value):
+def written(value: int) -> str:
     return str(value) if value >= 0 else f"(- {-value})"
 
 
-def asserted(formula):
+def asserted(formula: str) -> str:
     return f"(assert {formula})"
 
 
-def applied(name, args):
+def applied(name: str, args: list[str] | dict[str, Word]) -> str:
     return f"(|{name}| {' '.join(args)})" if args else f"|{name}|"
 
 
-def joined(connective, parts, none):
+def joined(connective: str, parts: list[str], none: str) -> str:
     return f"({connective} {' '.join(parts)})" if len(parts) > 1 else parts[0] if parts else none
 
 
-def declared(term, sort):
+def declared(term: str, sort: Word) -> str:
     return f"(declare-const {term} {'Int' if sort == 'int' else f'|s.{sort}|'})"
 
 
-def variables(letter, sorts):
+def variables(letter: str, sorts: list[Word]) -> dict[str, Word]:
     """A variable for each of these sorts: the sorts by the variables."""
     return {f"|{letter}{i}|": sort for i, sort in enumerate(sorts)}
 
 
-def heads(variables):
+def heads(variables: dict[str, Word]) -> str:
     return " ".join(f"({variable} |s.{sort}|)" for variable, sort in variables.items())
 
 
-def quantified(prefix, variables, body):
+def quantified(prefix: str | None, variables: dict[str, Word], body: str) -> str:
     return f"({prefix} ({heads(variables)}) {body})" if variables else body
 
 
@@ -97,24 +102,34 @@ class Problems:
     one. `lines` are those of the obligation that is being written.
     """
 
-    def __init__(self, spec):
-        self.spec, self.lines = spec, []
+    def __init__(self, spec: Spec) -> None:
+        self.spec = spec
+        self.lines: list[str] = []
         self.places = {**spec.relations, **spec.counters}
         self.kind = {name: "Bool" if name in spec.relations else "Int" for name in self.places}
 
-    def element(self, scope, word):
+    def element(self, scope: dict[Word, tuple[str, Word]], word: Word) -> str:
         return scope[word][0] if word in scope else f"|c.{word}|"
 
-    def before(self, state, name, args):
+    def before(self, state: dict[Word, str], name: Word, args: list[str] | dict[str, Word]) -> str:
         return applied(state.get(name, f"t.{name}"), args)
 
-    def read(self, state, scope, reading):
+    def read(
+        self,
+        state: dict[Word, str],
+        scope: dict[Word, tuple[str, Word]],
+        reading: Reading,
+    ) -> str:
         _, name, args = reading
         if not args and name in scope:
             return scope[name][0]
         return self.before(state, name, [self.element(scope, a) for a in args])
 
-    def is_element(self, scope, term):
+    def is_element(
+        self,
+        scope: dict[Word, tuple[str, Word]],
+        term: list[tuple[int, tuple[str, Word, list[Any]]]],
+    ) -> bool:
         coefficient, reading = term[0]
         word = (
             reading[1]
@@ -123,7 +138,12 @@ class Problems:
         )
         return scope[word][1] != "int" if word in scope else word in self.spec.consts
 
-    def term(self, state, scope, term):
+    def term(
+        self,
+        state: dict[Word, str],
+        scope: dict[Word, tuple[str, Word]],
+        term: Term,
+    ) -> str:
         return joined(
             "+",
             [
@@ -133,14 +153,19 @@ class Problems:
             "0",
         )
 
-    def formula(self, state, scope, f):
+    def formula(
+        self,
+        state: dict[Word, str],
+        scope: dict[Word, tuple[str, Word]],
+        f: Formula,
+    ) -> str:
         if f[0] == "reading":
             return self.read(state, scope, f)
         if f[0] == "not":
             return f"(not {self.formula(state, scope, f[1])})"
         if f[0] != "compare":
             return joined(
-                CONNECTIVES.get(f[0]), [self.formula(state, scope, g) for g in f[1:]], f[0]
+                given(CONNECTIVES.get(f[0])), [self.formula(state, scope, g) for g in f[1:]], f[0]
             )
         sign, sides = f[1], f[2:]
         if sign in ("=", "!=") and all(self.is_element(scope, t) for t in sides):
@@ -149,13 +174,13 @@ class Problems:
             sides = [self.term(state, scope, t) for t in sides]
         return f"(not (= {' '.join(sides)}))" if sign == "!=" else f"({sign} {' '.join(sides)})"
 
-    def line(self, state, scope, line):
+    def line(self, state: dict[Word, str], scope: dict[Word, tuple[str, Word]], line: Line) -> str:
         own = {name: (f"|v.{name}|", sort) for name, sort in line.vars}
         return quantified(
             line.prefix, dict(own.values()), self.formula(state, {**scope, **own}, line.tree())
         )
 
-    def declarations(self):
+    def declarations(self) -> list[str]:
         lines = [f"(declare-sort |s.{sort}| 0)" for sort in self.spec.sorts]
         lines += [declared(f"|c.{name}|", sort) for name, sort in self.spec.consts.items()]
         for name, places in self.places.items():
@@ -165,11 +190,11 @@ class Problems:
             )
         return lines
 
-    def invariants(self):
+    def invariants(self) -> list[str]:
         """All invariants are true in the first state."""
         return [asserted(self.init(line)) for line in self.spec.invariants.values()]
 
-    def initial(self):
+    def initial(self) -> list[str]:
         """The first state is the initial one."""
         lines = []
         for name, places in self.places.items():
@@ -180,7 +205,7 @@ class Problems:
             )
         return lines
 
-    def calls(self, *ops):
+    def calls(self, *ops: Operation) -> list[tuple[Operation, dict[Word, tuple[str, Word]]]]:
         """Calls of one or two operations with any arguments, each as the operation and the scope of
         its parameters. Their preconditions are true, and two calls don't conflict."""
         calls = [
@@ -194,15 +219,15 @@ class Problems:
             for line in op.of("requires")
         ]
         if len(calls) == 2:
-            self.lines.append(
-                asserted(
-                    "(not"
-                    f" {joined('or', self.matches(*calls) + self.matches(*reversed(calls)), 'false')})"
-                )
-            )
+            both = self.matches(*calls) + self.matches(*reversed(calls))
+            self.lines.append(asserted(f"(not {joined('or', both, 'false')})"))
         return calls
 
-    def matches(self, first, second):
+    def matches(
+        self,
+        first: tuple[Operation, dict[Word, tuple[str, Word]]],
+        second: tuple[Operation, dict[Word, tuple[str, Word]]],
+    ) -> list[str]:
         found = []
         for left, right, _ in self.spec.rules:
             for one in first[0].of("takes"):
@@ -211,7 +236,7 @@ class Problems:
                     if (token, other_token) == (left[0], right[0]) and not (
                         one.is_shared() and other.is_shared()
                     ):
-                        values = {}
+                        values: dict[str, str] = {}
                         for pattern, words, call in (
                             (left, arguments, first),
                             (right, other_arguments, second),
@@ -227,7 +252,12 @@ class Problems:
                         )
         return found
 
-    def after(self, state, call, mark):
+    def after(
+        self,
+        state: dict[Word, str],
+        call: tuple[Operation, dict[Word, tuple[str, Word]]],
+        mark: str,
+    ) -> dict[Word, str]:
         """The state after a call: guards and amounts read the state before it."""
         op, scope = call
         found, updates = dict(state), op.of(*UPDATES)
@@ -241,29 +271,29 @@ class Problems:
                         f"(= {x} {self.element(scope, s)})" for x, s in zip(keys, spots) if s != "*"
                     ]
                     acts += (
-                        [] if line.guard() is None else [self.formula(state, scope, line.guard())]
+                        []
+                        if line.guard() is None
+                        else [self.formula(state, scope, given(line.guard()))]
                     )
                     new = {"insert": "true", "remove": "false"}.get(line.head) or self.term(
-                        state, scope, line.amount()
+                        state, scope, given(line.amount())
                     )
-                    value = (
-                        "(ite"
-                        f" {joined('and', acts, 'true')} {f'(+ {value} {new})' if line.head == 'add' else new} {value})"
-                    )
+                    changed = f"(+ {value} {new})" if line.head == "add" else new
+                    value = f"(ite {joined('and', acts, 'true')} {changed} {value})"
             self.lines.append(
                 f"(define-fun |{mark}.{name}| ({heads(keys)}) {self.kind[name]} {value})"
             )
             found[name] = f"{mark}.{name}"
         return found
 
-    def init(self, line):
+    def init(self, line: Line) -> str:
         return self.line({}, {}, line)
 
-    def safety(self, op, line):
+    def safety(self, op: Operation, line: Line) -> str:
         (call,) = self.calls(op)
         return self.line(self.after({}, call, "a"), {}, line)
 
-    def commute(self, op, other, thing):
+    def commute(self, op: Operation, other: Operation, thing: Word) -> str:
         first, second = self.calls(op, other)
         states = self.after(self.after({}, first, "a"), second, "ab"), self.after(
             self.after({}, second, "b"), first, "ba"
@@ -272,11 +302,11 @@ class Problems:
         self.lines += [declared(*it) for it in keys.items()]
         return f"(= {' '.join(applied(state[thing], keys) for state in states)})"
 
-    def stable(self, op, line, other):
+    def stable(self, op: Operation, line: Line, other: Operation) -> str:
         first, second = self.calls(op, other)
         return self.line(self.after({}, second, "b"), first[1], line)
 
-    def obligations(self):
+    def obligations(self) -> Iterator[tuple[Any, ...]]:
         """The names of the obligations, in the order of the report, each with what fails where it
         is broken."""
         ops, invariants = list(self.spec.operations.values()), self.spec.invariants.items()
@@ -301,11 +331,16 @@ class Problems:
                     for other in ops
                 )
 
-    def groups(self):
+    def groups(
+        self,
+    ) -> tuple[
+        tuple[list[str], list[tuple[str, list[str]]]], tuple[list[str], list[tuple[str, list[str]]]]
+    ]:
         """The obligations of the initial state and the others: for each of the two the lines that
         all of them need, and a list of their names, each with the lines that its obligation needs
         besides."""
-        inits, others = [], []
+        inits: list[tuple[str, list[str]]] = []
+        others: list[tuple[str, list[str]]] = []
         for name, conclusion, *parts in self.obligations():
             self.lines = []
             failing = asserted(f"(not {conclusion(*parts)})")
@@ -317,21 +352,23 @@ class Problems:
 # lines.
 
 
-def scoped(lines):
+def scoped(lines: list[str]) -> list[str]:
     return ["(push)", *lines, "(pop)"]
 
 
-def each(obligations):
+def each(obligations: list[tuple[str, list[str]]]) -> tuple[list[str], list[str]]:
     """A scope for each of these obligations, which are given by names and lines."""
     return [name for name, _ in obligations], [
         line for _, own in obligations for line in scoped([*own, ASK])
     ]
 
 
-def within(obligations):
+def within(obligations: list[tuple[str, list[str]]]) -> tuple[list[str], list[str]]:
     """A scope for each group of these obligations that begin with the same lines, with scopes for
     the lines that follow."""
-    groups, names, lines = {}, [], []
+    groups: dict[str, list[tuple[str, list[str]]]] = {}
+    names: list[str] = []
+    lines: list[str] = []
     for name, own in obligations:
         groups.setdefault(own[0], []).append((name, own))
     for group in groups.values():
@@ -350,7 +387,7 @@ def within(obligations):
     return names, lines
 
 
-def separate(problems):
+def separate(problems: Problems) -> list[tuple[str, list[str]]]:
     """Each obligation with all lines that it needs."""
     declarations = problems.declarations()
     return [
@@ -360,12 +397,12 @@ def separate(problems):
     ]
 
 
-def alone(problems):
+def alone(problems: Problems) -> tuple[list[str], list[str]]:
     """Each obligation in a scope of its own, with all declarations and all that it needs."""
     return each(separate(problems))
 
 
-def shared(problems, scopes=each):
+def shared(problems: Problems, scopes: Callable[..., Any] = each) -> tuple[list[str], list[str]]:
     """Declarations, the initial state and the invariants once, and what else each obligation needs
     in a scope of its own, or as `scopes` says."""
     (initial, inits), (invariants, others) = problems.groups()
@@ -378,7 +415,7 @@ def shared(problems, scopes=each):
     ]
 
 
-def nested(problems):
+def nested(problems: Problems) -> tuple[list[str], list[str]]:
     """The same, but lines with which several obligations begin stand once too, in a scope around
     those."""
     return shared(problems, within)
@@ -396,7 +433,7 @@ ENCODINGS = {
 }
 
 
-def encoded(problems):
+def encoded(problems: Problems) -> dict[str, tuple[list[str], list[str]]]:
     """What z3 is asked by each encoding: the names of the obligations, in its order, and the
     lines."""
     found = {}
@@ -406,7 +443,7 @@ def encoded(problems):
     return found
 
 
-def run(words, text=None, seconds=None):
+def run(words: list[str], text: str | None = None, seconds: int | None = None) -> tuple[str, float]:
     """What a program writes, and the processor time that it takes. It is stopped after some
     seconds, where they are given."""
     before = resource.getrusage(resource.RUSAGE_CHILDREN)
@@ -415,11 +452,11 @@ def run(words, text=None, seconds=None):
     return done.stdout, after.ru_utime - before.ru_utime + after.ru_stime - before.ru_stime
 
 
-def z3(lines, seconds=None):
+def z3(lines: list[str], seconds: int | None = None) -> tuple[str, float]:
     return run(["z3", "-in"], "".join(f"{line}\n" for line in lines), seconds)
 
 
-def sample(n):
+def sample(n: int) -> str:
     """The generated specification that `sample N` checks."""
     lines = (
         ["cise 1", "sort Item"]
@@ -454,7 +491,7 @@ class Draft:
                 a number or a second other with its positions
     """
 
-    def __init__(self, chance):
+    def __init__(self, chance: random.Random) -> None:
         self.chance, self.care, self.most_updates = (
             chance,
             chance.uniform(0.75, 1),
@@ -474,16 +511,17 @@ class Draft:
         }
         self.places = {**self.relations, **self.counters}
         self.tokens = chance.choice(("none", "sorts", "things", "things", "shared"))
-        self.invariants, self.requires = [], []
+        self.invariants: list[tuple[str, str, str | None, tuple[int, ...] | None, None]] = []
+        self.requires: list[tuple[str, list[str], str]] = []
         wanted = chance.randint(2, 10)
         for _ in range(40):
             if len(self.invariants) < wanted:
                 self.draw_invariant()
 
-    def often(self):
+    def often(self) -> bool:
         return self.chance.random() < self.care
 
-    def positions(self, thing, other):
+    def positions(self, thing: str, other: str) -> tuple[int, ...] | None:
         """Some places of a thing that have the sorts of another's places, or None."""
         found = [
             it
@@ -494,7 +532,7 @@ class Draft:
         ]
         return self.chance.choice(found) if found else None
 
-    def draw_invariant(self):
+    def draw_invariant(self) -> None:
         """Draws an invariant, and keeps it where places fit and no other is on the same things."""
         chance, relations, counters = self.chance, list(self.relations), list(self.counters)
         kind = chance.choice(
@@ -519,16 +557,16 @@ class Draft:
         if kind == "chooses":
             second = chance.choice(relations)
             bound = second, self.positions(thing, second)
-            fits = fits and bound[1] is not None and second not in (thing, other)
+            fits = fits and given(bound)[1] is not None and second not in (thing, other)
         if fits and all(
             {thing, other or kind} != {it[1], it[2] or it[0]} for it in self.invariants
         ):
             self.invariants.append((kind, thing, other, positions, bound))
 
-    def reading(self, thing, args):
+    def reading(self, thing: str, args: list[str]) -> str:
         return f"{thing} ( {' , '.join(args)} )" if args else thing
 
-    def quantified(self, head, thing, args, body):
+    def quantified(self, head: str, thing: str, args: list[str], body: Callable[..., Any]) -> str:
         """A line with a reading of a thing in its body, which holds for all elements where an
         argument is `*`."""
         names = [f"v{i}" if it == "*" else it for i, it in enumerate(args)]
@@ -537,8 +575,16 @@ class Draft:
         )
         return f"{head} " + (f"forall {variables} . " if variables else "") + body(names)
 
-    def invariant_line(self, number, kind, thing, other, positions, bound):
-        def body(names):
+    def invariant_line(
+        self,
+        number: int,
+        kind: str,
+        thing: str,
+        other: str | None,
+        positions: tuple[int, ...] | None,
+        bound: None,
+    ) -> str:
+        def body(names: list[str]) -> str:
             first = self.reading(thing, names)
             second = self.reading(other, [names[i] for i in positions]) if other else None
             if kind == "chooses":
@@ -563,7 +609,7 @@ class Draft:
             " x , z ) ) implies ( y = z ) )"
         )
 
-    def filled(self, thing, params):
+    def filled(self, thing: str, params: dict[str, str]) -> list[str] | None:
         """Arguments for a thing from these parameters and the constants, or None."""
         found = []
         for sort in self.places[thing]:
@@ -580,7 +626,9 @@ class Draft:
             )
         return found
 
-    def need(self, thing, args, positions, other, formula):
+    def need(
+        self, thing: str, args: list[str], positions: tuple[int, ...], other: str, formula: str
+    ) -> None:
         """Asks for a formula on a thing, of which places at these positions are the arguments of
         the other, and the rest any."""
         spots = ["*"] * len(self.places[thing])
@@ -599,7 +647,7 @@ class Draft:
             )
         )
 
-    def ask(self, change, thing, args, amount):
+    def ask(self, change: str, thing: str, args: list[str], amount: str) -> None:
         """Asks for what an update needs so that the invariants stay true."""
         for kind, one, other, positions, bound in self.invariants:
             if thing == one and change == "insert":
@@ -607,7 +655,11 @@ class Draft:
                 if kind == "chooses":
                     second = self.reading(bound[0], [args[i] for i in bound[1]])
                     self.requires.append(
-                        (other, at, f"requires ( {self.reading(other, at)} or {second} )")
+                        (
+                            other,
+                            at,
+                            f"requires ( {self.reading(given(other), given(at))} or {second} )",
+                        )
                     )
                 elif kind == "unique":
                     self.requires.append(
@@ -623,7 +675,7 @@ class Draft:
                 elif other:
                     whole = {"needs": "{}", "excludes": "not {}", "counted": "( {} >= 1 )"}[kind]
                     self.requires.append(
-                        (other, at, f"requires {whole.format(self.reading(other, at))}")
+                        (other, at, f"requires {whole.format(self.reading(other, given(at)))}")
                     )
             elif (
                 kind == "excludes"
@@ -631,9 +683,11 @@ class Draft:
                 or kind == "needs"
                 and (thing, change) == (other, "remove")
             ):
-                self.need(one, args, positions, other, "not {}")
+                self.need(one, args, given(positions), given(other), "not {}")
             elif kind == "chooses" and change == "remove" and thing in (other, bound[0]):
-                self.need(one, args, positions if thing == other else bound[1], other, "not {}")
+                self.need(
+                    one, args, positions if thing == other else bound[1], given(other), "not {}"
+                )
             elif kind == "positive" and thing == one:
                 low = (
                     f"( {self.reading(thing, args)} >= {amount} )"
@@ -648,7 +702,7 @@ class Draft:
                 value = f"{self.reading(thing, args)} - {amount}" if change == "lower" else amount
                 self.requires.append((thing, args, f"requires ( {value} >= 1 )"))
 
-    def guard(self, params):
+    def guard(self, params: dict[str, str]) -> str:
         thing = self.chance.choice(list(self.places))
         args = self.filled(thing, params) if self.chance.random() < 0.12 else None
         if args is None:
@@ -660,7 +714,7 @@ class Draft:
             else f" when {self.chance.choice(('', 'not '))}{reading}"
         )
 
-    def operation(self, number):
+    def operation(self, number: int) -> list[str]:
         """The lines of an operation. Its first update is on all of its parameters."""
         chance, self.requires = self.chance, []
         main = chance.choice(list(self.places))
@@ -711,21 +765,26 @@ class Draft:
         takes = self.takes(params, written, [(thing, args) for thing, args, _ in self.requires])
         return [f"operation o{number} ( {heads} )", *requires, *updates, *takes, "end"]
 
-    def takes(self, params, written, read):
+    def takes(
+        self,
+        params: dict[str, str],
+        written: list[tuple[str, list[str]]],
+        read: list[tuple[str, list[str]]],
+    ) -> list[str]:
         """The tokens that an operation takes: for the elements of its parameters, or for what it
         writes and asks for."""
         if self.tokens == "sorts":
             return [f"takes t{sort} ( {name} )" for name, sort in params.items() if self.often()]
         if self.tokens == "none":
             return []
-        found = {}
+        found: dict[str, str] = {}
         for things, mode in ((written, " exclusive"), (read, " shared")):
             for thing, args in things:
                 if args[:1] != ["*"] and self.often():
                     found.setdefault(f"takes {self.reading(f't{thing}', args[:1])}", mode)
         return [line + mode * (self.tokens == "shared") for line, mode in list(found.items())[:4]]
 
-    def text(self):
+    def text(self) -> str:
         chance = self.chance
         lines = [
             f"cise {1 + (self.tokens == 'shared')}",
@@ -751,7 +810,7 @@ class Draft:
         return "\n".join(lines) + "\n"
 
 
-def generated(seed):
+def generated(seed: int) -> str:
     """The specification that is drawn from a seed: the first draft with as many obligations as are
     wanted, which are fewer after each draft."""
     chance = random.Random(seed)
@@ -763,11 +822,11 @@ def generated(seed):
         wanted = max(wanted * 0.97, LEAST_OBLIGATIONS)
 
 
-def is_seed(word):
+def is_seed(word: str) -> bool:
     return re.fullmatch("r[0-9]+", word) is not None
 
 
-def given(word):
+def specification_of(word: str) -> str:
     """The text that a word of the command line stands for."""
     if word.isdigit():
         return sample(int(word))
@@ -786,14 +845,12 @@ class Compared:
     wrong     what contradicts
     """
 
-    def __init__(self, text, runs, *options):
-        self.problems, self.verdicts, self.seconds, self.wrong, mine = (
-            Problems(Spec(text)),
-            {},
-            {},
-            [],
-            [],
-        )
+    def __init__(self, text: str, runs: int, *options: str) -> None:
+        self.problems = Problems(Spec(text))
+        self.verdicts: dict[str, dict[str, str]] = {}
+        self.seconds: dict[str, float] = {}
+        self.wrong: list[Any] = []
+        mine: list[float] = []
         left = encoded(self.problems)
         with tempfile.NamedTemporaryFile("w", suffix=".cise") as spec:
             spec.write(text)
@@ -812,7 +869,7 @@ class Compared:
         self.blocks, self.mine = Report(report).blocks, min(mine)
         self.contradict()
 
-    def has_run(self, title, names, lines):
+    def has_run(self, title: str, names: list[str], lines: list[str]) -> bool:
         try:
             said, seconds = z3(lines, MOST_SECONDS)
         except subprocess.TimeoutExpired:
@@ -825,14 +882,14 @@ class Compared:
         return True
 
     @property
-    def fastest(self):
+    def fastest(self) -> str:
         return min(self.seconds, key=self.seconds.get, default=None)
 
     @property
-    def least(self):
+    def least(self) -> float:
         return self.seconds.get(self.fastest)
 
-    def contradict(self):
+    def contradict(self) -> None:
         """Puts into `wrong` what contradicts: two answers of z3, or one of them and the checker.
         Where a refutation has a sort without elements, z3 may say `unsat`."""
         names, both = sorted(block.words() for block in self.blocks), {"proved", "refuted"}
@@ -844,14 +901,14 @@ class Compared:
                 for verdicts in self.verdicts.values()
                 if block.words() in verdicts
             }
-            is_empty = block.verdict == "refuted" and 0 in block.witness.sizes.values()
+            is_empty = block.verdict == "refuted" and 0 in given(block.witness).sizes.values()
             if both <= said or both <= {block.verdict, *said} and not is_empty:
                 self.wrong.append(
                     f"{block.words()}: {block.verdict} here, {' and '.join(sorted(said))} by z3"
                 )
 
 
-def compare(title, text):
+def compare(title: str, text: str) -> bool:
     """Prints the verdicts that differ, and the times, of one specification. Whether nothing
     contradicts."""
     found = Compared(text, 3, "--budget", "1000000")
@@ -891,7 +948,7 @@ def compare(title, text):
 Row = collections.namedtuple("Row", "name obligations mine alone least")
 
 
-def table(words):
+def table(words: list[str]) -> bool:
     """Prints the table of these specifications, or of all. Whether nothing contradicts."""
     whole, words = "--all" in words, [word for word in words if word != "--all"]
     words = words or sorted(
@@ -900,9 +957,12 @@ def table(words):
             *glob.glob("cases/**/*.cise", recursive=True),
         ]
     ) + ["12", *GENERATED]
-    rows, slow, wrong, fastest, undecided, unknown = [], [], [], dict.fromkeys(ENCODINGS, 0), 0, 0
+    fastest, undecided, unknown = dict.fromkeys(ENCODINGS, 0), 0, 0
+    rows: list[Any] = []
+    slow: list[Any] = []
+    wrong: list[Any] = []
     for word in words:
-        found = Compared(given(word), RUNS)
+        found = Compared(specification_of(word), RUNS)
         name = f"sample {word}" if word.isdigit() else word
         wrong += [f"`{name}`: {line}" for line in found.wrong]
         if found.fastest is None:
@@ -941,7 +1001,7 @@ def table(words):
     return not wrong
 
 
-def print_rows(rows, most):
+def print_rows(rows: list[Any], most: int) -> None:
     """Prints so many rows, and of the rest one line."""
     print(
         "| File | Obligations | Checker, seconds | Z3 alone, seconds | Ratio | Z3 fastest, seconds"
@@ -965,7 +1025,9 @@ def print_rows(rows, most):
         )
 
 
-def print_means(title, times, own_start, start):
+def print_means(
+    title: str, times: list[tuple[str, float, float]], own_start: float, start: float
+) -> None:
     """Prints a line on files, which are given by name, with the seconds of the checker and of Z3:
     on all, and in brackets on the generated ones and the others."""
     groups = [
@@ -988,7 +1050,7 @@ def print_means(title, times, own_start, start):
     )
 
 
-def mean(ratios):
+def mean(ratios: list[float]) -> str:
     return f"{statistics.geometric_mean(ratios):.1f}" if ratios else "-"
 
 
@@ -1006,4 +1068,4 @@ if __name__ == "__main__":
     allocator.set_for_programs()
     if sys.argv[1:2] == ["--table"]:
         sys.exit(0 if table(sys.argv[2:]) else 1)
-    sys.exit(0 if all([compare(word, given(word)) for word in sys.argv[1:]]) else 1)
+    sys.exit(0 if all([compare(word, specification_of(word)) for word in sys.argv[1:]]) else 1)
