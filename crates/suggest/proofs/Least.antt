@@ -19,8 +19,8 @@ use Rattle.conflict_variants.specs.Bare.{bare}
 use Rattle.conflict_variants.specs.Keyed.{keyed}
 use Rattle.conflict_variants.proofs.WellFormed.{bare_well_formed}
 use Rattle.suggest.specs.Pairs.{PairHolds, IsPair, IsEnough, pairs_of, keys_of}
-use Rattle.suggest.specs.Answers.{IsFoundIn, is_refuted, is_undecided, is_proved, keys_after, AreKeyAnswers, IsAnswer, AreAnswers, is_for, is_needed, is_unknown, is_key, is_enough_by}
-use Rattle.suggest.specs.Theorem.{IsShownToBreak, IsBroken, IsRight}
+use Rattle.suggest.specs.Answers.{IsFoundIn, is_refuted, is_undecided, is_proved, keys_after, AreKeyAnswers, IsAnswer, AreAnswers, AreAnswersSoFar, is_for, is_needed, is_unknown, is_key, is_enough_by}
+use Rattle.suggest.specs.Theorem.{IsShownToBreak, AreShownToBreak, IsBroken, IsRight}
 use Rattle.suggest.specs.declared.answer.Pair.{Pair}
 use Rattle.suggest.specs.declared.answer.Key.{Key}
 use Rattle.suggest.specs.declared.answer.Found.{Found}
@@ -63,11 +63,17 @@ answer_for d budget (q ∷ ps) (x ∷ xs) g p m = elim (cons_cases q ps p m) [
   | inr r ↦ (let k = answer_for d budget ps xs g.1 p r in (k.0, there x xs k.0 k.1, k.2))
 ]
 
+-- answers for all of these pairs are answers for the first of them
+so_far : (d : Specification) (budget : ℕ) (ps : List Pair) (xs : List PairAnswer) → AreAnswers d budget ps xs → AreAnswersSoFar d budget ps xs
+so_far d budget [] [] g = tt
+so_far d budget [] (x ∷ xs) g = absurd g
+so_far d budget (p ∷ ps) [] g = tt
+so_far d budget (p ∷ ps) (x ∷ xs) g = (g.0, so_far d budget ps xs g.1)
+
 -- the pair of an answer, and the parameters of one at two of them
-pair_of : (d : Specification) (budget : ℕ) (ps : List Pair) (xs : List PairAnswer) → AreAnswers d budget ps xs → (x : PairAnswer) → Contains xs x → (p : Pair) × IsAnswer d budget p x
-pair_of d budget [] [] g x m = absurd (nowhere x m)
+pair_of : (d : Specification) (budget : ℕ) (ps : List Pair) (xs : List PairAnswer) → AreAnswersSoFar d budget ps xs → (x : PairAnswer) → Contains xs x → (p : Pair) × IsAnswer d budget p x
+pair_of d budget ps [] g x m = absurd (nowhere x m)
 pair_of d budget [] (y ∷ xs) g x m = absurd g
-pair_of d budget (p ∷ ps) [] g x m = absurd g
 pair_of d budget (p ∷ ps) (y ∷ xs) g x m = elim (cons_cases y xs x m) [
   | inl e ↦ (p, subst (λ (z : PairAnswer). IsAnswer d budget p z) e g.0)
   | inr r ↦ pair_of d budget ps xs g.1 x r
@@ -147,6 +153,27 @@ module _ (holds : (d : Specification) (budget : ℕ) (ob : Obligation) (log : Li
         breaks = breaks d budget ob (shown_by d w) w.elements r.refutes;
       }
 
+  module _ (d : Specification) (budget : ℕ) (xs : List PairAnswer) (good : AreAnswersSoFar d budget (pairs_of d) xs) where
+    needed_shown : (x : PairAnswer) (ob : Obligation) (w : Witness) → Contains xs x → x.found ≡ found.Refuted ob w → IsShownToBreak (bare d) x.pair.first x.pair.second ob w
+    needed_shown x ob w m e =
+        let r = pair_of d budget (pairs_of d) xs good x m in
+        let same = r.1.pair_is in
+        moved (λ i j. IsShownToBreak (bare d) i j ob w) r.0.first r.0.second x.pair.first x.pair.second (ap (λ (p : Pair). p.first) (sym same)) (ap (λ (p : Pair). p.second) (sym same))
+        (shown_breaks (bare d) budget r.0.first r.0.second x.found ob w r.1.bare_found e)
+
+    notby_shown : (x : PairAnswer) (y : KeyAnswer) (ob : Obligation) (w : Witness) → Contains xs x → Contains x.keys y → y.found ≡ found.Refuted ob w
+        → IsShownToBreak (keyed d x.pair.first y.key.p x.pair.second y.key.q) x.pair.first x.pair.second ob w
+    notby_shown x y ob w m k e =
+        let r = pair_of d budget (pairs_of d) xs good x m in
+        let t = key_of d budget r.0.first r.0.second (keys_after x.found (keys_of d r.0.first r.0.second)) x.keys r.1.keys y k in
+        let same = r.1.pair_is in let at = t.1 in
+        moved (λ i j. IsShownToBreak (keyed d i y.key.p j y.key.q) i j ob w) r.0.first r.0.second x.pair.first x.pair.second (ap (λ (p : Pair). p.first) (sym same)) (ap (λ (p : Pair). p.second) (sym same))
+        (moved (λ i j. IsShownToBreak (keyed d r.0.first i r.0.second j) r.0.first r.0.second ob w) t.0.p t.0.q y.key.p y.key.q (ap (λ (z : Key). z.p) (sym at)) (ap (λ (z : Key). z.q) (sym at))
+        (shown_breaks (keyed d r.0.first t.0.p r.0.second t.0.q) budget r.0.first r.0.second y.found ob w t.2 e))
+
+    pub shown_so_far : AreShownToBreak d xs
+    shown_so_far = record { needed = needed_shown; notby = notby_shown }
+
   module _ (d : Specification) (budget : ℕ) (xs : List PairAnswer) (good : AreAnswers d budget (pairs_of d) xs) where
     needed_breaks : (a b : ℕ) → is_needed xs a b ≡ true → IsPair d a b × IsBroken (bare d) a b
     needed_breaks a b n =
@@ -192,27 +219,9 @@ module _ (holds : (d : Specification) (budget : ℕ) (ob : Obligation) (log : Li
         (moved (λ i j. PairHolds (keyed d r.0.first i r.0.second j) r.0.first r.0.second) k.0.p k.0.q p q f.0 f.1
         (proved_holds (keyed d r.0.first k.0.p r.0.second k.0.q) budget r.0.first r.0.second k.1.found k.3 s.1))
 
-    needed_shown : (x : PairAnswer) (ob : Obligation) (w : Witness) → Contains xs x → x.found ≡ found.Refuted ob w → IsShownToBreak (bare d) x.pair.first x.pair.second ob w
-    needed_shown x ob w m e =
-        let r = pair_of d budget (pairs_of d) xs good x m in
-        let same = r.1.pair_is in
-        moved (λ i j. IsShownToBreak (bare d) i j ob w) r.0.first r.0.second x.pair.first x.pair.second (ap (λ (p : Pair). p.first) (sym same)) (ap (λ (p : Pair). p.second) (sym same))
-        (shown_breaks (bare d) budget r.0.first r.0.second x.found ob w r.1.bare_found e)
-
-    notby_shown : (x : PairAnswer) (y : KeyAnswer) (ob : Obligation) (w : Witness) → Contains xs x → Contains x.keys y → y.found ≡ found.Refuted ob w
-        → IsShownToBreak (keyed d x.pair.first y.key.p x.pair.second y.key.q) x.pair.first x.pair.second ob w
-    notby_shown x y ob w m k e =
-        let r = pair_of d budget (pairs_of d) xs good x m in
-        let t = key_of d budget r.0.first r.0.second (keys_after x.found (keys_of d r.0.first r.0.second)) x.keys r.1.keys y k in
-        let same = r.1.pair_is in let at = t.1 in
-        moved (λ i j. IsShownToBreak (keyed d i y.key.p j y.key.q) i j ob w) r.0.first r.0.second x.pair.first x.pair.second (ap (λ (p : Pair). p.first) (sym same)) (ap (λ (p : Pair). p.second) (sym same))
-        (moved (λ i j. IsShownToBreak (keyed d r.0.first i r.0.second j) r.0.first r.0.second ob w) t.0.p t.0.q y.key.p y.key.q (ap (λ (z : Key). z.p) (sym at)) (ap (λ (z : Key). z.q) (sym at))
-        (shown_breaks (keyed d r.0.first t.0.p r.0.second t.0.q) budget r.0.first r.0.second y.found ob w t.2 e))
-
     pub right : IsRight d xs
     right = record {
-      needed_shown = needed_shown;
-      notby_shown = notby_shown;
+      shown = shown_so_far d budget xs (so_far d budget (pairs_of d) xs good);
       broken = λ a b n. (needed_breaks a b n).1;
       least = least;
       free = free;

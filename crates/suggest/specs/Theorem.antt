@@ -35,17 +35,21 @@ pub record IsBroken (d : Specification) (a b : ℕ) : Type 0 where
   pub elements : List ℕ
   pub breaks : Breaks d obligation world state calls elements
 
--- What answers for the pairs of a specification say.
-pub record IsRight (d : Specification) (answers : List PairAnswer) : Type 0 where
-  -- Each block under `needed` breaks an obligation of its pair in the bare specification. Each block
-  -- under `notby` does so in the keyed one.
-  pub needed_shown : (x : PairAnswer) (ob : Obligation) (w : Witness) → Contains answers x
+-- Each refutation in answers for pairs of a specification is right: the block under `needed` breaks an obligation of its pair in the bare
+-- specification, and each block under `notby` does so in the keyed one.
+pub record AreShownToBreak (d : Specification) (answers : List PairAnswer) : Type 0 where
+  pub needed : (x : PairAnswer) (ob : Obligation) (w : Witness) → Contains answers x
       → x.found ≡ found.Refuted ob w
       → IsShownToBreak (bare d) x.pair.first x.pair.second ob w
-  pub notby_shown : (x : PairAnswer) (y : KeyAnswer) (ob : Obligation) (w : Witness)
+  pub notby : (x : PairAnswer) (y : KeyAnswer) (ob : Obligation) (w : Witness)
       → Contains answers x → Contains x.keys y → y.found ≡ found.Refuted ob w
       → IsShownToBreak (keyed d x.pair.first y.key.p x.pair.second y.key.q) x.pair.first
       x.pair.second ob w
+
+-- What answers for the pairs of a specification say.
+pub record IsRight (d : Specification) (answers : List PairAnswer) : Type 0 where
+  -- Each refutation breaks an obligation of its pair.
+  pub shown : AreShownToBreak d answers
   -- An obligation of each needed pair is broken where nothing conflicts.
   pub broken : (a b : ℕ) → is_needed answers a b ≡ true → IsBroken (bare d) a b
   -- Each set of pairs that is enough contains all needed ones.
