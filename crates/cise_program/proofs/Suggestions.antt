@@ -5,8 +5,8 @@ use Rattle.spec_core.specs.Specification.{Specification}
 use Rattle.spec_from_bytes.specs.Refusal.{IsSpecificationOf}
 use Rattle.suggest.specs.declared.answer.PairAnswer.{PairAnswer}
 use Rattle.suggest.specs.Pairs.{pairs_of}
-use Rattle.suggest.specs.Answers.{AreAnswers, counted, is_unknown}
-use Rattle.suggest.specs.Theorem.{IsRight}
+use Rattle.suggest.specs.Answers.{AreAnswers, AreAnswersSoFar, counted, is_unknown}
+use Rattle.suggest.specs.Theorem.{AreShownToBreak, IsRight}
 use Rattle.cise_program.specs.declared.words.Job.{Job}
 use Rattle.cise_program.specs.declared.words.Job.TheVariants.{OfSpec}
 use Rattle.cise_program.specs.declared.words.Task.TheVariants.{Suggest}
@@ -18,13 +18,14 @@ use Rattle.cise_program.specs.Headline.{is_outcome, IsSuggestedRightly, Suggests
 -- what the layer below promises of suggestions
 pub record OfSuggestions : Type 0 where
   pub right : (d : Specification) (budget : ℕ) (answers : List PairAnswer) → AreAnswers d budget (pairs_of d) answers → IsRight d answers
+  pub so_far : (d : Specification) (budget : ℕ) (answers : List PairAnswer) → AreAnswersSoFar d budget (pairs_of d) answers → AreShownToBreak d answers
   pub complete : (answers : List PairAnswer) → (counted answers).unknown ≡ 0 → (a b : ℕ) → is_unknown answers a b ≡ false
 
 none_unknown : (n status : ℕ) → status ≡ status_by n → status ≡ 0 → n ≡ 0
 none_unknown zero status e h = refl
 none_unknown (suc n) status e h = absurd (let k : 5 ≡ 0 = sym e ∙ h in cc)
 
-right_suggested : (bytes : List ℕ) (d : Specification) (status : ℕ) (text : List ℕ) → OfSuggestions → IsSpecificationOf bytes d → IsSuggested d status text → IsSuggestedRightly bytes text status
+pub right_suggested : (bytes : List ℕ) (d : Specification) (status : ℕ) (text : List ℕ) → OfSuggestions → IsSpecificationOf bytes d → IsSuggested d status text → IsSuggestedRightly bytes text status
 right_suggested bytes d status text laws read s =
     let answers = s.suggested.answers in
     let right = laws.right d suggest_budget answers s.suggested.good in

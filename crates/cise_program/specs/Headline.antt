@@ -1,6 +1,6 @@
--- What status 0 of a check, or of a report that is verified or upgraded, says, what a refutation says, also in a report that was stopped, what a
--- replay or a simulation of a safe specification keeps, how a written report is verified, what a suggestion says, for what bytes are
--- refused, and which statuses may come at all.
+-- What status 0 of a check, or of a report that is verified or upgraded, says, what a refutation says, what a replay or a simulation of a safe
+-- specification keeps, how a written report is verified, what a suggestion says, what a refutation says in a report or a suggestion that was
+-- stopped, for what bytes are refused, and which statuses may come at all.
 use Rattle.std.specs.Prelude.{◌≡◌, ◌⊎◌, ℕ, ◌≤◌, length, Bool, true, ◌||◌, ◌==◌, List, ◌∷◌, Option, None, Some, IfSome, Ok, slice_get, codes}
 use Rattle.std.specs.Io.KnownBytes.{Appends}
 use Rattle.byte_ports.specs.Ending.{IsFrontOf, IsBroken}
@@ -30,8 +30,8 @@ use Rattle.report_verifier.specs.Verified.{most_report_bytes, AreBytesOf}
 use Rattle.suggest.specs.declared.answer.PairAnswer.{PairAnswer}
 use Rattle.suggest.specs.Pairs.{IsEnough}
 use Rattle.suggest.specs.Answers.{is_needed}
-use Rattle.suggest.specs.Texts.{suggest_text}
-use Rattle.suggest.specs.Theorem.{IsRight as SaysRightly}
+use Rattle.suggest.specs.Texts.{suggest_text, opening_text as suggestion_opening}
+use Rattle.suggest.specs.Theorem.{AreShownToBreak, IsRight as SaysRightly}
 use Rattle.cise_program.specs.declared.words.Task.{Task}
 use Rattle.cise_program.specs.declared.words.Task.TheVariants.{Check, Verify, Upgrade, Replay, Simulate, Suggest, Spell}
 use Rattle.cise_program.specs.declared.words.Job.{Job}
@@ -104,34 +104,6 @@ Refutes (Some (OfSpec task)) spec extra held_before held_after =
     RefutesOf task spec extra held_before held_after
 Refutes _ spec extra held_before held_after = Unit {0}
 
--- ---- stopped reports
-
--- Some bytes are a specification, and others a front of the head and the first blocks of a report on it, in which each refutation is right.
-pub record IsOpenedRightly (bytes front : List ℕ) : Type 0 where
-  pub specification : Specification
-  pub read : IsSpecificationOf bytes specification
-  pub budget : ℕ
-  pub verdicts : List Verdict
-  pub written : IsFrontOf (opening_text specification budget verdicts) front
-  pub right : AreRight specification (forms_of specification verdicts)
-
--- a line that begins with the word `refused`
-abbrev pub IsRefusalLine : List ℕ → Type 0
-IsRefusalLine text = (words : List (List ℕ)) × (text ≡ line (codes "refused" ∷ words))
-
--- What a stopped run may leave: a front of a refusal; of a report in which each refutation is right; or of the head and the first blocks of
--- one, in which each is right too. So each whole block of a refutation that was written is right.
-abbrev pub IsRightFront : List ℕ → List ℕ → Type 0
-IsRightFront bytes front =
-    ((text : List ℕ) × IsRefusalLine text × IsFrontOf text front)
-    ⊎ (((report : List ℕ) × IsRefutedRightly bytes report × IsFrontOf report front)
-    ⊎ IsOpenedRightly bytes front)
-
--- Nothing was written, or such a front, for the specification that the first source told.
-abbrev pub StopsRightly : Option (List ℕ) → Option (List ℕ) → Option (List ℕ) → Type 0
-StopsRightly spec held_before held_after =
-    IfSome spec (λ bytes. IsBroken (IsRightFront bytes) held_before held_after)
-
 -- ---- replays
 
 -- Where the bytes are a safe specification, no replay of it ends with status 1. And in the replay of the schedule that the second source
@@ -185,6 +157,74 @@ SuggestsRightly spec status held_before held_after =
     IfSome spec
     (λ bytes. (text : List ℕ) × Appends held_before held_after text
     × IsSuggestedRightly bytes text status)
+
+-- ---- stopped reports
+
+-- Some bytes are a specification, and others a front of the head and the first blocks of a report on it, in which each refutation is right.
+pub record IsOpenedRightly (bytes front : List ℕ) : Type 0 where
+  pub specification : Specification
+  pub read : IsSpecificationOf bytes specification
+  pub budget : ℕ
+  pub verdicts : List Verdict
+  pub written : IsFrontOf (opening_text specification budget verdicts) front
+  pub right : AreRight specification (forms_of specification verdicts)
+
+-- a line that begins with the word `refused`
+abbrev pub IsRefusalLine : List ℕ → Type 0
+IsRefusalLine text = (words : List (List ℕ)) × (text ≡ line (codes "refused" ∷ words))
+
+-- What a stopped check or upgrade may leave: a front of a refusal; of a report in which each refutation is right; or of the head and the
+-- first blocks of one, in which each is right too. So each whole block of a refutation that was written is right.
+abbrev pub IsRightFront : List ℕ → List ℕ → Type 0
+IsRightFront bytes front =
+    ((text : List ℕ) × IsRefusalLine text × IsFrontOf text front)
+    ⊎ (((report : List ℕ) × IsRefutedRightly bytes report × IsFrontOf report front)
+    ⊎ IsOpenedRightly bytes front)
+
+-- ---- stopped suggestions
+
+-- Some bytes are a specification, and others a front of the head of a suggestion for it and of answers for its first pairs, in which each
+-- refutation is right.
+pub record IsSuggestedSoFar (bytes front : List ℕ) : Type 0 where
+  pub specification : Specification
+  pub read : IsSpecificationOf bytes specification
+  pub answers : List PairAnswer
+  pub written : IsFrontOf (suggestion_opening specification answers) front
+  pub right : AreShownToBreak specification answers
+
+-- What a stopped suggestion may leave: a front of a refusal; of a suggestion that is right; or of the head and the first answers of one, in
+-- which each refutation is right too. So each whole block under `needed` or `notby` that was written breaks its obligation.
+abbrev pub IsRightSuggestionFront : List ℕ → List ℕ → Type 0
+IsRightSuggestionFront bytes front =
+    ((text : List ℕ) × IsRefusalLine text × IsFrontOf text front)
+    ⊎ (((status : ℕ) × (text : List ℕ) × IsSuggestedRightly bytes text status
+    × IsFrontOf text front)
+    ⊎ IsSuggestedSoFar bytes front)
+
+-- ---- stopped runs
+
+-- Nothing was written, or such a front, for the specification that the first source told.
+abbrev pub LeavesRightly : (List ℕ → List ℕ → Type 0) → Option (List ℕ) → Option (List ℕ)
+    → Option (List ℕ) → Type 0
+LeavesRightly IsRightlyLeft spec held_before held_after =
+    IfSome spec (λ bytes. IsBroken (IsRightlyLeft bytes) held_before held_after)
+
+-- where a task writes refutations, each that was written before it was stopped is right
+abbrev pub StopsOf : Task → Option (List ℕ) → Option (List ℕ) → Option (List ℕ) → Type 0
+StopsOf (Check budget) spec held_before held_after =
+    LeavesRightly IsRightFront spec held_before held_after
+StopsOf Upgrade spec held_before held_after =
+    LeavesRightly IsRightFront spec held_before held_after
+StopsOf Suggest spec held_before held_after =
+    LeavesRightly IsRightSuggestionFront spec held_before held_after
+StopsOf _ spec held_before held_after = Unit {0}
+
+-- Where the words ask for a report or a suggestion, each refutation that was written before the run was stopped is right.
+abbrev pub StopsRightly : Option Job → Option (List ℕ) → Option (List ℕ) → Option (List ℕ)
+    → Type 0
+StopsRightly (Some (OfSpec task)) spec held_before held_after =
+    StopsOf task spec held_before held_after
+StopsRightly _ spec held_before held_after = Unit {0}
 
 -- ---- refused specifications
 

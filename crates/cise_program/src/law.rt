@@ -35,9 +35,8 @@ pub fn law_headline()
         → Appends held_before held_after text
         → Refutes (job_of words) spec extra held_before held_after }
     ensures stopped { (words : List (List ℕ)) (spec extra held_before held_after : Option (List ℕ))
-        → writes_report (job_of words) ≡ true
         → IsStopped (job_of words) spec extra held_before held_after
-        → StopsRightly spec held_before held_after }
+        → StopsRightly (job_of words) spec held_before held_after }
     ensures suggested { (words : List (List ℕ)) (spec extra : Option (List ℕ))
         (status : ℕ) (text : List ℕ)
         (held_before held_after : Option (List ℕ))

@@ -154,12 +154,13 @@ pub fn run<S: Source, E: Source, K: Sink>(
     ensures proved { result ≡ 0 → judges (job_of (map string_bytes words.now)) ≡ true
         → IfSome (S.left spec.old) IsProved }
 
-    // Each refutation that is written or verified breaks its obligation, also in what a stopped check or upgrade has written.
+    // Each refutation that is written or verified breaks its obligation, also in what a stopped check, upgrade or suggestion has written.
     ensures refuted { is_outcome result ≡ true
         → Refutes (job_of (map string_bytes words.now)) (S.left spec.old) (E.left extra.old)
         (K.held out.old) (K.held out.new) }
-    ensures stopped { 6 < result → writes_report (job_of (map string_bytes words.now)) ≡ true
-        → StopsRightly (S.left spec.old) (K.held out.old) (K.held out.new) }
+    ensures stopped { 6 < result
+        → StopsRightly (job_of (map string_bytes words.now)) (S.left spec.old) (K.held out.old)
+        (K.held out.new) }
 
     // And a safe specification is never replayed to a state that breaks an invariant, nor simulated to one.
     ensures safe { job_of (map string_bytes words.now) ≡ Some (OfSpec Replay)

@@ -52,8 +52,8 @@ returns-in-Some-OfSpec-clause-safe g c = λ replay.
     (λ below. let a = returns-in-Some-OfSpec-clause-answered g c below in (a.0, a.1))
 
 pub returns-in-Some-OfSpec-clause-stopped : goal.returns-in-Some-OfSpec-clause-stopped
-returns-in-Some-OfSpec-clause-stopped g c = λ high writes.
-    c.law_headline.ensures.stopped (map string_bytes c.args.words.now) (g.S.Source.left c.args.spec.now) (g.E.Source.left c.args.extra.now) (g.K.Sink.held c.args.out.now) (g.K.Sink.held c.answer_task.new.out) writes
+returns-in-Some-OfSpec-clause-stopped g c = λ high.
+    c.law_headline.ensures.stopped (map string_bytes c.args.words.now) (g.S.Source.left c.args.spec.now) (g.E.Source.left c.args.extra.now) (g.K.Sink.held c.args.out.now) (g.K.Sink.held c.answer_task.new.out)
     (returns-in-Some-OfSpec-clause-front g c high)
 
 pub returns-in-Some-OfSpec-clause-verified : goal.returns-in-Some-OfSpec-clause-verified
@@ -99,6 +99,11 @@ pub returns-in-Some-Sample-clause-front : goal.returns-in-Some-Sample-clause-fro
 returns-in-Some-Sample-clause-front g c =
     (Ends-sample c.in-Some-Sample.number (job_of (map string_bytes c.args.words.now)) (g.S.Source.left c.args.spec.now) (g.E.Source.left c.args.extra.now) c.sample.result _ _
     (ap Some (sym c.in-Some-Sample.field-0-is) ∙ c.in-Some-Sample.ensures) c.sample.ensures.ends).front
+
+pub returns-in-Some-Sample-clause-stopped : goal.returns-in-Some-Sample-clause-stopped
+returns-in-Some-Sample-clause-stopped g c = λ high.
+    c.law_headline.ensures.stopped (map string_bytes c.args.words.now) (g.S.Source.left c.args.spec.now) (g.E.Source.left c.args.extra.now) (g.K.Sink.held c.args.out.now) (g.K.Sink.held c.sample.new.out)
+    (returns-in-Some-Sample-clause-front g c high)
 
 pub returns-in-Some-Sample-clause-read : goal.returns-in-Some-Sample-clause-read
 returns-in-Some-Sample-clause-read g c = λ below.
