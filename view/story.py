@@ -16,10 +16,13 @@ from view.words import Word
 # For each limit of an undecided obligation what was met, and what to try.
 LIMITS = {
     "instances": (
-        "It has more than 20,000 ground cases, so it was not searched.",
         (
-            "Fewer variables in one invariant, fewer parameters in one operation, or fewer"
-            " constants make it smaller."
+            "It has more than 20,000 ground cases, so it was not searched. Often most are pairs of"
+            " tuples: 6 names of a sort give a relation of three places 23,220 pairs."
+        ),
+        (
+            "A sort of its own for each role, fewer places, parameters and variables, fewer"
+            " constants, or fewer relations of two and three places make it smaller."
         ),
     ),
     "lines": (
