@@ -5,7 +5,7 @@ from __future__ import annotations
 
 from typing import TYPE_CHECKING, Iterator
 
-from view import order, program, reaching
+from view import order, program, reaching, small_worlds
 from view.columns import WIDTH, table, wrapped
 from view.given import given
 from view.inputs import name_of, text_of
@@ -13,7 +13,7 @@ from view.outcome import failing_line
 from view.output import visible
 from view.places import findings
 from view.report import Block, Report
-from view.run_text import in_short
+from view.run_text import count_of, in_short
 from view.story import Call, Story, numbered, stories, title
 from view.tree import Line, Spec
 from view.words import Word
@@ -43,7 +43,7 @@ def answer(
     """The status and the text. Without a report the program checks the specification, with one it
     verifies that, which takes no budget. With `places` the text has a line for each refuted and
     undecided obligation, as editors read it; with `all` all stories are told. With `no_reach` no
-    run from the start is looked for."""
+    run from the start is looked for, and no break in a small world."""
     limit = () if budget is None else ("--budget", budget)
     if report_path is None:
         status, text = program.answer("check", path, *limit)
@@ -58,25 +58,16 @@ def answer(
 
 def explained(spec: Spec, report: Report, most: int | None = None, with_reach: bool = False) -> str:
     """A report in words: a line for each operation and each pair of which there is something to
-    say, so many stories, the next steps, and the counts. Beside each story stands what a short
-    search for a run to it has found, where that is asked for.
+    say, so many stories, the next steps, and the counts. Beside each story stands what short
+    searches have found, where they are asked for.
     """
     numbers, pairs = numbered(spec, report), order.pairs(spec, report.blocks)
     lines, count = overview(spec, report, numbers, pairs) + [""], max(numbers.values(), default=0)
     told = stories(spec, report, most)
-    found = (
-        reaching.in_short(spec, [it.block for it in told if it.verdict == "refuted"])
-        if with_reach
-        else {}
-    )
+    found = searched(spec, report, told, pairs) if with_reach else {}
     for number, it in enumerate(told, 1):
         lines += tell(it, number, pairs.get(it.block.pair() or ("", "")))
-        if it.block in found:
-            lines += [
-                "",
-                *(line for said in in_short(spec, found[it.block]) for line in wrapped(said, 2)),
-            ]
-        lines.append("")
+        lines += [*found.get(it.block, []), ""]
     if most is not None and count > most:
         lines += wrapped(
             f"Stories {most + 1} to {count} aren't told here; with --all they are."
@@ -87,6 +78,23 @@ def explained(spec: Spec, report: Report, most: int | None = None, with_reach: b
         f" {report.undecided} undecided"
     )
     return "\n".join(lines) + "\n"
+
+
+def searched(
+    spec: Spec, report: Report, told: list[Story], pairs: dict[tuple[str, str], order.Pair]
+) -> dict[Block, list[str]]:
+    """What short searches have found, as lines behind a story: for runs to what is refuted, and for
+    breaks of what has too many formulas."""
+    runs = reaching.in_short(spec, [it.block for it in told if it.verdict == "refuted"])
+    found = {
+        block: ["", *(line for said in in_short(spec, it) for line in wrapped(said, 2))]
+        for block, it in runs.items()
+    }
+    undecided = [it.block for it in told if it.verdict == "undecided"]
+    for block, tried in small_worlds.tried(spec, report, undecided).items():
+        pair = pairs.get(block.pair() or ("", ""))
+        found[block] = ["", *in_small_worlds(spec, report, tried, pair)]
+    return found
 
 
 def next_steps(report: Report) -> str:
@@ -176,6 +184,12 @@ def tell(story: Story, number: int, pair: order.Pair | None) -> list[str]:
             + [""]
             + sources(story.spec, story.lines)
         )
+    return lines + refuted(story, pair)
+
+
+def refuted(story: Story, pair: order.Pair | None) -> list[str]:
+    """A story of what breaks, without its head."""
+    lines: list[str] = []
     who = {"init": "At the start there is:", "safety": "A replica holds:"}.get(
         story.kind, "Both replicas hold:"
     )
@@ -196,6 +210,21 @@ def tell(story: Story, number: int, pair: order.Pair | None) -> list[str]:
     for note in notes(story, pair):
         lines += ["", *wrapped("Note. " + note, 2)]
     return lines
+
+
+def in_small_worlds(
+    spec: Spec, report: Report, found: small_worlds.Tried, pair: order.Pair | None
+) -> list[str]:
+    """What was tried for an obligation in small worlds, and the break that was found."""
+    if found.found:
+        head = "By check it stays undecided. But in a small world it breaks, as verify confirms:"
+        return wrapped(head, 2) + [""] + refuted(Story(spec, found.found, report.budget), pair)
+    if not found.ways:
+        return wrapped("Worlds of one and two elements of each sort can't be tried here.", 2)
+    tried = count_of(found.ways, "way", "ways")
+    said = f"Calls at one or two elements of each sort were tried, in {tried}: none breaks it"
+    more = f", {found.open} more stay undecided" if found.open else ""
+    return wrapped(f"{said}{more}. Others weren't tried.", 2)
 
 
 def notes(story: Story, pair: order.Pair | None) -> list[str]:

@@ -122,13 +122,17 @@ def replayed(spec_path: str, schedule_path: str) -> tuple[int, str]:
     return status, text
 
 
-def run_on(text: str, *words: str, schedule: dict[str, Any] | None = None) -> tuple[int, str]:
+def run_on(
+    text: str, *words: str, schedule: dict[str, Any] | None = None, report: str | None = None
+) -> tuple[int, str]:
     """The status and the text of a run on a specification that is no file: `run_on(text, "check",
-    "--budget", "5")`. With a schedule, a value that is written as JSON, that is the second
-    input."""
+    "--budget", "5")`. With a schedule, a value that is written as JSON, or with a report, that is
+    the second input."""
     texts = [text.encode("utf-8", "surrogateescape")]
     if schedule is not None:
         texts.append(json.dumps(schedule).encode())
+    if report is not None:
+        texts.append(report.encode("utf-8", "surrogateescape"))
     copies: list[Copy] = []
     try:
         for it in texts:

@@ -112,11 +112,11 @@ OBLIGATIONS = ("init ", "safety ", "commute ", "stable ")
 
 
 class Report:
-    """A report: its `version` and `budget`, the `blocks`, how many are `proved`, `refuted` and
-    `undecided`, and the last `word`."""
+    """A report: its `text`, its `version` and `budget`, the `blocks`, how many are `proved`,
+    `refuted` and `undecided`, and the last `word`."""
 
     def __init__(self, text: str) -> None:
-        lines = text.splitlines()
+        self.text, lines = text, text.splitlines()
         self.version, self.budget, self.blocks = (
             int(lines[0].split()[2]),
             int(lines[1].split()[1]),
