@@ -7,6 +7,7 @@
 mod agreement;
 mod asked;
 mod early;
+mod learned;
 mod lookahead;
 mod orders;
 mod problems;
