@@ -2,6 +2,7 @@
 a trace."""
 from __future__ import annotations
 
+import contextlib
 import os
 import subprocess
 import sys
@@ -225,15 +226,20 @@ class Commands(InFolder):
         self.assertEqual(closed.stdout, b"7\n")
 
     def test_signals_end_it_without_a_trace(self) -> None:
-        path = self.file("slow.cise", SLOW)
-        running = subprocess.Popen(
-            [sys.executable, "-IS", "-c", CALL, "mend", path],
-            stdout=subprocess.PIPE,
-            stderr=subprocess.PIPE,
-        )
-        time.sleep(0.7)
-        running.terminate()
-        out, error = running.communicate(timeout=20)
+        """The signal comes while the program runs for the call; where the call was over before, a
+        larger design is taken."""
+        for operations in (16, 32, 64):
+            path = self.file("slow.cise", slow(operations))
+            running = subprocess.Popen(
+                [sys.executable, "-IS", "-c", CALL, "mend", path],
+                stdout=subprocess.PIPE,
+                stderr=subprocess.PIPE,
+            )
+            await_run(running)
+            running.terminate()
+            out, error = running.communicate(timeout=20)
+            if running.returncode:
+                break
         self.assertIn((running.returncode, out, error), [(143, b"", b""), (-15, b"", b"")])
 
     def test_each_command_is_quick_but_for_its_runs(self) -> None:
@@ -252,10 +258,25 @@ class Commands(InFolder):
                 self.assertLess(float(error), 0.3, words)
 
 
-SLOW = "cise 1 sort A relation r ( A ) " + " ".join(
-    f"operation f{it} ( a : A , b : A , c : A ) insert r ( a ) remove r ( b ) insert r ( c ) end"
-    for it in range(16)
-)
+def slow(operations: int) -> str:
+    """A design whose mending takes long: each two operations need an order."""
+    return "cise 1 sort A relation r ( A ) " + " ".join(
+        f"operation f{it} ( a : A , b : A , c : A ) "
+        "insert r ( a ) remove r ( b ) insert r ( c ) end"
+        for it in range(operations)
+    )
+
+
+def await_run(running: subprocess.Popen[bytes]) -> None:
+    """Waits until a call has begun to run the program, or is over."""
+    children = f"/proc/{running.pid}/task/{running.pid}/children"
+    until = time.monotonic() + 20
+    while running.poll() is None and time.monotonic() < until:
+        with contextlib.suppress(OSError):
+            with open(children, encoding="utf-8") as file:
+                if file.read().strip():
+                    return
+        time.sleep(0.01)
 
 
 def large() -> str:
