@@ -50,6 +50,16 @@ vim.ui.select = function(items, _, choose)
 end
 place(19, "requires")
 before = text()
+-- (the verdicts may still be those of the old text: there are as many of the new one)
+local asked = vim.lsp.util.make_range_params()
+asked.context = { diagnostics = vim.lsp.diagnostic.get_line_diagnostics() }
+local until_then, has_action = vim.loop.now() + 60000, false
+while not has_action and vim.loop.now() < until_then do
+  for _, it in pairs(vim.lsp.buf_request_sync(0, "textDocument/codeAction", asked, 5000) or {}) do
+    has_action = has_action or it.result and #it.result > 0
+  end
+  vim.wait(50)
+end
 vim.lsp.buf.code_action()
 wait("the tokens", function()
   return text() ~= before
