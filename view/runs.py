@@ -158,7 +158,8 @@ class Oracle:
         """The initial state."""
         kept = [f"initially {thing} {value}" for thing, value in self.spec.initially.items()]
         lines = self.asks.texts[0].split("\n")
-        at = next(at for at, it in enumerate(lines) if it.startswith("operation"))
+        operations = (at for at, it in enumerate(lines) if it.startswith("operation"))
+        at = next(operations, len(lines))
         text = "\n".join(lines[:at] + kept + lines[at:])
         return held(self.simulated(text, Steps(), 1).states[0])
 

@@ -94,6 +94,11 @@ class Cases(unittest.TestCase):
             any(it["why"] == "there is no room for more steps" for it in few.not_covered)
         )
 
+    def test_there_are_none_without_operations(self) -> None:
+        for text in ("cise 1\nsort User", "cise 1\nrelation up\ninitially up true\n"):
+            tests = generating.made(text, 1, 500)
+            self.assertEqual((tests.cases, tests.not_covered), ([], []))
+
     def test_files_that_are_none(self) -> None:
         good = json.loads(form.written(self.tests))
         bad: List[Any] = ["", "{", "[]", {}, {**good, "form": "cise tests 2"}, {**good, "cases": 3}]
