@@ -18,6 +18,8 @@ MOST_OF_SPECIFICATION, MOST_OF_SCHEDULE, MOST_BYTES = 1 << 16, 1 << 24, 1 << 26
 PIECE = 1 << 20
 # So many bytes of lines are read at a time, or one line.
 PIECE_OF_LINES = 1 << 17
+# Where Linux has the files that a process has open.
+IN_MEMORY = "/proc/self/fd/"
 
 
 class Copy:
@@ -27,9 +29,9 @@ class Copy:
 
     def __init__(self) -> None:
         self.folder: Optional[str] = None
-        if hasattr(os, "memfd_create") and os.path.isdir("/proc/self/fd"):
+        if hasattr(os, "memfd_create") and os.path.isdir(IN_MEMORY):
             self.number = above_standard(os.memfd_create("input", 0))
-            self.path = f"/proc/self/fd/{self.number}"
+            self.path = f"{IN_MEMORY}{self.number}"
         else:
             self.folder = tempfile.mkdtemp(prefix="cise-")
             self.path = os.path.join(self.folder, "input")
@@ -124,6 +126,11 @@ def is_file(path: str) -> bool:
 def name_of(path: str) -> str:
     """What the user called the input of this path."""
     return inputs[path].name if path in inputs else path
+
+
+def is_gone(path: str) -> bool:
+    """Whether this was a copy in memory that nobody has any more."""
+    return path.startswith(IN_MEMORY) and not os.path.exists(path)
 
 
 def text_of(path: str, most: int = MOST_BYTES) -> str:

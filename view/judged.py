@@ -122,7 +122,7 @@ def reported(spec_path: str, kept: Optional[str]) -> Tuple[int, str, bool]:
     stands = None if kept is None else verified(spec_path, report_of(kept))
     if stands:
         return (*stands, True)
-    status, text = program.run("check", spec_path)
+    status, text = program.ended("check", spec_path)
     return status, text, False
 
 
@@ -133,7 +133,7 @@ def verified(spec_path: str, report_path: str) -> Optional[Tuple[int, str]]:
     except OSError:
         return None
     try:
-        status, _ = program.run("verify", spec_path, report.path)
+        status, _ = program.ended("verify", spec_path, report.path)
         return (status, report.text) if status in (OK, REFUTED) else None
     finally:
         inputs.close(report.path)
@@ -181,7 +181,7 @@ def changed_since(text: str, report: Optional[Report], kept: str) -> List[str]:
     except OSError:
         return []
     try:
-        if program.run("verify", before.path, report_of(kept))[0] != OK:
+        if program.ended("verify", before.path, report_of(kept))[0] != OK:
             return []
         lines = changed_lines(before.text, text)
         if report is not None:

@@ -86,8 +86,10 @@ def named(error: OSError) -> str:
 
 
 def unread(paths: Sequence[str]) -> str:
-    """Which of these inputs can't be read, and why."""
+    """Which of these inputs can't be read, and why; of a copy that was made for a run nothing."""
     for it in paths:
+        if inputs.is_gone(it):
+            continue
         try:
             with open(it, "rb", opener=lambda path, _: os.open(path, os.O_RDONLY | os.O_NONBLOCK)):
                 pass
@@ -101,7 +103,7 @@ def answer(words: List[str]) -> Tuple[int, str]:
     command = COMMANDS.get(words[0]) if words else None
     given = taken(command, words[1:]) if command else None
     if command is None or given is None:
-        status, text = program.run(*words)
+        status, text = program.ended(*words)
         return status, text
     module = importlib.import_module(f"view.{command.module}")
     count = len(given.paths) if command.most_inputs is None else command.most_inputs

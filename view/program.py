@@ -15,6 +15,10 @@ path = os.environ.get("CISE_PROGRAM", "crates/cise_cli/out/cise_cli")
 NAME = "cise"
 
 
+# The last status with which the program says something of its words and inputs.
+LAST_SAID = 5
+
+
 class Stopped(Exception):
     """The program gave no report, replay or suggestion: its status, and the text that it wrote.
     `main` writes that text and ends with it."""
@@ -70,11 +74,21 @@ def use(program: str) -> None:
     path = program
 
 
-def run(*words: str) -> tuple[int, str]:
+def ended(*words: str) -> tuple[int, str]:
     """The status and the text of a run of the program with these words; `OSError` where it can't be
     run."""
     out, returned = output_of([NAME, *words])
     return returned if returned >= 0 else 128 - returned, out.decode("utf-8", "surrogateescape")
+
+
+def run(*words: str) -> tuple[int, str]:
+    """The same; `Stopped`, without what it wrote till then, where the program says nothing of its
+    inputs: one couldn't be read, memory ran out, or a signal ended it. So nobody takes that for a
+    text that is refused, or for one of which nothing is known."""
+    status, text = ended(*words)
+    if status > LAST_SAID:
+        raise Stopped(words, status, "")
+    return status, text
 
 
 def output_of(words: list[str]) -> tuple[bytes, int]:
@@ -139,6 +153,8 @@ def run_on(
             copies.append(Copy())
             copies[-1].add(it)
         return run(words[0], *[it.path for it in copies], *words[1:])
+    except Stopped as stopped:  # (none of these copies is a file that anybody knows)
+        raise Stopped(words, stopped.status, stopped.text) from None
     finally:
         for copy in copies:
             copy.close()

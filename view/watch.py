@@ -70,7 +70,7 @@ def look(path: str) -> Seen:
 
 def seen_in(copy: str) -> Seen:
     """What the program says of a copy of the text."""
-    status, said = program.run("check", copy)
+    status, said = program.ended("check", copy)
     name, text = printable(inputs.name_of(copy)), inputs.text_of(copy)
     if status == 3 and said.startswith(BEGIN):
         slips = all_slips(text, said.strip())

@@ -297,7 +297,7 @@ class Kept(InFolder):
     def runs(self, *paths: str) -> Tuple[int, List[str], List[str]]:
         """The status and the lines of a call with kept reports, and the commands that it ran."""
         ran: List[str] = []
-        real = program.run
+        real = program.ended
 
         def run(*words: str) -> Tuple[int, str]:
             ran.append(words[0])
@@ -305,7 +305,7 @@ class Kept(InFolder):
 
         # (remarks make runs of their own)
         remarks = mock.patch.object(judged, "doubts", return_value=[])
-        with remarks, mock.patch.object(program, "run", run):
+        with remarks, mock.patch.object(program, "ended", run):
             status, lines = self.lines(*paths, reports="kept")
         return status, lines, ran
 

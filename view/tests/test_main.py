@@ -3,13 +3,16 @@ a trace."""
 from __future__ import annotations
 
 import contextlib
+import io
 import os
+import signal
 import subprocess
 import sys
 import tempfile
 import time
 import unittest
 from typing import Any, IO
+from unittest import mock
 
 from launch.answering import OPTIONS, VIEWS
 from view import main, program
@@ -137,6 +140,26 @@ class Commands(InFolder):
                 )
                 said = f"cise: an input couldn't be read: {words[-1]} ({why})\n"
                 self.assertEqual(called(*words), (6, b"", said.encode()))
+
+    def test_a_run_that_fails_gives_no_answer(self) -> None:
+        real, said = program.output_of, io.StringIO()
+        for command, path, failing in (
+            ("page", REFUTED, "replay"),
+            ("explain", REFUTED, "check"),
+            ("mend", REFUTED, "check"),
+            ("review", ACCEPTED, "suggest"),
+            ("tests", ACCEPTED, "simulate"),
+        ):
+            for returned, status in ((6, 6), (8, 8), (-signal.SIGKILL, 137)):
+                with self.subTest(command, returned=returned):
+
+                    def output_of(words: list[str]) -> tuple[bytes, int]:
+                        return (b"cise ", returned) if words[1] == failing else real(words)
+
+                    with mock.patch.object(program, "output_of", output_of):
+                        with contextlib.redirect_stderr(said):
+                            self.assertEqual(main.answered([command, path]), (status, ""))
+        self.assertNotIn("/proc/", said.getvalue())
 
     def test_a_refused_specification(self) -> None:
         path = self.file("d.cise", "cise 1\nsort Seat\nrelation sold ( Seat , Row )\n")

@@ -533,7 +533,7 @@ class Refusals(unittest.TestCase):
                 ([path, plan], 3),
             ):
                 with self.subTest(words=words):
-                    expected = program.run("check" if len(words) == 1 else "replay", *words)
+                    expected = program.ended("check" if len(words) == 1 else "replay", *words)
                     self.assertEqual(self.answered("page", *words), expected)
                     self.assertEqual(expected[0], status)
 
