@@ -39,6 +39,8 @@ EACH_SO_MANY = {
 }
 FUNCTION = re.compile(r"^([0-9a-f]+) [tT] (.+)$", re.M)
 JUMP = re.compile(r"^ +([0-9a-f]+):\t[0-9a-f ]+\tj(?!mp)", re.M)
+# What lists the tests of a crate, of which each is run alone.
+TEST = re.compile(r"^(.+): test$", re.M)
 # Copies of a generic function are told apart by a number, which may be another in the next program.
 COPY = re.compile(r"::<.*")
 # What is noted of a function, and of a jump.
@@ -375,6 +377,21 @@ def of_checks(coverage: Coverage) -> Iterator[str]:
         print(f"checks/{name}, {time.monotonic() - begin:.0f} s: {coverage.line()}", flush=True)
 
 
+def of_units(folder: str) -> tuple[int, set[str]]:
+    """Runs the tests of the crates that are compiled here, as `rt test` leaves them. How many these
+    are, and the functions that they enter."""
+    count, entered = 0, set()
+    for path in sorted(glob.glob(f"{TOP}/crates/*_tests/out/*_tests")):
+        own = f"{folder}/{os.path.basename(path)}"
+        os.mkdir(own)
+        coverage = Coverage(path, own)
+        for name in TEST.findall(said(coverage.started, "--list")):
+            subprocess.run([coverage.started, name], stdout=subprocess.DEVNULL, check=True)
+            count += 1
+        entered |= coverage.entered()
+    return count, entered
+
+
 def measure(program: str, folder: str) -> int:
     """Runs the checks of the gate and what they leave out, says what they enter, and compares it
     with the list; the status."""
@@ -395,7 +412,14 @@ def measure(program: str, folder: str) -> int:
     print(f"{count + 1} further runs: {coverage.line()}", flush=True)
     count = refused_memory(coverage.started, f"{folder}/growth")
     print(f"{count} runs with memory refused: {coverage.line()}", flush=True)
-    never = set(coverage.functions.values()) - coverage.entered()
+    own = set(coverage.functions.values())
+    never = own - coverage.entered()
+    count, entered = of_units(folder)
+    print(
+        f"{count} tests of crates, as far as they are compiled here: {len(own & entered)} of the "
+        f"functions entered, {len(never & entered)} of them not above",
+        flush=True,
+    )
     with open(LISTED) as file:
         wrong += differences(never, reasons(file.read()))
     print("\n".join(wrong) or f"{len(never)} are never entered, as checks/coverage.txt says")
