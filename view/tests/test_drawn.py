@@ -410,7 +410,7 @@ class Ends(unittest.TestCase):
                     drawn.answer(spec, path)
                 self.assertEqual(
                     (stopped.exception.status, stopped.exception.text),
-                    program.run("replay", spec, path),
+                    program.ended("replay", spec, path),
                 )
                 self.assertEqual(stopped.exception.status, status)
 
