@@ -15,8 +15,12 @@
 // and the rows of the t, -n times each, add up to a row without terms whose bound is negative. (By the lemma of Farkas these two ends are
 // all there are.)
 //
-// Why it ends. Of the slacks beyond their bounds, and of the columns that help, the least variable is taken each time, and then no tableau
-// comes twice (Bland). Nobody has to believe this: there is a limit of pivots.
+// Which variables change places. Of the slacks beyond their bounds the one is taken whose equation names the fewest columns, and of the
+// columns that help a name before a slack, and the one that the fewest equations name. So few equations change, and a refutation
+// rests on few rows.
+//
+// Why it ends. After a thousand pivots the least variable is taken each time, and then no tableau comes twice (Bland). Nobody has to
+// believe this: there is a limit of pivots.
 //
 // Numbers. An equation has whole numerators over one positive denominator of its own, divided by what divides them all after each pivot. So
 // nothing is rounded, and fractions are compared by products. The numbers of a tableau have one width, 64 or 128 bits (`Number`); where
@@ -32,6 +36,9 @@
 // Decisions:
 // - It knows nothing of cuts or of steps: a slack has the number of its row, and who asks makes
 //   multipliers of an equation.
+// - Which variables change places decides how many equations a pivot changes, and how many rows a
+//   refutation rests on. With the least variable each time, the questions of two searches took three
+//   and six times as many changes of equations, and their refutations had a half and a sixth more rows.
 // - With 64 bits a product is one instruction, and they serve nearly always. Where one has no room,
 //   who asks begins anew with 128.
 #![tactic(auto)]

@@ -3,15 +3,21 @@
 // A basic slack beyond its bound is to fall. In its equation a column helps that holds a name, which may move either way, or a slack with
 // a positive numerator, which may only fall from its bound. Where there is such a column the two variables change places, and the slack
 // that was basic is put to its bound. Where there is none, the equation says that the slack is a sum of slacks with negative numerators,
-// all of which are at their greatest: the sum can't fall, and so the equation's multipliers refute the rows. Of the slacks beyond their
-// bounds, and of the columns that help, the least variable is taken each time (Bland), so that no tableau comes twice; the limit of
-// pivots makes it plain that the method ends.
+// all of which are at their greatest: the sum can't fall, and so the equation's multipliers refute the rows.
+//
+// Of the slacks beyond their bounds the one is taken whose equation names the fewest columns, and of the columns that help a name before a
+// slack, and the one that the fewest equations name. So a pivot changes few equations, and a refutation rests on few rows. Where
+// that takes a thousand pivots, the least variable is taken each time (Bland), so that no tableau comes twice; the limit of pivots
+// makes it plain that the method ends.
 use crate::number::{Number, at, put, scale};
 use crate::tableau::{
     Equation, Tableau, add_numerators, expand, list_named, reduce_equation, slack_of,
 };
 use std::alloc::Global;
 use std::mem;
+
+/// Of the pivots so many are left when the least variable begins to be taken each time.
+const BLAND_PIVOTS: u32 = 1_000;
 
 /// How the pivots end.
 #[derive(Clone, Copy)]
@@ -35,28 +41,96 @@ fn is_beyond<N: Number>(tableau: &Tableau<N>, equation: &Equation<N>) -> Option<
     }
 }
 
-// The equation of the least basic slack beyond its bound; without a number where there is none.
+// Whether short equations come first. Later the least variable does.
+fn is_early<N: Number>(tableau: &Tableau<N>) -> bool {
+    tableau.pivots > BLAND_PIVOTS
+}
+
+// How many columns an equation names.
+fn count_named<N: Number>(equation: &Equation<N>) -> usize {
+    let mut count = 0usize;
+    for by in equation.numerators.as_slice() {
+        if !by.is_zero() {
+            count = count.saturating_add(1);
+        }
+    }
+    count
+}
+
+// How many equations name a column, or else that they are at least so many.
+fn count_naming<N: Number>(equations: &[Equation<N>], column: usize, enough: usize) -> usize {
+    let mut count = 0usize;
+    for equation in equations {
+        if count >= enough {
+            return count;
+        }
+        if !at(equation.numerators.as_slice(), column).is_zero() {
+            count = count.saturating_add(1);
+        }
+    }
+    count
+}
+
+// Where an equation stands among those whose basic slack is beyond its bound: the least is taken.
+fn rank_of_equation<N: Number>(tableau: &Tableau<N>, equation: &Equation<N>) -> usize {
+    if is_early(tableau) {
+        count_named(equation)
+    } else {
+        equation.basic
+    }
+}
+
+// Where a column with a variable stands among those that help: the least is taken. That it is no less than the least so far is enough.
+fn rank_of_column<N: Number>(
+    tableau: &Tableau<N>,
+    column: usize,
+    variable: usize,
+    least: usize,
+) -> usize {
+    if !is_early(tableau) {
+        return variable;
+    }
+    let before = if variable < tableau.names {
+        0
+    } else {
+        tableau.equations.len()
+    };
+    let enough = least.saturating_sub(before);
+    let naming = count_naming(tableau.equations.as_slice(), column, enough);
+    before.saturating_add(naming)
+}
+
+// The equation of a basic slack beyond its bound; without a number where there is none.
 fn leaving<N: Number>(tableau: &Tableau<N>) -> Option<Option<usize>> {
     let mut least = usize::MAX;
     let mut found = None;
     for (number, equation) in tableau.equations.iter().enumerate() {
-        if equation.basic < least && is_beyond(tableau, equation)? {
-            least = equation.basic;
-            found = Some(number);
+        if is_beyond(tableau, equation)? {
+            let rank = rank_of_equation(tableau, equation);
+            if rank < least {
+                least = rank;
+                found = Some(number);
+            }
         }
     }
     Some(found)
 }
 
-// The column with the least variable by which an equation's basic slack may fall.
+// Whether a basic slack falls where the variable of a column with this numerator moves as it may.
+fn helps<N: Number>(tableau: &Tableau<N>, variable: usize, by: N) -> bool {
+    by.is_positive() || (!by.is_zero() && variable < tableau.names)
+}
+
+// A column by which an equation's basic slack may fall.
 fn entering<N: Number>(tableau: &Tableau<N>, equation: &Equation<N>) -> Option<usize> {
     let mut least = usize::MAX;
     let mut found = None;
     for (column, by) in equation.numerators.iter().enumerate() {
-        if !by.is_zero() {
-            let variable = tableau.columns.get(column).copied()?;
-            if variable < least && (by.is_positive() || variable < tableau.names) {
-                least = variable;
+        let variable = tableau.columns.get(column).copied()?;
+        if helps(tableau, variable, *by) {
+            let rank = rank_of_column(tableau, column, variable, least);
+            if rank < least {
+                least = rank;
                 found = Some(column);
             }
         }
