@@ -37,7 +37,7 @@ fn the_only_whole_numbers_are_proposed(rt: HostRuntime) {
 
 // `2 x = y` and `y = 1`. The only fractions are 1/2, 1. There x is half the sum of the second and the last slack, with the opposite sign,
 // so a cut takes both rows once: `-2 x <= -1`, which is `-x <= -1`, row 4. The other cut is the same, since 1 and -1 are one modulo 2. No
-// fractions are left: the first and the third row are `2 x <= 1`, which is `x <= 0`, row 6, and with row 4 they give `0 <= -1`.
+// fractions are left: the third row and twice row 4 are `y - 2 x <= -1`, row 6, and with the first row they give `0 <= -1`.
 const HALF_OF_ONE: &[Line<'static>] = &[(&[2, -1], 0), (&[-2, 1], 0), (&[0, 1], 1), (&[0, -1], -1)];
 
 fn half_of_one() -> &'static [Line<'static>] {
@@ -76,6 +76,12 @@ fn is_proposed(alloc: Global, lines: &[Line], ints: u32, used: &[u32], steps: &[
 
 #[test]
 fn cuts_of_a_fraction_refute(rt: HostRuntime) {
-    let steps = [adding(1, 3), adding(1, 3), adding(0, 2), adding(6, 4)];
+    let twice = RowStep {
+        left: 2,
+        first: 1,
+        right: 4,
+        second: 2,
+    };
+    let steps = [adding(1, 3), adding(1, 3), twice, adding(6, 0)];
     assert!(rt; is_proposed(rt.alloc(), half_of_one(), 2, &[0, 1, 2, 3], &steps));
 }
