@@ -1,4 +1,4 @@
-// Formulas of a line at constants, once for each assignment of constants to its variables.
+// Instantiation: formulas of a line at constants, once for each assignment of constants to its variables.
 //
 // An assignment is chosen variable by variable, the last one fastest, in one list that grows and shrinks. So no list of all
 // assignments is made.

@@ -2,7 +2,7 @@
 //
 // Obligations next to each other may have other constants: one invariant has one variable, and the next has two. What was made for some
 // constants serves again as soon as an obligation comes whose constants are alike. So a few entries are kept, as long as they have no more
-// formulas together than three obligations may have. Which one serves is a hint (src/keys.rt).
+// formulas together than three obligations may have. Eviction is by last use. Which one serves is a hint (src/keys.rt).
 ghost use Rattle.std.specs.Prelude.{IfSome};
 ghost use Rattle.spec_core.specs.Specification.{Specification};
 ghost use Rattle.obligation_list.specs.Obligations.{IsObligation};
@@ -79,7 +79,7 @@ impl EntryCache {
         self.entries.len() < MOST_ENTRIES && formulas <= MOST_ENTRY_FORMULAS
     }
 
-    // Lets go of the entry that was used the longest ago.
+    // Evicts the entry that was used the longest ago.
     fn drop_oldest(&mut self, spec: &Spec)
         requires { AreEntries spec.now self.old }
         ensures { AreEntries spec.now self.new }
@@ -91,7 +91,7 @@ impl EntryCache {
         }
     }
 
-    // Lets go of the oldest until there is room for one with so many formulas.
+    // Evicts the oldest until there is room for one with so many formulas.
     fn make_room(&mut self, spec: &Spec, more: usize)
         requires { AreEntries spec.now self.old }
         ensures { AreEntries spec.now self.new }
@@ -104,7 +104,7 @@ impl EntryCache {
         }
     }
 
-    /// Keeps an entry. The oldest are let go where they are too many or have too many formulas, and this one where memory runs out.
+    /// Keeps an entry. The oldest are evicted where they are too many or have too many formulas, and this one is let go where memory runs out.
     pub fn put(&mut self, spec: &Spec, entry: Entry)
         requires entry { IsEntry spec.now entry }
         requires entries { AreEntries spec.now self.old }

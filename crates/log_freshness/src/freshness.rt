@@ -1,6 +1,9 @@
 // Fresh logs: no line drops a clause, and the clause of each line contains no earlier one, holds no atom both ways and isn't
 // empty.
 //
+// A clause that lies within another subsumes it. Whether an earlier clause subsumes a later one is forward subsumption, which is what an
+// index serves here.
+//
 // An index finds the earlier clauses that lie within a clause. A literal has a spot, and an earlier clause stands in the list of the
 // spot of one of its literals: the rarest, which fewest of the clauses before it had. A clause that lies within another shares that
 // literal with it, so it stands in a list of the other's spots. Its entry has the spots of the three next rarest literals too, so that a
@@ -226,7 +229,7 @@ fn any_within(
     false
 }
 
-// Whether a marked entry of a list of a clause's spots names a clause that lies within it.
+// Whether a marked entry of a list of a clause's spots names a clause that subsumes it.
 fn finds_marked(
     count: usize,
     marks: &[bool],
@@ -242,6 +245,7 @@ fn finds_marked(
         || finds_at_literals(count, marks, slots, lists, lits, hints)
 }
 
+// Whether an entry of the lists of a clause's own literals names one that subsumes it.
 fn finds_at_literals(
     count: usize,
     marks: &[bool],
@@ -647,7 +651,7 @@ fn holds_one_within(slots: &ClauseStore, number: usize, lits: &[Lit]) -> bool
     false
 }
 
-// Whether a clause contains none of those before a number, holds no atom both ways and isn't empty.
+// Whether no clause before a number subsumes a clause, and this holds no atom both ways and isn't empty.
 fn is_new(slots: &ClauseStore, number: usize, lits: &[Lit]) -> bool
     requires { number ≤ length slots.now }
     ensures { result ≡ is_new (live_of (take number slots.now)) lits.now }
@@ -655,6 +659,7 @@ fn is_new(slots: &ClauseStore, number: usize, lits: &[Lit]) -> bool
     !holds_one_within(slots, number, lits) && !holds_both_ways(lits) && !lits.is_empty()
 }
 
+// The same without an index: each clause is compared with each earlier one.
 fn each_new_by_scan(slots: &ClauseStore, given: usize) -> bool
     requires { given ≤ length slots.now }
     ensures { result ≡ each_new (live_of (take given slots.now)) (live_of (drop given slots.now)) }

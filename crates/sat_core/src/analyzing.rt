@@ -1,4 +1,5 @@
-// Analysis of conflicts: a chain of resolvents from a false clause back along the trail, and the cutting of the trail after it.
+// Analysis of conflicts: a chain of resolvents from a false clause back along the trail, and backtracking: whole decision levels are cut off
+// the trail after it.
 ghost use Rattle.std.specs.Prelude.{◌≡◌, ◌<◌, ◌≤◌, ◌^◌, ◌∷◌, ◌++◌, [], true, false, length, slice_index_or, IfOk};
 ghost use Rattle.proof_lines.specs.declared.line.Line.TheVariants.{Farkas};
 ghost use Rattle.proof_lines.specs.Clauses.{negations};
@@ -77,7 +78,7 @@ fn resolvent_on(
     }
 }
 
-// Cuts the trail back as long as a clause stays false.
+// Backtracks as long as a clause stays false: decision levels are cut off the trail.
 fn cut_levels(trail: &mut Trail, lits: &[Lit])
     ensures { IsLevel trail.old trail.new lits.now }
 {

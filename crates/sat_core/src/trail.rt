@@ -116,7 +116,7 @@ impl Trail {
         Some(entry)
     }
 
-    /// Takes the last decision away, and what stands after it; all entries, where nothing was decided.
+    /// Takes the last decision level away: the last decision, and what stands after it; all entries, where nothing was decided.
     pub fn cut(&mut self)
         ensures { self.new ≡ before_last self.old }
     {
