@@ -6,7 +6,7 @@ ghost use Rattle.ground_problem.specs.Constants.{constants_of};
 ghost use Rattle.ground_problem.specs.Definitions.{definition};
 ghost use Rattle.ground_numbers.specs.Stages.{stage_of};
 ghost use Rattle.ground_atoms.specs.Symbols.{reading_of};
-ghost use Rattle.stage_defs.specs.Settings.{has_definition, count_definition};
+ghost use Rattle.stage_defs.specs.Settings.{has_defined, count_defined};
 ghost use Rattle.ground_groups.specs.Limited.{Appends};
 ghost use Rattle.ground_atoms.specs.Calls.{calls_of};
 ghost use Rattle.ground_groups.specs.Defined.{defined_at, defined_by};
@@ -16,6 +16,7 @@ use crate::refused::GroundRefused;
 use ground_atoms::{Atoms, GroundCall, GroundFormula, NamedReading};
 use items::Items;
 use spec_core::{Spec, Thing};
+use stage_defs::Defined;
 use stage_defs::counting::add_count;
 use stage_defs::having::add_has;
 use stage_defs::stages::latest_call;
@@ -52,37 +53,27 @@ pub fn readings_after(
 
 // Appends the definition of a relation's reading.
 fn add_relation(
-    spec: &Spec,
     atoms: &mut Atoms,
     alloc: Global,
-    call: &GroundCall,
-    stage: u8,
-    relation: u8,
-    tuple: &[u32],
+    reading: &Defined<'_>,
     out: &mut Items<GroundFormula>,
 ) -> Result<(), GroundRefused>
-    ensures { Appends result out.old atoms.old
-        (has_definition spec.now call.now stage relation tuple.now) out.new atoms.new }
+    ensures { Appends result out.old atoms.old (has_defined reading.now) out.new atoms.new }
 {
-    add_has(spec, atoms, alloc, call, stage, relation, tuple, out)?;
+    add_has(atoms, alloc, reading, out)?;
     within_limit(out)
 }
 
 // Appends the definition of a counter's reading.
 fn add_counter(
-    spec: &Spec,
     atoms: &mut Atoms,
     alloc: Global,
-    call: &GroundCall,
-    stage: u8,
-    counter: u8,
-    key: &[u32],
+    reading: &Defined<'_>,
     out: &mut Items<GroundFormula>,
 ) -> Result<(), GroundRefused>
-    ensures { Appends result out.old atoms.old
-        (count_definition spec.now call.now stage counter key.now) out.new atoms.new }
+    ensures { Appends result out.old atoms.old (count_defined reading.now) out.new atoms.new }
 {
-    add_count(spec, atoms, alloc, call, stage, counter, key, out)?;
+    add_count(atoms, alloc, reading, out)?;
     within_limit(out)
 }
 
@@ -92,20 +83,22 @@ fn add_defined(
     atoms: &mut Atoms,
     alloc: Global,
     call: &GroundCall,
-    stage: u8,
-    thing: Thing,
-    tuple: &[u32],
+    reading: &NamedReading,
     out: &mut Items<GroundFormula>,
 ) -> Result<(), GroundRefused>
     ensures { Appends result out.old atoms.old
-        (defined_at spec.now call.now stage thing tuple.now) out.new atoms.new }
+        (defined_at spec.now call.now reading.now.stage reading.now.thing reading.now.tuple)
+        out.new atoms.new }
 {
-    match thing {
-        Thing::Relation(relation) => {
-            add_relation(spec, atoms, alloc, call, stage, relation, tuple, out)
+    let (stage, tuple) = (reading.stage, reading.tuple.consts());
+    match reading.thing {
+        Thing::Relation(number) => {
+            let defined = Defined::after(spec, call, stage, number, tuple);
+            add_relation(atoms, alloc, &defined, out)
         }
-        Thing::Counter(counter) => {
-            add_counter(spec, atoms, alloc, call, stage, counter, tuple, out)
+        Thing::Counter(number) => {
+            let defined = Defined::after(spec, call, stage, number, tuple);
+            add_counter(atoms, alloc, &defined, out)
         }
     }
 }
@@ -127,15 +120,14 @@ fn add_definition(
     if stage == 0 {
         return Ok(());
     }
-    let tuple = reading.tuple.consts();
     match calls.get(latest_call(stage) as usize) {
-        Some(call) => add_defined(spec, atoms, alloc, call, stage, reading.thing, tuple, out),
+        Some(call) => add_defined(spec, atoms, alloc, call, reading, out),
         None => {
             let call = GroundCall {
                 op: 0,
                 args: Items::new(alloc),
             };
-            add_defined(spec, atoms, alloc, &call, stage, reading.thing, tuple, out)
+            add_defined(spec, atoms, alloc, &call, reading, out)
         }
     }
 }

@@ -11,7 +11,7 @@ use Rattle.ground_problem.specs.Formulas.{Caller, Readings}
 use Rattle.ground_problem.specs.Definitions.{acts_on, has_then, has_updated, updates_of, value_after, values_defined, value_stays, define_count}
 use Rattle.ground_numbers.specs.Stages.{stage_of}
 use Rattle.ground_atoms.specs.Symbols.{count_of}
-use Rattle.stage_defs.specs.Parts.{has_step, has_upto, value_defined, values_upto, count_defined}
+use Rattle.stage_defs.specs.Parts.{has_step, has_upto, value_defined, values_upto, count_in_turn}
 
 -- one update more
 pub upto_more : (r : Readings) (c : Caller) (x : Thing) (t : List ℕ) (us : List UpdateLine) (n : ℕ) (e : Symbolic) → ¬ (n ≡ 0) → has_upto r c x t us n e ≡ has_step r c x t (slice_get us (n - 1)) (has_upto r c x t us (n - 1) e)
@@ -71,7 +71,7 @@ values_all r c k i t n v (u ∷ us) = by_test (is_thing u.thing (thing.Counter i
     by_test false e f = f
 
 -- without updates of the counter the value stays, and with some each of them gives a value
-pub counter_defined : (r : Readings) (c : Caller) (k : Stage) (i : ℕ) (t : List ℕ) (us : List UpdateLine) → define_count r c us k i t ≡ count_defined r c k i t (r.count (pos 1) i t ∷ []) us
+pub counter_defined : (r : Readings) (c : Caller) (k : Stage) (i : ℕ) (t : List ℕ) (us : List UpdateLine) → define_count r c us k i t ≡ count_in_turn r c k i t (r.count (pos 1) i t ∷ []) us
 counter_defined r c k i t us = by_test (list_any (λ u. is_thing u.thing (thing.Counter i)) us) refl
   where
     stays : (mine : List UpdateLine) → value_after mine 1 k i t ≡ partial 1 k i t → value_stays r k i t mine ++ values_defined r c k i t 1 (r.count (pos 1) i t ∷ []) mine ≡ values_defined r c k i t 1 (r.count (pos 1) i t ∷ []) mine

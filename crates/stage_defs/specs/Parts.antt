@@ -75,9 +75,9 @@ values_upto r c k i t n v (u ∷ us) =
     (values_upto r c k i t n v us)
 
 -- what defines a counter's reading: the formulas of its updates in turn, or that it is what it was
-abbrev pub count_defined : Readings → Caller → Stage → ℕ → List ℕ → List Part → List UpdateLine
+abbrev pub count_in_turn : Readings → Caller → Stage → ℕ → List ℕ → List Part → List UpdateLine
     → List Symbolic
-count_defined r c k i t v us =
+count_in_turn r c k i t v us =
     cond (list_any (λ u. is_thing u.thing (thing.Counter i)) us)
     (values_upto r c k i t 1 v us)
     (equal (multiple (pos 1) (reading k i t) ∷ []) v ∷ [])

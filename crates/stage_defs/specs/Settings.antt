@@ -1,7 +1,6 @@
 -- What a formula of the specification is read in: the readings, the call, and the constants of its parameters.
 use Rattle.std.specs.Prelude.{◌≡◌, ℕ, List}
 use Rattle.spec_core.specs.declared.update.Thing.TheVariants as thing
-use Rattle.spec_core.specs.UpdateLine.{UpdateLine}
 use Rattle.spec_core.specs.Specification.{Specification, op_of}
 use Rattle.ground_problem.specs.Symbols.{Symbolic, has}
 use Rattle.ground_problem.specs.Formulas.{Caller, Readings, at_stage, at_start}
@@ -15,6 +14,7 @@ use Rattle.ground_atoms.specs.declared.formula.GroundFormula.{GroundFormula}
 use Rattle.stage_defs.specs.declared.setting.Stage.{Stage}
 use Rattle.stage_defs.specs.declared.setting.Stage.TheVariants.{Initial, Numbered}
 use Rattle.stage_defs.specs.declared.setting.Setting.{Setting}
+use Rattle.stage_defs.specs.declared.defined.Defined.{Defined}
 
 -- the readings of the initial state, or those at a stage
 abbrev pub readings_of : Specification → Stage → Readings
@@ -53,6 +53,25 @@ abbrev pub count_definition : Specification → GroundCall → ℕ → ℕ → L
 count_definition d call k i t =
     define_count (before k) (caller_at call k) (op_of d call.op).updates (stage_of k) i t
 
--- what updates make of a relation's reading
-abbrev pub updated : Readings → Caller → List UpdateLine → ℕ → List ℕ → Symbolic
-updated r c us k t = has_updated r c t (updates_of (thing.Relation k) us) (r.has k t)
+-- a relation's reading at the stage itself
+abbrev pub itself : Defined → Symbolic
+itself q = has (stage_of q.stage) q.number q.tuple.now
+
+-- what defines a reading, where it is a relation's
+abbrev pub has_defined : Defined → List Symbolic
+has_defined q =
+    define_has (readings_in q.before) (caller_in q.before) q.updates.now (itself q) q.number
+    q.tuple.now
+
+-- what defines a reading, where it is a counter's
+abbrev pub count_defined : Defined → List Symbolic
+count_defined q =
+    define_count (readings_in q.before) (caller_in q.before) q.updates.now (stage_of q.stage)
+    q.number q.tuple.now
+
+-- what the updates make of a relation's reading
+abbrev pub updated_by : Defined → Symbolic
+updated_by q =
+    has_updated (readings_in q.before) (caller_in q.before) q.tuple.now
+    (updates_of (thing.Relation q.number) q.updates.now)
+    ((readings_in q.before).has q.number q.tuple.now)

@@ -10,14 +10,15 @@ ghost use Rattle.ground_atoms.specs.Symbols.{part_of, parts_of, count_of};
 ghost use Rattle.ground_atoms.specs.Making.{make_all};
 ghost use Rattle.ground_atoms.specs.Formulas.{form_of};
 ghost use Rattle.ground_atoms.specs.Staying.{NumbersStay};
-ghost use Rattle.stage_defs.specs.Settings.{readings_in, caller_in, count_definition, IsMade};
-ghost use Rattle.stage_defs.specs.Parts.{value_defined, values_upto, count_defined};
+ghost use Rattle.stage_defs.specs.Settings.{readings_in, caller_in, count_definition};
+ghost use Rattle.stage_defs.specs.Settings.{count_defined, IsMade};
+ghost use Rattle.stage_defs.specs.Parts.{value_defined, values_upto, count_in_turn};
 
 use crate::acting::acts_on;
 use crate::comparing::equal;
 use crate::connecting::{either, negated};
-use crate::setting::{Setting, Stage};
-use crate::stages::{latest_call, stage_before};
+use crate::defined::Defined;
+use crate::setting::Setting;
 use crate::sums::{parts_of, reading_part};
 use effectors::is_thing;
 use ground_atoms::{Atoms, GroundCall, GroundFormula, IntName, SumPart, Tuple};
@@ -41,83 +42,60 @@ pub fn define_count(
     ensures stay { NumbersStay atoms.old atoms.new }
 {
     let mut out = Items::new(alloc);
-    add_count(spec, atoms, alloc, call, stage, counter, key, &mut out)?;
+    let reading = Defined::after(spec, call, stage, counter, key);
+    add_count(atoms, alloc, &reading, &mut out)?;
     Ok(out)
 }
 
-/// Appends these formulas.
+/// Appends the formulas that tie a counter's reading to those before it.
 pub fn add_count(
-    spec: &Spec,
     atoms: &mut Atoms,
     alloc: Global,
-    call: &GroundCall,
-    stage: u8,
-    counter: u8,
-    key: &[u32],
+    reading: &Defined<'_>,
     out: &mut Items<GroundFormula>,
 ) -> Result<(), AllocError>
     ensures made { OnOk result
-        (make_all (map form_of out.old) atoms.old (count_definition spec.now call.now stage counter key.now)
+        (make_all (map form_of out.old) atoms.old (count_defined reading.now)
         ≡ record { known = atoms.new; forms = map form_of out.new }) }
     ensures stay { NumbersStay atoms.old atoms.new }
 {
-    let before = Setting {
-        spec,
-        stage: Stage::Numbered(stage_before(stage)),
-        call: latest_call(stage),
-        args: call.args.as_slice(),
-    };
-    let updates = spec.updates_of(call.op);
-    add_in(atoms, alloc, &before, stage, counter, key, updates, out)
-}
-
-// The same by the setting of the stage before.
-fn add_in(
-    atoms: &mut Atoms,
-    alloc: Global,
-    before: &Setting<'_>,
-    stage: u8,
-    counter: u8,
-    key: &[u32],
-    updates: &[Update],
-    out: &mut Items<GroundFormula>,
-) -> Result<(), AllocError>
-    ensures made { OnOk result
-        (make_all (map form_of out.old) atoms.old (definitions.define_count (readings_in before.now) (caller_in before.now) updates.now (stage_of stage) counter key.now)
-        ≡ record { known = atoms.new; forms = map form_of out.new }) }
-    ensures stay { NumbersStay atoms.old atoms.new }
-{
-    let reading = reading_part(before, 1, counter, Tuple::of(alloc, key)?);
-    let value = sum_of_one(alloc, reading)?;
-    add_defined(
-        atoms, alloc, before, stage, counter, key, updates, value, out,
-    )?;
+    let tuple = Tuple::of(alloc, reading.tuple)?;
+    let part = reading_part(&reading.before, 1, reading.number, tuple);
+    let value = sum_of_one(alloc, part)?;
+    add_in_turn(atoms, alloc, reading, value, out)?;
     Ok(())
 }
 
 // Without updates of the counter the value stays, and with some each of them gives a value.
-fn add_defined(
+fn add_in_turn(
     atoms: &mut Atoms,
     alloc: Global,
-    before: &Setting<'_>,
-    stage: u8,
-    counter: u8,
-    key: &[u32],
-    updates: &[Update],
+    reading: &Defined<'_>,
     value: Items<SumPart>,
     out: &mut Items<GroundFormula>,
 ) -> Result<(), AllocError>
     ensures made { OnOk result
-        (make_all (map form_of out.old) atoms.old (count_defined (readings_in before.now) (caller_in before.now) (stage_of stage) counter key.now (parts_of value) updates.now)
+        (make_all (map form_of out.old) atoms.old
+        (count_in_turn (readings_in reading.now.before) (caller_in reading.now.before)
+        (stage_of reading.now.stage) reading.now.number reading.now.tuple.now (parts_of value)
+        reading.now.updates.now)
         ≡ record { known = atoms.new; forms = map form_of out.new }) }
     ensures stay { NumbersStay atoms.old atoms.new }
 {
-    if updates_any(updates, counter) {
+    if updates_any(reading.updates, reading.number) {
         return add_values(
-            atoms, alloc, before, stage, counter, key, updates, value, out,
+            atoms,
+            alloc,
+            &reading.before,
+            reading.stage,
+            reading.number,
+            reading.tuple,
+            reading.updates,
+            value,
+            out,
         );
     }
-    add_stays(atoms, alloc, stage, counter, key, value.as_slice(), out)
+    add_stays(atoms, alloc, reading, value.as_slice(), out)
 }
 
 // The sum of one part.
@@ -142,19 +120,24 @@ fn updates_any(updates: &[Update], counter: u8) -> bool
 fn add_stays(
     atoms: &mut Atoms,
     alloc: Global,
-    stage: u8,
-    counter: u8,
-    key: &[u32],
+    reading: &Defined<'_>,
     value: &[SumPart],
     out: &mut Items<GroundFormula>,
 ) -> Result<(), AllocError>
     ensures made { OnOk result
-        (make_all (map form_of out.old) atoms.old (symbols.equal (symbols.multiple (pos 1) (symbols.reading (stage_of stage) counter key.now) ∷ []) (parts_of value.now) ∷ [])
+        (make_all (map form_of out.old) atoms.old
+        (symbols.equal
+        (symbols.multiple (pos 1)
+        (symbols.reading (stage_of reading.now.stage) reading.now.number reading.now.tuple.now)
+        ∷ [])
+        (parts_of value.now)
+        ∷ [])
         ≡ record { known = atoms.new; forms = map form_of out.new }) }
     ensures stay { NumbersStay atoms.old atoms.new }
 {
-    let reading = sum_of_one(alloc, value_part(stage, 0, counter, Tuple::of(alloc, key)?))?;
-    let stays = equal(atoms, alloc, reading.as_slice(), value)?;
+    let tuple = Tuple::of(alloc, reading.tuple)?;
+    let after = sum_of_one(alloc, value_part(reading.stage, 0, reading.number, tuple))?;
+    let stays = equal(atoms, alloc, after.as_slice(), value)?;
     out.push(stays)
 }
 

@@ -9,12 +9,17 @@
 //   all are formulas at a stage.
 // - `define_has` and `define_count` ask for no condition: what doesn't exist has a definition too,
 //   which no obligation names.
+// - A reading that a call leaves is one value (`Defined`), with all that its definition speaks of, so
+//   that a relation's and a counter's are defined by the same few arguments. The loop over a
+//   counter's updates takes these one by one: with the record in its place the proof of a round took
+//   more steps than a tactic may.
 #![tactic(auto)]
 
 pub mod acting;
 pub mod comparing;
 pub mod connecting;
 pub mod counting;
+pub mod defined;
 pub mod formulas;
 pub mod having;
 pub mod setting;
@@ -24,6 +29,7 @@ pub mod sums;
 pub use comparing::{equal, has, same_const, unequal};
 pub use connecting::{both, either, negated};
 pub use counting::define_count;
+pub use defined::Defined;
 pub use formulas::formula;
 pub use having::define_has;
 pub use setting::{Setting, Stage};

@@ -1,14 +1,12 @@
 use Rattle.std.proofs.Common.{rules}
-use Rattle.spec_core.specs.Specification.{op_of}
-use Rattle.ground_problem.specs.Symbols.{has}
-use Rattle.ground_numbers.specs.Stages.{stage_of}
-use Rattle.stage_defs.specs.Settings.{has_definition, caller_at, before}
+use Rattle.stage_defs.specs.Settings.{readings_in, caller_in, has_defined, itself}
 use Rattle.ground_groups.proofs.Lists.{limited}
 use Rattle.ground_groups.proofs.Defined.{some_has}
 use Rattle.ground_groups.proofs.defining.add_relation.Goals as goal
 
 pub returns : goal.returns
 returns c =
-    limited c.within_limit.result c.args.out.now c.add_has.new.out c.args.atoms.now c.add_has.new.atoms (has_definition c.args.spec.now c.args.call.now c.args.stage c.args.relation c.args.tuple.now)
-    (some_has (before c.args.stage) (caller_at c.args.call.now c.args.stage) (op_of c.args.spec.now c.args.call.now.op).updates (has (stage_of c.args.stage) c.args.relation c.args.tuple.now) c.args.relation c.args.tuple.now)
+    let q = c.args.reading.now in
+    limited c.within_limit.result c.args.out.now c.add_has.new.out c.args.atoms.now c.add_has.new.atoms (has_defined q)
+    (some_has (readings_in q.before) (caller_in q.before) q.updates.now (itself q) q.number q.tuple.now)
     (search rules) c.within_limit.ensures
