@@ -15,12 +15,11 @@ ghost use Rattle.simulate_text.specs.Unbroken.{IsLastCall};
 ghost use Rattle.simulate_text.specs.Reached.{IsOf, IsFirst, IsGone, Does};
 
 use crate::said::{Said, SimulateRefused, Stop};
-use partial_truth::invariant_broken_at;
+use replay_text::{invariant_broken_after, invariant_broken_at};
 use spec_core::Call;
 use std::alloc::{AllocError, Global};
 use token_core::{Happened, Net, Runner, number_of};
 use token_protocol::{NetDid, NetRefused, NetStep, WhyVoid};
-use touched_lines::invariant_broken_after;
 
 /// A simulation: its network, and the numbers of the messages that it delivers again: for each event that of its Done, and for each
 /// replica that of the first grant of the last call that waited there. Beside them stands for each replica after how many events its
