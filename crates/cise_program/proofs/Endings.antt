@@ -9,6 +9,7 @@ use Rattle.cise_program.specs.declared.words.Task.{Task}
 use Rattle.cise_program.specs.declared.words.Job.{Job}
 use Rattle.cise_program.specs.declared.words.Job.TheVariants.{Sample}
 use Rattle.cise_program.specs.commands.Sample.{IsSampled, IsSampleFront}
+use Rattle.cise_program.specs.Outside.{Failures}
 use Rattle.cise_program.specs.Words.{IsInputFault}
 use Rattle.cise_program.specs.Answer.{IsOutcome, IsOutcomeFront, IsAnswer, IsAnswerFront}
 
@@ -36,5 +37,5 @@ Ends-sample k asked spec extra status before after e x =
     (λ u v a. a) (λ front a. a) x)
 
 -- a fault of an input of a job is one of the words that ask for it
-pub IsInputFault-asked : (job : Job) (asked : Option Job) (a b c d : ℕ) → Some job ≡ asked → IsInputFault (Some job) a b c d → IsInputFault asked a b c d
-IsInputFault-asked job asked a b c d e f = subst (λ (j : Option Job). IsInputFault j a b c d) e f
+pub IsInputFault-asked : (job : Job) (asked : Option Job) (before after : Failures) → Some job ≡ asked → IsInputFault (Some job) before after → IsInputFault asked before after
+IsInputFault-asked job asked before after e f = subst (λ (j : Option Job). IsInputFault j before after) e f

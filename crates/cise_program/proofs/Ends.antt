@@ -13,6 +13,7 @@ use Rattle.report_upgrader.specs.declared.refused.UpgradeRefused.{UpgradeRefused
 use Rattle.report_upgrader.specs.declared.refused.UpgradeRefused.TheVariants as upgrading
 use Rattle.report_upgrader.specs.Upgrading.{IsUpgradedFrom}
 use Rattle.cise_program.specs.declared.words.Job.{Job}
+use Rattle.cise_program.specs.Outside.{Told}
 use Rattle.cise_program.specs.Words.{AreRead}
 use Rattle.cise_program.specs.commands.Verify.{text_said}
 
@@ -39,5 +40,5 @@ long_upgrade d told before now after upgrading.WriteFault is u = absurd cc
 long_upgrade d told before now after upgrading.Memory is u = absurd cc
 
 -- what is read for a job is read for the words that ask for it
-pub AreRead-asked : (job : Option Job) (asked : Option Job) (status : ℕ) (a b c d : Option (List ℕ)) → job ≡ asked → AreRead job status a b c d → AreRead asked status a b c d
-AreRead-asked job asked status a b c d e r = subst (λ (j : Option Job). AreRead j status a b c d) e r
+pub AreRead-asked : (job : Option Job) (asked : Option Job) (status : ℕ) (before after : Told) → job ≡ asked → AreRead job status before after → AreRead asked status before after
+AreRead-asked job asked status before after e r = subst (λ (j : Option Job). AreRead j status before after) e r

@@ -88,7 +88,7 @@ refutes_written bytes more status text reports o (inr (tree, d, read, inl u)) = 
 refutes_written bytes more status text reports o (inr (tree, d, read, inr (four, v))) = absurd (not_four status o four)
 
 refutes_told : (task : Task) (told extra : Option (List ℕ)) (status : ℕ) (text : List ℕ) (before after : Option (List ℕ)) → TypesWell → OfChecks → OfReports → is_task task ≡ true → is_outcome status ≡ true
-    → IsAnswer (Some (OfSpec task)) told extra status text → Appends before after text → RefutesOf task told extra before after
+    → IsAnswer (Some (OfSpec task)) told extra status text → Appends before after text → RefutesOf task (record { spec = told; extra = extra }) (record { before = before; after = after })
 refutes_told (Check budget) None extra status text before after well checks reports t o a w = tt
 refutes_told (Check budget) (Some bytes) extra status text before after well checks reports t o (given, more, told, also, a) w =
     (text, w, subst (λ bs. IsRefutedRightly bs text) (sym told) (refutes_checked given more budget status text well checks t o a))
@@ -109,13 +109,13 @@ refutes_told Suggest told extra status text before after well checks reports t o
 refutes_told Spell told extra status text before after well checks reports t o a w = tt
 
 refutes_job : (job : Option Job) (told extra : Option (List ℕ)) (status : ℕ) (text : List ℕ) (before after : Option (List ℕ)) → TypesWell → OfChecks → OfReports → IfSome job (λ j. is_job j ≡ true)
-    → is_outcome status ≡ true → IsAnswer job told extra status text → Appends before after text → Refutes job told extra before after
+    → is_outcome status ≡ true → IsAnswer job told extra status text → Appends before after text → Refutes job (record { spec = told; extra = extra }) (record { before = before; after = after })
 refutes_job None told extra status text before after well checks reports j o a w = tt
 refutes_job (Some (OfSpec task)) told extra status text before after well checks reports j o a w = refutes_told task told extra status text before after well checks reports j o a w
 refutes_job (Some (Sample n)) told extra status text before after well checks reports j o a w = tt
 
 pub Refutes-answer : (words : List (List ℕ)) (told extra : Option (List ℕ)) (status : ℕ) (text : List ℕ) (before after : Option (List ℕ)) → TypesWell → OfChecks → OfReports → is_outcome status ≡ true
-    → IsAnswer (job_of words) told extra status text → Appends before after text → Refutes (job_of words) told extra before after
+    → IsAnswer (job_of words) told extra status text → Appends before after text → Refutes (job_of words) (record { spec = told; extra = extra }) (record { before = before; after = after })
 Refutes-answer words told extra status text before after well checks reports o a w = refutes_job (job_of words) told extra status text before after well checks reports (is_job-job_of words) o a w
 
 -- ---- a replay

@@ -41,7 +41,7 @@ refuses task bytes more text before after least a written =
     (r.0, r.1, subst (Appends before after) r.2 written, least_of bytes r.0 least r.1)
 
 pub refused_rightly : (job : Option Job) (told extra : Option (List ℕ)) (text : List ℕ) (before after : Option (List ℕ)) → IsLeastAlways → reads_spec job ≡ true
-    → IsAnswer job told extra 3 text → Appends before after text → RefusesRightly told before after
+    → IsAnswer job told extra 3 text → Appends before after text → RefusesRightly told (record { before = before; after = after })
 refused_rightly job None extra text before after least reads a w = tt
 refused_rightly None (Some bytes) extra text before after least reads a w = absurd (cc reads)
 refused_rightly (Some (Sample n)) (Some bytes) extra text before after least reads a w = absurd (cc reads)

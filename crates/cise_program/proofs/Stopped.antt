@@ -104,14 +104,14 @@ front_suggest bytes more front suggestions (inr (tree, d, read, f)) = front_sugg
 
 -- what each front is, for the specification that the first source told
 leaves : (task : Task) (IsLeft : List ℕ → List ℕ → Type 0) (told extra before after : Option (List ℕ)) → ((bytes more front : List ℕ) → IsFrontOfAnswer task bytes more front → IsLeft bytes front)
-    → IsStopped (Some (OfSpec task)) told extra before after → LeavesRightly IsLeft told before after
+    → IsStopped (Some (OfSpec task)) (record { spec = told; extra = extra }) (record { before = before; after = after }) → LeavesRightly IsLeft told (record { before = before; after = after })
 leaves task IsLeft None extra before after each s = tt
 leaves task IsLeft (Some bytes) extra before after each s =
     broken_map (IsAnswerFront (Some (OfSpec task)) (Some bytes) extra) (IsLeft bytes) before after
     (λ front f. subst (λ bs. IsLeft bs front) (sym f.2) (each f.0 f.1 front f.4)) s
 
-stops_task : (task : Task) (told extra before after : Option (List ℕ)) → TypesWell → OfChecks → OfReports → OfSuggestions → is_task task ≡ true → IsStopped (Some (OfSpec task)) told extra before after
-    → StopsOf task told before after
+stops_task : (task : Task) (told extra before after : Option (List ℕ)) → TypesWell → OfChecks → OfReports → OfSuggestions → is_task task ≡ true → IsStopped (Some (OfSpec task)) (record { spec = told; extra = extra }) (record { before = before; after = after })
+    → StopsOf task told (record { before = before; after = after })
 stops_task (Check budget) told extra before after well checks reports suggestions t s = leaves (Check budget) IsRightFront told extra before after (λ bytes more front f. front_check budget bytes more front well checks t f) s
 stops_task Upgrade told extra before after well checks reports suggestions t s = leaves Upgrade IsRightFront told extra before after (λ bytes more front f. front_upgrade bytes more front reports f) s
 stops_task Suggest told extra before after well checks reports suggestions t s = leaves Suggest IsRightSuggestionFront told extra before after (λ bytes more front f. front_suggest bytes more front suggestions f) s
@@ -120,13 +120,13 @@ stops_task Replay told extra before after well checks reports suggestions t s = 
 stops_task Simulate told extra before after well checks reports suggestions t s = tt
 stops_task Spell told extra before after well checks reports suggestions t s = tt
 
-stops_job : (job : Option Job) (told extra before after : Option (List ℕ)) → TypesWell → OfChecks → OfReports → OfSuggestions → IfSome job (λ j. is_job j ≡ true) → IsStopped job told extra before after
-    → StopsRightly job told before after
+stops_job : (job : Option Job) (told extra before after : Option (List ℕ)) → TypesWell → OfChecks → OfReports → OfSuggestions → IfSome job (λ j. is_job j ≡ true) → IsStopped job (record { spec = told; extra = extra }) (record { before = before; after = after })
+    → StopsRightly job told (record { before = before; after = after })
 stops_job None told extra before after well checks reports suggestions j s = tt
 stops_job (Some (Sample n)) told extra before after well checks reports suggestions j s = tt
 stops_job (Some (OfSpec task)) told extra before after well checks reports suggestions j s = stops_task task told extra before after well checks reports suggestions j s
 
-pub stops_rightly : (words : List (List ℕ)) (told extra before after : Option (List ℕ)) → TypesWell → OfChecks → OfReports → OfSuggestions → IsStopped (job_of words) told extra before after
-    → StopsRightly (job_of words) told before after
+pub stops_rightly : (words : List (List ℕ)) (told extra before after : Option (List ℕ)) → TypesWell → OfChecks → OfReports → OfSuggestions → IsStopped (job_of words) (record { spec = told; extra = extra }) (record { before = before; after = after })
+    → StopsRightly (job_of words) told (record { before = before; after = after })
 stops_rightly words told extra before after well checks reports suggestions s =
     stops_job (job_of words) told extra before after well checks reports suggestions (is_job-job_of words) s

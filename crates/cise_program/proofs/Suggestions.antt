@@ -46,12 +46,12 @@ suggested_of bytes more status text laws o (inl (why, is, one)) = absurd (not_th
 suggested_of bytes more status text laws o (inr (tree, d, read, s)) = right_suggested bytes d status text laws (tree, read) s
 
 suggested_told : (told extra : Option (List ℕ)) (status : ℕ) (text : List ℕ) (before after : Option (List ℕ)) → OfSuggestions → is_outcome status ≡ true
-    → IsAnswer (Some (OfSpec Suggest)) told extra status text → Appends before after text → SuggestsRightly told status before after
+    → IsAnswer (Some (OfSpec Suggest)) told extra status text → Appends before after text → SuggestsRightly told status (record { before = before; after = after })
 suggested_told None extra status text before after laws o a w = tt
 suggested_told (Some bytes) extra status text before after laws o (given, more, told, also, a) w =
     (text, w, subst (λ bs. IsSuggestedRightly bs text status) (sym told) (suggested_of given more status text laws o a))
 
 pub suggested_rightly : (words : List (List ℕ)) (told extra : Option (List ℕ)) (status : ℕ) (text : List ℕ) (before after : Option (List ℕ)) → OfSuggestions → job_of words ≡ Some (OfSpec Suggest) → is_outcome status ≡ true
-    → IsAnswer (job_of words) told extra status text → Appends before after text → SuggestsRightly told status before after
+    → IsAnswer (job_of words) told extra status text → Appends before after text → SuggestsRightly told status (record { before = before; after = after })
 suggested_rightly words told extra status text before after laws e o a w =
     suggested_told told extra status text before after laws o (subst (λ (j : Option Job). IsAnswer j told extra status text) e a) w

@@ -71,7 +71,7 @@ verified_task task bytes more text status well one accepts keeps t w o (inr (tre
     verified_as bytes tree d text status one typed read (written_with task tree d more status text keeps accepts typed t w o done)
 
 verified_told : (job : Option Job) (told extra : Option (List ℕ)) (status : ℕ) (text : List ℕ) (before after : Option (List ℕ)) → TypesWell → SaysOne → AcceptsChecked → KeepsVerdicts
-    → IfSome job (λ j. is_job j ≡ true) → is_outcome status ≡ true → writes_report job ≡ true → IsAnswer job told extra status text → Appends before after text → VerifiesAlike told before after status
+    → IfSome job (λ j. is_job j ≡ true) → is_outcome status ≡ true → writes_report job ≡ true → IsAnswer job told extra status text → Appends before after text → VerifiesAlike told status (record { before = before; after = after })
 verified_told job None extra status text before after well one accepts keeps j o w a written = tt
 verified_told None (Some bytes) extra status text before after well one accepts keeps j o w a written = absurd (cc w)
 verified_told (Some (Sample n)) (Some bytes) extra status text before after well one accepts keeps j o w a written = absurd (cc w)
@@ -80,6 +80,6 @@ verified_told (Some (OfSpec task)) (Some bytes) extra status text before after w
 
 -- where the words ask for a report
 pub verifies_alike : (words : List (List ℕ)) (told extra : Option (List ℕ)) (status : ℕ) (text : List ℕ) (before after : Option (List ℕ)) → TypesWell → SaysOne → AcceptsChecked → KeepsVerdicts
-    → is_outcome status ≡ true → writes_report (job_of words) ≡ true → IsAnswer (job_of words) told extra status text → Appends before after text → VerifiesAlike told before after status
+    → is_outcome status ≡ true → writes_report (job_of words) ≡ true → IsAnswer (job_of words) told extra status text → Appends before after text → VerifiesAlike told status (record { before = before; after = after })
 verifies_alike words told extra status text before after well one accepts keeps o w a written =
     verified_told (job_of words) told extra status text before after well one accepts keeps (is_job-job_of words) o w a written

@@ -9,6 +9,7 @@ use Rattle.spec_trees.specs.Form.{TreeForm}
 use Rattle.report_lines.specs.declared.head.Tally.{Tally}
 use Rattle.spec_from_bytes.specs.Lines.{line}
 use Rattle.spec_from_bytes.specs.Refusal.{IsReadAs, Refusal, IsRefusal, refusal_text}
+use Rattle.cise_program.specs.Outside.{Told, Held}
 use Rattle.cise_program.specs.declared.words.Task.{Task}
 use Rattle.cise_program.specs.declared.words.Task.TheVariants.{Check, Verify, Upgrade, Replay, Simulate, Suggest, Spell}
 use Rattle.cise_program.specs.declared.words.Job.{Job}
@@ -101,16 +102,15 @@ IsAnswerFront (Some (OfSpec task)) spec extra front =
     × IsFrontOfAnswer task bytes more front
 
 -- the whole text of the answer was written
-abbrev pub IsAnswered : Option Job → Option (List ℕ) → Option (List ℕ) → ℕ → Option (List ℕ)
-    → Option (List ℕ) → Type 0
-IsAnswered job spec extra status held_before held_after =
-    (text : List ℕ) × IsAnswer job spec extra status text × Appends held_before held_after text
+abbrev pub IsAnswered : Option Job → Told → ℕ → Held → Type 0
+IsAnswered job told status held =
+    (text : List ℕ) × IsAnswer job told.spec told.extra status text
+    × Appends held.before held.after text
 
 -- nothing was written, or what is left of an answer that is stopped
-abbrev pub IsStopped : Option Job → Option (List ℕ) → Option (List ℕ) → Option (List ℕ)
-    → Option (List ℕ) → Type 0
-IsStopped job spec extra held_before held_after =
-    IsBroken (IsAnswerFront job spec extra) held_before held_after
+abbrev pub IsStopped : Option Job → Told → Held → Type 0
+IsStopped job told held =
+    IsBroken (IsAnswerFront job told.spec told.extra) held.before held.after
 
 -- ---- two answers
 

@@ -32,6 +32,7 @@ use Rattle.suggest.specs.Pairs.{IsEnough}
 use Rattle.suggest.specs.Answers.{is_needed}
 use Rattle.suggest.specs.Texts.{suggest_text, opening_text as suggestion_opening}
 use Rattle.suggest.specs.Theorem.{AreShownToBreak, IsRight as SaysRightly}
+use Rattle.cise_program.specs.Outside.{Told, Held}
 use Rattle.cise_program.specs.declared.words.Task.{Task}
 use Rattle.cise_program.specs.declared.words.Task.TheVariants.{Check, Verify, Upgrade, Replay, Simulate, Suggest, Spell}
 use Rattle.cise_program.specs.declared.words.Job.{Job}
@@ -77,32 +78,27 @@ pub record IsRefutedRightly (bytes report : List ℕ) : Type 0 where
   pub right : AreRight specification verdicts.verdicts
 
 -- What was written is a report in which each refutation is right, on the specification that the first source told.
-abbrev pub WritesRightly : Option (List ℕ) → Option (List ℕ) → Option (List ℕ) → Type 0
-WritesRightly spec held_before held_after =
+abbrev pub WritesRightly : Option (List ℕ) → Held → Type 0
+WritesRightly spec held =
     IfSome spec
-    (λ bytes. (text : List ℕ) × Appends held_before held_after text × IsRefutedRightly bytes text)
+    (λ bytes. (text : List ℕ) × Appends held.before held.after text × IsRefutedRightly bytes text)
 
 -- What the second source told is such a report.
-abbrev pub VerifiesRightly : Option (List ℕ) → Option (List ℕ) → Type 0
-VerifiesRightly spec extra =
-    IfSome spec (λ bytes. IfSome extra (λ report. IsRefutedRightly bytes report))
+abbrev pub VerifiesRightly : Told → Type 0
+VerifiesRightly told =
+    IfSome told.spec (λ bytes. IfSome told.extra (λ report. IsRefutedRightly bytes report))
 
 -- where a task judges a specification, each refutation that it writes or verifies is right
-abbrev pub RefutesOf : Task → Option (List ℕ) → Option (List ℕ) → Option (List ℕ) → Option (List ℕ)
-    → Type 0
-RefutesOf (Check budget) spec extra held_before held_after =
-    WritesRightly spec held_before held_after
-RefutesOf Verify spec extra held_before held_after = VerifiesRightly spec extra
-RefutesOf Upgrade spec extra held_before held_after =
-    VerifiesRightly spec extra × WritesRightly spec held_before held_after
-RefutesOf _ spec extra held_before held_after = Unit {0}
+abbrev pub RefutesOf : Task → Told → Held → Type 0
+RefutesOf (Check budget) told held = WritesRightly told.spec held
+RefutesOf Verify told held = VerifiesRightly told
+RefutesOf Upgrade told held = VerifiesRightly told × WritesRightly told.spec held
+RefutesOf _ told held = Unit {0}
 
 -- Where the words ask for a verdict on a specification, each refutation that is written or verified is right.
-abbrev pub Refutes : Option Job → Option (List ℕ) → Option (List ℕ) → Option (List ℕ)
-    → Option (List ℕ) → Type 0
-Refutes (Some (OfSpec task)) spec extra held_before held_after =
-    RefutesOf task spec extra held_before held_after
-Refutes _ spec extra held_before held_after = Unit {0}
+abbrev pub Refutes : Option Job → Told → Held → Type 0
+Refutes (Some (OfSpec task)) told held = RefutesOf task told held
+Refutes _ told held = Unit {0}
 
 -- ---- replays
 
@@ -123,10 +119,10 @@ IsVerifiedAs bytes text status =
     → IsAnswerOf Verify bytes text other said → other ≡ status
 
 -- So does each verification of what was written, on the specification that the first source told.
-abbrev pub VerifiesAlike : Option (List ℕ) → Option (List ℕ) → Option (List ℕ) → ℕ → Type 0
-VerifiesAlike spec held_before held_after status =
+abbrev pub VerifiesAlike : Option (List ℕ) → ℕ → Held → Type 0
+VerifiesAlike spec status held =
     IfSome spec
-    (λ bytes. (text : List ℕ) × Appends held_before held_after text
+    (λ bytes. (text : List ℕ) × Appends held.before held.after text
     × IsVerifiedAs bytes text status)
 
 -- ---- simulations
@@ -152,10 +148,10 @@ pub record IsSuggestedRightly (bytes text : List ℕ) (status : ℕ) : Type 0 wh
   pub enough : status ≡ 0 → IsEnough specification (is_needed answers)
 
 -- What was written is such a suggestion, for the specification that the first source told.
-abbrev pub SuggestsRightly : Option (List ℕ) → ℕ → Option (List ℕ) → Option (List ℕ) → Type 0
-SuggestsRightly spec status held_before held_after =
+abbrev pub SuggestsRightly : Option (List ℕ) → ℕ → Held → Type 0
+SuggestsRightly spec status held =
     IfSome spec
-    (λ bytes. (text : List ℕ) × Appends held_before held_after text
+    (λ bytes. (text : List ℕ) × Appends held.before held.after text
     × IsSuggestedRightly bytes text status)
 
 -- ---- stopped reports
@@ -204,27 +200,21 @@ IsRightSuggestionFront bytes front =
 -- ---- stopped runs
 
 -- Nothing was written, or such a front, for the specification that the first source told.
-abbrev pub LeavesRightly : (List ℕ → List ℕ → Type 0) → Option (List ℕ) → Option (List ℕ)
-    → Option (List ℕ) → Type 0
-LeavesRightly IsRightlyLeft spec held_before held_after =
-    IfSome spec (λ bytes. IsBroken (IsRightlyLeft bytes) held_before held_after)
+abbrev pub LeavesRightly : (List ℕ → List ℕ → Type 0) → Option (List ℕ) → Held → Type 0
+LeavesRightly IsRightlyLeft spec held =
+    IfSome spec (λ bytes. IsBroken (IsRightlyLeft bytes) held.before held.after)
 
 -- where a task writes refutations, each that was written before it was stopped is right
-abbrev pub StopsOf : Task → Option (List ℕ) → Option (List ℕ) → Option (List ℕ) → Type 0
-StopsOf (Check budget) spec held_before held_after =
-    LeavesRightly IsRightFront spec held_before held_after
-StopsOf Upgrade spec held_before held_after =
-    LeavesRightly IsRightFront spec held_before held_after
-StopsOf Suggest spec held_before held_after =
-    LeavesRightly IsRightSuggestionFront spec held_before held_after
-StopsOf _ spec held_before held_after = Unit {0}
+abbrev pub StopsOf : Task → Option (List ℕ) → Held → Type 0
+StopsOf (Check budget) spec held = LeavesRightly IsRightFront spec held
+StopsOf Upgrade spec held = LeavesRightly IsRightFront spec held
+StopsOf Suggest spec held = LeavesRightly IsRightSuggestionFront spec held
+StopsOf _ spec held = Unit {0}
 
 -- Where the words ask for a report or a suggestion, each refutation that was written before the run was stopped is right.
-abbrev pub StopsRightly : Option Job → Option (List ℕ) → Option (List ℕ) → Option (List ℕ)
-    → Type 0
-StopsRightly (Some (OfSpec task)) spec held_before held_after =
-    StopsOf task spec held_before held_after
-StopsRightly _ spec held_before held_after = Unit {0}
+abbrev pub StopsRightly : Option Job → Option (List ℕ) → Held → Type 0
+StopsRightly (Some (OfSpec task)) spec held = StopsOf task spec held
+StopsRightly _ spec held = Unit {0}
 
 -- ---- refused specifications
 
@@ -235,11 +225,11 @@ IsLeastOf bytes why =
     (f : Fault) → why ≡ faulty f → (t : TreeForm) × IsTreeOf bytes t × IsLeastFault t f
 
 -- What the first source told is no specification, for one reason, which was written, and so with a fault.
-abbrev pub RefusesRightly : Option (List ℕ) → Option (List ℕ) → Option (List ℕ) → Type 0
-RefusesRightly spec held_before held_after =
+abbrev pub RefusesRightly : Option (List ℕ) → Held → Type 0
+RefusesRightly spec held =
     IfSome spec
     (λ bytes. (why : Refusal) × IsRefusal bytes why
-    × Appends held_before held_after (refusal_text why) × IsLeastOf bytes why)
+    × Appends held.before held.after (refusal_text why) × IsLeastOf bytes why)
 
 -- ---- completeness
 

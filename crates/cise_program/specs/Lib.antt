@@ -1,3 +1,4 @@
+pub mod Outside
 pub mod Words
 pub mod commands
 pub mod Answer

@@ -1,5 +1,5 @@
 -- Which words the program accepts, what they ask for, and which inputs are read for it.
-use Rattle.std.specs.Prelude.{◌≡◌, ◌⊎◌, ℕ, Bool, true, false, ◌&&◌, nat_le, if◌then◌else◌, List, [], ◌∷◌, Option, None, Some, codes}
+use Rattle.std.specs.Prelude.{◌≡◌, ◌⊎◌, ℕ, Bool, true, false, ◌&&◌, nat_le, if◌then◌else◌, List, [], ◌∷◌, map, Option, None, Some, codes, String, string_bytes}
 use Rattle.std.specs.Str.{bytes_eq}
 use Rattle.byte_ports.specs.Faults.{IsFault}
 use Rattle.byte_ports.specs.Told.{IsReadWithin}
@@ -7,6 +7,7 @@ use Rattle.word_cut.specs.Whole.{size_read}
 use Rattle.report_lines.specs.Heads.{most_budget}
 use Rattle.report_verifier.specs.Verified.{most_report_bytes}
 use Rattle.schedule_json.specs.Texts.{most_schedule_bytes}
+use Rattle.cise_program.specs.Outside.{Told, Failures}
 use Rattle.cise_program.specs.declared.words.Task.{Task}
 use Rattle.cise_program.specs.declared.words.Task.TheVariants.{Check, Verify, Upgrade, Replay, Simulate, Suggest, Spell}
 use Rattle.cise_program.specs.declared.words.Job.{Job}
@@ -82,6 +83,10 @@ job_of (command ∷ path ∷ other ∷ []) = job_of_three command
 job_of (command ∷ path ∷ option ∷ word ∷ []) = job_of_four command option word
 job_of (command ∷ path ∷ option ∷ word ∷ more ∷ words) = None
 
+-- What the words behind the program's name ask for: a job, or nothing that is known.
+abbrev pub asked : {A : Type 0} → List (String A) → Option Job
+asked words = job_of (map string_bytes words)
+
 -- the number in a task is within its limits
 abbrev pub is_task : Task → Bool
 is_task (Check budget) = is_within most_budget budget
@@ -126,19 +131,18 @@ most_extra_bytes _ = 0
 
 -- The inputs that are read for the job were read to their ends, by what they had left before and after, where there were at most so many
 -- bytes: the first one, and the second one too, unless the specification is refused.
-abbrev pub AreRead : Option Job → ℕ → Option (List ℕ) → Option (List ℕ) → Option (List ℕ)
-    → Option (List ℕ) → Type 0
-AreRead (Some (OfSpec task)) status spec_before spec_after extra_before extra_after =
-    IsReadWithin most_specification_bytes spec_before spec_after
+abbrev pub AreRead : Option Job → ℕ → Told → Told → Type 0
+AreRead (Some (OfSpec task)) status before after =
+    IsReadWithin most_specification_bytes before.spec after.spec
     × (takes_extra task ≡ true → (status ≡ 3 → ⊥)
-    → IsReadWithin (most_extra_bytes task) extra_before extra_after)
-AreRead _ status spec_before spec_after extra_before extra_after = Unit {0}
+    → IsReadWithin (most_extra_bytes task) before.extra after.extra)
+AreRead _ status before after = Unit {0}
 
--- An input that is read for the job has failed, by the faults of the specification's source and then of the second one.
-abbrev pub IsInputFault : Option Job → ℕ → ℕ → ℕ → ℕ → Type 0
-IsInputFault job spec_before spec_after extra_before extra_after =
-    ((reads_spec job ≡ true) × IsFault spec_before spec_after)
-    ⊎ ((reads_extra job ≡ true) × IsFault extra_before extra_after)
+-- An input that is read for the job has failed, by how often both had before and after.
+abbrev pub IsInputFault : Option Job → Failures → Failures → Type 0
+IsInputFault job before after =
+    ((reads_spec job ≡ true) × IsFault before.spec after.spec)
+    ⊎ ((reads_extra job ≡ true) × IsFault before.extra after.extra)
 
 -- ---- what the words ask for
 

@@ -6,6 +6,7 @@ ghost use Rattle.spec_from_bytes.specs.Refusal.{Refusal, IsRefusal, refusal_text
 ghost use Rattle.cise_program.specs.declared.words.Task.{Task};
 ghost use Rattle.cise_program.specs.declared.words.Task.TheVariants.{Suggest};
 ghost use Rattle.cise_program.specs.declared.words.Job.TheVariants.{OfSpec};
+ghost use Rattle.cise_program.specs.Outside.{Told, Held};
 ghost use Rattle.cise_program.specs.Words.{job_of, reads_spec, is_judging, judges, writes_report};
 ghost use Rattle.cise_program.specs.Answer.{IsAnswer, IsAnswerOf, IsStopped, Agree};
 ghost use Rattle.cise_program.specs.Headline.{IsProved, is_outcome, Refutes, StopsRightly};
@@ -28,22 +29,17 @@ pub fn law_headline()
     ensures proved { (words : List (List ℕ)) (spec extra : Option (List ℕ)) (text : List ℕ)
         → judges (job_of words) ≡ true → IsAnswer (job_of words) spec extra 0 text
         → IfSome spec IsProved }
-    ensures refuted { (words : List (List ℕ)) (spec extra : Option (List ℕ))
-        (status : ℕ) (text : List ℕ)
-        (held_before held_after : Option (List ℕ))
-        → is_outcome status ≡ true → IsAnswer (job_of words) spec extra status text
-        → Appends held_before held_after text
-        → Refutes (job_of words) spec extra held_before held_after }
-    ensures stopped { (words : List (List ℕ)) (spec extra held_before held_after : Option (List ℕ))
-        → IsStopped (job_of words) spec extra held_before held_after
-        → StopsRightly (job_of words) spec held_before held_after }
-    ensures suggested { (words : List (List ℕ)) (spec extra : Option (List ℕ))
-        (status : ℕ) (text : List ℕ)
-        (held_before held_after : Option (List ℕ))
+    ensures refuted { (words : List (List ℕ)) (told : Told) (status : ℕ) (text : List ℕ)
+        (held : Held)
+        → is_outcome status ≡ true → IsAnswer (job_of words) told.spec told.extra status text
+        → Appends held.before held.after text → Refutes (job_of words) told held }
+    ensures stopped { (words : List (List ℕ)) (told : Told) (held : Held)
+        → IsStopped (job_of words) told held → StopsRightly (job_of words) told.spec held }
+    ensures suggested { (words : List (List ℕ)) (told : Told) (status : ℕ) (text : List ℕ)
+        (held : Held)
         → job_of words ≡ Some (OfSpec Suggest) → is_outcome status ≡ true
-        → IsAnswer (job_of words) spec extra status text
-        → Appends held_before held_after text
-        → SuggestsRightly spec status held_before held_after }
+        → IsAnswer (job_of words) told.spec told.extra status text
+        → Appends held.before held.after text → SuggestsRightly told.spec status held }
 {
     law_typed_is_well_formed();
     law_safe();
@@ -96,11 +92,10 @@ pub fn law_refused_for_all()
 
 /// Where a check or an upgrade wrote a report, it is verified with the same status, where it has at most 64 MiB.
 pub fn law_reports_are_verified()
-    ensures { (words : List (List ℕ)) (spec extra : Option (List ℕ)) (status : ℕ) (text : List ℕ)
-        (held_before held_after : Option (List ℕ))
+    ensures { (words : List (List ℕ)) (told : Told) (status : ℕ) (text : List ℕ) (held : Held)
         → is_outcome status ≡ true → writes_report (job_of words) ≡ true
-        → IsAnswer (job_of words) spec extra status text → Appends held_before held_after text
-        → VerifiesAlike spec held_before held_after status }
+        → IsAnswer (job_of words) told.spec told.extra status text
+        → Appends held.before held.after text → VerifiesAlike told.spec status held }
 {
     law_typed_is_well_formed();
     law_one_answer();
@@ -110,10 +105,9 @@ pub fn law_reports_are_verified()
 
 /// Where a specification is refused, what is written says why, and a fault of its tree is the least one.
 pub fn law_least_fault_is_answered()
-    ensures { (words : List (List ℕ)) (spec extra : Option (List ℕ)) (text : List ℕ)
-        (held_before held_after : Option (List ℕ))
-        → reads_spec (job_of words) ≡ true → IsAnswer (job_of words) spec extra 3 text
-        → Appends held_before held_after text → RefusesRightly spec held_before held_after }
+    ensures { (words : List (List ℕ)) (told : Told) (text : List ℕ) (held : Held)
+        → reads_spec (job_of words) ≡ true → IsAnswer (job_of words) told.spec told.extra 3 text
+        → Appends held.before held.after text → RefusesRightly told.spec held }
 {
     law_least_refusal();
 }

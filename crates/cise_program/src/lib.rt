@@ -1,6 +1,7 @@
 // The program but for its edge: from words, two sources and a sink to a status.
 //
-// `run::run` is the whole, and its clauses say what each status means. `words` has the accepted words, `commands` a file for each
+// `run::run` is the whole. Its clauses stand in the order of what a user asks: what is answered, when nothing is, what is left of an answer
+// that was stopped, what is read, and what an answer says, the headline first. `words` has the accepted words, `commands` a file for each
 // command, which writes its text to the sink and answers the status, `outcome` the status that verdicts come to. `law` says what the
 // answers say of a specification, that two answers to the same words and bytes agree, and that none contradicts another, and `checked`
 // that what a check wrote is verified alike.
@@ -9,10 +10,10 @@
 // specification, on `check_run`, which decides its obligations and writes the report, on `report_verifier`, which verifies one, on
 // `report_upgrader`, which upgrades one, on `replay_text` and `simulate_text`, which carry a schedule out, on `suggest`, which finds the
 // pairs that must conflict, and on `executions`, whose theorem makes a check that ends with status 0 a proof of convergence. The definitions
-// stand in specs/, in this order: Words (which words are accepted, what they ask for, and which inputs that reads), commands (what each
-// command answers, in a file for each), Answer (which status and text belong to which words and bytes), Headline (what status 0 says, what a
-// refutation says, what a replay or a simulation of a safe specification keeps, what a suggestion says, for what bytes are refused, and which
-// statuses may come).
+// stand in specs/, in this order: Outside (what the sources tell and the sink holds), Words (which words are accepted, what they ask for,
+// and which inputs that reads), commands (what each command answers, in a file for each), Answer (which status and text belong to which
+// words and bytes), Headline (what status 0 says, what a refutation says, what a replay or a simulation of a safe specification keeps, what a
+// suggestion says, for what bytes are refused, and which statuses may come).
 //
 // Decisions:
 // - Where a clause is about one command, the job is compared with it; where it is about several, a

@@ -1,6 +1,6 @@
 // The program but for its edge: from words, sources and a sink to a status.
-ghost use Rattle.std.specs.Prelude.{◌≡◌, ◌⊎◌, ◌<◌, true, false, List, ℕ, Option, Some, map};
-ghost use Rattle.std.specs.Prelude.{string_bytes, IfSome};
+ghost use Rattle.std.specs.Prelude.{◌≡◌, ◌⊎◌, ◌<◌, true, false, List, ℕ, Option, Some};
+ghost use Rattle.std.specs.Prelude.{IfSome};
 ghost use Rattle.byte_ports.specs.Faults.{IsFault};
 ghost use Rattle.byte_ports.specs.Ports.{port_of};
 ghost use Rattle.byte_ports.specs.Told.{Tells, IsReadWithin};
@@ -9,7 +9,8 @@ ghost use Rattle.spec_trees.specs.Form.{tree_of};
 ghost use Rattle.spec_from_bytes.specs.Reading.{IsReadingOf};
 ghost use Rattle.cise_program.specs.declared.words.Task.TheVariants.{Replay, Simulate, Suggest};
 ghost use Rattle.cise_program.specs.declared.words.Job.TheVariants.{OfSpec};
-ghost use Rattle.cise_program.specs.Words.{job_of, is_task, judges, writes_report, takes_extra};
+ghost use Rattle.cise_program.specs.Outside.{told_by, failures_of, held_by};
+ghost use Rattle.cise_program.specs.Words.{asked, is_task, judges, writes_report, takes_extra};
 ghost use Rattle.cise_program.specs.Words.{reads_spec, reads_extra, most_extra_bytes, AreRead};
 ghost use Rattle.cise_program.specs.Words.{IsInputFault};
 ghost use Rattle.cise_program.specs.Answer.{IsOutcome, IsOutcomeFront, IsAnswerOf, IsFrontOfAnswer};
@@ -104,13 +105,13 @@ fn answer_task<S: Source, E: Source, K: Sink>(
         (IsAnswerFront (Some (OfSpec task)) (S.left spec.old) (E.left extra.old)) result
         (port_of K.held K.faults out.old) (port_of K.held K.faults out.new) }
     ensures read_fault { result ≡ 6
-        → IsInputFault (Some (OfSpec task)) (S.faults spec.old) (S.faults spec.new)
-        (E.faults extra.old) (E.faults extra.new) }
+        → IsInputFault (Some (OfSpec task)) (failures_of S.faults E.faults spec.old extra.old)
+        (failures_of S.faults E.faults spec.new extra.new) }
     ensures unwritten { result ≡ 6 → out.new ≡ out.old }
     ensures unread { takes_extra task ≡ false → extra.new ≡ extra.old }
     ensures read { result < 6
-        → AreRead (Some (OfSpec task)) result (S.left spec.old) (S.left spec.new) (E.left extra.old)
-        (E.left extra.new) }
+        → AreRead (Some (OfSpec task)) result (told_by S.left E.left spec.old extra.old)
+        (told_by S.left E.left spec.new extra.new) }
 {
     match read_specification(alloc, spec) {
         Ok(reading) => {
@@ -137,67 +138,68 @@ pub fn run<S: Source, E: Source, K: Sink>(
     extra: &mut E,
     out: &mut K,
 ) -> u8
+    // What is answered: the text that belongs to the words and to the bytes of the inputs, as far as these are told. Where the
+    // specification is read, and no input and no write fails, there is an answer, or memory ran out.
+    ensures known { result < 9 }
     ensures answered { result < 6
-        → IsAnswered (job_of (map string_bytes words.now)) (S.left spec.old) (E.left extra.old)
-        result (K.held out.old) (K.held out.new) }
+        → IsAnswered (asked words.now) (told_by S.left E.left spec.old extra.old) result
+        (held_by K.held out.old out.new) }
+    ensures complete { (IsInputFault (asked words.now)
+        (failures_of S.faults E.faults spec.old extra.old)
+        (failures_of S.faults E.faults spec.new extra.new) → ⊥)
+        → (IsFault (K.faults out.old) (K.faults out.new) → ⊥)
+        → IsComplete (asked words.now) (S.left spec.old) result }
+
+    // When nothing is answered: a source that is read for the job has failed, and then nothing was written, or the sink has.
     ensures read_fault { result ≡ 6
-        → IsInputFault (job_of (map string_bytes words.now)) (S.faults spec.old) (S.faults spec.new)
-        (E.faults extra.old) (E.faults extra.new) }
+        → IsInputFault (asked words.now) (failures_of S.faults E.faults spec.old extra.old)
+        (failures_of S.faults E.faults spec.new extra.new) }
     ensures unwritten { result ≡ 6 → out.new ≡ out.old }
     ensures write_fault { result ≡ 7 → IsFault (K.faults out.old) (K.faults out.new) }
+
+    // What is left of an answer that was stopped. Each refutation in what a stopped check, upgrade or suggestion has written breaks its
+    // obligation.
     ensures front { 6 < result
-        → IsStopped (job_of (map string_bytes words.now)) (S.left spec.old) (E.left extra.old)
-        (K.held out.old) (K.held out.new) }
-    ensures known { result < 9 }
+        → IsStopped (asked words.now) (told_by S.left E.left spec.old extra.old)
+        (held_by K.held out.old out.new) }
+    ensures stopped { 6 < result
+        → StopsRightly (asked words.now) (S.left spec.old) (held_by K.held out.old out.new) }
+
+    // What is read: what is read for the job was read to its end, and what isn't stays as it was.
+    ensures read { result < 6
+        → AreRead (asked words.now) result (told_by S.left E.left spec.old extra.old)
+        (told_by S.left E.left spec.new extra.new) }
+    ensures unread { reads_spec (asked words.now) ≡ false → spec.new ≡ spec.old }
+    ensures unread_extra { reads_extra (asked words.now) ≡ false → extra.new ≡ extra.old }
 
     // The headline: a specification converges where its check, or the verification or the upgrade of a report on it, ends with status 0.
-    ensures proved { result ≡ 0 → judges (job_of (map string_bytes words.now)) ≡ true
+    ensures proved { result ≡ 0 → judges (asked words.now) ≡ true
         → IfSome (S.left spec.old) IsProved }
 
-    // Each refutation that is written or verified breaks its obligation, also in what a stopped check, upgrade or suggestion has written.
+    // And what else an answer says. Each refutation that is written or verified breaks its obligation.
     ensures refuted { is_outcome result ≡ true
-        → Refutes (job_of (map string_bytes words.now)) (S.left spec.old) (E.left extra.old)
-        (K.held out.old) (K.held out.new) }
-    ensures stopped { 6 < result
-        → StopsRightly (job_of (map string_bytes words.now)) (S.left spec.old) (K.held out.old)
-        (K.held out.new) }
+        → Refutes (asked words.now) (told_by S.left E.left spec.old extra.old)
+        (held_by K.held out.old out.new) }
 
-    // And a safe specification is never replayed to a state that breaks an invariant, nor simulated to one.
-    ensures safe { job_of (map string_bytes words.now) ≡ Some (OfSpec Replay)
+    // What a check or an upgrade wrote is verified with the status that it ended with.
+    ensures verified { is_outcome result ≡ true → writes_report (asked words.now) ≡ true
+        → VerifiesAlike (S.left spec.old) result (held_by K.held out.old out.new) }
+
+    // A safe specification is never replayed to a state that breaks an invariant, nor simulated to one.
+    ensures safe { asked words.now ≡ Some (OfSpec Replay)
         → IfSome (S.left spec.old) (λ bytes. IsReplayedSafely bytes (E.left extra.old) result) }
-    ensures simulated { job_of (map string_bytes words.now) ≡ Some (OfSpec Simulate)
+    ensures simulated { asked words.now ≡ Some (OfSpec Simulate)
         → IfSome (S.left spec.old) (λ bytes. IsSimulatedSafely bytes (E.left extra.old) result) }
 
     // A suggestion says which pairs of operations have to conflict: where nothing conflicts, each block under `needed` breaks its
     // obligation, so every set of pairs that is enough contains the needed pairs; with status 0 they are enough; and where `by P Q` stands,
     // a conflict on equal arguments for P and Q is enough for the pair.
-    ensures suggested { job_of (map string_bytes words.now) ≡ Some (OfSpec Suggest)
-        → is_outcome result ≡ true
-        → SuggestsRightly (S.left spec.old) result (K.held out.old) (K.held out.new) }
+    ensures suggested { asked words.now ≡ Some (OfSpec Suggest) → is_outcome result ≡ true
+        → SuggestsRightly (S.left spec.old) result (held_by K.held out.old out.new) }
 
     // Bytes that are no specification are refused for one reason, which is written; where that is a fault of their tree, it is the least.
-    ensures least { reads_spec (job_of (map string_bytes words.now)) ≡ true → result ≡ 3
-        → RefusesRightly (S.left spec.old) (K.held out.old) (K.held out.new) }
-
-    // What a check or an upgrade wrote is verified with the status that it ended with.
-    ensures verified { is_outcome result ≡ true
-        → writes_report (job_of (map string_bytes words.now)) ≡ true
-        → VerifiesAlike (S.left spec.old) (K.held out.old) (K.held out.new) result }
-
-    // Where the specification is read, and no input and no write fails, there is an answer, or memory ran out.
-    ensures complete { (IsInputFault (job_of (map string_bytes words.now)) (S.faults spec.old)
-        (S.faults spec.new) (E.faults extra.old) (E.faults extra.new) → ⊥)
-        → (IsFault (K.faults out.old) (K.faults out.new) → ⊥)
-        → IsComplete (job_of (map string_bytes words.now)) (S.left spec.old) result }
-
-    // What is read for the job was read to its end, and what isn't stays as it was.
-    ensures read { result < 6
-        → AreRead (job_of (map string_bytes words.now)) result (S.left spec.old) (S.left spec.new)
-        (E.left extra.old) (E.left extra.new) }
-    ensures unread { reads_spec (job_of (map string_bytes words.now)) ≡ false
-        → spec.new ≡ spec.old }
-    ensures unread_extra { reads_extra (job_of (map string_bytes words.now)) ≡ false
-        → extra.new ≡ extra.old }
+    ensures least { reads_spec (asked words.now) ≡ true → result ≡ 3
+        → RefusesRightly (S.left spec.old) (held_by K.held out.old out.new) }
 {
     law_headline();
     law_reports_are_verified();

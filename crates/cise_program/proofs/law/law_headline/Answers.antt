@@ -12,16 +12,16 @@ returns-clause-proved c = λ words spec extra text judged answer.
     judged answer
 
 pub returns-clause-refuted : goal.returns-clause-refuted
-returns-clause-refuted c = λ words spec extra status text before after outcome answer written.
-    Refutes-answer words spec extra status text before after
+returns-clause-refuted c = λ words told status text held outcome answer written.
+    Refutes-answer words told.spec told.extra status text held.before held.after
     c.law_typed_is_well_formed.ensures
     (record { safe = c.law_safe.ensures.safe; breaks = c.law_good_verdicts.ensures.refuted; is_read = c.law_checked_is_read.ensures })
     (record { safe = c.law_accepted_is_safe.ensures.safe; breaks = c.law_refuted_breaks.ensures; keeps = c.law_upgraded_report_is_accepted.ensures })
     outcome answer written
 
 pub returns-clause-stopped : goal.returns-clause-stopped
-returns-clause-stopped c = λ words spec extra before after stopped.
-    stops_rightly words spec extra before after
+returns-clause-stopped c = λ words told held stopped.
+    stops_rightly words told.spec told.extra held.before held.after
     c.law_typed_is_well_formed.ensures
     (record { safe = c.law_safe.ensures.safe; breaks = c.law_good_verdicts.ensures.refuted; is_read = c.law_checked_is_read.ensures })
     (record { safe = c.law_accepted_is_safe.ensures.safe; breaks = c.law_refuted_breaks.ensures; keeps = c.law_upgraded_report_is_accepted.ensures })
@@ -29,5 +29,5 @@ returns-clause-stopped c = λ words spec extra before after stopped.
     stopped
 
 pub returns-clause-suggested : goal.returns-clause-suggested
-returns-clause-suggested c = λ words spec extra status text before after suggestion outcome answer written.
-    suggested_rightly words spec extra status text before after (record { right = c.law_least_pairs.ensures.right; so_far = c.law_least_pairs.ensures.so_far; complete = c.law_least_pairs.ensures.complete }) suggestion outcome answer written
+returns-clause-suggested c = λ words told status text held suggestion outcome answer written.
+    suggested_rightly words told.spec told.extra status text held.before held.after (record { right = c.law_least_pairs.ensures.right; so_far = c.law_least_pairs.ensures.so_far; complete = c.law_least_pairs.ensures.complete }) suggestion outcome answer written
