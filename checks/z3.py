@@ -9,7 +9,7 @@ Run at the top of the repository, once `./cise` has built the program, with `z3`
     checks/z3.py --table [--all] [FILE..]
 
 The second prints a table of processor seconds, of one run for a whole specification: of all
-specifications of examples/ and cases/, of the one that `sample 12` checks and of 30 generated ones,
+specifications of examples/ and cases/, of the one that `sample 12` checks and of 70 generated ones,
 or of those that are given. A row has two ratios, of Z3 by the encoding `alone` and by the fastest
 of all; where the second is the least stands first. Twelve rows are printed and the rest is told in
 a line; with `--all` all rows are printed. Below, a line for each ratio says on how many files Z3 is
@@ -24,7 +24,8 @@ Both commands end with status 1 where two verdicts contradict.
 
 A word that is a number N stands for the specification that `sample N` checks, and `rN` for the one
 that is generated from the seed N: `r1` to `r30` are those of the table. They have 275 to 1,717
-obligations over one to three sorts, some relations and counters, with up to 14 operations.
+obligations over one to three sorts, some relations and counters, with up to 14 operations. Other
+letters stand for other families (FAMILIES), of which the table has eight each.
 
 Each obligation becomes one SMT-LIB problem, which can be satisfied where something breaks the
 obligation as docs/embedders/RULE.md says: sorts are uninterpreted sorts, relations predicates,
@@ -37,11 +38,11 @@ empty, so what breaks only with an empty sort isn't found.
 from __future__ import annotations
 
 import collections
+import dataclasses
 import glob
 import itertools
 import os
 import random
-import re
 import resource
 import statistics
 import subprocess
@@ -481,9 +482,50 @@ def sample(n: int) -> str:
     return "\n".join(lines) + "\n"
 
 
+@dataclasses.dataclass(frozen=True)
+class Family:
+    """What the specifications of a family are drawn from: a least and a greatest number, or numbers
+    that are as likely as they are often. The first is for specifications as designs mostly are.
+
+    care        how often an operation asks for what the invariants need, and takes tokens
+    places      how many places a relation has
+    params      the most parameters of an operation, of which those beside the places of its first
+                update are drawn `more` times, each as often as `further` says
+    obligations how many obligations are wanted, and the most
+    """
+
+    care: tuple[float, float] = (0.75, 1)
+    sorts: tuple[int, int] = (1, 3)
+    consts: tuple[int, ...] = (0, 0, 0, 1, 2)
+    places: tuple[int, ...] = (1, 1, 2)
+    relations: tuple[int, int] = (3, 8)
+    invariants: tuple[int, int] = (2, 10)
+    operations: tuple[int, int] = (4, 14)
+    params: int = 3
+    more: int = 1
+    further: float = 0.3
+    obligations: tuple[int, int] = (275, 1717)
+
+
+# The families, by the letter before the seed: r as designs mostly are; w with relations of up to
+# three places; p with up to five parameters; k with two to four constants; f whose operations ask
+# for little, so that a tenth to a quarter of the obligations are refuted; i with up to sixteen
+# invariants, which are the most.
+FAMILIES = {
+    "r": Family(),
+    "w": Family(
+        sorts=(2, 3), places=(1, 2, 3), relations=(3, 5), operations=(4, 8), obligations=(100, 600)
+    ),
+    "p": Family(sorts=(2, 3), params=5, more=4, further=0.7, obligations=(150, 900)),
+    "k": Family(consts=(2, 2, 3, 4), obligations=(150, 900)),
+    "f": Family(care=(0, 0.2), places=(1, 2, 2), relations=(3, 5), obligations=(150, 900)),
+    "i": Family(relations=(8, 12), invariants=(12, 16), operations=(4, 10)),
+}
+
+
 class Draft:
-    """A specification that is drawn by chance. The operations ask for what the invariants need, and
-    take tokens, as often as `care` says.
+    """A specification of a family, drawn by chance. The operations ask for what the invariants
+    need, and take tokens, as often as `care` says.
 
     places      relation or counter: the sorts of its places
     invariants  (kind, thing, other, positions, bound): positions are those of the thing's places
@@ -491,19 +533,20 @@ class Draft:
                 a number or a second other with its positions
     """
 
-    def __init__(self, chance: random.Random) -> None:
-        self.chance, self.care, self.most_updates = (
+    def __init__(self, chance: random.Random, family: Family) -> None:
+        self.chance, self.family, self.care, self.most_updates = (
             chance,
-            chance.uniform(0.75, 1),
+            family,
+            chance.uniform(*family.care),
             chance.choice((2, 3, 5)),
         )
-        self.sorts = [f"S{i}" for i in range(chance.randint(1, 3))]
+        self.sorts = [f"S{i}" for i in range(chance.randint(*family.sorts))]
         self.consts = {
-            f"k{i}": chance.choice(self.sorts) for i in range(chance.choice((0, 0, 0, 1, 2)))
+            f"k{i}": chance.choice(self.sorts) for i in range(chance.choice(family.consts))
         }
         self.relations = {
-            f"r{i}": chance.choices(self.sorts, k=chance.choice((1, 1, 2)))
-            for i in range(chance.randint(3, 8))
+            f"r{i}": chance.choices(self.sorts, k=chance.choice(family.places))
+            for i in range(chance.randint(*family.relations))
         }
         self.counters = {
             f"c{i}": chance.choices(self.sorts, k=chance.choice((0, 1, 1)))
@@ -513,8 +556,8 @@ class Draft:
         self.tokens = chance.choice(("none", "sorts", "things", "things", "shared"))
         self.invariants: list[tuple[str, str, str | None, tuple[int, ...] | None, None]] = []
         self.requires: list[tuple[str, list[str], str]] = []
-        wanted = chance.randint(2, 10)
-        for _ in range(40):
+        wanted = chance.randint(*family.invariants)
+        for _ in range(4 * family.invariants[1]):
             if len(self.invariants) < wanted:
                 self.draw_invariant()
 
@@ -718,9 +761,10 @@ class Draft:
         """The lines of an operation. Its first update is on all of its parameters."""
         chance, self.requires = self.chance, []
         main = chance.choice(list(self.places))
-        params = {f"p{i}": sort for i, sort in enumerate(self.places[main])}
-        if not params or len(params) < 3 and chance.random() < 0.3:
-            params[f"p{len(params)}"] = chance.choice(self.sorts)
+        family, params = self.family, {f"p{i}": it for i, it in enumerate(self.places[main])}
+        for _ in range(family.more):
+            if not params or len(params) < family.params and chance.random() < family.further:
+                params[f"p{len(params)}"] = chance.choice(self.sorts)
         things = [main] + [
             it
             for it in chance.sample(
@@ -729,7 +773,9 @@ class Draft:
             if it != main
         ]
         whole = (
-            any(it in self.counters for it in things) and len(params) < 3 and chance.random() < 0.6
+            any(it in self.counters for it in things)
+            and len(params) < family.params
+            and chance.random() < 0.6
         )
         written, updates = [], []
         for thing in things:
@@ -774,7 +820,8 @@ class Draft:
         """The tokens that an operation takes: for the elements of its parameters, or for what it
         writes and asks for."""
         if self.tokens == "sorts":
-            return [f"takes t{sort} ( {name} )" for name, sort in params.items() if self.often()]
+            taken = [f"takes t{sort} ( {name} )" for name, sort in params.items() if self.often()]
+            return taken[:4]
         if self.tokens == "none":
             return []
         found: dict[str, str] = {}
@@ -805,32 +852,32 @@ class Draft:
             one = self.reading(f"t{name}", ["x"] * len(places))
             lines += [f"token {self.reading(f't{name}', places)}", f"conflict {one} {one}"]
         lines += [self.invariant_line(number, *it) for number, it in enumerate(self.invariants)]
-        for number in range(chance.randint(4, 14)):
+        for number in range(chance.randint(*self.family.operations)):
             lines += self.operation(number)
         return "\n".join(lines) + "\n"
 
 
-def generated(seed: int) -> str:
-    """The specification that is drawn from a seed: the first draft with as many obligations as are
-    wanted, which are fewer after each draft."""
-    chance = random.Random(seed)
-    wanted = LEAST_OBLIGATIONS * 4.5 ** chance.random()
+def generated(family: Family, seed: int) -> str:
+    """The specification of a family that is drawn from a seed: the first draft with as many
+    obligations as are wanted, which are fewer after each draft."""
+    chance, (least, most) = random.Random(seed), family.obligations
+    wanted = least * 4.5 ** chance.random()
     while True:
-        text = Draft(chance).text()
-        if wanted <= len(list(Problems(Spec(text)).obligations())) <= MOST_OBLIGATIONS:
+        text = Draft(chance, family).text()
+        if wanted <= len(list(Problems(Spec(text)).obligations())) <= most:
             return text
-        wanted = max(wanted * 0.97, LEAST_OBLIGATIONS)
+        wanted = max(wanted * 0.97, least)
 
 
 def is_seed(word: str) -> bool:
-    return re.fullmatch("r[0-9]+", word) is not None
+    return word[:1] in FAMILIES and word[1:].isdigit()
 
 
 def specification_of(word: str) -> str:
     """The text that a word of the command line stands for."""
     if word.isdigit():
         return sample(int(word))
-    return generated(int(word[1:])) if is_seed(word) else text_of(word)
+    return generated(FAMILIES[word[0]], int(word[1:])) if is_seed(word) else text_of(word)
 
 
 class Compared:
@@ -1059,9 +1106,13 @@ def mean(ratios: list[float]) -> str:
 RUNS = 5
 MOST_SECONDS = 20
 MOST_ROWS = 12
-# How many obligations a generated specification has, and the words of those of the table.
-LEAST_OBLIGATIONS, MOST_OBLIGATIONS = 275, 1717
-GENERATED = [f"r{seed}" for seed in range(1, 31)]
+# The words of the generated specifications of the table: thirty of the first family, and eight of
+# each other.
+GENERATED = [
+    f"{letter}{seed}"
+    for letter in FAMILIES
+    for seed in range(1, 31 if letter == "r" else 9)
+]
 
 
 if __name__ == "__main__":
