@@ -1,4 +1,4 @@
-// Tests of ground problems by public calls: numbers, clauses, sizes and witnesses worked by hand.
+// Tests of ground problems by public calls: numbers, readings at a stage, clauses, sizes and witnesses worked by hand.
 #![tactic(auto)]
 
 #[cfg(test)]
@@ -17,5 +17,7 @@ mod satisfying;
 mod setting;
 #[cfg(test)]
 mod sizes;
+#[cfg(test)]
+mod staging;
 #[cfg(test)]
 mod witnesses;

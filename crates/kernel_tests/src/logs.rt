@@ -1,7 +1,7 @@
 // Logs over plain clauses: Resolve and Drop lines.
-use crate::making::{FIRST, NOT_FIRST, SECOND, Short, add, line, log_of, plain};
+use crate::making::{FIRST, NOT_FIRST, NOT_SECOND, SECOND, Short, add, line, log_of, plain};
 use proof_kernel::{Checked, Kernel, KernelRefused, check_lines, check_log};
-use proof_lines::{LineRefused, Problem, Why};
+use proof_lines::{LineRefused, Lit, Problem, Why};
 use std::alloc::Global;
 use std::process::Abort;
 
@@ -59,6 +59,31 @@ fn logs_of_opposite_clauses_are_judged(rt: HostRuntime) {
         let told = judged(&rt, rt.alloc(), lines);
         assert!(rt; told == *want);
     }
+}
+
+static CHAIN: &[&[Lit]] = &[&[FIRST], &[NOT_FIRST, SECOND], &[NOT_SECOND]];
+
+/// How many lines of a log over the clauses `+0`, `-0 +1` and `-1` are accepted.
+fn accepted(rt: &impl Abort, alloc: Global, lines: &[Short]) -> Option<u32> {
+    let problem = plain(rt, alloc, 2, CHAIN);
+    let log = log_of(rt, alloc, lines);
+    let told = check_log(alloc, &problem, log.as_slice());
+    drop(log);
+    drop(problem);
+    told.ok().map(|checked| checked.lines)
+}
+
+#[test]
+fn clauses_may_be_dropped_behind_the_line_that_names_them_last(rt: HostRuntime) {
+    let plain = [Short::Resolve(0, 1, 0), Short::Resolve(3, 2, 1)];
+    let dropping = [
+        Short::Resolve(0, 1, 0),
+        Short::Drop(&[0, 1]),
+        Short::Resolve(3, 2, 1),
+        Short::Drop(&[2, 3]),
+    ];
+    assert!(rt; accepted(&rt, rt.alloc(), &plain) == Some(2));
+    assert!(rt; accepted(&rt, rt.alloc(), &dropping) == Some(4));
 }
 
 /// Two plain atoms and the clauses `+0 +1` and `-0 +1`.

@@ -30,12 +30,10 @@ pub const NOT_SECOND: Lit = Lit {
     positive: false,
 };
 
-/// A line of a log in short. Farkas and Split lines use one literal and have no steps.
+/// A line of a log in short.
 #[derive(Clone, Copy)]
 pub enum Short {
     Resolve(u32, u32, u32),
-    Farkas,
-    Split,
     Drop(&'static [u32]),
 }
 
@@ -55,16 +53,6 @@ pub fn farkas(rt: &impl Abort, alloc: Global, used: &[Lit], steps: &[RowStep]) -
 pub fn line(rt: &impl Abort, alloc: Global, short: Short) -> Line {
     match short {
         Short::Resolve(left, right, pivot) => Line::Resolve { left, right, pivot },
-        Short::Farkas => farkas(rt, alloc, &[FIRST], &[]),
-        Short::Split => Line::Split {
-            place: 0,
-            at: 0,
-            used: items(rt, alloc, &[FIRST]),
-            steps: Items::new(alloc),
-            low: 0,
-            high: 0,
-            values: Items::new(alloc),
-        },
         Short::Drop(numbers) => Line::Drop {
             clauses: items(rt, alloc, numbers),
         },

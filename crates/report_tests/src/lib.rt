@@ -5,11 +5,13 @@
 // witnesses and kinds of refusal are those that are meant is shown here, on small specifications with reports written by hand.
 //
 // `examples` has the specifications, `reports` the reports, `running` what is done with them; `reading`, `writing`, `verifying` and `upgrading`
-// have the tables.
+// have the tables, `logs` that of upgraded logs.
 #![tactic(auto)]
 
 #[cfg(test)]
 mod examples;
+#[cfg(test)]
+mod logs;
 #[cfg(test)]
 mod reading;
 #[cfg(test)]

@@ -1,11 +1,55 @@
-// Worked examples of upgraded logs: where the clauses of a log are dropped, that an upgraded log is upgraded already, and that the
-// kernel accepts it.
-use crate::making::{FIRST, NOT_FIRST, NOT_SECOND, SECOND, Short, log_of, plain};
-use proof_kernel::check_log;
+// Upgraded logs: where the clauses of a log are dropped, and that an upgraded log is upgraded already.
+use items::Items;
 use proof_lines::{Line, Lit};
 use report_upgrader::upgrade_log;
 use std::alloc::Global;
 use std::process::Abort;
+
+/// A line of a log in short. Farkas and Split lines use one literal and have no steps.
+#[derive(Clone, Copy)]
+enum Short {
+    Resolve(u32, u32, u32),
+    Farkas,
+    Split,
+    Drop(&'static [u32]),
+}
+
+const USED: Lit = Lit {
+    atom: 0,
+    positive: true,
+};
+
+/// A line in full.
+fn line(rt: &impl Abort, alloc: Global, short: Short) -> Line {
+    match short {
+        Short::Resolve(left, right, pivot) => Line::Resolve { left, right, pivot },
+        Short::Farkas => Line::Farkas {
+            used: Items::from_slice(alloc, &[USED]).expect(rt, "memory"),
+            steps: Items::new(alloc),
+        },
+        Short::Split => Line::Split {
+            place: 0,
+            at: 0,
+            used: Items::from_slice(alloc, &[USED]).expect(rt, "memory"),
+            steps: Items::new(alloc),
+            low: 0,
+            high: 0,
+            values: Items::new(alloc),
+        },
+        Short::Drop(numbers) => Line::Drop {
+            clauses: Items::from_slice(alloc, numbers).expect(rt, "memory"),
+        },
+    }
+}
+
+/// A log in full.
+fn log_of(rt: &impl Abort, alloc: Global, lines: &[Short]) -> Items<Line> {
+    let mut log = Items::new(alloc);
+    for short in lines {
+        log.push(line(rt, alloc, *short)).expect(rt, "memory");
+    }
+    log
+}
 
 /// Whether a line is the one that is meant.
 fn is_line(line: &Line, short: Short) -> bool {
@@ -47,7 +91,7 @@ fn becomes(rt: &impl Abort, alloc: Global, lines: &[Short], want: &[Short]) -> b
 type Case = (&'static [Short], &'static [Short]);
 
 /// Clauses are dropped behind the line that names them last; the first of these logs is upgraded already.
-static CASES: [Case; 6] = [
+static CASES: [Case; 7] = [
     (
         &[
             Short::Resolve(7, 3, 2),
@@ -98,6 +142,15 @@ static CASES: [Case; 6] = [
         ],
     ),
     (
+        &[Short::Resolve(0, 1, 0), Short::Resolve(3, 2, 1)],
+        &[
+            Short::Resolve(0, 1, 0),
+            Short::Drop(&[0, 1]),
+            Short::Resolve(3, 2, 1),
+            Short::Drop(&[2, 3]),
+        ],
+    ),
+    (
         &[
             Short::Drop(&[5]),
             Short::Resolve(4, 4, 0),
@@ -124,29 +177,4 @@ fn clauses_are_dropped_behind_the_line_that_names_them_last(rt: HostRuntime) {
         let found = becomes(&rt, rt.alloc(), lines, want);
         assert!(rt; found);
     }
-}
-
-static CLAUSES: &[&[Lit]] = &[&[FIRST], &[NOT_FIRST, SECOND], &[NOT_SECOND]];
-
-/// How many lines of the log and of the upgraded one are accepted.
-fn accepted(rt: &impl Abort, alloc: Global, lines: &[Short]) -> [Option<u32>; 2] {
-    let problem = plain(rt, alloc, 2, CLAUSES);
-    let log = log_of(rt, alloc, lines);
-    let upgraded = upgrade_log(alloc, log.as_slice()).expect(rt, "memory");
-    let first = check_log(alloc, &problem, log.as_slice());
-    let second = check_log(alloc, &problem, upgraded.as_slice());
-    drop(upgraded);
-    drop(log);
-    drop(problem);
-    [
-        first.ok().map(|checked| checked.lines),
-        second.ok().map(|checked| checked.lines),
-    ]
-}
-
-#[test]
-fn the_kernel_accepts_the_upgraded_log(rt: HostRuntime) {
-    let lines = [Short::Resolve(0, 1, 0), Short::Resolve(3, 2, 1)];
-    let found = accepted(&rt, rt.alloc(), &lines);
-    assert!(rt; found == [Some(2), Some(4)]);
 }
