@@ -223,7 +223,7 @@ impl Chosen {
         let Some(at) = place_of_pair(first, pairs.tuples.len(), earlier, later) else {
             return Ok(false);
         };
-        let Some(form) = pair_formula(&ground.atoms, pairs, earlier, later) else {
+        let Some(form) = pair_formula(&ground.atoms, alloc, pairs, earlier, later)? else {
             return Ok(false);
         };
         let forms = [form];

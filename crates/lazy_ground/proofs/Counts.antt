@@ -20,9 +20,7 @@ use Rattle.ground_atoms.specs.Formulas.{form_of}
 use Rattle.ground_atoms.specs.Known.{Known}
 use Rattle.ground_atoms.specs.Symbols.{reading_of}
 use Rattle.ground_atoms.specs.declared.atom.NamedReading.{NamedReading}
-use Rattle.ground_atoms.specs.declared.formula.GroundFormula.{GroundFormula}
 use Rattle.ground_groups.specs.Calls.{numbered_arguments}
-use Rattle.ground_groups.specs.Limited.{make_upto, Appends}
 use Rattle.ground_groups.specs.declared.refused.GroundRefused.{GroundRefused}
 use Rattle.ground_groups.specs.declared.refused.GroundRefused.TheVariants.{TooMany, Memory}
 use Rattle.ground_groups.proofs.Lists.{upto_length}
@@ -34,7 +32,7 @@ use Rattle.lazy_ground.specs.Front.{front_of, entry_readings, IsFront}
 use Rattle.lazy_ground.specs.Lazy.{IsGroundEither}
 use Rattle.lazy_ground.specs.declared.pairs.ReadingPairs.{ReadingPairs}
 use Rattle.lazy_ground.specs.Pairs.{pairs_of}
-use Rattle.lazy_ground.specs.Named.{AreFound}
+use Rattle.lazy_ground.specs.Named.{AreFound, AreMadeBehind, known_after}
 use Rattle.lazy_ground.proofs.Parts.{front_then, three_parts, found_pairs}
 
 -- ---- pairs
@@ -140,14 +138,13 @@ front_few d ob f is =
     omega (arith, a, b, c)
 
 -- Where some of those on equal readings are too many, the list has too many.
-pub behind_refused : (d : Specification) (ob : Obligation) (why : GroundRefused) (f : Front) (rs : List NamedReading) (xs ys : List Thing) (old new : List GroundFormula) (now : Known)
-    → IsFront d ob f → xs ++ ys ≡ things d → rs ≡ f.readings → old ≡ [] → Appends {A = Unit {0}} (Err why) old f.atoms (congruence (map reading_of rs) ys) new now → IsGroundEither d ob (Err why)
-behind_refused d ob TooMany f rs xs ys old new now is all e none h =
-    let made = ap (λ (l : List GroundFormula). make_upto (map form_of l) f.atoms (congruence (map reading_of rs) ys)) (sym none) ∙ h in
-    let n = many_made f.atoms (congruence (map reading_of rs) ys) made in
+pub behind_refused : (d : Specification) (ob : Obligation) (why : GroundRefused) (f : Front) (ps : List Symbolic) (now : Known) (rs : List NamedReading) (xs ys : List Thing)
+    → IsFront d ob f → xs ++ ys ≡ things d → rs ≡ f.readings → AreMadeBehind f.atoms ps (congruence (map reading_of rs) ys) now (Err why) → IsGroundEither d ob (Err why)
+behind_refused d ob TooMany f ps now rs xs ys is all e h =
+    let n = many_made (known_after f.atoms ps) (congruence (map reading_of rs) ys) h in
     let q : congruence (map reading_of rs) ys ≡ congruence (entry_readings d ob) ys = ap (λ (qs : List Reading). congruence qs ys) (ap (map reading_of) e ∙ is.readings) in
     let a = ap length (sym (three_parts d ob xs ys all)) ∙ length-append (front_of d ob) (congruence (entry_readings d ob) xs ++ congruence (entry_readings d ob) ys) in
     let b = length-append (congruence (entry_readings d ob) xs) (congruence (entry_readings d ob) ys) in
     let c = ap length q in
     omega (arith, n, a, b, c)
-behind_refused d ob Memory f rs xs ys old new now is all e none h = tt
+behind_refused d ob Memory f ps now rs xs ys is all e h = tt

@@ -1,6 +1,7 @@
 -- The entry in what was made of it and more, which is left for the next obligation.
 use Rattle.std.proofs.Common.{◌≡◌, ℕ, Some, None, Option, List, [], map, refl, sym, ◌∙◌, ap, subst}
 use Rattle.std.specs.Prelude.{IfSome, IfOk, Result, Ok, Err}
+use Rattle.std.specs.List.{flat_map}
 use Rattle.spec_core.specs.Specification.{Specification}
 use Rattle.spec_core.specs.declared.update.Thing.{Thing}
 use Rattle.obligation_list.specs.declared.obligation.Obligation.{Obligation}
@@ -32,11 +33,11 @@ use Rattle.lazy_ground.specs.declared.grounding.EitherGround.{EitherGround}
 use Rattle.lazy_ground.specs.declared.grounding.EitherGround.TheVariants as either
 use Rattle.lazy_ground.specs.declared.grounding.Kept.{Kept}
 use Rattle.lazy_ground.specs.Front.{front_of, HasPart, IsFront, ArePairsFor, IsFrontOr}
-use Rattle.lazy_ground.specs.Pairs.{AllNumbered}
-use Rattle.lazy_ground.specs.Named.{AreFound}
+use Rattle.lazy_ground.specs.Pairs.{pairs_of, AllNumbered}
+use Rattle.lazy_ground.specs.Named.{known_after, AreFound}
 use Rattle.lazy_ground.specs.Kept.{AllBuilt, IsKept, HasLazyKept, HasKept, HasClauses, HasEitherClauses}
 use Rattle.lazy_ground.proofs.Parts.{lazy_of, made_extends, numbered_stay}
-use Rattle.lazy_ground.proofs.Serving.{named_have_numbers}
+use Rattle.lazy_ground.proofs.NamedAfter.{after_grows, numbered_after}
 
 -- ---- the front
 
@@ -130,14 +131,15 @@ whole_entry d ob f fs now new is e =
     (upto_begins (map form_of f.formulas) f.atoms fs (record { known = now; forms = map form_of new }) e)
 
 -- So it does in the lazy one, whose pairs are those of its readings.
-pub lazy_kept : (d : Specification) (ob : Obligation) (f : Front) (ss : List ReadingPairs) (xs : List Thing) (fs : List Symbolic) (now : Known) (behind : List GroundFormula)
-    → IsFront d ob f → AreFound f.atoms.table (map reading_of f.readings) xs ss → make_upto [] f.atoms fs ≡ Some (record { known = now; forms = map form_of behind })
-    → HasLazyKept d (lazy_of f ss now behind)
-lazy_kept d ob f ss xs fs now behind is found made = record {
+pub lazy_kept : (d : Specification) (ob : Obligation) (f : Front) (ss : List ReadingPairs) (xs : List Thing) (fs : List Symbolic) (mid now : Known) (behind : List GroundFormula)
+    → IsFront d ob f → AreFound f.atoms.table (map reading_of f.readings) xs ss → mid ≡ known_after f.atoms (flat_map pairs_of ss)
+    → make_upto [] mid fs ≡ Some (record { known = now; forms = map form_of behind }) → HasLazyKept d (lazy_of f ss now behind)
+lazy_kept d ob f ss xs fs mid now behind is found between made = record {
   entry = parts_entry d ob f.named.sorts f.atoms now f.formulas f.formulas f.part (front_sorts d ob f is) is.shared
-      (upto_grows [] f.atoms fs (record { known = now; forms = map form_of behind }) made) (same_list (map form_of f.formulas));
+      (grows_then f.atoms mid now (subst (Grows f.atoms) (sym between) (after_grows f.atoms (flat_map pairs_of ss)))
+      (upto_grows [] mid fs (record { known = now; forms = map form_of behind }) made)) (same_list (map form_of f.formulas));
   pairs = found.built;
-  numbers = numbered_stay f.atoms.table now.table ss (made_extends [] f.atoms now fs (map form_of behind) made) (named_have_numbers f.atoms.table ss found.named);
+  numbers = numbered_stay mid.table now.table ss (made_extends [] mid now fs (map form_of behind) made) (numbered_after f.atoms mid (flat_map pairs_of ss) ss between found.numbered);
 }
 
 -- ---- what is left

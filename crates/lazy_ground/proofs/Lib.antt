@@ -6,3 +6,5 @@ pub mod Serving
 pub mod Entries
 pub mod Counts
 pub mod Wholes
+pub mod Places
+pub mod NamedAfter

@@ -12,11 +12,12 @@ use Rattle.lazy_ground.specs.declared.pairs.ReadingPairs.{ReadingPairs}
 use Rattle.ground_numbers.specs.Numbers.{Table}
 use Rattle.lazy_ground.specs.Equal.{fits}
 use Rattle.lazy_ground.specs.Kept.{thing_of, IsBuilt, AllBuilt}
-use Rattle.lazy_ground.specs.Named.{IsNamed, ArePairsAt, ArePairsOf, AllNamed}
+use Rattle.lazy_ground.specs.Pairs.{AreNumbers, AllNumbered}
+use Rattle.lazy_ground.specs.Named.{ArePairsAt, ArePairsOf}
 
-pub named_last : (o : Table) (ss : List ReadingPairs) (s : ReadingPairs) → AllNamed o ss → IsNamed o s → AllNamed o (ss ++ s ∷ [])
-named_last o [] s h k = (k, tt)
-named_last o (r ∷ ss) s h k = (h.0, named_last o ss s h.1 k)
+numbered_last : (o : Table) (ss : List ReadingPairs) (s : ReadingPairs) → AllNumbered o ss → AreNumbers o s.relation s.tuples s.atoms → AllNumbered o (ss ++ s ∷ [])
+numbered_last o [] s h k = (k, tt)
+numbered_last o (r ∷ ss) s h k = (h.0, numbered_last o ss s h.1 k)
 
 -- a tuple with more or fewer places than there are lists doesn't fit
 pub not_fitting : (columns : List (List ℕ)) (t : List ℕ) → ¬ (length columns ≡ length t) → false ≡ fits columns t
@@ -39,10 +40,10 @@ pairs_from o qs x r ts s e t h =
       thing = is;
       built = record {
         tuples = h.tuples ∙ t ∙ ap (λ n. rising (filter (λ q. is_thing q.thing (thing.Relation n)) qs)) (sym h.relation);
-        different = h.named.different;
-        columns = h.columns;
+        different = h.built.different;
+        columns = h.built.fit;
       };
-      named = h.named;
+      numbers = h.built.numbers;
     }
 
 pub pairs_of_if : {E : Type 0} (o : Table) (qs : List Reading) (x : Thing) (r : ℕ) (ts : List (List ℕ)) → x ≡ thing.Relation r → ts ≡ rising (filter (λ q. is_thing q.thing (thing.Relation r)) qs)
@@ -74,5 +75,5 @@ built_last qs (r ∷ ss) s h k = (h.0, built_last qs ss s h.1 k)
 pub built_next : (qs : List Reading) (ss new : List ReadingPairs) (s : ReadingPairs) → AllBuilt qs ss → IsBuilt qs s → new ≡ ss ++ s ∷ [] → AllBuilt qs new
 built_next qs ss new s h k e = subst (AllBuilt qs) (sym e) (built_last qs ss s h k)
 
-pub named_next : (o : Table) (ss new : List ReadingPairs) (s : ReadingPairs) → AllNamed o ss → IsNamed o s → new ≡ ss ++ s ∷ [] → AllNamed o new
-named_next o ss new s h k e = subst (AllNamed o) (sym e) (named_last o ss s h k)
+pub numbered_next : (o : Table) (ss new : List ReadingPairs) (s : ReadingPairs) → AllNumbered o ss → AreNumbers o s.relation s.tuples s.atoms → new ≡ ss ++ s ∷ [] → AllNumbered o new
+numbered_next o ss new s h k e = subst (AllNumbered o) (sym e) (numbered_last o ss s h k)

@@ -18,7 +18,7 @@ use Rattle.ground_problem.specs.Problem.{defined, formulas_of, most_formulas}
 use Rattle.ground_numbers.specs.Numbered.{Numbered}
 use Rattle.ground_numbers.specs.Numbers.{Table, has_atom, has_number, number_of, numbered, naming_all}
 use Rattle.ground_numbers.specs.Problem.{table_of}
-use Rattle.ground_numbers.proofs.Growing.{Extends, AllNamesIn, naming_all-extends, naming_all-has}
+use Rattle.ground_numbers.proofs.Growing.{Extends, extends-then, AllNamesIn, naming_all-extends, naming_all-has}
 use Rattle.ground_atoms.specs.Calls.{calls_of}
 use Rattle.ground_atoms.specs.Formulas.{form_of}
 use Rattle.ground_atoms.specs.Symbols.{reading_of}
@@ -95,18 +95,21 @@ made_forms k l fs gs e =
     ap (λ (m : MadeList). m.forms) (sym (upto_made [] k fs (record { known = l; forms = gs }) e) ∙ make_all-is [] k fs)
     ∙ ap (λ (o : Table). map (numbered o) fs) (sym (made_table k l fs gs e))
 
--- Formulas in front, formulas that name nothing new, and formulas behind.
-module _ (k l m : Known) (fs ps bs : List Symbolic) (front behind : List Numbered)
+-- Formulas in front, formulas of which only what they name is known, and formulas behind.
+module _ (k l n m : Known) (fs ps bs : List Symbolic) (front behind : List Numbered)
     (in_front : make_upto [] k fs ≡ Some (record { known = l; forms = front }))
-    (nothing_new : naming_all l.table ps ≡ l.table)
-    (then_behind : make_upto [] l bs ≡ Some (record { known = m; forms = behind })) where
-  pub grown : Extends l.table m.table
-  grown = subst (λ (o : Table). Extends l.table o) (sym (made_table l m bs behind then_behind)) (naming_all-extends l.table bs)
+    (between : n.table ≡ naming_all l.table ps)
+    (then_behind : make_upto [] n bs ≡ Some (record { known = m; forms = behind })) where
+  pub grown : Extends n.table m.table
+  grown = subst (λ (o : Table). Extends n.table o) (sym (made_table n m bs behind then_behind)) (naming_all-extends n.table bs)
+
+  all_grown : Extends l.table m.table
+  all_grown = extends-then l.table n.table m.table (subst (λ (o : Table). Extends l.table o) (sym between) (naming_all-extends l.table ps)) grown
 
   pub parts_table : m.table ≡ naming_all k.table (fs ++ (ps ++ bs))
   parts_table =
-      made_table l m bs behind then_behind
-      ∙ ap (λ (o : Table). naming_all o bs) (sym nothing_new)
+      made_table n m bs behind then_behind
+      ∙ ap (λ (o : Table). naming_all o bs) between
       ∙ sym (naming_all-append l.table ps bs)
       ∙ ap (λ (o : Table). naming_all o (ps ++ bs)) (made_table k l fs front in_front)
       ∙ sym (naming_all-append k.table fs (ps ++ bs))
@@ -114,11 +117,11 @@ module _ (k l m : Known) (fs ps bs : List Symbolic) (front behind : List Numbere
   front_forms : front ≡ map (numbered m.table) fs
   front_forms =
       made_forms k l fs front in_front
-      ∙ sym (all_numbered-stay l.table m.table grown fs (subst (λ (o : Table). AllNamesIn o fs) (sym (made_table k l fs front in_front)) (naming_all-has k.table fs)))
+      ∙ sym (all_numbered-stay l.table m.table all_grown fs (subst (λ (o : Table). AllNamesIn o fs) (sym (made_table k l fs front in_front)) (naming_all-has k.table fs)))
 
   pub parts_forms : front ++ (map (numbered m.table) ps ++ behind) ≡ map (numbered m.table) (fs ++ (ps ++ bs))
   parts_forms =
-      (λ i. front_forms i ++ (map (numbered m.table) ps ++ made_forms l m bs behind then_behind i))
+      (λ i. front_forms i ++ (map (numbered m.table) ps ++ made_forms n m bs behind then_behind i))
       ∙ ap (λ (l : List Numbered). map (numbered m.table) fs ++ l) (sym (map-append (numbered m.table) ps bs))
       ∙ sym (map-append (numbered m.table) fs (ps ++ bs))
 
@@ -127,13 +130,6 @@ module _ (k l m : Known) (fs ps bs : List Symbolic) (front behind : List Numbere
 map_flat_map : (o : Table) (ss : List ReadingPairs) → flat_map (pair_forms o) ss ≡ map (numbered o) (flat_map pairs_of ss)
 map_flat_map o [] = refl
 map_flat_map o (s ∷ ss) = ap (λ (l : List Numbered). pair_forms o s ++ l) (map_flat_map o ss) ∙ sym (map-append (numbered o) (pairs_of s) (flat_map pairs_of ss))
-
-pub all_named_there : (o : Table) (ss : List ReadingPairs) → AllNamed o ss → naming_all o (flat_map pairs_of ss) ≡ o
-all_named_there o [] h = refl
-all_named_there o (s ∷ ss) h =
-    naming_all-append o (pairs_of s) (flat_map pairs_of ss)
-    ∙ ap (λ (t : Table). naming_all t (flat_map pairs_of ss)) h.0.names
-    ∙ all_named_there o ss h.1
 
 numbers_stay : (t o : Table) (r : ℕ) (ts : List (List ℕ)) → Extends t o → readings_known t r ts ≡ true
     → map (λ u. number_of t (has_atom [] r u)) ts ≡ map (λ u. number_of o (has_atom [] r u)) ts
@@ -144,7 +140,7 @@ numbers_stay t o r (u ∷ us) e h =
     let g = numbers_stay t o r us e p.1 in
     λ i. q i ∷ g i
 
-readings_stay : (t o : Table) (r : ℕ) (ts : List (List ℕ)) → Extends t o → readings_known t r ts ≡ true → readings_known o r ts ≡ true
+pub readings_stay : (t o : Table) (r : ℕ) (ts : List (List ℕ)) → Extends t o → readings_known t r ts ≡ true → readings_known o r ts ≡ true
 readings_stay t o r [] e h = refl
 readings_stay t o r (u ∷ us) e h =
     let p = and_parts (has_number t (has_atom [] r u)) (readings_known t r us) h in
@@ -195,7 +191,7 @@ found_pairs o qs xs ss h = built_pairs qs ss h.built ∙ ap (congruence qs) h.th
 
 -- ---- the lazy ground problem
 
-pub lazy_made : (d : Specification) (ob : Obligation) (l m : Known) (rs cs : List Thing) (g : LazyGround)
+pub lazy_made : (d : Specification) (ob : Obligation) (l n m : Known) (rs cs : List Thing) (g : LazyGround)
     → g.sorts ≡ (constants_of d ob).sorts
     → g.calls ≡ calls_of d ob
     → g.elements ≡ (constants_of d ob).elements
@@ -203,20 +199,20 @@ pub lazy_made : (d : Specification) (ob : Obligation) (l m : Known) (rs cs : Lis
     → rs ++ cs ≡ things d
     → make_upto [] (numbered_arguments d ob) (front_of d ob) ≡ Some (record { known = l; forms = map form_of g.front })
     → flat_map pairs_of g.pairs ≡ congruence (entry_readings d ob) rs
-    → AllNamed l.table g.pairs
-    → make_upto [] l (congruence (entry_readings d ob) cs) ≡ Some (record { known = m; forms = map form_of g.behind })
+    → n.table ≡ naming_all l.table (flat_map pairs_of g.pairs)
+    → AllNamed n.table g.pairs
+    → make_upto [] n (congruence (entry_readings d ob) cs) ≡ Some (record { known = m; forms = map form_of g.behind })
     → m ≡ g.atoms
     → length (formulas_of d ob) ≤ most_formulas
     → IsLazyGround d ob g
-lazy_made d ob l m rs cs g consts calls elements entry all in_front found named then_behind same few =
+lazy_made d ob l n m rs cs g consts calls elements entry all in_front found between named then_behind same few =
     let k = numbered_arguments d ob in
     let fs = front_of d ob in
     let ps = flat_map pairs_of g.pairs in
     let bs = congruence (entry_readings d ob) cs in
-    let there = all_named_there l.table g.pairs named in
-    let over : AllNamed m.table g.pairs = named_stay l.table m.table g.pairs (grown k l m fs ps bs _ _ in_front there then_behind) named in
+    let over : AllNamed m.table g.pairs = named_stay n.table m.table g.pairs (grown k l n m fs ps bs _ _ in_front between then_behind) named in
     let whole : fs ++ (ps ++ bs) ≡ formulas_of d ob = ap (λ (x : List Symbolic). fs ++ (x ++ bs)) found ∙ three_parts d ob rs cs all in
-    let table : m.table ≡ table_of d ob = parts_table k l m fs ps bs _ _ in_front there then_behind ∙ ap (naming_all k.table) whole in
+    let table : m.table ≡ table_of d ob = parts_table k l n m fs ps bs _ _ in_front between then_behind ∙ ap (naming_all k.table) whole in
     let tables : g.atoms.table ≡ m.table = ap (λ (z : Known). z.table) (sym same) in
     record {
       few = few;
@@ -227,7 +223,7 @@ lazy_made d ob l m rs cs g consts calls elements entry all in_front found named 
       forms =
           ap (λ (o : Table). map form_of g.front ++ (flat_map (pair_forms o) g.pairs ++ map form_of g.behind)) tables
           ∙ ap (λ (x : List Numbered). map form_of g.front ++ (x ++ map form_of g.behind)) (map_flat_map m.table g.pairs)
-          ∙ parts_forms k l m fs ps bs _ _ in_front there then_behind
+          ∙ parts_forms k l n m fs ps bs _ _ in_front between then_behind
           ∙ (λ i. map (numbered (table i)) (whole i));
       pairs = subst (λ (o : Table). ArePairs o g.pairs) (sym tables) (are_pairs m.table g.pairs over);
       named = subst (λ (o : Table). AllNamed o g.pairs) (sym tables) over;
@@ -275,17 +271,18 @@ lazy_of f ss now behind = record {
   part = f.part;
 }
 
-pub lazy_from : (d : Specification) (ob : Obligation) (f : Front) (ss : List ReadingPairs) (xs ys : List Thing) (rs : List NamedReading) (new : Known) (behind : List GroundFormula)
+pub lazy_from : (d : Specification) (ob : Obligation) (f : Front) (ss : List ReadingPairs) (xs ys : List Thing) (rs : List NamedReading) (mid new : Known) (behind : List GroundFormula)
     → length (formulas_of d ob) ≤ most_formulas → IsFront d ob f → AreFound f.atoms.table (map reading_of f.readings) xs ss → xs ++ ys ≡ things d → rs ≡ f.readings
-    → make_upto [] f.atoms (congruence (map reading_of rs) ys) ≡ Some (record { known = new; forms = map form_of behind }) → IsLazyGround d ob (lazy_of f ss new behind)
-lazy_from d ob f ss xs ys rs new behind few is found all q made =
-    lazy_made d ob f.atoms new xs ys (lazy_of f ss new behind)
+    → mid.table ≡ naming_all f.atoms.table (flat_map pairs_of ss) → AllNamed mid.table ss
+    → make_upto [] mid (congruence (map reading_of rs) ys) ≡ Some (record { known = new; forms = map form_of behind }) → IsLazyGround d ob (lazy_of f ss new behind)
+lazy_from d ob f ss xs ys rs mid new behind few is found all q between named made =
+    lazy_made d ob f.atoms mid new xs ys (lazy_of f ss new behind)
     (ap (λ (z : Constants). z.sorts) is.constants)
     is.calls
     (ap (λ (z : Constants). z.elements) is.constants)
     (part_within d ob f.atoms f.formulas f.part is.shared)
     all is.made
     (found_pairs f.atoms.table (map reading_of f.readings) xs ss found ∙ ap (λ (qs : List Reading). congruence qs xs) is.readings)
-    found.named
-    (ap (λ (qs : List Reading). make_upto [] f.atoms (congruence qs ys)) (sym (ap (map reading_of) q ∙ is.readings)) ∙ made)
+    between named
+    (ap (λ (qs : List Reading). make_upto [] mid (congruence qs ys)) (sym (ap (map reading_of) q ∙ is.readings)) ∙ made)
     refl few

@@ -19,11 +19,9 @@ use Rattle.instances.specs.declared.entry.Begun.{Begun}
 use Rattle.instances.specs.Entry.{IsCutBack}
 use Rattle.lazy_ground.specs.declared.pairs.ReadingPairs.{ReadingPairs}
 use Rattle.lazy_ground.specs.declared.keeping.KeptPairs.{KeptPairs}
-use Rattle.lazy_ground.specs.Equal.{all_known}
 use Rattle.lazy_ground.specs.Pairs.{readings_known, AllNumbered}
-use Rattle.lazy_ground.specs.Kept.{thing_of, AllBuilt, HaveNumbers}
-use Rattle.lazy_ground.specs.Named.{AllNamed, AreFound, columns_known, numbers_below}
-use Rattle.lazy_ground.proofs.Tested.{named_numbered}
+use Rattle.lazy_ground.specs.Kept.{HaveNumbers}
+use Rattle.lazy_ground.specs.Named.{numbers_below}
 
 pub same_thing : (x y : Thing) → is_thing x y ≡ true → x ≡ y
 same_thing (thing.Relation k) (thing.Relation j) h = ap (λ (n : ℕ). thing.Relation n) ((Decides-eqb k j).0 h)
@@ -121,21 +119,7 @@ still_numbered (Some e) b kept k is cut below h back =
     numbered_in_front e.atoms.table b.atoms.table e.part.size.known.atoms k.pairs (ap (λ (z : Known). z.table.atoms) (back cut)) below
     (subst (HaveNumbers (Some e)) is h)
 
--- ---- all of them
-
-all_named : (o : Table) (qs : List Reading) (ss : List ReadingPairs) → AllBuilt qs ss → columns_known o ss ≡ true → AllNumbered o ss → AllNamed o ss
-all_named o qs [] h c k = tt
-all_named o qs (s ∷ ss) h c k =
-    let p = and_parts (list_all (all_known o) s.columns) (columns_known o ss) c in
-    (named_numbered o s h.0.different h.0.columns p.0 k.0, all_named o qs ss h.1 p.1 k.1)
-
-pub found_kept : (o : Table) (qs : List Reading) (xs : List Thing) (ss : List ReadingPairs) → map thing_of ss ≡ xs → columns_known o ss ≡ true → AllBuilt qs ss → AllNumbered o ss → AreFound o qs xs ss
-found_kept o qs xs ss things columns built numbered = record { things = things; built = built; named = all_named o qs ss built columns numbered }
-
--- pairs that name nothing new have the numbers of their readings
-pub named_have_numbers : (o : Table) (ss : List ReadingPairs) → AllNamed o ss → AllNumbered o ss
-named_have_numbers o [] h = tt
-named_have_numbers o (s ∷ ss) h = (record { known = h.0.known; numbers = h.0.atoms }, named_have_numbers o ss h.1)
+-- ---- the numbers that are kept
 
 -- what is kept with an entry whose numbers these are
 pub have_numbers : (entry : Option Entry) (kept : Option KeptPairs) (k : Known) → IfSome entry (λ e. e.atoms ≡ k) → IfSome kept (λ p. AllNumbered k.table p.pairs) → HaveNumbers entry kept

@@ -1,7 +1,5 @@
 -- Formulas whose atoms all have numbers name nothing new.
 use Rattle.std.proofs.Common.{◌≡◌, ℕ, suc, ◌<◌, Bool, true, cond, List, [], ◌∷◌, ◌++◌, length, map, get_or, zero, refl, ◌∙◌, ap, subst, arith}
-use Rattle.lin_rows.specs.declared.term.RowTerm.{RowTerm}
-use Rattle.lin_rows.specs.Rows.{Row}
 use Rattle.spec_core.specs.declared.update.Thing.{Thing}
 use Rattle.spec_core.specs.declared.update.Thing.TheVariants as thing
 use Rattle.ground_problem.specs.Definitions.{Reading, reading_of_integer}
@@ -25,7 +23,7 @@ integers_there o [] h = refl
 integers_there o (number n ∷ ps) h = integers_there o ps h
 integers_there o (multiple k x ∷ ps) h = ap (λ (t : Table). with_integers t ps) (integer_there o x h.0) ∙ integers_there o ps h.1
 
-row_there : (o : Table) (ts : List RowTerm) (r : Row) → RowIn o ts r → with_row o ts r ≡ o
+row_there : (o : Table) (ts : _) (r : _) → RowIn o ts r → with_row o ts r ≡ o
 row_there o [] r h = refl
 row_there o (t ∷ ts) r h = atom_there o (row_atom r) h
 
@@ -108,7 +106,7 @@ made_there k f h =
 
 -- ---- the formula of two tuples
 
-names_apart : (o : Table) (fs gs : List Symbolic) → AllNamesIn o (fs ++ gs) → AllNamesIn o fs × AllNamesIn o gs
+pub names_apart : (o : Table) (fs gs : List Symbolic) → AllNamesIn o (fs ++ gs) → AllNamesIn o fs × AllNamesIn o gs
 names_apart o [] gs h = (tt, h)
 names_apart o (f ∷ fs) gs h = (let k = names_apart o fs gs h.1 in ((h.0, k.0), k.1))
 

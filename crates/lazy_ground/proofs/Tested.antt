@@ -12,13 +12,12 @@ use Rattle.std.proofs.lemmas.Bool.Decides.{Decides-eqb}
 use Rattle.spec_core.specs.declared.update.Thing.TheVariants as thing
 use Rattle.ground_problem.specs.Symbols.{Symbolic, always, same, both, both_and, all_parts, same_const}
 use Rattle.ground_problem.specs.Equality.{tuples_same, congruent, congruent_pairs}
-use Rattle.ground_numbers.specs.Numbers.{Table, same_atom, has_atom, has_number, naming_all}
+use Rattle.ground_numbers.specs.Numbers.{Table, same_atom, has_atom, has_number}
 use Rattle.ground_numbers.proofs.Growing.{NamesIn, AllNamesIn}
-use Rattle.lazy_ground.specs.declared.pairs.ReadingPairs.{ReadingPairs}
 use Rattle.lazy_ground.specs.Pairs.{DiffersFrom, AreDifferent, readings_known, AreNumbers}
 use Rattle.lazy_ground.specs.Equal.{equality_known, all_known, fits}
-use Rattle.lazy_ground.specs.Named.{rise_from, all_rise, HasKnownEqualities, AreNumbersOfPairs, IsNamed}
-use Rattle.lazy_ground.proofs.Stays.{all_names_there, all_names-append}
+use Rattle.lazy_ground.specs.Named.{rise_from, all_rise, AreNumbersOfPairs}
+use Rattle.lazy_ground.proofs.Stays.{all_names-append}
 
 -- ---- equalities
 
@@ -123,17 +122,13 @@ with_each_named o r columns t (u ∷ us) a h k p q =
     let m = and_parts (has_number o (has_atom [] r u)) (readings_known o r us) q in
     (congruent_named o r columns t u a h l.0 p m.0, with_each_named o r columns t us a h l.1 p m.1)
 
-pairs_named : (o : Table) (r : ℕ) (columns : List (List ℕ)) (ts : List (List ℕ)) → list_all (all_known o) columns ≡ true → list_all (fits columns) ts ≡ true → readings_known o r ts ≡ true
+pub pairs_named : (o : Table) (r : ℕ) (columns : List (List ℕ)) (ts : List (List ℕ)) → list_all (all_known o) columns ≡ true → list_all (fits columns) ts ≡ true → readings_known o r ts ≡ true
     → AllNamesIn o (congruent_pairs (thing.Relation r) ts)
 pairs_named o r columns [] a k q = tt
 pairs_named o r columns (t ∷ ts) a k q =
     let l = and_parts (fits columns t) (list_all (fits columns) ts) k in
     let m = and_parts (has_number o (has_atom [] r t)) (readings_known o r ts) q in
     all_names-append o _ _ (with_each_named o r columns t ts a l.0 l.1 m.0 m.1) (pairs_named o r columns ts a l.1 m.1)
-
-pub pairs_there : (o : Table) (r : ℕ) (columns ts : List (List ℕ)) → list_all (all_known o) columns ≡ true → list_all (fits columns) ts ≡ true → readings_known o r ts ≡ true
-    → naming_all o (congruent_pairs (thing.Relation r) ts) ≡ o
-pairs_there o r columns ts a k q = all_names_there o _ (pairs_named o r columns ts a k q)
 
 -- ---- rising tuples are different
 
@@ -179,24 +174,8 @@ rising_different columns (t ∷ us) h k = (let b = and_parts (fits columns t) (l
 
 -- ---- a relation whose tests succeed
 
--- different tuples that fit columns whose equalities are known, with the numbers of their readings
-pub named_numbered : (o : Table) (s : ReadingPairs) → AreDifferent s.tuples → list_all (fits s.columns) s.tuples ≡ true → list_all (all_known o) s.columns ≡ true
-    → AreNumbers o s.relation s.tuples s.atoms → IsNamed o s
-named_numbered o s different fit known numbers = record {
-  different = different;
-  atoms = numbers.numbers;
-  known = numbers.known;
-  names = pairs_there o s.relation s.columns s.tuples known fit numbers.known;
-}
-
-named_from : (o : Table) (r : ℕ) (ts columns : List (List ℕ)) (ns : List ℕ) → all_rise ts ≡ true → HasKnownEqualities o columns ts → AreNumbers o r ts ns → AreNumbersOfPairs o r ts columns ns
-named_from o r ts columns ns rise known numbers = record {
-  named = named_numbered o (record { relation = r; tuples = ts; columns = columns; atoms = ns }) (rising_different columns ts rise known.fit) known.fit known.known numbers;
-  fit = known.fit;
-}
-
-pub named_if : {E : Type 0} (o : Table) (r : ℕ) (ts columns : List (List ℕ)) → all_rise ts ≡ true → HasKnownEqualities o columns ts → (found : Result (Option (List ℕ)) E)
+pub numbered_if : {E : Type 0} (o : Table) (r : ℕ) (ts columns : List (List ℕ)) → all_rise ts ≡ true → list_all (fits columns) ts ≡ true → (found : Result (Option (List ℕ)) E)
     → IfOk found (λ f. IfSome f (AreNumbers o r ts)) → IfOk found (λ f. IfSome f (AreNumbersOfPairs o r ts columns))
-named_if o r ts columns rise known (Err e) h = tt
-named_if o r ts columns rise known (Ok None) h = tt
-named_if o r ts columns rise known (Ok (Some ns)) h = named_from o r ts columns ns rise known h
+numbered_if o r ts columns rise fit (Err e) h = tt
+numbered_if o r ts columns rise fit (Ok None) h = tt
+numbered_if o r ts columns rise fit (Ok (Some ns)) h = record { different = rising_different columns ts rise fit; numbers = h; fit = fit }

@@ -1,14 +1,22 @@
--- Readings of relations whose pairs name nothing new. It mirrors the code.
-use Rattle.std.specs.Prelude.{◌≡◌, ℕ, ltb, true, Bool, ◌&&◌, List, [], ◌∷◌, map}
+-- Readings of relations, and what the formulas of their pairs name. It mirrors the code.
+use Rattle.std.specs.Prelude.{◌≡◌, ℕ, ltb, true, Bool, ◌&&◌, Some, None, Result, Ok, Err, List, [], ◌∷◌, map}
 use Rattle.std.specs.List.{list_all}
 use Rattle.std.specs.Ordering.{nat_cmp, is_lt}
 use Rattle.std.specs.Cmp.Lexicographic.{slice_cmp}
 use Rattle.spec_core.specs.declared.update.Thing.{Thing}
+use Rattle.ground_problem.specs.Symbols.{Symbolic}
 use Rattle.ground_problem.specs.Definitions.{Reading}
 use Rattle.ground_numbers.specs.Numbers.{Table, naming_all}
+use Rattle.ground_atoms.specs.Known.{Known}
+use Rattle.ground_atoms.specs.Making.{make}
+use Rattle.ground_atoms.specs.Formulas.{form_of}
+use Rattle.ground_atoms.specs.declared.formula.GroundFormula.{GroundFormula}
+use Rattle.ground_groups.specs.Limited.{make_upto}
+use Rattle.ground_groups.specs.declared.refused.GroundRefused.{GroundRefused}
+use Rattle.ground_groups.specs.declared.refused.GroundRefused.TheVariants.{TooMany, Memory}
 use Rattle.lazy_ground.specs.declared.pairs.ReadingPairs.{ReadingPairs}
 use Rattle.lazy_ground.specs.Equal.{all_known, fits}
-use Rattle.lazy_ground.specs.Pairs.{pairs_of, AreDifferent, HasAtoms, readings_known}
+use Rattle.lazy_ground.specs.Pairs.{pairs_of, AreDifferent, HasAtoms, readings_known, AreNumbers, AllNumbered}
 use Rattle.lazy_ground.specs.Kept.{thing_of, IsBuilt, AllBuilt}
 
 -- a tuple is before the first of these, and each of these before the next
@@ -21,10 +29,18 @@ abbrev pub all_rise : List (List ℕ) → Bool
 all_rise [] = true
 all_rise (t ∷ ts) = rise_from t ts
 
--- The constants of these tuples stand, place by place, in these lists, and the equality of every two of a list has a number.
-pub record HasKnownEqualities (o : Table) (columns ts : List (List ℕ)) : Type 0 where
-  pub known : list_all (all_known o) columns ≡ true
-  pub fit : list_all (fits columns) ts ≡ true
+-- what is known once these formulas are made, in their order
+abbrev pub known_after : Known → List Symbolic → Known
+known_after k [] = k
+known_after k (f ∷ fs) = known_after (make k f).known fs
+
+-- formulas are made after others of which only what they name is known: too many comes exactly where there are more
+abbrev pub AreMadeBehind : Known → List Symbolic → List Symbolic → Known
+    → Result (List GroundFormula) GroundRefused → Type 0
+AreMadeBehind k ps fs now (Ok behind) =
+    make_upto [] (known_after k ps) fs ≡ Some (record { known = now; forms = map form_of behind })
+AreMadeBehind k ps fs now (Err TooMany) = make_upto [] (known_after k ps) fs ≡ None
+AreMadeBehind k ps fs now (Err Memory) = Unit {0}
 
 -- the tuples are different, their readings have these numbers, and the formulas of their pairs name nothing new
 pub record IsNamed (o : Table) (s : ReadingPairs) : Type 0 where
@@ -33,23 +49,23 @@ pub record IsNamed (o : Table) (s : ReadingPairs) : Type 0 where
   pub known : readings_known o s.relation s.tuples ≡ true
   pub names : naming_all o (pairs_of s) ≡ o
 
--- so it is with these tuples and numbers, and the tuples' constants stand in these columns
+-- the tuples are different, their constants stand in these columns, and their readings have these numbers
 pub record AreNumbersOfPairs (o : Table) (r : ℕ) (ts columns : List (List ℕ)) (ns : List ℕ) : Type 0 where
-  pub named : IsNamed o (record { relation = r; tuples = ts; columns = columns; atoms = ns })
+  pub different : AreDifferent ts
+  pub numbers : AreNumbers o r ts ns
   pub fit : list_all (fits columns) ts ≡ true
 
--- the pairs of a relation's tuples, whose constants stand in columns; they name nothing new
+-- the pairs of a relation's tuples, with the numbers of its readings
 pub record ArePairsAt (o : Table) (r : ℕ) (ts : List (List ℕ)) (s : ReadingPairs) : Type 0 where
   pub relation : s.relation ≡ r
   pub tuples : s.tuples ≡ ts
-  pub columns : list_all (fits s.columns) s.tuples ≡ true
-  pub named : IsNamed o s
+  pub built : AreNumbersOfPairs o s.relation s.tuples s.columns s.atoms
 
--- a thing's pairs, which name nothing new
+-- a thing's pairs, with the numbers of its readings
 pub record ArePairsOf (o : Table) (qs : List Reading) (x : Thing) (s : ReadingPairs) : Type 0 where
   pub thing : thing_of s ≡ x
   pub built : IsBuilt qs s
-  pub named : IsNamed o s
+  pub numbers : AreNumbers o s.relation s.tuples s.atoms
 
 -- so it is with each of these
 abbrev pub AllNamed : Table → List ReadingPairs → Type 0
@@ -64,8 +80,13 @@ columns_known o ss = list_all (λ s. list_all (all_known o) s.columns) ss
 abbrev pub numbers_below : ℕ → List ReadingPairs → Bool
 numbers_below n ss = list_all (λ s. list_all (λ m. ltb m n) s.atoms) ss
 
--- they stand for the formulas on equal readings of these things, and name nothing new
+-- the tuples of each relation fit its columns
+abbrev pub AllFit : List ReadingPairs → Type 0
+AllFit [] = Unit {0}
+AllFit (s ∷ more) = (list_all (fits s.columns) s.tuples ≡ true) × AllFit more
+
+-- they stand for the formulas on equal readings of these things, which have their numbers
 pub record AreFound (o : Table) (qs : List Reading) (xs : List Thing) (ss : List ReadingPairs) : Type 0 where
   pub things : map thing_of ss ≡ xs
   pub built : AllBuilt qs ss
-  pub named : AllNamed o ss
+  pub numbered : AllNumbered o ss

@@ -12,7 +12,7 @@ ghost use Rattle.lazy_ground.specs.Front.{IsFront, ArePairsFor, IsCount};
 ghost use Rattle.lazy_ground.specs.Named.{AreFound};
 
 use crate::front::Front;
-use crate::keeping::serves;
+use crate::keeping::are_relations_of;
 use crate::naming::pairs_of_all;
 use crate::pairs::ReadingPairs;
 use effectors::is_thing;
@@ -147,7 +147,7 @@ fn has_enough(readings: &[NamedReading]) -> bool {
     pairs >= FEWEST_PAIRS
 }
 
-// The pairs of the readings of these relations, made; nothing where they name something new, or where they are few.
+// The pairs of the readings of these relations, made; nothing where they are few.
 fn made_pairs(
     alloc: Global,
     front: &Front,
@@ -162,8 +162,8 @@ fn made_pairs(
     pairs_of_all(&front.atoms, alloc, front.readings.as_slice(), relations)
 }
 
-/// The pairs of the readings of these relations, where it is worthwhile to leave their formulas to them, and they name nothing new. Those
-/// that were kept are taken, where they serve.
+/// The pairs of the readings of these relations, where it is worthwhile to leave their formulas to them. Those that were kept are
+/// taken, where they are of these relations.
 pub fn choose(
     alloc: Global,
     front: &Front,
@@ -176,7 +176,7 @@ pub fn choose(
 {
     match kept {
         Some(pairs) => {
-            if serves(&front.atoms, relations, pairs.as_slice()) {
+            if are_relations_of(pairs.as_slice(), relations) {
                 return Ok(Some(pairs));
             }
             drop(pairs);

@@ -1,15 +1,17 @@
 // The equality of two constants and of two tuples, over numbers that are known.
-ghost use Rattle.std.specs.Prelude.{◌≡◌, IfSome};
+ghost use Rattle.std.specs.Prelude.{◌≡◌, IfOk, IfSome};
 ghost use Rattle.std.specs.List.{list_all};
 ghost use Rattle.ground_problem.specs.Symbols as symbols;
 ghost use Rattle.ground_problem.specs.Equality as equality;
 ghost use Rattle.ground_numbers.specs.Numbered.{conjunction};
 ghost use Rattle.ground_numbers.specs.Numbers.{numbered};
-ghost use Rattle.ground_atoms.specs.Formulas.{tuples_equal};
+ghost use Rattle.ground_atoms.specs.Formulas.{form_of, tuples_equal};
 ghost use Rattle.lazy_ground.specs.Equal.{equality_form, equality_known, all_known, fits};
 
-use ground_atoms::{Atom, Atoms, Places};
+use ground_atoms::{Atom, Atoms, GroundFormula, Places};
 use items::Items;
+use stage_defs::both;
+use std::alloc::{AllocError, Global};
 
 /// The equality of two constants: true where they are one, and else an atom by its number.
 #[derive(Clone, Copy)]
@@ -106,6 +108,63 @@ pub fn tuples_equality(atoms: &Atoms, left: &[u32], right: &[u32]) -> Option<Tup
         ([a, c], [b, d]) => two_equal(atoms, *a, *b, *c, *d),
         _ => None,
     }
+}
+
+// The equality of two constants, as a formula; nothing where it has no number.
+fn place_equality(atoms: &Atoms, left: u32, right: u32) -> Option<GroundFormula>
+    ensures { IfSome result (λ f. form_of f
+        ≡ numbered atoms.now.table (symbols.same_const left right)) }
+{
+    match consts_equal(atoms, left, right) {
+        Some(ConstEquality::Same) => Some(GroundFormula::Truth(true)),
+        Some(ConstEquality::Atom(number)) => Some(GroundFormula::Lit(number, true)),
+        None => None,
+    }
+}
+
+// The same, joined to a formula before it.
+fn with_place(
+    atoms: &Atoms,
+    alloc: Global,
+    before: GroundFormula,
+    left: u32,
+    right: u32,
+) -> Result<Option<GroundFormula>, AllocError>
+    ensures { IfOk result (λ found. IfSome found (λ f. form_of f ≡ conjunction (form_of before)
+        (numbered atoms.now.table (symbols.same_const left right)))) }
+{
+    match place_equality(atoms, left, right) {
+        Some(part) => Ok(Some(both(alloc, before, part)?)),
+        None => {
+            drop(before);
+            Ok(None)
+        }
+    }
+}
+
+/// The equality of two tuples of one length, place by place, joined from the left as the whole problem has it; nothing where they have
+/// no places, or an equality of theirs has no number.
+pub fn places_equality(
+    atoms: &Atoms,
+    alloc: Global,
+    left: &[u32],
+    right: &[u32],
+) -> Result<Option<GroundFormula>, AllocError>
+    ensures { IfOk result (λ found. IfSome found (λ f. form_of f
+        ≡ numbered atoms.now.table (symbols.all_parts (equality.tuples_same left.now right.now)))) }
+{
+    let count = left.len();
+    if count == 0 || count != right.len() {
+        return Ok(None);
+    }
+    let mut done = place_equality(atoms, left[0], right[0]);
+    for place in 1..count {
+        let Some(before) = done else {
+            return Ok(None);
+        };
+        done = with_place(atoms, alloc, before, left[place], right[place])?;
+    }
+    Ok(done)
 }
 
 // Whether the equality of two constants has a number; that of a constant with itself needs none.

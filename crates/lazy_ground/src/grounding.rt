@@ -1,14 +1,16 @@
 // The ground problem of an obligation: the whole of it where it has few pairs of readings, and else the lazy one. The formulas are counted
 // before those on equal readings are made: where they are too many, none of these is.
 ghost use Rattle.std.specs.Prelude.{◌≡◌, ◌≤◌, ◌++◌, length, map, IfOk, IfSome};
+ghost use Rattle.std.specs.List.{flat_map};
 ghost use Rattle.obligation_list.specs.Obligations.{IsObligation, things};
 ghost use Rattle.obligation_list.specs.declared.obligation.Obligation.{Obligation};
 ghost use Rattle.ground_problem.specs.Problem.{formulas_of, most_formulas};
 ghost use Rattle.ground_atoms.specs.Symbols.{reading_of};
 ghost use Rattle.ground_numbers.specs.Numbers.{Table};
+ghost use Rattle.ground_problem.specs.Equality.{congruence};
 ghost use Rattle.lazy_ground.specs.Front.{IsFront, ArePairsFor};
-ghost use Rattle.lazy_ground.specs.Pairs.{AllNumbered};
-ghost use Rattle.lazy_ground.specs.Named.{AreFound};
+ghost use Rattle.lazy_ground.specs.Pairs.{pairs_of, AllNumbered};
+ghost use Rattle.lazy_ground.specs.Named.{AllFit, AreFound, AreMadeBehind};
 ghost use Rattle.spec_core.specs.Specification.{Specification};
 ghost use Rattle.instances.specs.Entry.{IsEntry, entry_with};
 ghost use Rattle.lazy_ground.specs.Kept.{IsKeptPairs, IsKept, HasLazyKept, HasKept, HasEitherClauses};
@@ -17,6 +19,7 @@ ghost use Rattle.lazy_ground.specs.Lazy.{IsGroundEither};
 use crate::choosing::{choose, has_too_many, has_too_many_beside};
 use crate::front::{Front, FrontAndPairs, make_front};
 use crate::keeping::KeptPairs;
+use crate::numbering::number_all_pairs;
 use crate::pairs::ReadingPairs;
 use ground_atoms::{Atoms, GroundCall, GroundFormula, NamedReading};
 use ground_groups::{GroundRefused, Named, things_of};
@@ -232,6 +235,27 @@ fn whole(
     }))
 }
 
+// The formulas on equal readings of counters, made behind those that these pairs stand for: what these name gets its numbers first.
+fn behind_pairs(
+    atoms: &mut Atoms,
+    alloc: Global,
+    spec: &Spec,
+    readings: &[NamedReading],
+    pairs: &[ReadingPairs],
+    counters: &[Thing],
+) -> Result<Items<GroundFormula>, GroundRefused>
+    requires numbered { AllNumbered atoms.old.table pairs.now }
+    requires fit { AllFit pairs.now }
+    ensures { AreMadeBehind atoms.old (flat_map pairs_of pairs.now)
+        (congruence (map reading_of readings.now) counters.now) atoms.new result }
+{
+    number_all_pairs(atoms, pairs)?;
+    let mut behind = Items::new(alloc);
+    let added = add_congruence(atoms, alloc, spec, readings, counters, &mut behind);
+    or_drop!(added; behind);
+    Ok(behind)
+}
+
 // The lazy ground problem, of which the front and the pairs are made.
 fn lazily(
     alloc: Global,
@@ -258,16 +282,15 @@ fn lazily(
         readings,
         part,
     } = front;
-    let mut behind = Items::new(alloc);
-    let added = add_congruence(
+    let made = behind_pairs(
         &mut atoms,
         alloc,
         spec,
         readings.as_slice(),
+        pairs.as_slice(),
         counters,
-        &mut behind,
     );
-    or_drop!(added; behind, pairs, part, readings, formulas, named, atoms);
+    let behind = or_drop!(made; pairs, part, readings, formulas, named, atoms);
     let Named {
         sorts,
         calls,
@@ -381,10 +404,9 @@ pub fn ground_lazily_from(
     result
 }
 
-/// The ground problem of an obligation of the specification. It is whole where there are few pairs of readings, or where a pair names an
-/// equality that no formula in front of it names. It has too many formulas exactly where the list has more than 20,000: those on equal
-/// readings are counted before any of them is made, and what was made of the entry is left then; a list that is too long without them is
-/// refused, and leaves nothing.
+/// The ground problem of an obligation of the specification. It is whole where there are few pairs of readings. It has too many formulas
+/// exactly where the list has more than 20,000: those on equal readings are counted before any of them is made, and what was made of the
+/// entry is left then; a list that is too long without them is refused, and leaves nothing.
 pub fn ground_lazily(
     alloc: Global,
     spec: &Spec,

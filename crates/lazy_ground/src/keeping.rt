@@ -2,7 +2,7 @@
 //
 // Obligations next to each other mostly go on from the same entry and have the same readings at it. Then the same pairs stand for the
 // formulas on equal readings, and these readings have the numbers that they had. What is left to be tested is what the next obligation
-// names itself: that no reading came to those at the entry, and that the equalities of each two constants of a place have numbers.
+// names itself: that no reading came to those at the entry.
 ghost use Rattle.std.specs.Prelude.{◌≡◌, ◌==◌, true, length, map, filter, ltb, Option, IfOk, IfSome, IsTrue, List};
 ghost use Rattle.std.specs.List.{list_all, list_any};
 ghost use Rattle.std.specs.Str.{bytes_eq};
@@ -14,7 +14,7 @@ ghost use Rattle.instances.specs.declared.entry.Entry.{Entry};
 ghost use Rattle.instances.specs.Entry.{IsCutBack};
 ghost use Rattle.lazy_ground.specs.Equal.{all_known};
 ghost use Rattle.lazy_ground.specs.Pairs.{AllNumbered};
-ghost use Rattle.lazy_ground.specs.Named.{columns_known, numbers_below, AreFound};
+ghost use Rattle.lazy_ground.specs.Named.{columns_known, numbers_below};
 ghost use Rattle.lazy_ground.specs.Kept.{thing_of, AllBuilt, IsKeptPairs, HaveNumbers};
 
 use crate::equal::are_known;
@@ -150,8 +150,8 @@ pub fn standing(begun: &Begun, kept: Option<KeptPairs>) -> Option<KeptPairs>
     }
 }
 
-// Whether these are the relations of the pairs, in their order.
-fn are_relations_of(pairs: &[ReadingPairs], things: &[Thing]) -> bool
+/// Whether these are the relations of the pairs, in their order.
+pub fn are_relations_of(pairs: &[ReadingPairs], things: &[Thing]) -> bool
     ensures { IsTrue result → map thing_of pairs.now ≡ things.now }
 {
     if pairs.len() != things.len() {
@@ -198,8 +198,8 @@ fn are_known_beside(atoms: &Atoms, before: &[Items<u32>], columns: &[Items<u32>]
     true
 }
 
-// Whether it is so with those at each place of each relation.
-fn are_columns_known(atoms: &Atoms, pairs: &[ReadingPairs]) -> bool
+/// Whether it is so with those at each place of each relation.
+pub fn are_columns_known(atoms: &Atoms, pairs: &[ReadingPairs]) -> bool
     ensures { IsTrue result → columns_known atoms.now.table pairs.now ≡ true }
 {
     let mut before: &[Items<u32>] = &[];
@@ -210,13 +210,4 @@ fn are_columns_known(atoms: &Atoms, pairs: &[ReadingPairs]) -> bool
         before = some.columns.as_slice();
     }
     true
-}
-
-/// Whether these are pairs of these things, and name nothing new.
-pub fn serves(atoms: &Atoms, things: &[Thing], pairs: &[ReadingPairs]) -> bool
-    ensures { IsTrue result → (qs : List Reading) → AllBuilt qs pairs.now
-        → AllNumbered atoms.now.table pairs.now
-        → AreFound atoms.now.table qs things.now pairs.now }
-{
-    are_relations_of(pairs, things) && are_columns_known(atoms, pairs)
 }

@@ -2,8 +2,9 @@
 //
 // Where two tuples are equal, a relation holds of both or of neither. There is a formula that says so for every two tuples of each
 // relation that any invariant names, and a search needs few of them. Here a relation's tuples stand for all these formulas, and the one
-// of two tuples is made when it is asked for (src/pairs.rt). They name nothing that isn't named before them, which is tested; so the
-// formulas before and behind them have the numbers that they have in the whole problem (src/grounding.rt). Where a search needs all
+// of two tuples is made when it is asked for (src/pairs.rt). Their readings have numbers; an equality that has none gets the number that
+// these formulas would give it, before what stands behind them is made (src/numbering.rt). So the formulas before and behind them have
+// the numbers that they have in the whole problem (src/grounding.rt). Where a search needs all
 // of them, they are made and put between, and that is the whole problem (src/completing.rt). All formulas on equal tuples are counted
 // before any of them is made: a list with too many ends there (src/choosing.rt).
 //
@@ -20,9 +21,13 @@
 // Decisions:
 // - Only the formulas of relations are left to tuples. Those of counters name rows, which take
 //   numbers.
-// - That pairs name nothing new is tested place by place: the equality of each two constants at a
-//   place of some tuples has to have a number. Where the test fails, the whole problem is made; so
-//   it is where there are fewer than three pairs, before any tuple is put in order.
+// - The formula of two tuples of one or two places takes no memory. Longer tuples have one that is
+//   joined place by place, as in the whole problem, each time that it is asked for.
+// - An equality that pairs name has no number only where its sort has two constants and no formula
+//   in front names it. Whether all have one is tested place by place, over the constants that stand
+//   there; only where the test fails are the pairs gone through.
+// - The whole problem is made where there are fewer than three pairs, before any tuple is put in
+//   order.
 // - Where the list has too many formulas, what was made of the entry is left for the next
 //   obligation, which mostly has too many too.
 // - `verify` makes the whole problem, since a log may name any clause.
@@ -50,6 +55,7 @@ mod front;
 mod grounding;
 mod keeping;
 mod naming;
+mod numbering;
 mod pairs;
 
 pub use completing::WholeGround;

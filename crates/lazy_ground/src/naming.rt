@@ -1,12 +1,12 @@
-// The readings of relations at the entry, where the formulas of their pairs name nothing new.
+// The readings of relations at the entry, told by their tuples and by their numbers.
 ghost use Rattle.std.specs.Prelude.{◌≡◌, [], IfOk, IfSome, IsTrue, true, map};
 ghost use Rattle.ground_numbers.specs.Numbers.{has_atom, has_number, number_of};
 ghost use Rattle.ground_atoms.specs.Symbols.{reading_of};
 ghost use Rattle.lazy_ground.specs.Pairs.{AreNumbers};
-ghost use Rattle.lazy_ground.specs.Named.{rise_from, all_rise, HasKnownEqualities, AreNumbersOfPairs, ArePairsAt, ArePairsOf, AreFound};
+ghost use Rattle.lazy_ground.specs.Named.{rise_from, all_rise, AreNumbersOfPairs, ArePairsAt, ArePairsOf, AreFound};
 
 use crate::columns::columns_of;
-use crate::equal::{are_all_known, are_within};
+use crate::equal::are_within;
 use crate::pairs::ReadingPairs;
 use ground_atoms::{Atom, Atoms, NamedReading, Tuple};
 use instances::rising;
@@ -80,14 +80,7 @@ fn numbers_at(
     Ok(Some(numbers))
 }
 
-// Whether the formulas of every two of these tuples, whose constants stand in columns, name no equality that isn't known.
-fn has_known_equalities(atoms: &Atoms, columns: &[Items<u32>], tuples: &[Items<u32>]) -> bool
-    ensures { IsTrue result → HasKnownEqualities atoms.now.table columns.now tuples.now }
-{
-    are_all_known(atoms, columns) && are_within(columns, tuples)
-}
-
-// The numbers of a relation's readings at these tuples; nothing where their pairs name something new.
+// The numbers of a relation's readings at these tuples; nothing where the tuples don't rise, or don't fit their columns.
 fn numbers_of_pairs(
     atoms: &Atoms,
     alloc: Global,
@@ -98,16 +91,13 @@ fn numbers_of_pairs(
     ensures { IfOk result (λ found. IfSome found
         (AreNumbersOfPairs atoms.now.table relation tuples.now columns.now)) }
 {
-    if !is_rising(tuples) {
-        return Ok(None);
-    }
-    if !has_known_equalities(atoms, columns, tuples) {
+    if !is_rising(tuples) || !are_within(columns, tuples) {
         return Ok(None);
     }
     numbers_at(atoms, alloc, relation, tuples)
 }
 
-// The pairs of a relation's tuples, whose constants stand in columns; nothing where they name something new.
+// The pairs of a relation's tuples, whose constants stand in columns; nothing where a reading has no number.
 fn pairs_at(
     atoms: &Atoms,
     alloc: Global,
@@ -143,7 +133,7 @@ fn pairs_at(
     }
 }
 
-// The pairs of the readings of a thing; nothing where it isn't a relation, or where its pairs name something new.
+// The pairs of the readings of a thing; nothing where it isn't a relation, or where a reading has no number.
 fn pairs_of_thing(
     atoms: &Atoms,
     alloc: Global,
@@ -164,7 +154,7 @@ fn pairs_of_thing(
     pairs_at(atoms, alloc, relation, tuples, columns)
 }
 
-/// The pairs of the readings of each of these things; nothing where one isn't a relation, or where a pair names something new.
+/// The pairs of the readings of each of these things; nothing where one isn't a relation, or where a reading has no number.
 pub fn pairs_of_all(
     atoms: &Atoms,
     alloc: Global,

@@ -1,7 +1,6 @@
 use Rattle.std.proofs.Common.{length, sym, ◌∙◌}
 use Rattle.std.proofs.lemmas.Bool.{ltb-true, ltb-false}
 use Rattle.ground_problem.specs.Problem.{formulas_of, most_formulas}
-use Rattle.lazy_ground.proofs.Serving.{named_have_numbers}
 use Rattle.lazy_ground.proofs.grounding.lazily_within.Goals as goal
 
 pub returns-then-has_too_many_beside-clause-ground : goal.returns-then-has_too_many_beside-clause-ground
@@ -16,4 +15,4 @@ pub returns-then-has_too_many_beside-clause-kept : goal.returns-then-has_too_man
 returns-then-has_too_many_beside-clause-kept c = c.into_kept.ensures c.args.spec.now c.args.ob.now c.requires.front
 
 pub into_kept-requires : goal.into_kept-requires
-into_kept-requires c = (c.requires.pairs.built, named_have_numbers c.args.front.atoms.table c.args.pairs c.requires.pairs.named)
+into_kept-requires c = (c.requires.pairs.built, c.requires.pairs.numbered)

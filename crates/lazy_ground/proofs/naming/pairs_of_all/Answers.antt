@@ -1,6 +1,6 @@
 use Rattle.std.proofs.Common.{◌≡◌, ◌++◌, ◌∷◌, [], map, rules}
 use Rattle.ground_atoms.specs.Symbols.{reading_of}
-use Rattle.lazy_ground.proofs.Loops.{of_some, things_next, built_next, named_next}
+use Rattle.lazy_ground.proofs.Loops.{of_some, things_next, built_next, numbered_next}
 use Rattle.lazy_ground.proofs.naming.pairs_of_all.Goals as goal
 
 pub loop-thing-preserved : goal.loop-thing-preserved
@@ -12,5 +12,5 @@ loop-thing-preserved c =
     record {
       things = things_next c.args.things.now c.loop-thing.thing-index _ c.loop-thing.pairs c.push.new.self c.in-Some.more c.loop-thing-test.true found.thing new c.loop-thing.invariant.things;
       built = built_next qs c.loop-thing.pairs c.push.new.self c.in-Some.more c.loop-thing.invariant.built found.built new;
-      named = named_next o c.loop-thing.pairs c.push.new.self c.in-Some.more c.loop-thing.invariant.named found.named new;
+      numbered = numbered_next o c.loop-thing.pairs c.push.new.self c.in-Some.more c.loop-thing.invariant.numbered found.numbers new;
     }

@@ -33,6 +33,6 @@ returns-in-Ok c = λ name h old.
     let within : c.args.later < length s.tuples = let a = c.len-else-earlier-later.ensures in let b = c.if-later-len.false in omega (arith, a, b) in
     let moved : IsMoved first (pair_place (length s.tuples) c.args.earlier c.args.later) c.in-Some.at =
     subst (λ (z : ℕ). IsMoved first (pair_place z c.args.earlier c.args.later) c.in-Some.at) c.len-2.ensures c.in-Some.ensures in
-    let stands = pair_stands g name r c.args.earlier c.args.later s (form_of c.in-Some-pair_formula.form) first c.in-Some.at c.requires item (h.firsts r first there)
-    c.if-earlier-later.false within moved c.in-Some-pair_formula.ensures in
+    let stands = pair_stands g name r c.args.earlier c.args.later s (form_of c.in-Some-2.form) first c.in-Some.at c.requires item (h.firsts r first there)
+    c.if-earlier-later.false within moved (rw c.in-Some-2.is at c.in_ok-form.ensures) in
     c.in-Ok.ensures.chosen (all_clauses name (lazy_forms g)) stands old
