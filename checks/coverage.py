@@ -35,7 +35,8 @@ EACH_SO_MANY = {
     "check withdrawals.cise": 41,
     "verify withdrawals.cise withdrawals.report": 17,
     "upgrade withdrawals.cise withdrawals.report": 17,
-    "suggest purses.cise": 11,
+    "suggest purses.cise": 7,
+    "sample 2": 2,
 }
 FUNCTION = re.compile(r"^([0-9a-f]+) [tT] (.+)$", re.M)
 JUMP = re.compile(r"^ +([0-9a-f]+):\t[0-9a-f ]+\tj(?!mp)", re.M)

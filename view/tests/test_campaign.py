@@ -28,6 +28,12 @@ def script(name: str) -> ModuleType:
     return module
 
 
+def is_program(path: str) -> bool:
+    """Whether this is the program itself, and not a file that starts it and notes what it does."""
+    with open(path, "rb") as file:
+        return file.read(4) == b"\x7fELF"
+
+
 with mock.patch.object(sys, "path", list(sys.path)):
     campaign = script("campaign")
 coverage = campaign.coverage
@@ -119,6 +125,7 @@ class Listed(unittest.TestCase):
                 self.assertTrue(count > 0 and why)
 
     @unittest.skipUnless(all(map(shutil.which, coverage.NEEDED)), "it needs a compiler")
+    @unittest.skipUnless(is_program(program.path), "the program is started by a file")
     def test_a_run_that_is_noted_is_the_same(self) -> None:
         with tempfile.TemporaryDirectory() as folder:
             noted = coverage.Coverage(os.path.abspath(program.path), folder)
