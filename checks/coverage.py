@@ -18,7 +18,6 @@ import re
 import shutil
 import struct
 import subprocess
-import sys
 import time
 from typing import Any, Counter, Dict, Iterable, Iterator
 
