@@ -188,14 +188,14 @@ pairs 6
 needed reprice reprice
 commute reprice reprice price
 refuted
-call reprice -1
+call reprice 1
 call reprice 0
 at
 needed reprice order
 stable order 1 reprice
 refuted
 call order 0
-call reprice -1
+call reprice 1
 at
 free reprice note
 free order order
