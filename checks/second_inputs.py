@@ -261,7 +261,11 @@ operation up ( n : int )
   requires ( 5 > c + n )
   add c n
 end
-""", ()),
+""", (
+        """{"sizes": {}, "constants": {}, "replicas": 1, "steps": [
+        {"replica": 0, "call": "up", "args": [9223372036854775807]}]}""",
+        """{"sizes": {}, "constants": {}, "replicas": 17, "steps": []}""",
+    )),
 )
 WORD = re.compile(r"[A-Za-z0-9_]+|[!<>]?=|\S")
 

@@ -42,11 +42,11 @@ STORIES = {
       (nothing: every fact is false, every counter 0)
 
   There, this call is allowed:
-      undo(d = Document#1)
+      undo(d = draft)
 
-  After it the invariant counted is false for d = Document#1.
+  After it the invariant counted is false for d = draft.
       8 | invariant counted forall d : Document . ( edits ( d ) >= 0 )
-  where edits(Document#1) is -1
+  where edits(draft) is -1
 """,
     (
         "examples/cart/refuted.cise",
@@ -107,7 +107,7 @@ STORIES = {
         "WRITTEN",
         "stable write 1 purge",
     ): """1. purge takes away what write requires
-   [stable write 1 purge, report line 96]
+   [stable write 1 purge, report line 95]
 
   Both replicas hold:
       granted(User#0, draft)
@@ -161,8 +161,8 @@ STORIES = {
       (nothing: every fact is false, every counter 0)
 
   There, both calls are allowed:
-    A  join(a = P#0, b = P#0)  --.  neither knows
-    B  leave(a = P#0, b = P#1) --'  of the other
+    A  join(a = P#0, b = P#1)  --.  neither knows
+    B  leave(a = P#1, b = P#0) --'  of the other
 
   Each then takes the other's call. At the end:
     A  sum(P#0) is 3
@@ -225,16 +225,16 @@ STORIES = {
 
   There, this call is allowed:
       {f}(
-        {p} = {S}#1,
+        {p} = {c},
         {q} = {T}#0,
         {n} = 1)
 
   After it the invariant {i} is false for
-  {x} = {S}#1,
+  {x} = {c},
   {y} = {T}#0,
-  {z} = {S}#1.
+  {z} = {c}.
       9 | {line}
-  where {k}({S}#1,
+  where {k}({c},
           {T}#0) is -1
 """.format(
         line=KINDS["LONG"].split("\n")[8], **{it: it * 32 for it in "STcrktixyzfgpqn"}
@@ -507,7 +507,7 @@ class Reports(Folder):
         report = report_on(text)
         changed = re.sub(
             r"const draft 0\n(count .*\n)*",
-            f"const draft 0\ncount edits 1 1\ncount pool {-(10**15)}\n",
+            f"const draft 0\ncount edits 0 1\ncount pool {-(10**15)}\n",
             report,
         )
         self.assertNotEqual(changed, report)
@@ -546,7 +546,7 @@ class Refusals(Folder):
             4,
             f"refused report line {line} witness\n",
             design,
-            self.file("report", report.replace("call undo 1", "call undo 0")),
+            self.file("report", report.replace("call undo 0", "call undo 1")),
         )
         self.refused(
             4,

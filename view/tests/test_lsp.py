@@ -2,6 +2,7 @@
 through all that it answers."""
 from __future__ import annotations
 
+import contextlib
 import glob
 import json
 import os
@@ -620,8 +621,10 @@ def children(number: int) -> list[str]:
     """The processes that a process has started and that still run."""
     found = []
     for it in os.listdir(f"/proc/{number}/task"):
-        with open(f"/proc/{number}/task/{it}/children", encoding="ascii") as file:
-            found += file.read().split()
+        # (a thread may end meanwhile)
+        with contextlib.suppress(FileNotFoundError):
+            with open(f"/proc/{number}/task/{it}/children", encoding="ascii") as file:
+                found += file.read().split()
     return found
 
 

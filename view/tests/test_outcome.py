@@ -103,7 +103,7 @@ class Confirmed(unittest.TestCase):
         self.assertEqual([it.count for it in given(outcome.outcome(spec, block).states)], [{}, {}])
         spec, block = found_in(KINDS["COUNTED"], "safety undo counted")
         self.assertEqual(
-            given(given(outcome.outcome(spec, block).states))[0].count, {("edits", (1,)): -1}
+            given(given(outcome.outcome(spec, block).states))[0].count, {("edits", (0,)): -1}
         )
 
 
