@@ -24,6 +24,8 @@ FILES = ("cise", KEPT_PROGRAM, KEPT_RECORD, "LICENSE-MIT", "LICENSE-APACHE", "NO
 DOCUMENTS = ("docs", "examples", "adapters", "demo", "editors")
 DOCUMENT_FILES = ("README.md", "CHANGELOG.md")
 LEFT_OUT = ("tests", "__pycache__", "out")
+# What stands in these folders for readers alone.
+READ = ("second/README.md", "view/help/README.md")
 # The time of a file where no commit gives one: the first that a zip file can hold.
 FIRST_TIME = 315532800
 MAINTAINER = "Pigbalu maintainers <maintainers@users.noreply.pigbalu.example>"
@@ -97,14 +99,14 @@ def files_below(folder: str) -> List[str]:
 
 def layer(of: Commit) -> Tree:
     """What answers a call: program, record, script and layer."""
-    paths = [*FILES, *(it for folder in FOLDERS for it in files_below(folder))]
+    paths = [*FILES, *(it for folder in FOLDERS for it in files_below(folder) if it not in READ)]
     marker = File(f"version: {VERSION}\ncommit: {of.name}\n".encode())
     return {**{it: file_of(it) for it in paths}, PACKED: marker}
 
 
 def documents() -> Tree:
     """Documents and examples."""
-    paths = [*DOCUMENT_FILES, *(it for folder in DOCUMENTS for it in files_below(folder))]
+    paths = [*DOCUMENT_FILES, *READ, *(it for folder in DOCUMENTS for it in files_below(folder))]
     return {it: file_of(it) for it in paths}
 
 
