@@ -233,7 +233,8 @@ class EachPage(unittest.TestCase):
             )
             for row, line in zip(rows, lines):
                 shown = re.sub(
-                    "[\x00-\x08\x0b-\x1f\x7f-\xa0\u200b-\u200f\u2028-\u202e\u2066-\u2069\ud800-\udfff]",
+                    "[\x00-\x08\x0b-\x1f\x7f-\xa0\u200b-\u200f\u2028-\u202e\u2066-\u2069"
+                    "\ud800-\udfff]",
                     lambda it: ascii(it[0])[1:-1].replace("udc", "x"),
                     line.rstrip(),
                 )
