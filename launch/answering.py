@@ -1,30 +1,18 @@
-"""Answers a call of `./cise`: finds the program, runs it on the words, and says on standard error
-what people should know of its status."""
+"""Answers a call of `./cise` that launch/quick.py doesn't: finds the program, runs it on the words,
+or has view/ answer, and says on standard error what people should know of the status."""
 from __future__ import annotations
 
 import os
 
-import _signal as signal
-
-from launch import allocator, seen, stopping
-from launch.paths import (
-    BAD_WORDS,
-    BY_SIGNAL,
-    HOME_PROGRAM,
-    KEPT_PROGRAM,
-    NAME,
-    NO_PROGRAM,
-    TOP,
-    at,
-    say,
-)
+from launch import allocator, quick
+from launch.paths import BAD_WORDS, NO_PROGRAM, TOP, at, say
+from launch.quick import HELP, PATHS, inputs_of, marks_of
 from launch.saying import printable
 
 TYPE_CHECKING = False
 if TYPE_CHECKING:
-    from types import FrameType, ModuleType
+    from types import ModuleType
 
-PROGRAMS = {"home": HOME_PROGRAM, "kept": KEPT_PROGRAM}
 # The commands that view/ answers, for people: the words of view/commands.py, which a call of the
 # program has no time to import.
 VIEWS = (
@@ -46,22 +34,9 @@ VIEWS = (
     "tests",
     "watch",
 )
-# What asks for help, for which no program is needed.
-HELP = frozenset(("help", "--help", "-h", "--version"))
 # A command of the program that view/ answers where this option is among so many words; the
 # program's own has never so many.
-OPTIONS = {"verify": ("--second", 4)}
-# How many of the words behind a command are paths. Each command has one word behind it at least.
-PATHS = {
-    "check": 1,
-    "suggest": 1,
-    "spell": 1,
-    "verify": 2,
-    "upgrade": 2,
-    "replay": 2,
-    "simulate": 2,
-    "sample": 0,
-}
+OPTIONS = {"verify": (quick.SECOND, 4)}
 # What these statuses of the program mean, which it doesn't say itself.
 MEANINGS = {
     6: "an input couldn't be read",
@@ -90,19 +65,19 @@ def main(words: list[str]) -> int:
         from launch import about
 
         return about.main()
-    choice = seen.chosen()
-    reasons: list[str] = []
-    if choice not in PROGRAMS:
-        from launch import choosing, packed
+    program = quick.program(TOP)
+    if program is not None:
+        return answer(program, words)
+    from launch import choosing, packed
 
-        if packed.is_so():
-            return packed.answered(words)
-        choice, reasons = choosing.choose()
-    if choice is None:
-        from launch import unproved
+    if packed.is_so():
+        return packed.answered(words)
+    choice, reasons = choosing.choose()
+    if choice is not None:
+        return answer(at(choosing.PROGRAMS[choice]), words)
+    from launch import unproved
 
-        return unproved.answer(words, reasons, lambda: tell_words(words))
-    return answer(at(PROGRAMS[choice]), words)
+    return unproved.answer(words, reasons, lambda: tell_words(words))
 
 
 def helped(words: list[str]) -> int | None:
@@ -120,24 +95,7 @@ def answer(program: str, words: list[str]) -> int:
     if is_view(words):
         status: int = view().main(program, words)
         return status
-    marks = marks_of(words)
-    status = run(program, words)
-    try:
-        tell(program, words, status, marks)
-    except Exception:
-        # The program has answered, and nothing that is said behind it may change that.
-        pass
-    return status
-
-
-def inputs_of(words: list[str]) -> list[str]:
-    """The inputs of a command, which are paths."""
-    return words[1 : PATHS.get(words[0], 0) + 1] if words else []
-
-
-def marks_of(words: list[str]) -> list[str]:
-    """What tells of each input whether it has been changed."""
-    return [seen.mark_at(it) for it in inputs_of(words)]
+    return quick.answer(program, words, readable(words))
 
 
 def is_view(words: list[str]) -> bool:
@@ -191,42 +149,9 @@ def tell_words(words: list[str]) -> None:
     said(said_of(words))
 
 
-def run(program: str, words: list[str]) -> int:
-    """Runs a program, with standard input and output as they are, and returns its status: as a
-    shell does, 128 and the number for a signal. What is to end the script ends the program, and the
-    script with it."""
-    started: list[int] = []
-
-    def pass_on(number: int, _: FrameType | None) -> None:
-        if started:
-            os.kill(started[0], number)
-        else:
-            stopping.end_by(number)
-
-    stopping.handle_by(pass_on)
-    # (a signal that comes while the program is started waits until it is known whom to pass it on
-    # to)
-    mask = signal.pthread_sigmask(signal.SIG_BLOCK, stopping.ENDING)
-    try:
-        # (Python has these two ignored, which the program would inherit; its own path may be of any
-        # bytes, which its words may not)
-        defaults = [signal.SIGPIPE, signal.SIGXFSZ]
-        started.append(
-            os.posix_spawn(
-                program, [NAME, *readable(words)], os.environ, setsigmask=mask, setsigdef=defaults
-            )
-        )
-    except OSError as error:
-        say(f"{os.path.relpath(program, TOP)} can't be run: {error.strerror}")
-        return NO_PROGRAM
-    finally:
-        signal.pthread_sigmask(signal.SIG_SETMASK, mask)
-    # (until its status is taken, the program's number is no other one's: so that is taken where no
-    # signal is passed on to it)
-    os.waitid(os.P_PID, started[0], os.WEXITED | os.WNOWAIT)
-    stopping.end_at_once()
-    status = os.waitpid(started[0], 0)[1]
-    return status >> 8 if not status & 127 else BY_SIGNAL + (status & 127)
+def tell_of_start(program: str, error: OSError) -> None:
+    """Says why a program can't be run."""
+    say(f"{os.path.relpath(program, TOP)} can't be run: {error.strerror}")
 
 
 def readable(words: list[str]) -> list[str]:

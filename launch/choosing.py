@@ -33,7 +33,7 @@ def choose() -> tuple[str | None, list[str]]:
         if not reason:
             is_told = choice == HOME or was_told(looks)
             # (in a folder that can't be written to what was said is noted elsewhere)
-            is_noted = looks.keep(choice)
+            is_noted = looks.keep(choice, PROGRAMS[choice])
             if not is_told and (is_noted or is_news(f"{TOP} {looks.sum_of(KEPT_PROGRAM)}")):
                 say(TOLD if reasons[0] == NOTHING else f"{reasons[0]}, so {TOLD}")
             return choice, reasons

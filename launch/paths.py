@@ -2,13 +2,13 @@
 folder."""
 import os
 
-from launch import saying
+from launch import quick, saying
 
 TOP = os.path.dirname(os.path.dirname(os.path.realpath(__file__)))
 CRATES = "crates.txt"
 # The program that was proved and built on this machine, by the gate or by ./cise prove, with its
 # record.
-OUT = "crates/cise_cli/out"
+OUT = quick.OUT
 HOME_PROGRAM = f"{OUT}/cise_cli"
 HOME_RECORD = f"{OUT}/cise_cli.record"
 # The program that is kept in the repository, with its record, and the processor seconds that
@@ -19,8 +19,7 @@ KEPT_TIMES = "prebuilt/times"
 # What was looked at when a program was last chosen.
 SEEN = f"{OUT}/seen"
 
-# What the program is called, whatever its path.
-NAME = "cise"
+NAME = quick.NAME
 
 # The statuses of the script itself, beside those of the program.
 OTHER_THAN_KEPT = 1

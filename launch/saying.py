@@ -51,13 +51,3 @@ def say(text: str) -> None:
             left = left[os.write(STANDARD_ERROR, left) :]
     except OSError:
         pass
-
-
-def hold_standard_files() -> None:
-    """Keeps the numbers 0, 1 and 2 from files that are opened later, where who called closed them.
-    What is written on the second fails still."""
-    for number, how in ((0, os.O_RDONLY), (1, os.O_RDONLY), (STANDARD_ERROR, os.O_WRONLY)):
-        try:
-            os.fstat(number)
-        except OSError:
-            os.set_inheritable(os.open(os.devnull, how), True)

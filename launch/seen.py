@@ -9,19 +9,19 @@ names in it. What changed less than a quarter of a second before it was looked a
 since a further change could leave its times as they are; so its sum is taken again at the next
 call.
 
-A second file has the same for the common case, in which nothing has changed: a line with the
-choice and the folder, the paths, and all marks as one piece of bytes, which is compared with that
-of the marks as they are now."""
+A second file has the same for the common case, in which nothing has changed, in the form of
+`marshal`: the program, the folder, the whole paths, and all marks as one piece of bytes. It is for
+launch/quick.py, which compares these with those of the marks as they are now."""
 from __future__ import annotations
 
 import marshal
 import os
 import time
 
+from launch import quick
 from launch.paths import SEEN, TOP, at
+from launch.quick import mark_at, marks_now
 
-QUICK = f"{SEEN}.quick"
-NOT_THERE = "absent"
 NO_MARK = "none"
 SETTLED_NANOSECONDS = 250_000_000
 
@@ -29,15 +29,6 @@ SETTLED_NANOSECONDS = 250_000_000
 def mark_of(path: str) -> str:
     """The mark of a file or folder of the repository."""
     return mark_at(at(path))
-
-
-def mark_at(path: str) -> str:
-    """The mark of a file or folder anywhere."""
-    try:
-        it = os.stat(path)
-    except (OSError, ValueError):
-        return NOT_THERE
-    return f"{it.st_size}.{it.st_mtime_ns}.{it.st_ctime_ns}.{it.st_ino}"
 
 
 def settled_mark_of(path: str) -> str:
@@ -62,31 +53,6 @@ def read() -> tuple[str | None, list[str]]:
 def parts_of(line: str) -> tuple[str, str, str]:
     mark, total, path = line.split(" ", 2)
     return mark, total, path
-
-
-def chosen() -> str | None:
-    """What was chosen last, where all that had a part in it is as it was, else None."""
-    try:
-        with open(at(QUICK), "rb") as file:
-            head, paths, marks = file.read().split(b"\0", 2)
-        choice, folder = os.fsdecode(head).split(" ", 1)
-        is_same = folder == TOP and marks_now(os.fsdecode(paths).split("\n")) == marks
-        return choice if is_same else None
-    except (OSError, ValueError):
-        return None
-
-
-def marks_now(paths: list[str]) -> bytes:
-    """The marks of whole paths as bytes; those of what isn't there are left out."""
-    found: list[int | str] = [len(paths)]
-    stat = os.stat
-    for at_path in paths:
-        try:
-            it = stat(at_path)
-            found += it.st_size, it.st_mtime_ns, it.st_ctime_ns, it.st_ino
-        except OSError:
-            found.append(at_path)
-    return marshal.dumps(found, 2)
 
 
 class Looks:
@@ -117,28 +83,22 @@ class Looks:
         """Takes a folder, or what isn't there, for a part of what was looked at."""
         self.seen[path] = (settled_mark_of(path), "-")
 
-    def keep(self, choice: str) -> bool:
+    def keep(self, choice: str, program: str) -> bool:
         """Writes down what was chosen, and says whether it could. Where the folder can't be
         written to, the next call looks at all again."""
         lines = "".join(f"{mark} {total} {path}\n" for path, (mark, total) in self.seen.items())
         is_kept = put(SEEN, os.fsencode(f"{choice} {len(self.seen)}\n{lines}"))
         if is_kept and NO_MARK not in {mark for mark, _ in self.seen.values()}:
-            is_kept = self.keep_quick(choice)
+            is_kept = self.keep_quick(program)
         return is_kept
 
-    def keep_quick(self, choice: str) -> bool:
+    def keep_quick(self, program: str) -> bool:
         """Writes the second file, where nothing has changed since it was looked at."""
-        paths = [at(it) for it in self.seen]
+        paths = [os.fsencode(at(it)) for it in self.seen]
         marks = marks_now(paths)
         is_same = all(mark_of(path) == mark for path, (mark, _) in self.seen.items())
-        return (
-            put(
-                QUICK,
-                b"\0".join([os.fsencode(f"{choice} {TOP}"), os.fsencode("\n".join(paths)), marks]),
-            )
-            if is_same
-            else True
-        )
+        found = marshal.dumps((at(program), TOP, paths, marks), 2)
+        return put(quick.SEEN, found) if is_same else True
 
 
 def put(path: str, data: bytes) -> bool:

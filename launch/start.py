@@ -8,32 +8,37 @@ import _signal
 if sys.argv[1] == "heeded":
     _signal.signal(_signal.SIGINT, _signal.SIG_DFL)
 
-import os  # noqa: E402
+try:
+    import posix as system
+except ImportError:
+    import os as system  # type: ignore[no-redef]
 
 TYPE_CHECKING = False
 if TYPE_CHECKING:
     from typing import List
 
 NO_PROGRAM, NOT_WRITTEN, BY_SIGNAL = 10, 7, 128
-TOP = os.path.dirname(os.path.dirname(os.path.realpath(__file__)))
 
 
 def answered(words: "List[str]") -> int:
     """The status of the answer; 128 and its number for a signal that ended it."""
     if sys.version_info < (3, 8):
         return fault("this needs Python 3.8, and %s is older" % sys.executable)
-    sys.path.insert(0, TOP)
-    # What Python keeps of the files that it has read goes where all that is made goes, which git
-    # passes over. Without sources there is no such place.
-    if os.path.exists(TOP + "/crates.txt"):
-        sys.pycache_prefix = TOP + "/crates/cise_cli/out/python"
     try:
-        from launch.saying import hold_standard_files
+        top = folder_above(__file__)
+        sys.path.insert(0, top)
+        # What Python keeps of the files that it has read goes where all that is made goes, which
+        # git passes over. Without sources there is no such place.
+        if system.access(top + "/crates.txt", system.F_OK):
+            sys.pycache_prefix = top + "/crates/cise_cli/out/python"
+        from launch import quick, stopping
 
-        hold_standard_files()
-        from launch import answering, stopping
+        quick.hold_standard_files()
+        status = quick.answered(top, words)
+        if status is None:
+            from launch import answering
 
-        status = answering.main(words)
+            status = answering.main(words)
         stopping.end_at_once()
         return status
     except SystemExit as ended:
@@ -45,10 +50,16 @@ def answered(words: "List[str]") -> int:
         return fault("no answer, by a fault of the script: %s: %s" % (type(error).__name__, error))
 
 
+def folder_above(path: str) -> str:
+    """The folder above launch/, in which this file is, as a path that holds in any folder."""
+    folder = path.rpartition("/")[0].rpartition("/")[0] or "/"
+    return folder if folder.startswith("/") else system.getcwd() + "/" + folder
+
+
 def fault(text: str) -> int:
     """Says in one line why there is no answer."""
     try:
-        os.write(2, ascii("cise: " + text[:400])[1:-1].encode() + b"\n")
+        system.write(2, ascii("cise: " + text[:400])[1:-1].encode() + b"\n")
     except OSError:
         pass
     return NO_PROGRAM
@@ -65,7 +76,7 @@ def end(status: int) -> None:
         from launch.stopping import end_by
 
         status = end_by(status - BY_SIGNAL)
-    os._exit(status)
+    system._exit(status)
 
 
 end(answered(sys.argv[2:]))

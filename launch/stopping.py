@@ -1,14 +1,9 @@
 """How the script ends by a signal: whoever called it sees by which one, and no status of an
-answer."""
-from __future__ import annotations
+answer. As launch/quick.py, it imports nothing that Python hasn't at its start."""
+import posix
 
-import os
-
-# (the module `signal` is made over this one, and takes longer to import than all else that a call
-# needs)
 import _signal as signal
 
-# (for those who look at types; importing `typing` takes longer than all else that a call needs)
 TYPE_CHECKING = False
 if TYPE_CHECKING:
     from subprocess import Popen
@@ -28,7 +23,7 @@ class Stopped(BaseException):
         self.number = number
 
 
-def handle_by(handler: Handler) -> None:
+def handle_by(handler: "Handler") -> None:
     """Has this called for the signals that end a process, but for those that who called has
     ignored."""
     for it in ENDING:
@@ -39,7 +34,7 @@ def handle_by(handler: Handler) -> None:
 def stop_by_signals() -> None:
     """Has the first of these signals raise `Stopped`; the next one ends the script at once."""
 
-    def stop(number: int, _: FrameType | None) -> None:
+    def stop(number: int, _: "Optional[FrameType]") -> None:
         end_at_once()
         raise Stopped(number)
 
@@ -56,14 +51,14 @@ def end_by(number: int) -> int:
     try:
         signal.signal(number, signal.SIG_DFL)
         signal.pthread_sigmask(signal.SIG_UNBLOCK, [number])
-        os.kill(os.getpid(), number)
+        posix.kill(posix.getpid(), number)
     except (OSError, ValueError):
         # (SIGKILL can't be handled, and needn't be)
-        os.kill(os.getpid(), number)
+        posix.kill(posix.getpid(), number)
     return 128 + number
 
 
-def end_all(processes: Iterable[Popen[bytes]]) -> None:
+def end_all(processes: "Iterable[Popen[bytes]]") -> None:
     """Ends processes and waits for them, whatever signals still come."""
     handle_by(signal.SIG_IGN)
     for it in processes:

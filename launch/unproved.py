@@ -12,7 +12,8 @@ from typing import Callable
 
 from launch import kit
 from launch.paths import BAD_WORDS, BY_SIGNAL, NO_PROGRAM, at, say
-from launch.answering import MEANINGS, NOT_READ, PATHS, is_view, meaning
+from launch.quick import PATHS
+from launch.answering import MEANINGS, NOT_READ, is_view, meaning
 from launch.stopping import Stopped, end_all, stop_by_signals
 
 # The program reads no more than this of any input, and one byte to see whether there is more.

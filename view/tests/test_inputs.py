@@ -13,14 +13,14 @@ from contextlib import redirect_stderr
 from typing import Any, Callable
 from unittest import mock
 
-from launch import answering
+from launch import answering, quick
 from view import inputs, main, output, program
 from view.given import given
 
 BANK = "examples/bank/refuted.cise"
 SAY = (
-    "import os, sys; sys.path.insert(0, '.'); from launch import saying;"
-    " saying.hold_standard_files(); saying.say(sys.argv[1])"
+    "import os, sys; sys.path.insert(0, '.'); from launch import quick, saying;"
+    " quick.hold_standard_files(); saying.say(sys.argv[1])"
 )
 
 
@@ -124,7 +124,7 @@ class BehindTheProgram(unittest.TestCase):
             with tempfile.NamedTemporaryFile("w", suffix=".cise") as file:
                 file.write("cise 1 sort sort")
                 file.flush()
-                run = answering.run
+                run = quick.run
 
                 def running(program: str, words: list[str]) -> int:
                     status = run(program, words)
@@ -135,7 +135,7 @@ class BehindTheProgram(unittest.TestCase):
                         file.flush()
                     return status
 
-                with mock.patch.object(answering, "run", running), redirect_stderr(
+                with mock.patch.object(quick, "run", running), redirect_stderr(
                     io.StringIO()
                 ) as error:
                     self.assertEqual(

@@ -4,6 +4,7 @@ the program's status behind its whole answer; and nobody sees a trace."""
 from __future__ import annotations
 
 import os
+import posix
 import signal
 import sys
 import tempfile
@@ -41,20 +42,19 @@ class Moments:
 def begin(words: list[str], at: int, number: signal.Signals, told: int) -> None:
     """What a new process does: a call with the program of the tests, as the script begins one."""
     sys.path.insert(0, TOP)
-    from launch import answering, seen
+    from launch import quick
 
-    answering.PROGRAMS = {"kept": os.path.relpath(PROGRAM, TOP)}
-    seen.chosen = lambda: "kept"
+    quick.program = lambda top: PROGRAM
     for it in SIGNALS:
         signal.signal(it, signal.SIG_IGN if it == signal.SIGPIPE else signal.SIG_DFL)
-    moments, leave = Moments(at, number), os._exit
+    moments, leave = Moments(at, number), posix._exit
 
     def left(status: int) -> None:
         sys.settrace(None)
         os.write(told, str(moments.passed).encode())
         leave(status)
 
-    setattr(os, "_exit", left)
+    setattr(posix, "_exit", left)
     sys.argv = [START, "heeded", *words]
     with open(START, encoding="utf-8") as file:
         code = compile(file.read(), START, "exec")
@@ -168,12 +168,12 @@ class BehindTheAnswer(unittest.TestCase):
         ):
             with tempfile.TemporaryDirectory() as folder:
                 os.mkdir(f"{folder}/launch")
-                for name in ("start.py", "saying.py", "__init__.py"):
+                for name in ("start.py", "__init__.py"):
                     with open(f"{TOP}/launch/{name}", encoding="utf-8") as source, open(
                         f"{folder}/launch/{name}", "w", encoding="utf-8"
                     ) as target:
                         target.write(source.read())
-                with open(f"{folder}/launch/answering.py", "w", encoding="utf-8") as file:
+                with open(f"{folder}/launch/quick.py", "w", encoding="utf-8") as file:
                     file.write(damage)
                 from subprocess import PIPE, run
 
