@@ -68,10 +68,12 @@ def main(words: list[str]) -> int:
     program = quick.program(TOP)
     if program is not None:
         return answer(program, words)
-    from launch import choosing, packed
+    from launch import packed
 
     if packed.is_so():
         return packed.answered(words)
+    from launch import choosing
+
     choice, reasons = choosing.choose()
     if choice is not None:
         return answer(at(choosing.PROGRAMS[choice]), words)

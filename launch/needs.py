@@ -1,14 +1,15 @@
 """What a machine has to be, so that the program runs on it. prebuilt/README.md says it in full, and
 checks/keep compares the two."""
+from __future__ import annotations
+
 import os
 import sys
-from typing import Optional
 
 GLIBC = (2, 34)
 SENTENCE = "the program needs Linux on x86-64 with glibc %d.%d or newer" % GLIBC
 
 
-def lacking() -> Optional[str]:
+def lacking() -> str | None:
     """What this machine lacks, as a sentence, or None."""
     here = machine()
     return None if is_enough() else f"{SENTENCE}, and this is {here}"

@@ -1,13 +1,18 @@
 """Where the program stands without its sources: in an installed package, an archive, or the one
 file cise.pyz, each made by checks/pack. The program answers whose SHA-256 the record has. It says
 so once to each user, and in `cise about`."""
-import os
-from typing import List, NamedTuple, Optional
+from __future__ import annotations
 
-from launch import needs, record
+import os
+
+from launch import needs
 from launch.paths import CRATES, KEPT_PROGRAM, KEPT_RECORD, NO_PROGRAM, at, bytes_of, say
 from launch.told import is_news
 from launch.version import VERSION
+
+TYPE_CHECKING = False
+if TYPE_CHECKING:
+    from launch.record import Record
 
 # What checks/pack leaves beside the program: lines `KEY: TEXT`, with the commit.
 PACKED = "prebuilt/packed"
@@ -20,13 +25,12 @@ TOLD = (
 )
 
 
-class Found(NamedTuple):
+class Found:
     """The path by which the program is run, or why it isn't; and its SHA-256, where it is the
     record's."""
 
-    path: Optional[str]
-    why: Optional[str]
-    total: str = ""
+    def __init__(self, path: str | None, why: str | None, total: str = "") -> None:
+        self.path, self.why, self.total = path, why, total
 
 
 def is_so() -> bool:
@@ -34,7 +38,7 @@ def is_so() -> bool:
     return not os.path.exists(at(CRATES)) and not os.path.isdir(at("crates"))
 
 
-def answered(words: List[str]) -> int:
+def answered(words: list[str]) -> int:
     """Answers a call, and returns the status."""
     found = program()
     if found.path is None:
@@ -65,8 +69,10 @@ def program() -> Found:
     return in_memory(data, total)
 
 
-def kept() -> Optional[record.Record]:
+def kept() -> Record | None:
     """The record, where it is whole."""
+    from launch import record
+
     try:
         text = record_text().decode("utf-8", "surrogateescape")
         return record.parsed(text, KEPT_RECORD, KEPT_PROGRAM)
@@ -128,7 +134,7 @@ def in_memory(data: bytes, total: str) -> Found:
     return Found(path, None, total)
 
 
-def commit() -> Optional[str]:
+def commit() -> str | None:
     """The commit that was packed, or None where nothing says it."""
     try:
         lines = bytes_of(PACKED).decode("utf-8", "replace").splitlines()
