@@ -44,6 +44,13 @@ class Pages(unittest.TestCase):
                     "blanks at an end of line",
                 )
 
+    def test_each_word_stands_in_a_table_of_commands(self) -> None:
+        with open(f"{TOP}/docs/users/COMMANDS.md", encoding="utf-8") as file:
+            text = file.read()
+        for word in every_word():
+            with self.subTest(word):
+                self.assertRegex(text, rf"(?m)^\|.*`{word}[ `]")
+
     def test_each_page_has_its_parts(self) -> None:
         for word, row in every_word().items():
             with self.subTest(word):
