@@ -52,8 +52,8 @@ def answered(words: "List[str]") -> int:
 
 def folder_above(path: str) -> str:
     """The folder above launch/, in which this file is, as a path that holds in any folder."""
-    folder = path.rpartition("/")[0].rpartition("/")[0] or "/"
-    return folder if folder.startswith("/") else system.getcwd() + "/" + folder
+    whole = path if path.startswith("/") else system.getcwd() + "/" + path
+    return whole.rpartition("/")[0].rpartition("/")[0] or "/"
 
 
 def fault(text: str) -> int:

@@ -5,6 +5,8 @@ from __future__ import annotations
 import ast
 import glob
 import os
+import subprocess
+import sys
 import unittest
 from typing import Iterator
 
@@ -54,6 +56,30 @@ def past_doors(text: str) -> Iterator[str]:
                 "os.popen",
             ):
                 yield name
+
+
+def imported_by(module: str) -> set[str]:
+    """What a module of launch/ imports, that Python hasn't at its start."""
+    code = (
+        "import sys; before = set(sys.modules); sys.path.insert(0, sys.argv[1]);"
+        f" from launch import {module}; print(*set(sys.modules) - before)"
+    )
+    ran = subprocess.run(
+        [sys.executable, "-IS", "-c", code, TOP], stdout=subprocess.PIPE, check=True, text=True
+    )
+    return set(ran.stdout.split())
+
+
+class Imports(unittest.TestCase):
+    """What nearly every call imports, and what each of a packed program does."""
+
+    def test_quick(self) -> None:
+        own = {"launch", "launch.allocator", "launch.quick", "launch.stopping"}
+        self.assertLessEqual(imported_by("quick"), own)
+
+    def test_packed(self) -> None:
+        self.assertFalse({"re", "subprocess", "typing"} & imported_by("packed"))
+        self.assertFalse({"re", "subprocess", "typing"} & imported_by("answering"))
 
 
 class Doors(unittest.TestCase):
