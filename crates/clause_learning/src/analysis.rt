@@ -112,18 +112,19 @@ impl Analysis {
         let many = assignment.trail.len();
         for back in 0..many {
             let lit = assignment.trail[many - 1 - back];
-            if self.is_seen(lit) {
-                if self.open <= 1 {
-                    return Ok(Some(opposite(lit)));
-                }
-                self.open = self.open.saturating_sub(1);
-                self.set_seen(lit, false);
-                let Some(reason) = assignment.cause(lit).reason else {
-                    return Ok(None);
-                };
-                chains.push(reason, lit)?;
-                self.absorb(assignment, queue, clauses.lits(reason), Some(lit))?;
+            if !self.is_seen(lit) {
+                continue;
             }
+            if self.open <= 1 {
+                return Ok(Some(opposite(lit)));
+            }
+            self.open = self.open.saturating_sub(1);
+            self.set_seen(lit, false);
+            let Some(reason) = assignment.cause(lit).reason else {
+                return Ok(None);
+            };
+            chains.push(reason, lit)?;
+            self.absorb(assignment, queue, clauses.lits(reason), Some(lit))?;
         }
         Ok(None)
     }
@@ -201,10 +202,11 @@ impl Analysis {
     ) -> Result<(), AllocError> {
         chains.push(clause, 0)?;
         for lit in clauses.lits(clause) {
-            if Some(*lit) != but {
-                if let Some(unit) = self.unit(*lit) {
-                    chains.push(unit, opposite(*lit))?;
-                }
+            if Some(*lit) == but {
+                continue;
+            }
+            if let Some(unit) = self.unit(*lit) {
+                chains.push(unit, opposite(*lit))?;
             }
         }
         chains.end()

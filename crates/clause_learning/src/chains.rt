@@ -67,11 +67,12 @@ impl Chains {
     // Marks the learned clauses that a chain names.
     fn mark(&self, needed: &mut Vec<bool>, learned: usize) {
         for place in self.start_of(learned)..self.end_of(learned) {
-            if let Some(step) = self.step(place) {
-                let number = step.clause as usize;
-                if number >= self.given && number - self.given < needed.len() {
-                    needed[number - self.given] = true;
-                }
+            let Some(step) = self.step(place) else {
+                continue;
+            };
+            let number = step.clause as usize;
+            if number >= self.given && number - self.given < needed.len() {
+                needed[number - self.given] = true;
             }
         }
     }
@@ -85,12 +86,13 @@ impl Chains {
         let many = needed.len();
         for back in 0..many {
             let learned = many - 1 - back;
-            if back == 0 || is_marked(needed.as_slice(), learned) {
-                if learned < needed.len() {
-                    needed[learned] = true;
-                }
-                self.mark(&mut needed, learned);
+            if back > 0 && !is_marked(needed.as_slice(), learned) {
+                continue;
             }
+            if learned < needed.len() {
+                needed[learned] = true;
+            }
+            self.mark(&mut needed, learned);
         }
         Ok(needed)
     }
@@ -105,14 +107,15 @@ impl Chains {
         let start = self.start_of(learned);
         let mut reached = self.number_at(numbers, start);
         for place in start.saturating_add(1)..self.end_of(learned) {
-            if let Some(step) = self.step(place) {
-                let reason = self.number_of(numbers, step.clause);
-                out.push(resolve_line(step.lit, reason, reached))?;
-                let Ok(number) = u32::try_from(self.given.saturating_add(out.len())) else {
-                    return Err(AllocError);
-                };
-                reached = number.saturating_sub(1);
-            }
+            let Some(step) = self.step(place) else {
+                continue;
+            };
+            let reason = self.number_of(numbers, step.clause);
+            out.push(resolve_line(step.lit, reason, reached))?;
+            let Ok(number) = u32::try_from(self.given.saturating_add(out.len())) else {
+                return Err(AllocError);
+            };
+            reached = number.saturating_sub(1);
         }
         Ok(reached)
     }

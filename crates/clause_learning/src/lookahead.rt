@@ -157,11 +157,12 @@ impl Lookahead {
     // Counts how many clauses name each literal, of those that aren't true.
     fn count_names(&mut self, clauses: &Clauses, truths: &[Truth]) {
         for number in 0..clauses.len() {
-            if let Ok(number) = u32::try_from(number) {
-                let lits = clauses.lits(number);
-                if !is_true(lits, truths) {
-                    self.count_in(lits);
-                }
+            let Ok(number) = u32::try_from(number) else {
+                continue;
+            };
+            let lits = clauses.lits(number);
+            if !is_true(lits, truths) {
+                self.count_in(lits);
             }
         }
     }
@@ -198,10 +199,11 @@ impl Lookahead {
     ) -> Result<(), AllocError> {
         self.count_names(clauses, truths);
         for number in 0..clauses.len() {
-            if let Ok(number) = u32::try_from(number) {
-                if self.is_relevant(clauses.lits(number), truths) {
-                    self.clauses.push(number)?;
-                }
+            let Ok(number) = u32::try_from(number) else {
+                continue;
+            };
+            if self.is_relevant(clauses.lits(number), truths) {
+                self.clauses.push(number)?;
             }
         }
         self.visits = visits;
@@ -363,11 +365,12 @@ impl Lookahead {
         let mut best = None;
         let mut most = 0;
         for atom in 0..self.atoms {
-            if let Some(promise) = self.promise(truths, atom) {
-                if best.is_none() || promise > most {
-                    best = Some(atom);
-                    most = promise;
-                }
+            let Some(promise) = self.promise(truths, atom) else {
+                continue;
+            };
+            if best.is_none() || promise > most {
+                best = Some(atom);
+                most = promise;
             }
         }
         let atom = best?;

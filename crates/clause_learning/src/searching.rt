@@ -200,10 +200,11 @@ impl Search {
             self.clauses.add(lits.as_slice())?;
         }
         for number in 0..self.clauses.len() {
-            if let Ok(number) = u32::try_from(number) {
-                if let Some(conflict) = self.load_unit(number)? {
-                    return Ok(Some(conflict));
-                }
+            let Ok(number) = u32::try_from(number) else {
+                continue;
+            };
+            if let Some(conflict) = self.load_unit(number)? {
+                return Ok(Some(conflict));
             }
         }
         Ok(None)
@@ -458,6 +459,18 @@ impl Search {
         self.prepare(atoms, budget)
     }
 
+    // Goes on to the next conflict, or to an end.
+    fn step(&mut self) -> Result<Progress, AllocError> {
+        for _ in 0..self.assignment.truths.len().saturating_add(1) {
+            let conflicts = self.conflicts;
+            let progress = self.advance()?;
+            if !matches!(progress, Progress::Continue) || self.conflicts != conflicts {
+                return Ok(progress);
+            }
+        }
+        Ok(Progress::Continue)
+    }
+
     // Goes on until there is an answer, or there were so many conflicts in all.
     fn run(
         &mut self,
@@ -470,21 +483,15 @@ impl Search {
             return self.log(alloc, budget);
         }
         for _ in self.conflicts..most {
-            for _ in 0..self.assignment.truths.len().saturating_add(1) {
-                let conflicts = self.conflicts;
-                match self.advance()? {
-                    Progress::Continue => {}
-                    Progress::Refuted => return self.log(alloc, budget),
-                    Progress::Found => {
-                        let values = self.values(alloc, atoms)?;
-                        return Ok(Tried::Ended(Proposal::Values(values)));
-                    },
-                    Progress::Stuck => return Ok(Tried::Ended(Proposal::Nothing)),
-                    Progress::BudgetExhausted => return Ok(Tried::Long),
-                }
-                if self.conflicts != conflicts {
-                    break;
-                }
+            match self.step()? {
+                Progress::Continue => {}
+                Progress::Refuted => return self.log(alloc, budget),
+                Progress::Found => {
+                    let values = self.values(alloc, atoms)?;
+                    return Ok(Tried::Ended(Proposal::Values(values)));
+                },
+                Progress::Stuck => return Ok(Tried::Ended(Proposal::Nothing)),
+                Progress::BudgetExhausted => return Ok(Tried::Long),
             }
         }
         Ok(Tried::Open)

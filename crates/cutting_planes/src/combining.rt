@@ -183,11 +183,12 @@ pub fn combine(
         scale: first.by,
     };
     for (i, multiple) in multiples.iter().enumerate() {
-        if i > 0 {
-            so_far = add(derivation, alloc, so_far, *multiple)?;
-            if is_contradiction(derivation, so_far.row) {
-                return Some(so_far.row);
-            }
+        if i == 0 {
+            continue;
+        }
+        so_far = add(derivation, alloc, so_far, *multiple)?;
+        if is_contradiction(derivation, so_far.row) {
+            return Some(so_far.row);
         }
     }
     Some(so_far.row)

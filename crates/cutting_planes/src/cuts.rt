@@ -138,13 +138,14 @@ fn cut_both<N: Number>(
     cuts: &mut Vec<u32>,
 ) -> Option<Cutting> {
     for sign in [1i128, -1] {
-        if let Some(made) = cut(tableau, alloc, derivation, number, sign) {
-            if is_contradiction(derivation, made) {
-                return Some(Cutting::Contradiction(made));
-            }
-            if is_wanted(tableau, derivation, made) {
-                cuts.push(made).ok()?;
-            }
+        let Some(made) = cut(tableau, alloc, derivation, number, sign) else {
+            continue;
+        };
+        if is_contradiction(derivation, made) {
+            return Some(Cutting::Contradiction(made));
+        }
+        if is_wanted(tableau, derivation, made) {
+            cuts.push(made).ok()?;
         }
     }
     Some(Cutting::Made(cuts.len()))
@@ -158,11 +159,12 @@ fn cut_all<N: Number>(
     cuts: &mut Vec<u32>,
 ) -> Option<Cutting> {
     for number in 0..tableau.equations.len() {
-        if cuts.len() < MOST_AT_ONCE && is_fractional(tableau, tableau.equations.get(number)?)? {
-            match cut_both(tableau, alloc, derivation, number, cuts)? {
-                Cutting::Made(_) => {}
-                Cutting::Contradiction(row) => return Some(Cutting::Contradiction(row)),
-            }
+        if cuts.len() >= MOST_AT_ONCE || !is_fractional(tableau, tableau.equations.get(number)?)? {
+            continue;
+        }
+        match cut_both(tableau, alloc, derivation, number, cuts)? {
+            Cutting::Made(_) => {}
+            Cutting::Contradiction(row) => return Some(Cutting::Contradiction(row)),
         }
     }
     Some(Cutting::Made(cuts.len()))

@@ -51,12 +51,13 @@ fn enter_broken<N: Number>(
         return derivation.narrow.broken(joined, values, denominator, worst);
     }
     for number in 0..derivation.rows.given_len() {
-        if !joined.get(number).copied().unwrap_or(true) {
-            let row = derivation.rows.get(number)?;
-            let excess = excess(row, values, denominator)?;
-            if excess > 0 {
-                worst.enter(number, excess)?;
-            }
+        if joined.get(number).copied().unwrap_or(true) {
+            continue;
+        }
+        let row = derivation.rows.get(number)?;
+        let excess = excess(row, values, denominator)?;
+        if excess > 0 {
+            worst.enter(number, excess)?;
         }
     }
     Some(())

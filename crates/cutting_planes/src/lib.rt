@@ -2,7 +2,7 @@
 //
 // What it does. The guide looks for numbers that satisfy all rows, or for multiples of rows that add up to a contradiction. Nothing is proved of
 // it but that it is safe and ends: what it proposes is to be tested, and where it proposes nothing, another solver is to answer
-// (`guided_ints` does both).
+// (`linear_ints` does both).
 //
 // Over fractions the simplex method decides (`simplex`): its vertex satisfies the rows that have joined its tableau, or an equation gives
 // multipliers of a few rows that add up to a contradiction. These are written as steps of a Farkas line, row by row (src/combining).

@@ -120,15 +120,13 @@ impl<'r> RowList<'r> {
         let slot = self.slot_of(key);
         let mut number = self.heads.get(slot).copied().unwrap_or(NO_ROW);
         for _ in 0..self.taken.len() {
-            match self.taken.get(number as usize) {
-                Some(taken) => {
-                    if self.is_equal(*taken, key, row) {
-                        return true;
-                    }
-                    number = taken.before;
-                }
-                None => return false,
+            let Some(taken) = self.taken.get(number as usize) else {
+                return false;
+            };
+            if self.is_equal(*taken, key, row) {
+                return true;
             }
+            number = taken.before;
         }
         false
     }

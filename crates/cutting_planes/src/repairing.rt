@@ -83,11 +83,12 @@ fn worst(derivation: &Derivation<'_>, sums: &[i128]) -> Option<u32> {
             Some(row) => share_beyond(row, *sum),
             None => None,
         };
-        if let Some(share) = share {
-            if share >= most {
-                most = share.saturating_add(1);
-                found = u32::try_from(number).ok();
-            }
+        let Some(share) = share else {
+            continue;
+        };
+        if share >= most {
+            most = share.saturating_add(1);
+            found = u32::try_from(number).ok();
         }
     }
     found
@@ -200,11 +201,12 @@ fn cheapest(
     let mut found = None;
     for term in row.terms() {
         let step = move_of(term, beyond)?;
-        if let Some(price) = price(derivation, attempt, step, moves) {
-            if price < least {
-                least = price;
-                found = Some(step);
-            }
+        let Some(price) = price(derivation, attempt, step, moves) else {
+            continue;
+        };
+        if price < least {
+            least = price;
+            found = Some(step);
         }
     }
     found

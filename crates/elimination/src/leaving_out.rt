@@ -101,11 +101,12 @@ fn combine_one(
             return Going::Over;
         };
         *pairs = left;
-        if let Some(sum) = combination(alloc, rest.held.as_slice(), upper, *lower, place) {
-            match hold(rest, alloc, upper, *lower, sum) {
-                Going::On => {}
-                other => return other,
-            }
+        let Some(sum) = combination(alloc, rest.held.as_slice(), upper, *lower, place) else {
+            continue;
+        };
+        match hold(rest, alloc, upper, *lower, sum) {
+            Going::On => {}
+            other => return other,
         }
     }
     Going::On

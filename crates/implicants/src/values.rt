@@ -50,14 +50,15 @@ fn put(free: &mut Vec<bool>, atom: u32, value: bool) {
 fn support_of(atoms: &[AtomKind], values: &[bool], free: &[bool], lits: &[Lit]) -> Support {
     let mut first = None;
     for lit in lits {
-        if !has_row(atoms, *lit) {
-            let is_true = plain_value(values, lit.atom) == lit.positive;
-            if is_true != plain_value(free, lit.atom) {
-                return Support { safe: true, first };
-            }
-            if is_true && first.is_none() {
-                first = Some(lit.atom);
-            }
+        if has_row(atoms, *lit) {
+            continue;
+        }
+        let is_true = plain_value(values, lit.atom) == lit.positive;
+        if is_true != plain_value(free, lit.atom) {
+            return Support { safe: true, first };
+        }
+        if is_true && first.is_none() {
+            first = Some(lit.atom);
         }
     }
     Support { safe: false, first }
@@ -96,11 +97,12 @@ fn keep_more(problem: &Problem, values: &[bool], free: &mut Vec<bool>) -> bool {
     let mut any = false;
     for clause in problem.clauses.as_slice() {
         let support = support_of(atoms, values, free.as_slice(), clause.lits());
-        if !support.safe {
-            if let Some(atom) = support.first {
-                put(free, atom, false);
-                any = true;
-            }
+        if support.safe {
+            continue;
+        }
+        if let Some(atom) = support.first {
+            put(free, atom, false);
+            any = true;
         }
     }
     any

@@ -1,4 +1,4 @@
-// A solver of linear rows over whole numbers, by the elimination of Fourier and Motzkin.
+// Solvers of linear rows over whole numbers: by the elimination of Fourier and Motzkin, and guided by cutting planes before it.
 //
 // What it does. `elimination` takes the given rows and eliminates their places one after the other: each row that names a place says
 // that the place is at most something, an upper row, or that it is at least something, a lower row, and from each pair of them it makes
@@ -19,11 +19,16 @@
 //
 // What it costs. Elimination, which makes nearly all of it; then each place takes one look at the rows that name it.
 //
-// The layer stands on `theory_api`, whose trait it keeps, on `elimination`, and on `elimination`, in whose lists elimination leaves the
-// rows of each place; all of them stand on `items`, `lin_rows` and `proof_lines`.
+// A guide before it (src/solver). `cutting_planes` proposes numbers that satisfy all rows, or multiples of rows that contradict each
+// other. What it proposes is tested by the rows themselves and by the rule of a Farkas line, and a conflict is trimmed. Where the test
+// says no, or nothing is proposed, elimination answers. So a conflict and a model may come from the guide; a split and the reasons to
+// stop come from elimination alone, with its certificates. All that an answer promises is proved of the tests.
+//
+// The layer stands on `theory_api`, whose trait it keeps, on `elimination`, in whose lists elimination leaves the rows of each place,
+// and on `cutting_planes`, which proposes; all of them stand on `items`, `lin_rows` and `proof_lines`.
 //
 // Files, in the order in which a reader needs them: src/ceiling and src/bounds (what a row says of a value), src/descend (the values),
-// src/eliminator (the solver).
+// src/eliminator (the solver by elimination), src/solver (the one that is guided).
 // Definitions: specs/Stops (the reasons to stop), specs/Bounds and specs/Descending (what is known while values are chosen); the others
 // are steps of the proofs.
 //
@@ -37,5 +42,7 @@ pub mod bounds;
 pub mod ceiling;
 pub mod descend;
 pub mod eliminator;
+mod solver;
 
 pub use eliminator::Eliminator;
+pub use solver::{CuttingPlanes, tested};

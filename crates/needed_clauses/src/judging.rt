@@ -170,13 +170,14 @@ pub(crate) fn take_false(
 ) {
     for clause in front..problem.clauses.len() {
         let lits = lits_at(problem, clause);
-        if !taken.has(clause) && !is_true(values, lits) {
-            let name = last_atom(lits);
-            if place_of(places, name) == NOWHERE {
-                judge_name(problem, values, taken, clause, name);
-            } else {
-                taken.take(clause);
-            }
+        if taken.has(clause) || is_true(values, lits) {
+            continue;
+        }
+        let name = last_atom(lits);
+        if place_of(places, name) == NOWHERE {
+            judge_name(problem, values, taken, clause, name);
+        } else {
+            taken.take(clause);
         }
     }
 }

@@ -105,12 +105,13 @@ fn leaving<N: Number>(tableau: &Tableau<N>) -> Option<Option<usize>> {
     let mut least = usize::MAX;
     let mut found = None;
     for (number, equation) in tableau.equations.iter().enumerate() {
-        if is_beyond(tableau, equation)? {
-            let rank = rank_of_equation(tableau, equation);
-            if rank < least {
-                least = rank;
-                found = Some(number);
-            }
+        if !is_beyond(tableau, equation)? {
+            continue;
+        }
+        let rank = rank_of_equation(tableau, equation);
+        if rank < least {
+            least = rank;
+            found = Some(number);
         }
     }
     Some(found)
@@ -127,12 +128,13 @@ fn entering<N: Number>(tableau: &Tableau<N>, equation: &Equation<N>) -> Option<u
     let mut found = None;
     for (column, by) in equation.numerators.iter().enumerate() {
         let variable = tableau.columns.get(column).copied()?;
-        if helps(tableau, variable, *by) {
-            let rank = rank_of_column(tableau, column, variable, least);
-            if rank < least {
-                least = rank;
-                found = Some(column);
-            }
+        if !helps(tableau, variable, *by) {
+            continue;
+        }
+        let rank = rank_of_column(tableau, column, variable, least);
+        if rank < least {
+            least = rank;
+            found = Some(column);
         }
     }
     found

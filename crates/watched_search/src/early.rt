@@ -11,9 +11,9 @@ ghost use Rattle.sat_core.specs.Answers.{AreRowsOf};
 ghost use Rattle.theory_api.specs.Laws.{all_below, IsAnswer};
 ghost use Rattle.watched_search.specs.Early.{AreHeld, IsSaid};
 
-use guided_ints::tested;
 use items::Items;
 use lin_rows::Row;
+use linear_ints::tested;
 use proof_lines::{AtomKind, Lit, Problem, RowStep};
 use sat_core::Trail;
 use sat_core::row_assignments::{RowAssignment, pick, row_of_sign};

@@ -6,7 +6,7 @@ ghost use Rattle.sat_core.specs.Answers.{IsAnswer};
 
 use crate::solving::solve;
 use diff_bounds::{DiffBounds, fits, law_fits};
-use guided_ints::CuttingPlanes;
+use linear_ints::CuttingPlanes;
 use proof_lines::{AtomKind, Problem};
 use sat_core::Answer;
 use std::alloc::Global;

@@ -4,9 +4,8 @@ ghost use Rattle.lin_rows.specs.Numbers.{in_range};
 ghost use Rattle.lin_rows.specs.Rows.{all_in_range};
 ghost use Rattle.theory_api.specs.Laws.{all_below};
 
-use guided_ints::CuttingPlanes;
 use lin_rows::{Row, RowTerm, row_of};
-use linear_ints::Eliminator;
+use linear_ints::{CuttingPlanes, Eliminator};
 use proof_lines::{RangeWhat, RowStep};
 use std::alloc::{AllocError, Global};
 use std::process::Abort;

@@ -6,11 +6,11 @@ ghost use Rattle.line_rows.specs.Evidence.{in_state};
 ghost use Rattle.proof_lines.specs.Problems.{row_true};
 ghost use Rattle.theory_api.specs.Laws.{IsAnswer, IsModel, all_satisfied};
 
+use crate::Eliminator;
 use cutting_planes::{Proposal, propose};
 use elimination::{Conflict, conflict_in};
 use items::Items;
 use lin_rows::{Row, truth_at};
-use linear_ints::Eliminator;
 use proof_lines::RowStep;
 use std::alloc::Global;
 use theory_api::{Theory, TheoryAnswer};
