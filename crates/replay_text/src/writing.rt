@@ -16,7 +16,7 @@ use crate::lines::{push, push_number, push_step, push_stop};
 use crate::stop::Stop;
 use byte_ports::{ACCEPTED, Answer, REFUSED, REJECTED};
 use partial_truth::invariant_broken_at;
-use replica_replay::{Replay, Step, StepRefused, Steps};
+use replica_replay::{Plain, Replay, Runner, Step, StepRefused};
 use spec_core::{Spec, World};
 use spec_states::write_state;
 use std::alloc::{AllocError, Global};
@@ -33,12 +33,16 @@ fn replica_of(step: &Step) -> u32
 }
 
 /// The first invariant that the state of a replica breaks.
-fn broken_invariant<R: Steps>(spec: &Spec, replay: &R, replica: u32) -> Option<usize>
-    requires spec { (R.replayed replay.now).spec ≡ spec.now }
-    requires replica { replica < length (R.replayed replay.now).held.taken }
+fn broken_invariant<R: Runner + Drop>(
+    spec: &Spec,
+    replay: &Replay<R>,
+    replica: u32,
+) -> Option<usize>
+    requires spec { replay.now.spec ≡ spec.now }
+    requires replica { replica < length replay.now.held.taken }
     ensures { result
-        ≡ broken_at spec.now (R.replayed replay.now).world
-        (state_at spec.now (R.replayed replay.now).world (R.replayed replay.now).held replica) }
+        ≡ broken_at spec.now replay.now.world
+        (state_at spec.now replay.now.world replay.now.held replica) }
 {
     invariant_broken_at(spec, replay.world(), replay.state_of(replica))
 }
@@ -51,9 +55,9 @@ fn is_front(mine: &[u32], theirs: &[u32]) -> bool
 }
 
 // Whether a replica has taken what another one has taken first.
-fn is_front_elsewhere<R: Steps>(replay: &R, replica: u32) -> bool
-    requires { replica < length (R.replayed replay.now).held.taken }
-    ensures { result ≡ true → IsFrontElsewhere (R.replayed replay.now).held replica }
+fn is_front_elsewhere<R: Runner + Drop>(replay: &Replay<R>, replica: u32) -> bool
+    requires { replica < length replay.now.held.taken }
+    ensures { result ≡ true → IsFrontElsewhere replay.now.held replica }
 {
     let count = replay.replica_count();
     if count > u32::MAX as usize {
@@ -70,15 +74,20 @@ fn is_front_elsewhere<R: Steps>(replay: &R, replica: u32) -> bool
 
 /// The first invariant that the state of a replica breaks, which an event has led to it from a state in which all held. Those aren't
 /// asked that read nothing that the event's operation writes.
-fn broken_by<R: Steps>(spec: &Spec, replay: &R, replica: u32, event: u32) -> Option<usize>
-    requires spec { (R.replayed replay.now).spec ≡ spec.now }
-    requires replica { replica < length (R.replayed replay.now).held.taken }
-    requires event { event < length (R.replayed replay.now).held.events }
-    requires led { LedBy spec.now (R.replayed replay.now).world
-        (R.replayed replay.now).held replica event }
+fn broken_by<R: Runner + Drop>(
+    spec: &Spec,
+    replay: &Replay<R>,
+    replica: u32,
+    event: u32,
+) -> Option<usize>
+    requires spec { replay.now.spec ≡ spec.now }
+    requires replica { replica < length replay.now.held.taken }
+    requires event { event < length replay.now.held.events }
+    requires led { LedBy spec.now replay.now.world
+        replay.now.held replica event }
     ensures { result
-        ≡ broken_at spec.now (R.replayed replay.now).world
-        (state_at spec.now (R.replayed replay.now).world (R.replayed replay.now).held replica) }
+        ≡ broken_at spec.now replay.now.world
+        (state_at spec.now replay.now.world replay.now.held replica) }
 {
     invariant_broken_after(
         spec,
@@ -90,17 +99,22 @@ fn broken_by<R: Steps>(spec: &Spec, replay: &R, replica: u32, event: u32) -> Opt
 
 /// The first invariant that the state of a replica breaks after an event that it took. None is asked where another replica has had that
 /// state.
-fn broken_after<R: Steps>(spec: &Spec, replay: &R, replica: u32, event: u32) -> Option<usize>
-    requires spec { (R.replayed replay.now).spec ≡ spec.now }
-    requires replica { replica < length (R.replayed replay.now).held.taken }
-    requires event { event < length (R.replayed replay.now).held.events }
-    requires others { OthersHeld spec.now (R.replayed replay.now).world
-        (R.replayed replay.now).held replica }
-    requires led { LedBy spec.now (R.replayed replay.now).world
-        (R.replayed replay.now).held replica event }
+fn broken_after<R: Runner + Drop>(
+    spec: &Spec,
+    replay: &Replay<R>,
+    replica: u32,
+    event: u32,
+) -> Option<usize>
+    requires spec { replay.now.spec ≡ spec.now }
+    requires replica { replica < length replay.now.held.taken }
+    requires event { event < length replay.now.held.events }
+    requires others { OthersHeld spec.now replay.now.world
+        replay.now.held replica }
+    requires led { LedBy spec.now replay.now.world
+        replay.now.held replica event }
     ensures { result
-        ≡ broken_at spec.now (R.replayed replay.now).world
-        (state_at spec.now (R.replayed replay.now).world (R.replayed replay.now).held replica) }
+        ≡ broken_at spec.now replay.now.world
+        (state_at spec.now replay.now.world replay.now.held replica) }
 {
     if is_front_elsewhere(replay, replica) {
         return None;
@@ -117,14 +131,18 @@ enum Stepped {
 }
 
 /// Carries a step out, and asks the invariants of its replica's state.
-fn carry_out<R: Steps>(spec: &Spec, replay: &mut R, step: &Step) -> Result<Stepped, AllocError>
-    requires spec { (R.replayed replay.old).spec ≡ spec.now }
-    requires holds { AllHeld spec.now (R.replayed replay.old).world (R.replayed replay.old).held }
+fn carry_out<R: Runner + Drop>(
+    spec: &Spec,
+    replay: &mut Replay<R>,
+    step: &Step,
+) -> Result<Stepped, AllocError>
+    requires spec { replay.old.spec ≡ spec.now }
+    requires holds { AllHeld spec.now replay.old.world replay.old.held }
     ensures stepped { IfOk result
-        (λ s. IsStepped spec.now (R.replayed replay.old).world (R.replayed replay.old).held step.now
-        s (R.replayed replay.new).held) }
-    ensures world { OnOk result ((R.replayed replay.new).world ≡ (R.replayed replay.old).world) }
-    ensures spec { OnOk result ((R.replayed replay.new).spec ≡ (R.replayed replay.old).spec) }
+        (λ s. IsStepped spec.now replay.old.world replay.old.held step.now
+        s replay.new.held) }
+    ensures world { OnOk result (replay.new.world ≡ replay.old.world) }
+    ensures spec { OnOk result (replay.new.spec ≡ replay.old.spec) }
 {
     replay.is_held();
     match replay.step(step) {
@@ -145,27 +163,27 @@ struct Stopped {
 }
 
 /// Carries steps out, up to the first that is refused or breaks an invariant, and adds the lines of the accepted ones.
-fn write_steps<R: Steps>(
+fn write_steps<R: Runner + Drop>(
     alloc: Global,
     spec: &Spec,
-    replay: &mut R,
+    replay: &mut Replay<R>,
     steps: &[Step],
     text: &mut Vec<u8>,
 ) -> Result<Stopped, AllocError>
-    requires spec { (R.replayed replay.old).spec ≡ spec.now }
-    requires holds { AllHeld spec.now (R.replayed replay.old).world (R.replayed replay.old).held }
+    requires spec { replay.old.spec ≡ spec.now }
+    requires holds { AllHeld spec.now replay.old.world replay.old.held }
     ensures reached { IfOk result
         (λ s. IsReached
-        (course_from spec.now (R.replayed replay.old).world (R.replayed replay.old).held steps.now)
+        (course_from spec.now replay.old.world replay.old.held steps.now)
         steps.now text.old.items
         (record {
           text = text.new.items;
           accepted = s.accepted;
           stop = s.stop;
-          held = (R.replayed replay.new).held;
+          held = replay.new.held;
         })) }
-    ensures world { OnOk result ((R.replayed replay.new).world ≡ (R.replayed replay.old).world) }
-    ensures spec { OnOk result ((R.replayed replay.new).spec ≡ (R.replayed replay.old).spec) }
+    ensures world { OnOk result (replay.new.world ≡ replay.old.world) }
+    ensures spec { OnOk result (replay.new.spec ≡ replay.old.spec) }
 {
     for (number, step) in steps.iter().enumerate() {
         replay.is_held();
@@ -197,39 +215,39 @@ fn write_steps<R: Steps>(
 }
 
 /// Adds the lines of a replica's state.
-fn push_state<R: Steps>(
+fn push_state<R: Runner + Drop>(
     alloc: Global,
     text: &mut Vec<u8>,
     spec: &Spec,
-    replay: &R,
+    replay: &Replay<R>,
     replica: u32,
 ) -> Result<(), AllocError>
-    requires spec { (R.replayed replay.now).spec ≡ spec.now }
-    requires replica { replica < length (R.replayed replay.now).held.taken }
+    requires spec { replay.now.spec ≡ spec.now }
+    requires replica { replica < length replay.now.held.taken }
     ensures { OnOk result
         (text.new.items
         ≡ text.old.items
-        ++ state_text spec.now (R.replayed replay.now).world
-        (state_at spec.now (R.replayed replay.now).world (R.replayed replay.now).held replica)) }
+        ++ state_text spec.now replay.now.world
+        (state_at spec.now replay.now.world replay.now.held replica)) }
 {
     write_state(alloc, spec, replay.state_of(replica), text)
 }
 
 /// Adds the lines of a replica.
-fn push_replica<R: Steps>(
+fn push_replica<R: Runner + Drop>(
     alloc: Global,
     text: &mut Vec<u8>,
     spec: &Spec,
-    replay: &R,
+    replay: &Replay<R>,
     replica: u32,
 ) -> Result<(), AllocError>
-    requires spec { (R.replayed replay.now).spec ≡ spec.now }
-    requires replica { replica < length (R.replayed replay.now).held.taken }
+    requires spec { replay.now.spec ≡ spec.now }
+    requires replica { replica < length replay.now.held.taken }
     ensures { OnOk result
         (text.new.items
         ≡ text.old.items
-        ++ replica_text spec.now (R.replayed replay.now).world (R.replayed replay.now).held replica
-        (get_or (R.replayed replay.now).held.taken replica [])) }
+        ++ replica_text spec.now replay.now.world replay.now.held replica
+        (get_or replay.now.held.taken replica [])) }
 {
     push_number(alloc, text, b"replica ", replica as usize)?;
     push_number(alloc, text, b" taken ", replay.seen_by(replica).len())?;
@@ -238,20 +256,20 @@ fn push_replica<R: Steps>(
 }
 
 /// Adds the lines of all replicas.
-fn push_replicas<R: Steps>(
+fn push_replicas<R: Runner + Drop>(
     alloc: Global,
     text: &mut Vec<u8>,
     spec: &Spec,
-    replay: &R,
+    replay: &Replay<R>,
     count: u32,
 ) -> Result<(), AllocError>
-    requires spec { (R.replayed replay.now).spec ≡ spec.now }
-    requires count { length (R.replayed replay.now).held.taken ≡ count }
+    requires spec { replay.now.spec ≡ spec.now }
+    requires count { length replay.now.held.taken ≡ count }
     ensures { OnOk result
         (text.new.items
         ≡ text.old.items
-        ++ replica_texts spec.now (R.replayed replay.now).world (R.replayed replay.now).held 0
-        (R.replayed replay.now).held.taken) }
+        ++ replica_texts spec.now replay.now.world replay.now.held 0
+        replay.now.held.taken) }
 {
     for replica in 0..count {
         push_replica(alloc, text, spec, replay, replica)?;
@@ -260,28 +278,28 @@ fn push_replicas<R: Steps>(
 }
 
 /// Carries a whole schedule out, and adds the lines of the accepted steps.
-fn write_course<R: Steps>(
+fn write_course<R: Runner + Drop>(
     alloc: Global,
     spec: &Spec,
-    replay: &mut R,
+    replay: &mut Replay<R>,
     replicas: u32,
     steps: &[Step],
     text: &mut Vec<u8>,
 ) -> Result<Stopped, AllocError>
-    requires spec { (R.replayed replay.old).spec ≡ spec.now }
-    requires held { (R.replayed replay.old).held ≡ none_held replicas }
+    requires spec { replay.old.spec ≡ spec.now }
+    requires held { replay.old.held ≡ none_held replicas }
     requires some { 1 ≤ replicas }
     ensures reached { IfOk result
-        (λ s. IsReached (course spec.now (R.replayed replay.old).world replicas steps.now) steps.now
+        (λ s. IsReached (course spec.now replay.old.world replicas steps.now) steps.now
         text.old.items
         (record {
           text = text.new.items;
           accepted = s.accepted;
           stop = s.stop;
-          held = (R.replayed replay.new).held;
+          held = replay.new.held;
         })) }
-    ensures world { OnOk result ((R.replayed replay.new).world ≡ (R.replayed replay.old).world) }
-    ensures spec { OnOk result ((R.replayed replay.new).spec ≡ (R.replayed replay.old).spec) }
+    ensures world { OnOk result (replay.new.world ≡ replay.old.world) }
+    ensures spec { OnOk result (replay.new.spec ≡ replay.old.spec) }
 {
     match broken_invariant(spec, replay, 0) {
         Some(place) => Ok(Stopped {
@@ -304,23 +322,23 @@ fn status_of(stop: &Stop) -> u8
 }
 
 /// Writes a course and how it stops, and answers the status.
-fn write_replay<R: Steps>(
+fn write_replay<R: Runner + Drop>(
     alloc: Global,
     spec: &Spec,
-    replay: &mut R,
+    replay: &mut Replay<R>,
     replicas: u32,
     steps: &[Step],
     text: &mut Vec<u8>,
 ) -> Result<u8, AllocError>
-    requires spec { (R.replayed replay.old).spec ≡ spec.now }
-    requires held { (R.replayed replay.old).held ≡ none_held replicas }
+    requires spec { replay.old.spec ≡ spec.now }
+    requires held { replay.old.held ≡ none_held replicas }
     requires some { 1 ≤ replicas }
     ensures text { OnOk result
         (text.new.items
-        ≡ text.old.items ++ replay_text spec.now (R.replayed replay.old).world replicas steps.now) }
+        ≡ text.old.items ++ replay_text spec.now replay.old.world replicas steps.now) }
     ensures status { IfOk result
         (λ status. status
-        ≡ replay_status spec.now (R.replayed replay.old).world replicas steps.now) }
+        ≡ replay_status spec.now replay.old.world replicas steps.now) }
 {
     push(text, b"cise replay 1\n")?;
     let stopped = write_course(alloc, spec, replay, replicas, steps, text)?;
@@ -329,24 +347,23 @@ fn write_replay<R: Steps>(
     Ok(status_of(&stopped.stop))
 }
 
-/// Carries the steps of a schedule out, with what carries steps out as a replay does and has accepted none yet: the text of the replay,
-/// and a status, which is 0 where all steps were accepted and no state broke, 1 where a state broke, 4 where a step was refused.
-pub fn replay_by<R: Steps>(
+/// Carries the steps of a schedule out, by a replay over any runner that has accepted none yet: the text of the replay, and a status, which is 0 where all steps were accepted and no state broke, 1 where a state broke, 4 where a step was refused.
+pub fn replay_by<R: Runner + Drop>(
     alloc: Global,
     spec: &Spec,
-    replay: &mut R,
+    replay: &mut Replay<R>,
     replicas: u32,
     steps: &[Step],
 ) -> Result<Answer, AllocError>
-    requires spec { (R.replayed replay.old).spec ≡ spec.now }
-    requires held { (R.replayed replay.old).held ≡ none_held replicas }
+    requires spec { replay.old.spec ≡ spec.now }
+    requires held { replay.old.held ≡ none_held replicas }
     requires some { 1 ≤ replicas }
     ensures text { IfOk result
         (λ report. report.text.items
-        ≡ replay_text spec.now (R.replayed replay.old).world replicas steps.now) }
+        ≡ replay_text spec.now replay.old.world replicas steps.now) }
     ensures status { IfOk result
         (λ report. report.status
-        ≡ replay_status spec.now (R.replayed replay.old).world replicas steps.now) }
+        ≡ replay_status spec.now replay.old.world replicas steps.now) }
 {
     let mut text = Vec::new(alloc);
     let status = write_replay(alloc, spec, replay, replicas, steps, &mut text)?;
@@ -368,6 +385,7 @@ pub fn replay(
     ensures status { IfOk result
         (λ report. report.status ≡ replay_status spec.now world replicas steps.now) }
 {
-    let mut replay = Replay::new(alloc, spec, world, replicas)?;
+    let runner = Plain::new(alloc, spec, &world);
+    let mut replay = Replay::new(alloc, runner, replicas)?;
     replay_by(alloc, spec, &mut replay, replicas, steps)
 }

@@ -1,2 +1,1 @@
 pub mod Native
-pub mod Lines

@@ -1,9 +1,9 @@
 // Hosts: an application's own code in place of the written requires lines and updates.
 //
-// It stands on `replica_replay`, which says what a step answers and leaves, and on `token_core`, whose `Runner` a `Native` is, so a network
-// of nodes runs over it too. `specs/Native.antt` says what the application's code has to answer: at every state and call that fit, an
-// effect the state after the call, a guard the first requires line that is false. `Native` keeps both beside these facts, and a `Host`
-// runs steps with them: it answers and leaves what a replay does. `specs/Lines.antt` serves the code and its proofs.
+// It stands on `replica_replay`, which says what a step answers and leaves, and whose `Runner` a `Native` is, so a network of nodes runs
+// over it too. `specs/Native.antt` says what the application's code has to answer: at every state and call that fit, an effect the state
+// after the call, a guard the first requires line that is false. `Native` keeps both beside these facts, and a `Host` is a replay over it:
+// it answers and leaves what a replay of the specification as it is written does.
 //
 // Decisions:
 // - An application's effect and guard are types that implement `Effect` and `Guard`, and no
@@ -14,13 +14,10 @@
 // - An `impl` of these traits for every closure would leave a caller's own type "an impl that is
 //   not the only match". One for a struct around a closure, `struct Kept<F> { f: F }`, passes in a
 //   small example and is no such match; that isn't done.
-// - A host takes any number of replicas, as a replay does. Observes lines are evaluated; the guard
-//   is asked for the requires lines alone.
+// - Observes lines are evaluated; the guard is asked for the requires lines alone.
 #![tactic(auto)]
 
-mod asking;
 mod host;
-mod keeping;
 mod native;
 
 pub use host::Host;

@@ -128,9 +128,10 @@ module _ (d : Specification) (w : World) (happened : List Happened) (replicas : 
       → why_not ≡ option_or found (effect_refused d w (reads at.state) the_call)
   call_why_not hs q found asked = ap (λ (l : List Happened). call_refused d w (calls_of l) (view_of at) the_call) (sym q) ∙ asked (effect_refused d w (reads at.state) the_call)
 
-  pub call_asked_refuses : (hs : List Happened) → hs ≡ happened → (why : StepRefused) → ((next : Option StepRefused) → call_asked d w (calls_of hs) (view_of at) the_call next ≡ option_or (Some why) next)
-      → failed why ≡ answer the_outcome
-  call_asked_refuses hs q why asked = sym (ap answer (call_decides (Some why) (call_why_not hs q (Some why) asked)))
+  pub call_asked_refuses : (hs : List Happened) → hs ≡ happened → (why : StepRefused)
+      → (why ≡ Memory) ⊎ ((next : Option StepRefused) → call_asked d w (calls_of hs) (view_of at) the_call next ≡ Some why) → (failed why ≡ failed Memory) ⊎ (failed why ≡ answer the_outcome)
+  call_asked_refuses hs q why (inl m) = inl (ap failed m)
+  call_asked_refuses hs q why (inr asked) = inr (sym (ap answer (call_decides (Some why) (call_why_not hs q (Some why) asked))))
 
   pub call_effect_refuses : (hs : List Happened) → hs ≡ happened → (why : StepRefused) → ((next : Option StepRefused) → call_asked d w (calls_of hs) (view_of at) the_call next ≡ option_or None next)
       → (why ≡ Memory) ⊎ (effect_refused d w (reads at.state) the_call ≡ Some why) → (failed why ≡ failed Memory) ⊎ (failed why ≡ answer the_outcome)

@@ -1,4 +1,3 @@
-pub mod Places
 pub mod Causes
 pub mod Taking
 pub mod Refusing

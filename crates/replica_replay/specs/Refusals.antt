@@ -59,15 +59,22 @@ pub record LocalView : Type 0 where
   pub taken : List ℕ
   pub state : Reads
 
+-- what is asked of the lines of a call in a state: its requires lines, and then its observes lines
+abbrev pub lines_asked : Specification → World → Reads → Call → Option StepRefused
+    → Option StepRefused
+lines_asked d w r call next =
+    unless (first_false w r call.args (op_of d call.op).requires_) false_requires
+    (unless (first_false w r call.args (op_of d call.op).observes) false_observes
+    next)
+
 -- What is asked of a call before its effect, at a replica, where the events have these calls.
 abbrev pub call_asked : Specification → World → List Call → LocalView → Call → Option StepRefused
     → Option StepRefused
 call_asked d w calls at call next =
     need (call_fits d w call) Arguments
     (unless (least_unseen d w at.taken call 0 calls) Conflict
-    (unless (first_false w at.state call.args (op_of d call.op).requires_) false_requires
-    (unless (first_false w at.state call.args (op_of d call.op).observes) false_observes
-    next)))
+    (lines_asked d w at.state call
+    next))
 
 -- Why a call is refused at such a replica: what is asked of it, and then its effect.
 abbrev pub call_refused : Specification → World → List Call → LocalView → Call → Option StepRefused

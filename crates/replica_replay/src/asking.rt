@@ -11,25 +11,25 @@ ghost use Rattle.std.specs.List.{position_from};
 ghost use Rattle.std.specs.Str.{bytes_eq};
 ghost use Rattle.spec_core.specs.Limits.{most_operations};
 ghost use Rattle.spec_core.specs.State.{reads};
-ghost use Rattle.spec_core.specs.Fits.{world_fits, call_fits, is_state};
+ghost use Rattle.spec_core.specs.Fits.{call_fits, is_state};
 ghost use Rattle.effectors.specs.Effect.{after};
 ghost use Rattle.effectors.specs.Spare.{IsSpare};
 ghost use Rattle.token_rules.specs.Conflict.{conflicts};
 ghost use Rattle.replica_replay.specs.Held.{is_taken};
-ghost use Rattle.replica_replay.specs.Refusals.{least_unseen, call_asked, taking_asked};
-ghost use Rattle.replica_replay.specs.Refusals.{effect_refused};
+ghost use Rattle.replica_replay.specs.Refusals.{least_unseen, lines_asked, call_asked};
+ghost use Rattle.replica_replay.specs.Refusals.{taking_asked, effect_refused};
 ghost use Rattle.replica_replay.specs.Holding.{calls_of};
 ghost use Rattle.token_rules.specs.Rivals.{rivals_of};
 ghost use Rattle.replica_replay.specs.Steps.{operation_named as operation_named_of};
 
+use crate::conditions::observes_line;
 use crate::keeping::{Happened, Replica};
 use crate::order::Order;
+use crate::runner::Runner;
 use crate::step::StepRefused;
-use effectors::{ApplyRefused, apply_over};
-use partial_truth::{observes_broken_at, requires_broken_at};
+use effectors::ApplyRefused;
 use spec_core::{Call, Operation, Spec, World};
 use spec_states::State;
-use std::alloc::Global;
 use token_rules::{Rivalry, conflicts, may_conflict};
 
 fn named(operations: &[Operation], name: &[u8]) -> Option<u8>
@@ -52,24 +52,22 @@ pub fn operation_named(spec: &Spec, name: &[u8]) -> Option<u8>
     named(spec.operations.as_slice(), name)
 }
 
-// The other event's call conflicts with the call, and the event isn't among those taken.
+// Another call conflicts with the call, and its event wasn't taken.
 fn is_unseen(
     spec: &Spec,
     world: &World,
-    taken: &Order,
+    is_taken: bool,
     call: &Call,
     rivals: &[Rivalry],
-    event: u32,
     other: &Call,
 ) -> bool
     requires { rivals.now ≡ rivals_of spec.now call.now.op }
-    ensures { result
-        ≡ (conflicts spec.now world.now other.now call.now && not (is_taken taken.now event)) }
+    ensures { result ≡ (conflicts spec.now world.now other.now call.now && not is_taken) }
 {
     if !may_conflict(rivals, other, call) {
         return false;
     }
-    !taken.has(event) && conflicts(spec, world, other, call)
+    !is_taken && conflicts(spec, world, other, call)
 }
 
 /// The least event whose call conflicts with a call and that isn't among those taken.
@@ -87,49 +85,74 @@ pub fn least_unseen(
         ≡ least_unseen spec.now world.now taken.now call.now 0 (calls_of happened.now) }
 {
     for (event, other) in happened.iter().enumerate() {
-        if is_unseen(spec, world, taken, call, rivals, event as u32, &other.call) {
+        let is_taken = taken.has(event as u32);
+        if is_unseen(spec, world, is_taken, call, rivals, &other.call) {
             return Some(event as u32);
         }
     }
     None
 }
 
-/// Why a call at a replica is refused before its effect is tried.
-pub fn asked(
-    spec: &Spec,
-    world: &World,
+// Asks the lines of a call: refused for the first one that is false. The runner is asked for the requires lines.
+fn ask_lines<R: Runner>(runner: &R, state: &State, call: &Call) -> Result<(), StepRefused>
+    requires state { is_state (R.specification runner.now) (R.setting runner.now) state.now ≡ true }
+    requires call { call_fits (R.specification runner.now) (R.setting runner.now) call.now ≡ true }
+    ensures ok { OnOk result
+        ((next : Option StepRefused)
+        → lines_asked (R.specification runner.now) (R.setting runner.now) (reads state.now) call.now
+        next
+        ≡ next) }
+    ensures err { IfErr result
+        (λ why. (why ≡ StepRefused.Memory)
+        ⊎ ((next : Option StepRefused)
+        → lines_asked (R.specification runner.now) (R.setting runner.now) (reads state.now) call.now
+        next
+        ≡ Some why)) }
+{
+    if let Some(line) = runner.line_broken(state, call)? {
+        return Err(StepRefused::Precondition { line });
+    }
+    match observes_line(runner.spec(), runner.world(), state, call) {
+        Some(line) => Err(StepRefused::Observation { line }),
+        None => Ok(()),
+    }
+}
+
+/// Asks of a call at a replica what is asked before its effect is tried: refused for the first cause against it.
+pub fn ask<R: Runner>(
+    runner: &R,
     happened: &[Happened],
     at: &Replica,
     call: &Call,
     rivals: &[Rivalry],
-) -> Option<StepRefused>
-    requires world { world_fits spec.now world.now ≡ true }
+) -> Result<(), StepRefused>
+    requires state { is_state (R.specification runner.now) (R.setting runner.now) at.now.state
+        ≡ true }
     requires few { length happened.now < 2 ^ 32 }
-    requires rivals { rivals.now ≡ rivals_of spec.now call.now.op }
-    ensures refusal { (next : Option StepRefused)
-        → call_asked spec.now world.now (calls_of happened.now)
+    requires rivals { rivals.now ≡ rivals_of (R.specification runner.now) call.now.op }
+    ensures ok { OnOk result
+        ((next : Option StepRefused)
+        → call_asked (R.specification runner.now) (R.setting runner.now) (calls_of happened.now)
         (record { taken = at.now.order; state = reads at.now.state }) call.now next
-        ≡ option_or result next }
-    ensures fits { result ≡ None → call_fits spec.now world.now call.now ≡ true }
+        ≡ next) }
+    ensures err { IfErr result
+        (λ why. (why ≡ StepRefused.Memory)
+        ⊎ ((next : Option StepRefused)
+        → call_asked (R.specification runner.now) (R.setting runner.now) (calls_of happened.now)
+        (record { taken = at.now.order; state = reads at.now.state }) call.now next
+        ≡ Some why)) }
+    ensures fits { OnOk result
+        (call_fits (R.specification runner.now) (R.setting runner.now) call.now ≡ true) }
 {
-    spec.well_formed();
+    let spec = runner.spec();
+    let world = runner.world();
     if !call.fits(spec, world) {
-        return Some(StepRefused::Arguments);
+        return Err(StepRefused::Arguments);
     }
     if let Some(event) = least_unseen(spec, world, &at.order, call, rivals, happened) {
-        return Some(StepRefused::Conflict { event });
+        return Err(StepRefused::Conflict { event });
     }
-    if let Some(place) = requires_broken_at(spec, world, &at.state, call) {
-        return Some(StepRefused::Precondition {
-            line: place as u32 + 1,
-        });
-    }
-    if let Some(place) = observes_broken_at(spec, world, &at.state, call) {
-        return Some(StepRefused::Observation {
-            line: place as u32 + 1,
-        });
-    }
-    None
+    ask_lines(runner, &at.state, call)
 }
 
 /// Why a taking is refused before its effect is tried.
@@ -147,28 +170,33 @@ pub fn taking_asked(taken: &Order, event: u32, seen: &[u32]) -> Option<StepRefus
 }
 
 /// The state of a replica after a call's effect, written over a spare one that reads as the old one, if there is one.
-pub fn state_after_call(
-    alloc: Global,
-    spec: &Spec,
-    world: &World,
+pub fn state_after_call<R: Runner>(
+    runner: &R,
     at: &Replica,
     spare: Option<State>,
     call: &Call,
 ) -> Result<State, StepRefused>
-    requires world { world_fits spec.now world.now ≡ true }
-    requires state { is_state spec.now world.now at.now.state ≡ true }
-    requires call { call_fits spec.now world.now call.now ≡ true }
-    requires spare { IsSpare spec.now world.now at.now.state spare }
+    requires state { is_state (R.specification runner.now) (R.setting runner.now) at.now.state
+        ≡ true }
+    requires call { call_fits (R.specification runner.now) (R.setting runner.now) call.now ≡ true }
+    requires spare { IsSpare (R.specification runner.now) (R.setting runner.now) at.now.state
+        spare }
     ensures reads { IfOk result
-        (λ s. reads s ≡ after spec.now world.now call.now (reads at.now.state)) }
-    ensures fits { IfOk result (λ s. is_state spec.now world.now s ≡ true) }
+        (λ s. reads s
+        ≡ after (R.specification runner.now) (R.setting runner.now) call.now (reads at.now.state)) }
+    ensures fits { IfOk result
+        (λ s. is_state (R.specification runner.now) (R.setting runner.now) s ≡ true) }
     ensures ok { OnOk result
-        (effect_refused spec.now world.now (reads at.now.state) call.now ≡ None) }
+        (effect_refused (R.specification runner.now) (R.setting runner.now) (reads at.now.state)
+        call.now
+        ≡ None) }
     ensures err { IfErr result
         (λ why. (why ≡ StepRefused.Memory)
-        ⊎ (effect_refused spec.now world.now (reads at.now.state) call.now ≡ Some why)) }
+        ⊎ (effect_refused (R.specification runner.now) (R.setting runner.now) (reads at.now.state)
+        call.now
+        ≡ Some why)) }
 {
-    match apply_over(alloc, spec, world, &at.state, spare, call) {
+    match runner.effect_over(&at.state, spare, call) {
         Ok(next) => Ok(next),
         Err(
             ApplyRefused::Range {

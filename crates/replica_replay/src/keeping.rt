@@ -12,9 +12,9 @@ ghost use Rattle.spec_core.specs.Fits.{world_fits, call_fits, is_state};
 ghost use Rattle.replica_replay.specs.Holding.{orders_of, seen_by_event, AreSpares, Leads};
 
 use crate::order::Order;
+use crate::runner::Runner;
 use crate::step::{StepRefused, Taken};
-use effectors::caught_up;
-use spec_core::{Call, Spec, World};
+use spec_core::Call;
 use spec_states::State;
 use std::alloc::{AllocError, Global};
 use std::mem;
@@ -48,21 +48,25 @@ impl Replica {
 }
 
 /// Replicas in the initial state that have taken nothing.
-pub fn first_replicas(
+pub fn first_replicas<R: Runner>(
     alloc: Global,
-    spec: &Spec,
-    world: &World,
+    runner: &R,
     count: u32,
 ) -> Result<Vec<Replica>, AllocError>
-    requires { world_fits spec.now world.now ≡ true }
+    ensures world { world_fits (R.specification runner.now) (R.setting runner.now) ≡ true }
     ensures orders { IfOk result (λ replicas. orders_of replicas.items ≡ replicate count []) }
     ensures states { IfOk result
-        (λ replicas. All (λ replica. (is_state spec.now world.now replica.state ≡ true)
-        × (reads replica.state ≡ reads (initial_of spec.now world.now))) replicas.items) }
+        (λ replicas. All
+        (λ replica. (is_state (R.specification runner.now) (R.setting runner.now)
+        replica.state ≡ true)
+        × (reads replica.state
+        ≡ reads (initial_of (R.specification runner.now) (R.setting runner.now))))
+        replicas.items) }
 {
+    let world = runner.world();
     let mut replicas = Vec::new(alloc);
     for _i in 0..count {
-        let state = State::initial(alloc, spec, world)?;
+        let state = State::initial(alloc, runner.spec(), world)?;
         replicas.push(Replica {
             order: Order::new(alloc),
             state,
@@ -199,10 +203,8 @@ pub fn note_call(
 }
 
 // Brings the state before an event to read as the one after it, and keeps it as the replica's second state.
-fn keep_spare(
-    alloc: Global,
-    spec: &Spec,
-    world: &World,
+fn keep_spare<R: Runner>(
+    runner: &R,
     call: &Call,
     replicas: &[Replica],
     spares: &mut Vec<Option<State>>,
@@ -210,24 +212,22 @@ fn keep_spare(
     before: State,
 )
     requires replica { replica < length replicas.now }
-    requires world { world_fits spec.now world.now ≡ true }
-    requires call { call_fits spec.now world.now call.now ≡ true }
+    requires call { call_fits (R.specification runner.now) (R.setting runner.now) call.now ≡ true }
     requires leads { (r : Replica) → slice_get replicas.now replica ≡ Some r
-        → Leads spec.now world.now call.now before r.state }
+        → Leads (R.specification runner.now) (R.setting runner.now) call.now before r.state }
     ensures { (rs : List Replica) (x : Replica) → replicas.now ≡ set rs replica x
-        → AreSpares spec.now world.now rs spares.old.items
-        → AreSpares spec.now world.now replicas.now spares.new.items }
+        → AreSpares (R.specification runner.now) (R.setting runner.now) rs spares.old.items
+        → AreSpares (R.specification runner.now) (R.setting runner.now) replicas.now
+        spares.new.items }
 {
     let latest = &replicas[replica].state;
-    let spare = caught_up(alloc, spec, world, call, latest, before);
+    let spare = runner.spare(call, latest, before);
     put_spare(spares, replica, spare);
 }
 
 /// A replica takes an event of this call, which leads to this state. Its second state, if it has one, is brought to read alike.
-pub fn keep_taking(
-    alloc: Global,
-    spec: &Spec,
-    world: &World,
+pub fn keep_taking<R: Runner>(
+    runner: &R,
     call: &Call,
     replicas: &mut Vec<Replica>,
     spares: &mut Vec<Option<State>>,
@@ -236,10 +236,9 @@ pub fn keep_taking(
     state: State,
 ) -> Result<Taken, StepRefused>
     requires replica { replica < length replicas.old.items }
-    requires world { world_fits spec.now world.now ≡ true }
-    requires call { call_fits spec.now world.now call.now ≡ true }
+    requires call { call_fits (R.specification runner.now) (R.setting runner.now) call.now ≡ true }
     requires leads { (r : Replica) → slice_get replicas.old.items replica ≡ Some r
-        → Leads spec.now world.now call.now r.state state }
+        → Leads (R.specification runner.now) (R.setting runner.now) call.now r.state state }
     ensures taken { IfOk result (λ t. t.event ≡ event) }
     ensures ok { OnOk result
         (replicas.new.items ≡ set replicas.old.items replica
@@ -248,22 +247,22 @@ pub fn keep_taking(
           state = state;
         })) }
     ensures err { OnErr result (replicas.new.items ≡ replicas.old.items) }
-    ensures spares { AreSpares spec.now world.now replicas.old.items spares.old.items
-        → AreSpares spec.now world.now replicas.new.items spares.new.items }
+    ensures spares { AreSpares (R.specification runner.now) (R.setting runner.now)
+        replicas.old.items spares.old.items
+        → AreSpares (R.specification runner.now) (R.setting runner.now) replicas.new.items
+        spares.new.items }
     ensures memory { IfErr result (λ why. why ≡ StepRefused.Memory) }
 {
     let Ok(before) = note_taking(replicas, replica, event, state) else {
         return Err(StepRefused::Memory);
     };
-    keep_spare(alloc, spec, world, call, replicas, spares, replica, before);
+    keep_spare(runner, call, replicas, spares, replica, before);
     Ok(Taken { event })
 }
 
 /// A call becomes the next event, and its replica takes it, which leads to this state.
-pub fn keep_call(
-    alloc: Global,
-    spec: &Spec,
-    world: &World,
+pub fn keep_call<R: Runner>(
+    runner: &R,
     happened: &mut Vec<Happened>,
     replicas: &mut Vec<Replica>,
     spares: &mut Vec<Option<State>>,
@@ -273,10 +272,9 @@ pub fn keep_call(
 ) -> Result<Taken, StepRefused>
     requires replica { replica < length replicas.old.items }
     requires few { length happened.old.items < 2 ^ 32 }
-    requires world { world_fits spec.now world.now ≡ true }
-    requires call { call_fits spec.now world.now call ≡ true }
+    requires call { call_fits (R.specification runner.now) (R.setting runner.now) call ≡ true }
     requires leads { (r : Replica) → slice_get replicas.old.items replica ≡ Some r
-        → Leads spec.now world.now call r.state state }
+        → Leads (R.specification runner.now) (R.setting runner.now) call r.state state }
     ensures taken { IfOk result (λ t. t.event ≡ length happened.old.items) }
     ensures few { OnOk result (length happened.old.items + 1 < 2 ^ 32) }
     ensures happened { OnOk result
@@ -295,8 +293,10 @@ pub fn keep_call(
         })) }
     ensures err { OnErr result
         ((happened.new.items ≡ happened.old.items) × (replicas.new.items ≡ replicas.old.items)) }
-    ensures spares { AreSpares spec.now world.now replicas.old.items spares.old.items
-        → AreSpares spec.now world.now replicas.new.items spares.new.items }
+    ensures spares { AreSpares (R.specification runner.now) (R.setting runner.now)
+        replicas.old.items spares.old.items
+        → AreSpares (R.specification runner.now) (R.setting runner.now) replicas.new.items
+        spares.new.items }
     ensures memory { IfErr result (λ why. why ≡ StepRefused.Memory) }
 {
     let event = happened.len();
@@ -304,9 +304,7 @@ pub fn keep_call(
         return Err(StepRefused::Memory);
     };
     keep_spare(
-        alloc,
-        spec,
-        world,
+        runner,
         &happened[event].call,
         replicas,
         spares,

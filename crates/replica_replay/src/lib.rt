@@ -7,8 +7,8 @@
 // application's own code can stand in their place. `specs/Tried.antt` says what trying a call in a state gives.
 //
 // `specs/Held.antt` says what a replay holds, `specs/Refusals.antt` which calls and takings are refused and for what,
-// `specs/Steps.antt` what a step answers and what is held after it. `Replay` applies the updates as they are written; what it is made of
-// (an `Order`, what `Happened`, a `Replica`, and the functions that look for rivals and note an event) serves other hosts of such steps.
+// `specs/Steps.antt` what a step answers and what is held after it. A `Replay` carries steps out over a runner, so a replay of the written
+// lines and updates and one of an application's own code are one.
 //
 // Decisions:
 // - An event's number has 32 bits; the next one after those is refused as want of memory.
@@ -29,17 +29,11 @@ mod order;
 mod replay;
 mod runner;
 mod step;
-mod steps;
 mod trying;
 
-pub use asking::{least_unseen, operation_named, taking_asked};
-pub use keeping::{
-    Happened, Replica, count, first_replicas, note_call, note_taking, seen_by_event,
-};
+pub use asking::operation_named;
 pub use law::law_steps_keep_executions;
-pub use order::Order;
 pub use replay::Replay;
 pub use runner::{Plain, Runner};
 pub use step::{Step, StepRefused, Taken};
-pub use steps::Steps;
 pub use trying::{Tried, try_call, try_call_over};

@@ -8,32 +8,32 @@ ghost use Rattle.replica_replay.specs.Held.{IsHeld, none_held};
 ghost use Rattle.replica_replay.specs.Steps.{state_of, replica_in, called, took, outcome};
 ghost use Rattle.replica_replay.specs.Steps.{held_after, answer};
 
-use crate::asking::{asked, operation_named, state_after_call, taking_asked};
+use crate::asking::{ask, operation_named, state_after_call, taking_asked};
 use crate::keeping::{
     Happened, Replica, count, first_replicas, keep_call, keep_taking, no_spares, seen_by_event,
     take_spare,
 };
+use crate::runner::Runner;
 use crate::step::{Step, StepRefused, Taken};
 use items::Items;
-use spec_core::{Call, Spec, World};
+use spec_core::{Call, World};
 use spec_states::State;
 use std::alloc::{AllocError, Global};
 use std::marker::Model;
 use token_rules::rivals_of;
 
-/// A replay of a specification in a world. Its events form an execution, and what each replica has taken is a delivery order
-/// of it. The steps so far take memory for each event and for each taking, and none for what an event has seen.
+/// A replay of a specification in a world, by a runner. Its events form an execution, and what each replica has taken is a delivery
+/// order of it. The steps so far take memory for each event and for each taking, and none for what an event has seen.
 #[derive(Drop)]
-pub struct Replay<'a> {
+pub struct Replay<R: Runner + Drop> {
     alloc: Global,
-    spec: &'a Spec,
-    world: World,
+    runner: R,
     happened: Vec<Happened>,
     replicas: Vec<Replica>,
     spares: Vec<Option<State>>,
 }
 
-impl<'a> Model for Replay<'a> {
+impl<R: Runner + Drop> Model for Replay<R> {
     ghost use Rattle.std.specs.Coded.{codes};
     ghost use Rattle.spec_core.specs.Code.{coded_form};
     ghost use Rattle.replica_replay.specs.Replayed.{Replayed};
@@ -45,35 +45,28 @@ impl<'a> Model for Replay<'a> {
     ghost use Rattle.replica_replay.specs.Holding.{held_by, IsReplay};
 
     ghost view = { λ a. record {
-      spec = a.spec.now;
-      world = a.world;
+      spec = R.specification a.runner;
+      world = R.setting a.runner;
       held = held_by a.happened.items a.replicas.items;
     } };
 
-    ghost invariant = { λ a. IsReplay a.spec.now a.world a.happened.items a.replicas.items
-        a.spares.items };
+    ghost invariant = { λ a. IsReplay (R.specification a.runner) (R.setting a.runner)
+        a.happened.items a.replicas.items a.spares.items };
 }
 
-impl<'a> Replay<'a> {
+impl<R: Runner + Drop> Replay<R> {
     /// The replay before the first step: each replica is in the initial state, and has taken nothing.
-    pub fn new(
-        alloc: Global,
-        spec: &'a Spec,
-        world: World,
-        replicas: u32,
-    ) -> Result<Replay<'a>, AllocError>
-        requires { world_fits spec.now world ≡ true }
-        ensures spec { IfOk result (λ replay. replay.spec ≡ spec.now) }
-        ensures world { IfOk result (λ replay. replay.world ≡ world) }
+    pub fn new(alloc: Global, runner: R, replicas: u32) -> Result<Replay<R>, AllocError>
+        ensures spec { IfOk result (λ replay. replay.spec ≡ R.specification runner) }
+        ensures world { IfOk result (λ replay. replay.world ≡ R.setting runner) }
         ensures held { IfOk result (λ replay. replay.held ≡ none_held replicas) }
     {
         let happened = Vec::new(alloc);
         let spares = no_spares(alloc, replicas)?;
-        let replicas = first_replicas(alloc, spec, &world, replicas)?;
+        let replicas = first_replicas(alloc, &runner, replicas)?;
         Ok(Replay {
             alloc,
-            spec,
-            world,
+            runner,
             happened,
             replicas,
             spares,
@@ -86,7 +79,7 @@ impl<'a> Replay<'a> {
         ensures fits { world_fits self.now.spec self.now.world ≡ true }
     {
         let _happened = &self.happened;
-        &self.world
+        self.runner.world()
     }
 
     /// How many replicas there are.
@@ -146,21 +139,19 @@ impl<'a> Replay<'a> {
         let Some(at) = self.replicas.get(replica as usize) else {
             return Err(StepRefused::Replica);
         };
-        let Some(op) = operation_named(self.spec, name) else {
+        let Some(op) = operation_named(self.runner.spec(), name) else {
             return Err(StepRefused::Operation);
         };
-        let rivals = rivals_of(self.alloc, self.spec, op)?;
+        let rivals = rivals_of(self.alloc, self.runner.spec(), op)?;
         let args = Items::from_slice(self.alloc, args)?;
         let call = Call { op, args };
-        match asked(self.spec, &self.world, &self.happened, at, &call, &rivals) {
-            Some(why) => Err(why),
-            None => {
+        match ask(&self.runner, &self.happened, at, &call, &rivals) {
+            Err(why) => Err(why),
+            Ok(()) => {
                 let spare = take_spare(&mut self.spares, replica as usize);
-                match state_after_call(self.alloc, self.spec, &self.world, at, spare, &call) {
+                match state_after_call(&self.runner, at, spare, &call) {
                     Ok(state) => keep_call(
-                        self.alloc,
-                        self.spec,
-                        &self.world,
+                        &self.runner,
                         &mut self.happened,
                         &mut self.replicas,
                         &mut self.spares,
@@ -198,11 +189,9 @@ impl<'a> Replay<'a> {
             Some(why) => Err(why),
             None => {
                 let spare = take_spare(&mut self.spares, replica as usize);
-                match state_after_call(self.alloc, self.spec, &self.world, at, spare, &found.call) {
+                match state_after_call(&self.runner, at, spare, &found.call) {
                     Ok(state) => keep_taking(
-                        self.alloc,
-                        self.spec,
-                        &self.world,
+                        &self.runner,
                         &found.call,
                         &mut self.replicas,
                         &mut self.spares,
@@ -216,10 +205,11 @@ impl<'a> Replay<'a> {
         }
     }
 
-    /// Carries a step out, or says why not. A call makes the next event, which has seen what its replica had taken, and the
-    /// replica takes it; a taking puts the event behind what the replica has taken. The first cause in the order of the tests is
-    /// answered: of a call replica, operation, arguments, conflict, precondition, observation, range; of a taking replica, no
-    /// event, seen, missing, range. A refusal changes nothing.
+    /// Carries a step out, or says why not. The runner is asked for the requires lines, and the state after an event is what it gave; of
+    /// this no clause speaks, since every runner answers as the specification does. A call makes the next event, which has seen what its
+    /// replica had taken, and the replica takes it; a taking puts the event behind what the replica has taken. The first cause in the order
+    /// of the tests is answered: of a call replica, operation, arguments, conflict, precondition, observation, range; of a taking replica,
+    /// no event, seen, missing, range. A refusal changes nothing.
     pub fn step(&mut self, step: &Step) -> Result<Taken, StepRefused>
         ensures answer { (result ≡ Err StepRefused.Memory)
             ⊎ (result ≡ answer (outcome self.old.spec self.old.world self.old.held step.now)) }

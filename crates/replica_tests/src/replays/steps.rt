@@ -2,7 +2,7 @@
 
 use crate::replays::building::{goods, name};
 use items::Items;
-use replica_replay::{Replay, Step, StepRefused, Taken};
+use replica_replay::{Plain, Replay, Step, StepRefused, Taken};
 use spec_core::World;
 use std::alloc::Global;
 use std::process::Abort;
@@ -61,7 +61,12 @@ fn step_of(rt: &impl Abort, alloc: Global, outline: &StepOutline) -> Step {
     }
 }
 
-fn tell(rt: &impl Abort, alloc: Global, replay: &mut Replay, outline: &StepOutline) -> Answer {
+fn tell(
+    rt: &impl Abort,
+    alloc: Global,
+    replay: &mut Replay<Plain>,
+    outline: &StepOutline,
+) -> Answer {
     let step = step_of(rt, alloc, outline);
     let answer = replay.step(&step);
     drop(step);
@@ -99,7 +104,7 @@ static STEPS: [(StepOutline, Answer); 20] = [
     (StepOutline::Take(0, 5), Answer::Event(5)),
 ];
 
-fn check_steps(rt: &impl Abort, alloc: Global, replay: &mut Replay) {
+fn check_steps(rt: &impl Abort, alloc: Global, replay: &mut Replay<Plain>) {
     for (place, (outline, want)) in STEPS.iter().enumerate() {
         let found = tell(rt, alloc, replay, outline);
         assert!(rt; found == *want, "at step {place}");
@@ -107,7 +112,7 @@ fn check_steps(rt: &impl Abort, alloc: Global, replay: &mut Replay) {
 }
 
 /// What is in stock at both replicas after the steps, and what the second has seen.
-fn check_end(rt: &impl Abort, replay: &Replay) {
+fn check_end(rt: &impl Abort, replay: &Replay<Plain>) {
     assert!(rt; replay.replica_count() == 2);
     let stocks = (
         replay.state_of(0).count(0, &[]),
@@ -126,9 +131,11 @@ fn each_step_is_accepted_or_refused_for_its_first_cause(rt: HostRuntime) {
         consts: Items::new(alloc),
     };
     assert!(rt; world.fits(&spec));
-    let mut replay = Replay::new(alloc, &spec, world, 2).expect(&rt, "memory");
+    let runner = Plain::new(alloc, &spec, &world);
+    let mut replay = Replay::new(alloc, runner, 2).expect(&rt, "memory");
     check_steps(&rt, alloc, &mut replay);
     check_end(&rt, &replay);
     drop(replay);
+    drop(world);
     drop(spec);
 }

@@ -14,7 +14,7 @@ one_call a b h = cc h
 
 pub returns : goal.returns
 returns g c =
-    let d = c.args.spec.now in let p = g.R.Steps.replayed c.args.replay.now in let l = c.requires.led in
+    let d = c.args.spec.now in let p = c.args.replay.now in let l = c.requires.led in
     let state : reads c.state_of.result.now ≡ state_at d p.world p.held c.args.replica
     = c.state_of.ensures.reads ∙ ap (λ (x : Specification). state_of x p.world p.held (get_or p.held.taken c.args.replica [])) c.requires.spec in
     let call : l.call ≡ c.call_of.result.now = one_call l.call c.call_of.result.now (sym l.is_call ∙ c.call_of.ensures) in

@@ -8,7 +8,7 @@ use Rattle.replay_text.proofs.writing.broken_invariant.Goals as goal
 
 pub returns : goal.returns
 returns g c =
-    let d = c.args.spec.now in let p = g.R.Steps.replayed c.args.replay.now in
+    let d = c.args.spec.now in let p = c.args.replay.now in
     c.invariant_broken_at.ensures
     ∙ ap (λ (w : World). broken_at d w (reads c.state_of.result.now)) c.world.ensures.value
     ∙ ap (broken_at d p.world) (c.state_of.ensures.reads ∙ ap (λ (x : Specification). state_of x p.world p.held (get_or p.held.taken c.args.replica [])) c.requires.spec)

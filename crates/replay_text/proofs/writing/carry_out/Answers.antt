@@ -12,7 +12,7 @@ use Rattle.replay_text.proofs.writing.carry_out.Goals as goal
 
 pub returns-in-Ok-clause-stepped : goal.returns-in-Ok-clause-stepped
 returns-in-Ok-clause-stepped g c =
-    let old = g.R.Steps.replayed c.args.replay.now in let s = c.args.step.now in let e = c.in-Ok.taken.event in let new = g.R.Steps.replayed c.step.new.self in
+    let old = c.args.replay.now in let s = c.args.step.now in let e = c.in-Ok.taken.event in let new = c.step.new.self in
     let went = accepted_step (outcome old.spec old.world old.held s) old.held c.in-Ok.taken c.in-Ok.ensures.answer in
     let held_is = ap (λ (p : Replayed). p.held) c.in-Ok.ensures.ok in
     let world_is = ap (λ (p : Replayed). p.world) c.in-Ok.ensures.ok in
@@ -23,7 +23,7 @@ returns-in-Ok-clause-stepped g c =
 
 pub broken_after-requires-clause-others : goal.broken_after-requires-clause-others
 broken_after-requires-clause-others g c =
-    let old = g.R.Steps.replayed c.args.replay.now in let d = c.args.spec.now in let s = c.args.step.now in let e = c.in-Ok.taken.event in let new = g.R.Steps.replayed c.step.new.self in
+    let old = c.args.replay.now in let d = c.args.spec.now in let s = c.args.step.now in let e = c.in-Ok.taken.event in let new = c.step.new.self in
     let went = accepted_step (outcome old.spec old.world old.held s) old.held c.in-Ok.taken c.in-Ok.ensures.answer in
     let held_is = ap (λ (p : Replayed). p.held) c.in-Ok.ensures.ok in
     let world_is = ap (λ (p : Replayed). p.world) c.in-Ok.ensures.ok in
@@ -35,7 +35,7 @@ broken_after-requires-clause-others g c =
 
 pub broken_after-requires-clause-event : goal.broken_after-requires-clause-event
 broken_after-requires-clause-event g c =
-    let old = g.R.Steps.replayed c.args.replay.now in let d = c.args.spec.now in let s = c.args.step.now in let e = c.in-Ok.taken.event in let new = g.R.Steps.replayed c.step.new.self in
+    let old = c.args.replay.now in let d = c.args.spec.now in let s = c.args.step.now in let e = c.in-Ok.taken.event in let new = c.step.new.self in
     let went = accepted_step (outcome old.spec old.world old.held s) old.held c.in-Ok.taken c.in-Ok.ensures.answer in
     let held_is = ap (λ (p : Replayed). p.held) c.in-Ok.ensures.ok in
     let world_is = ap (λ (p : Replayed). p.world) c.in-Ok.ensures.ok in
@@ -45,7 +45,7 @@ broken_after-requires-clause-event g c =
 
 pub broken_after-requires-clause-led : goal.broken_after-requires-clause-led
 broken_after-requires-clause-led g c =
-    let old = g.R.Steps.replayed c.args.replay.now in let d = c.args.spec.now in let s = c.args.step.now in let e = c.in-Ok.taken.event in let new = g.R.Steps.replayed c.step.new.self in
+    let old = c.args.replay.now in let d = c.args.spec.now in let s = c.args.step.now in let e = c.in-Ok.taken.event in let new = c.step.new.self in
     let went = accepted_step (outcome old.spec old.world old.held s) old.held c.in-Ok.taken c.in-Ok.ensures.answer in
     let held_is = ap (λ (p : Replayed). p.held) c.in-Ok.ensures.ok in
     let world_is = ap (λ (p : Replayed). p.world) c.in-Ok.ensures.ok in

@@ -4,6 +4,6 @@ use Rattle.replay_text.proofs.writing.push_replicas.Given as goal
 
 abbrev pub invariant-loop-replica : goal.invariant-loop-replica
 invariant-loop-replica g l =
-    let p = g.R.Steps.replayed l.replay in
+    let p = l.replay in
     l.fn.text.items ++ replica_texts l.spec p.world p.held 0 p.held.taken
     ≡ l.text.items ++ replica_texts l.spec p.world p.held l.replica (drop l.replica p.held.taken)

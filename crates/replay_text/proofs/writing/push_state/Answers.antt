@@ -8,7 +8,7 @@ use Rattle.replay_text.proofs.writing.push_state.Goals as goal
 
 pub returns : goal.returns
 returns g c =
-    let p = g.R.Steps.replayed c.args.replay.now in let d = c.args.spec.now in let s = c.state_of.result.now in
+    let p = c.args.replay.now in let d = c.args.spec.now in let s = c.state_of.result.now in
     state_written c.write_state.result d p.world s _ c.args.text.now.items c.write_state.new.out.items c.write_state.ensures.text
     (subst (λ (e : Specification). is_state e p.world s ≡ true) c.requires.spec c.state_of.ensures.fits)
     (subst (λ (e : Specification). reads s ≡ state_of e p.world p.held (get_or p.held.taken c.args.replica [])) c.requires.spec c.state_of.ensures.reads)

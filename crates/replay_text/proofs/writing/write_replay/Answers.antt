@@ -9,11 +9,11 @@ use Rattle.replay_text.proofs.writing.write_replay.Goals as goal
 pub push_replicas-requires-clause-count : goal.push_replicas-requires-clause-count
 push_replicas-requires-clause-count g c =
     ap (λ (h : Held). length h.taken) (sym c.in_ok-stopped.ensures.reached.held_is)
-    ∙ replica_count c.args.spec.now (g.R.Steps.replayed c.args.replay.now).world c.args.replicas c.args.steps.now
+    ∙ replica_count c.args.spec.now c.args.replay.now.world c.args.replicas c.args.steps.now
 
 pub returns-clause-text : goal.returns-clause-text
 returns-clause-text g c =
-    let d = c.args.spec.now in let w = (g.R.Steps.replayed c.args.replay.now).world in let ss = c.args.steps.now in let after = g.R.Steps.replayed c.write_course.new.replay in
+    let d = c.args.spec.now in let w = c.args.replay.now.world in let ss = c.args.steps.now in let after = c.write_course.new.replay in
     whole_text d w ss (course d w c.args.replicas ss) c.args.text.now.items c.push.new.text.items c.write_course.new.text.items c.push_stop.new.text.items c.push_replicas.new.text.items
     c.in_ok-stopped.stopped.accepted c.in_ok-stopped.stopped.stop after.held c.in_ok-push.ensures c.in_ok-stopped.ensures.reached c.in_ok-push_stop.ensures
     (subst (λ (v : World). c.push_replicas.new.text.items ≡ c.push_stop.new.text.items ++ replica_texts d v after.held 0 after.held.taken) c.in_ok-stopped.ensures.world c.in_ok-push_replicas.ensures)

@@ -8,31 +8,31 @@ use Rattle.replay_text.proofs.writing.write_steps.Goals as goal
 
 pub returns-in-Some-clause-reached : goal.returns-in-Some-clause-reached
 returns-in-Some-clause-reached g c =
-    let step = subst (λ (s : Stepped). IsStepped c.args.spec.now (g.R.Steps.replayed c.loop-number.replay).world (g.R.Steps.replayed c.loop-number.replay).held c.index-steps-number.result s (g.R.Steps.replayed c.carry_out.new.replay).held) c.in-Accepted.is c.in_ok-event.ensures.stepped in
-    ends_broken c.args.spec.now (g.R.Steps.replayed c.args.replay.now).world (g.R.Steps.replayed c.args.replay.now).held c.args.steps.now c.args.text.now.items c.loop-number.text.items c.loop-number.number
-    (g.R.Steps.replayed c.loop-number.replay) c.loop-number.invariant c.index-steps-number.result c.loop-number-test.true c.index-steps-number.is
-    c.in-Accepted.event c.in-Accepted.broken (g.R.Steps.replayed c.carry_out.new.replay) step c.push_step.new.text.items c.in_ok-push_step-in-Accepted.ensures c.in-Some.place c.in-Some.is
+    let step = subst (λ (s : Stepped). IsStepped c.args.spec.now c.loop-number.replay.world c.loop-number.replay.held c.index-steps-number.result s c.carry_out.new.replay.held) c.in-Accepted.is c.in_ok-event.ensures.stepped in
+    ends_broken c.args.spec.now c.args.replay.now.world c.args.replay.now.held c.args.steps.now c.args.text.now.items c.loop-number.text.items c.loop-number.number
+    c.loop-number.replay c.loop-number.invariant c.index-steps-number.result c.loop-number-test.true c.index-steps-number.is
+    c.in-Accepted.event c.in-Accepted.broken c.carry_out.new.replay step c.push_step.new.text.items c.in_ok-push_step-in-Accepted.ensures c.in-Some.place c.in-Some.is
 
 pub loop-number-preserved : goal.loop-number-preserved
 loop-number-preserved g c =
-    let step = subst (λ (s : Stepped). IsStepped c.args.spec.now (g.R.Steps.replayed c.loop-number.replay).world (g.R.Steps.replayed c.loop-number.replay).held c.index-steps-number.result s (g.R.Steps.replayed c.carry_out.new.replay).held) c.in-Accepted.is c.in_ok-event.ensures.stepped in
-    leads_on c.args.spec.now (g.R.Steps.replayed c.args.replay.now).world (g.R.Steps.replayed c.args.replay.now).held c.args.steps.now c.args.text.now.items c.loop-number.text.items c.loop-number.number
-    (g.R.Steps.replayed c.loop-number.replay) c.loop-number.invariant c.index-steps-number.result c.loop-number-test.true c.index-steps-number.is
-    c.in-Accepted.event c.in-Accepted.broken (g.R.Steps.replayed c.carry_out.new.replay) step c.push_step.new.text.items c.in_ok-push_step-in-Accepted.ensures c.in-None.is
+    let step = subst (λ (s : Stepped). IsStepped c.args.spec.now c.loop-number.replay.world c.loop-number.replay.held c.index-steps-number.result s c.carry_out.new.replay.held) c.in-Accepted.is c.in_ok-event.ensures.stepped in
+    leads_on c.args.spec.now c.args.replay.now.world c.args.replay.now.held c.args.steps.now c.args.text.now.items c.loop-number.text.items c.loop-number.number
+    c.loop-number.replay c.loop-number.invariant c.index-steps-number.result c.loop-number-test.true c.index-steps-number.is
+    c.in-Accepted.event c.in-Accepted.broken c.carry_out.new.replay step c.push_step.new.text.items c.in_ok-push_step-in-Accepted.ensures c.in-None.is
     c.in_ok-event.ensures.world c.in_ok-event.ensures.spec c.is_held.ensures
 
 pub carry_out-requires-clause-holds : goal.carry_out-requires-clause-holds
 carry_out-requires-clause-holds g c =
-    subst (λ (w : World). AllHeld c.args.spec.now w (g.R.Steps.replayed c.loop-number.replay).held) (sym c.loop-number.invariant.world_is) c.loop-number.invariant.holds
+    subst (λ (w : World). AllHeld c.args.spec.now w c.loop-number.replay.held) (sym c.loop-number.invariant.world_is) c.loop-number.invariant.holds
 
 pub returns-in-Refused-clause-reached : goal.returns-in-Refused-clause-reached
 returns-in-Refused-clause-reached g c =
-    let step = subst (λ (s : Stepped). IsStepped c.args.spec.now (g.R.Steps.replayed c.loop-number.replay).world (g.R.Steps.replayed c.loop-number.replay).held c.index-steps-number.result s (g.R.Steps.replayed c.carry_out.new.replay).held) c.in-Refused.is c.in_ok-event.ensures.stepped in
-    ends_refused c.args.spec.now (g.R.Steps.replayed c.args.replay.now).world (g.R.Steps.replayed c.args.replay.now).held c.args.steps.now c.args.text.now.items c.loop-number.text.items c.loop-number.number
-    (g.R.Steps.replayed c.loop-number.replay) c.loop-number.invariant c.index-steps-number.result c.loop-number-test.true c.index-steps-number.is
-    c.in-Refused.why (g.R.Steps.replayed c.carry_out.new.replay).held step
+    let step = subst (λ (s : Stepped). IsStepped c.args.spec.now c.loop-number.replay.world c.loop-number.replay.held c.index-steps-number.result s c.carry_out.new.replay.held) c.in-Refused.is c.in_ok-event.ensures.stepped in
+    ends_refused c.args.spec.now c.args.replay.now.world c.args.replay.now.held c.args.steps.now c.args.text.now.items c.loop-number.text.items c.loop-number.number
+    c.loop-number.replay c.loop-number.invariant c.index-steps-number.result c.loop-number-test.true c.index-steps-number.is
+    c.in-Refused.why c.carry_out.new.replay.held step
 
 pub returns-clause-reached : goal.returns-clause-reached
 returns-clause-reached g c =
-    ends_done c.args.spec.now (g.R.Steps.replayed c.args.replay.now).world (g.R.Steps.replayed c.args.replay.now).held c.args.steps.now c.args.text.now.items c.loop-number.text.items c.loop-number.number
-    (g.R.Steps.replayed c.loop-number.replay) c.loop-number.invariant c.loop-number-test.false c.loop-number.auto.number-end
+    ends_done c.args.spec.now c.args.replay.now.world c.args.replay.now.held c.args.steps.now c.args.text.now.items c.loop-number.text.items c.loop-number.number
+    c.loop-number.replay c.loop-number.invariant c.loop-number-test.false c.loop-number.auto.number-end

@@ -12,13 +12,13 @@ use Rattle.replica_replay.specs.Refusals.{unless, beyond_range}
 use Rattle.replica_replay.proofs.asking.state_after_call.Goals as goal
 
 pub returns-in-Ok-clause-ok : goal.returns-in-Ok-clause-ok
-returns-in-Ok-clause-ok c =
-    let s = after_call c.args.spec.now c.args.world.now c.args.call.now (reads c.args.at.now.state) in
+returns-in-Ok-clause-ok g c =
+    let s = after_call (g.R.Runner.specification c.args.runner.now) (g.R.Runner.setting c.args.runner.now) c.args.call.now (reads c.args.at.now.state) in
     ap (λ (o : Option Beyond). unless o beyond_range None) (is_none s c.in-Ok.ensures.in_range)
 
 pub returns-in-Err-Range-clause-err : goal.returns-in-Err-Range-clause-err
-returns-in-Err-Range-clause-err c =
-    let s = after_call c.args.spec.now c.args.world.now c.args.call.now (reads c.args.at.now.state) in
+returns-in-Err-Range-clause-err g c =
+    let s = after_call (g.R.Runner.specification c.args.runner.now) (g.R.Runner.setting c.args.runner.now) c.args.call.now (reads c.args.at.now.state) in
     let b : Beyond = record { counter = c.in-Err-Range.counter; key = c.in-Err-Range.key; value = c.in-Err-Range.value } in
     let f : FitsSigned w128 c.in-Err-Range.value = search rules in
     inr (ap (λ (o : Option Beyond). unless o beyond_range None) (first_is s b (c.in-Err-Range.ensures.range b (ap Err c.in-Err-Range.field-0-is)))

@@ -1,6 +1,6 @@
 use Rattle.std.proofs.Common.{sym, ◌∙◌, arith}
 use Rattle.spec_core.specs.State.{reads}
-use Rattle.replica_replay.proofs.Places.{requires_place}
+use Rattle.replica_replay.proofs.Lines.{requires_place}
 use Rattle.replica_replay.proofs.conditions.requires_line.Goals as goal
 
 pub overflow_cast-result : goal.overflow_cast-result

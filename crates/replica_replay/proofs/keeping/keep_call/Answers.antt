@@ -7,8 +7,8 @@ use Rattle.replica_replay.proofs.Spares.{last_is, leads_still}
 use Rattle.replica_replay.proofs.keeping.keep_call.Goals as goal
 
 pub keep_spare-requires-clause-leads : goal.keep_spare-requires-clause-leads
-keep_spare-requires-clause-leads c = λ r here.
-    let d = c.args.spec.now in let w = c.args.world.now in let rs = c.args.replicas.now.items in let hs = c.args.happened.now.items in
+keep_spare-requires-clause-leads g c = λ r here.
+    let d = g.R.Runner.specification c.args.runner.now in let w = g.R.Runner.setting c.args.runner.now in let rs = c.args.replicas.now.items in let hs = c.args.happened.now.items in
     let new : Replica = record { order = get_or (orders_of rs) c.args.replica [] ++ length hs ∷ []; state = c.args.state } in
     let len : c.len-event.result ≡ length hs = search rules in
     let last = last_is hs c.note_call.new.happened.items c.len-event.result c.index.result.now c.in-Ok.ensures.happened len c.index.ensures in

@@ -8,7 +8,7 @@ use Rattle.replica_replay.proofs.Answering.{read_at, is_event, call_at}
 use Rattle.replica_replay.proofs.replay.Replay.call_of.Goals as goal
 
 pub returns : goal.returns
-returns c =
+returns g c =
     let hs = c.self.inside.happened.items in let rs = c.self.inside.replicas.items in let at = c.index.result.now in let e = c.args.event in
     let lt = is_event (orders_of rs) hs e (subst (λ (p : Replayed). e < length p.held.events) (sym c.self.view_is) c.requires) in
     let here = read_at hs hs e at refl lt c.index.ensures in

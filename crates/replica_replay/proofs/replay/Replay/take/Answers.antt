@@ -10,8 +10,8 @@ use Rattle.replica_replay.proofs.Spares.{spare_taken, leads_from}
 use Rattle.replica_replay.proofs.replay.Replay.take.Goals as goal
 
 pub returns-in-Some-taking_asked-clause-answer : goal.returns-in-Some-taking_asked-clause-answer
-returns-in-Some-taking_asked-clause-answer c =
-    let d = c.self.inside.spec.now in let w = c.self.inside.world in let hs = c.self.inside.happened.items in let rs = c.self.inside.replicas.items in
+returns-in-Some-taking_asked-clause-answer g c =
+    let d = g.R.Runner.specification c.self.inside.runner in let w = g.R.Runner.setting c.self.inside.runner in let hs = c.self.inside.happened.items in let rs = c.self.inside.replicas.items in
     let r = c.args.replica in let at = c.in-Some.at.now in let look = c.in-Some.ensures.lookup in
     let here = found_at c.deref.result.now rs r at c.deref.ensures.value look.0 look.1 in
     let e = c.args.event in let found = c.in-Some-get.found.now in let look_event = c.in-Some-get.ensures.lookup in
@@ -21,21 +21,21 @@ returns-in-Some-taking_asked-clause-answer c =
     (take_asked_refuses d w hs rs c.self.invariant.kept r at here e found there seen saw c.in-Some-taking_asked.why c.in-Some-taking_asked.ensures))
 
 pub state_after_call-requires-clause-state : goal.state_after_call-requires-clause-state
-state_after_call-requires-clause-state c =
+state_after_call-requires-clause-state g c =
     let rs = c.self.inside.replicas.items in
     let r = c.args.replica in let at = c.in-Some.at.now in let look = c.in-Some.ensures.lookup in
     c.self.invariant.kept.fit r at (found_at c.deref.result.now rs r at c.deref.ensures.value look.0 look.1)
 
 pub state_after_call-requires-clause-call : goal.state_after_call-requires-clause-call
-state_after_call-requires-clause-call c =
-    let d = c.self.inside.spec.now in let w = c.self.inside.world in let hs = c.self.inside.happened.items in let rs = c.self.inside.replicas.items in
+state_after_call-requires-clause-call g c =
+    let d = g.R.Runner.specification c.self.inside.runner in let w = g.R.Runner.setting c.self.inside.runner in let hs = c.self.inside.happened.items in let rs = c.self.inside.replicas.items in
     let e = c.args.event in let found = c.in-Some-get.found.now in let look_event = c.in-Some-get.ensures.lookup in
     let there = found_at c.deref-2.result.now hs e found c.deref-2.ensures.value look_event.0 look_event.1 in
     event_fits d w hs rs c.self.invariant.kept e found there
 
 pub returns-in-Err-clause-answer : goal.returns-in-Err-clause-answer
-returns-in-Err-clause-answer c =
-    let d = c.self.inside.spec.now in let w = c.self.inside.world in let hs = c.self.inside.happened.items in let rs = c.self.inside.replicas.items in
+returns-in-Err-clause-answer g c =
+    let d = g.R.Runner.specification c.self.inside.runner in let w = g.R.Runner.setting c.self.inside.runner in let hs = c.self.inside.happened.items in let rs = c.self.inside.replicas.items in
     let r = c.args.replica in let at = c.in-Some.at.now in let look = c.in-Some.ensures.lookup in
     let here = found_at c.deref.result.now rs r at c.deref.ensures.value look.0 look.1 in
     let e = c.args.event in let found = c.in-Some-get.found.now in let look_event = c.in-Some-get.ensures.lookup in
@@ -45,8 +45,8 @@ returns-in-Err-clause-answer c =
     (take_effect_refuses d w hs rs c.self.invariant.kept r at here e found there seen saw c.in-Err.why c.in-None.ensures c.in-Err.ensures.err)
 
 pub invariant_of-self : goal.invariant_of-self
-invariant_of-self c =
-    let d = c.self.inside.spec.now in let w = c.self.inside.world in let hs = c.self.inside.happened.items in let rs = c.self.inside.replicas.items in
+invariant_of-self g c =
+    let d = g.R.Runner.specification c.self.inside.runner in let w = g.R.Runner.setting c.self.inside.runner in let hs = c.self.inside.happened.items in let rs = c.self.inside.replicas.items in
     let r = c.args.replica in let at = c.in-Some.at.now in let look = c.in-Some.ensures.lookup in
     let here = found_at c.deref.result.now rs r at c.deref.ensures.value look.0 look.1 in
     let e = c.args.event in let found = c.in-Some-get.found.now in let look_event = c.in-Some-get.ensures.lookup in
@@ -60,21 +60,21 @@ invariant_of-self c =
     }
 
 pub keep_taking-requires-clause-call : goal.keep_taking-requires-clause-call
-keep_taking-requires-clause-call c =
-    let d = c.self.inside.spec.now in let w = c.self.inside.world in let hs = c.self.inside.happened.items in let rs = c.self.inside.replicas.items in
+keep_taking-requires-clause-call g c =
+    let d = g.R.Runner.specification c.self.inside.runner in let w = g.R.Runner.setting c.self.inside.runner in let hs = c.self.inside.happened.items in let rs = c.self.inside.replicas.items in
     let e = c.args.event in let found = c.in-Some-get.found.now in let look_event = c.in-Some-get.ensures.lookup in
     event_fits d w hs rs c.self.invariant.kept e found (found_at c.deref-2.result.now hs e found c.deref-2.ensures.value look_event.0 look_event.1)
 
 pub keep_taking-requires-clause-leads : goal.keep_taking-requires-clause-leads
-keep_taking-requires-clause-leads c =
-    let d = c.self.inside.spec.now in let w = c.self.inside.world in let rs = c.self.inside.replicas.items in
+keep_taking-requires-clause-leads g c =
+    let d = g.R.Runner.specification c.self.inside.runner in let w = g.R.Runner.setting c.self.inside.runner in let rs = c.self.inside.replicas.items in
     let r = c.args.replica in let at = c.in-Some.at.now in let look = c.in-Some.ensures.lookup in
     let here = found_at c.deref.result.now rs r at c.deref.ensures.value look.0 look.1 in
     leads_from d w rs r at c.in-Some-get.found.now.call c.in-Ok.state here (c.self.invariant.kept.fit r at here) c.in-Ok.ensures.reads
 
 pub returns-in-Ok-clause-answer : goal.returns-in-Ok-clause-answer
-returns-in-Ok-clause-answer c =
-    let d = c.self.inside.spec.now in let w = c.self.inside.world in let hs = c.self.inside.happened.items in let rs = c.self.inside.replicas.items in
+returns-in-Ok-clause-answer g c =
+    let d = g.R.Runner.specification c.self.inside.runner in let w = g.R.Runner.setting c.self.inside.runner in let hs = c.self.inside.happened.items in let rs = c.self.inside.replicas.items in
     let r = c.args.replica in let at = c.in-Some.at.now in let look = c.in-Some.ensures.lookup in
     let here = found_at c.deref.result.now rs r at c.deref.ensures.value look.0 look.1 in
     let e = c.args.event in let found = c.in-Some-get.found.now in let look_event = c.in-Some-get.ensures.lookup in
@@ -85,8 +85,8 @@ returns-in-Ok-clause-answer c =
     (take_answers d w hs rs c.self.invariant.kept r at here e found there c.keep_taking.result may c.keep_taking.ensures.taken c.keep_taking.ensures.memory)
 
 pub returns-in-Ok-clause-ok : goal.returns-in-Ok-clause-ok
-returns-in-Ok-clause-ok c =
-    let d = c.self.inside.spec.now in let w = c.self.inside.world in let hs = c.self.inside.happened.items in let rs = c.self.inside.replicas.items in
+returns-in-Ok-clause-ok g c =
+    let d = g.R.Runner.specification c.self.inside.runner in let w = g.R.Runner.setting c.self.inside.runner in let hs = c.self.inside.happened.items in let rs = c.self.inside.replicas.items in
     let r = c.args.replica in let at = c.in-Some.at.now in let look = c.in-Some.ensures.lookup in
     let here = found_at c.deref.result.now rs r at c.deref.ensures.value look.0 look.1 in
     let e = c.args.event in let found = c.in-Some-get.found.now in let look_event = c.in-Some-get.ensures.lookup in
