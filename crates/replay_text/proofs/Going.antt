@@ -21,7 +21,7 @@ use Rattle.replay_text.specs.declared.stop.Stop.TheVariants as stop
 use Rattle.replay_text.specs.Course.{Course, stopped, with_event, unless_broken, replica_of, state_at, after_outcome, course_from, course}
 use Rattle.replay_text.specs.Text.{step_line, step_lines, stop_line, replica_texts, course_text}
 use Rattle.replay_text.specs.declared.writing.Stepped.TheVariants as stepped
-use Rattle.replay_text.specs.Reached.{IsStepped, CourseDone, IsReached}
+use Rattle.replay_text.specs.Reached.{IsTaken, IsStepped, CourseDone, IsReached}
 use Rattle.replay_text.specs.Asked.{AllHeld}
 use Rattle.replay_text.proofs.Asked.{all_hold}
 
@@ -157,15 +157,15 @@ pub record Between (d : Specification) (w : World) (first : Held) (all : List St
 
 module _ (d : Specification) (w : World) (first : Held) (all : List Step) (before text : List ℕ) (k : ℕ) (now : Replayed) (is : Between d w first all before text k now)
     (s : Step) (below : k < length all) (here : s ≡ get_or all k s)
-    (e : ℕ) (o : Option ℕ) (after : Replayed) (went : IsStepped d now.world now.held s (stepped.Accepted e o) after.held)
+    (e : ℕ) (o : Option ℕ) (after : Replayed) (went : IsTaken d now.world now.held s e o after.held)
     (longer : List ℕ) (line : longer ≡ text ++ step_line k s e) where
   remaining_here : Remaining d w first all before text k now.held (s ∷ drop (k + 1) all)
   remaining_here =
       let split : drop k all ≡ s ∷ drop (k + 1) all = drop_more all k s below ∙ ap (λ z. z ∷ drop (k + 1) all) (sym here) in
       subst (λ z. Remaining d w first all before text k now.held z) split is.remaining
 
-  stepped_here : IsStepped d w now.held s (stepped.Accepted e o) after.held
-  stepped_here = subst (λ (v : World). IsStepped d v now.held s (stepped.Accepted e o) after.held) is.world_is went
+  stepped_here : IsTaken d w now.held s e o after.held
+  stepped_here = subst (λ (v : World). IsTaken d v now.held s e o after.held) is.world_is went
 
   -- an accepted step that breaks an invariant ends the loop
   pub ends_broken : (place : ℕ) → o ≡ Some place → IsReached (course_from d w first all) all before (end_at longer (k + 1) (stop.Broken place) after.held)

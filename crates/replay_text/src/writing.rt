@@ -125,8 +125,10 @@ fn broken_after<R: Runner + Drop>(
 /// What a step led to.
 #[derive(Drop)]
 enum Stepped {
-    /// It was accepted, with its event, and its replica's state breaks this invariant, if any.
-    Accepted(u32, Option<usize>),
+    /// It was accepted, with its event, and its replica's state breaks no invariant.
+    Accepted(u32),
+    /// It was accepted, with its event, and its replica's state breaks this invariant.
+    Broken(u32, usize),
     Refused(StepRefused),
 }
 
@@ -146,10 +148,10 @@ fn carry_out<R: Runner + Drop>(
 {
     replay.is_held();
     match replay.step(step) {
-        Ok(taken) => Ok(Stepped::Accepted(
-            taken.event,
-            broken_after(spec, replay, replica_of(step), taken.event),
-        )),
+        Ok(taken) => match broken_after(spec, replay, replica_of(step), taken.event) {
+            Some(place) => Ok(Stepped::Broken(taken.event, place)),
+            None => Ok(Stepped::Accepted(taken.event)),
+        },
         Err(StepRefused::Memory) => Err(AllocError),
         Err(why) => Ok(Stepped::Refused(why)),
     }
@@ -188,17 +190,13 @@ fn write_steps<R: Runner + Drop>(
     for (number, step) in steps.iter().enumerate() {
         replay.is_held();
         match carry_out(spec, replay, step)? {
-            Stepped::Accepted(event, broken) => {
+            Stepped::Accepted(event) => push_step(alloc, text, number, step, event)?,
+            Stepped::Broken(event, place) => {
                 push_step(alloc, text, number, step, event)?;
-                match broken {
-                    Some(place) => {
-                        return Ok(Stopped {
-                            accepted: number + 1,
-                            stop: Stop::Broken(place),
-                        });
-                    }
-                    None => {}
-                }
+                return Ok(Stopped {
+                    accepted: number + 1,
+                    stop: Stop::Broken(place),
+                });
             }
             Stepped::Refused(why) => {
                 return Ok(Stopped {
