@@ -70,33 +70,42 @@ fn grant_of(granted: &[Granted], id: EventId) -> Option<&Granted>
     None
 }
 
-// A granted call conflicts with another.
-fn do_conflict(spec: &Spec, world: &World, rivals: &[Rivalry], granted: &Call, call: &Call) -> bool
-    requires { rivals.now ≡ rivals_of spec.now call.now.op }
-    ensures { result ≡ conflicts spec.now world.now granted.now call.now }
-{
-    if !may_conflict(rivals, granted, call) {
-        return false;
+/// A call that is to be granted, with how calls of each operation can conflict with it.
+#[derive(Drop)]
+struct NewCall<'a> {
+    spec: &'a Spec,
+    world: &'a World,
+    call: &'a Call,
+    rivals: &'a [Rivalry],
+    ghost rivals_are: { rivals.now ≡ rivals_of spec.now call.now.op },
+}
+
+impl<'a> NewCall<'a> {
+    // A granted call conflicts with it.
+    fn conflicts_with(&self, granted: &Call) -> bool
+        ensures { result
+            ≡ conflicts self.now.spec.now self.now.world.now granted.now self.now.call.now }
+    {
+        if !may_conflict(self.rivals, granted, self.call) {
+            return false;
+        }
+        conflicts(self.spec, self.world, granted, self.call)
     }
-    conflicts(spec, world, granted, call)
 }
 
 // Adds the id of a granted call where it conflicts with another call.
 fn add_conflicting(
-    spec: &Spec,
-    world: &World,
-    rivals: &[Rivalry],
-    call: &Call,
+    new: &NewCall,
     ids: &mut SharedList<EventId>,
     granted: &Granted,
 ) -> Result<(), AllocError>
-    requires { rivals.now ≡ rivals_of spec.now call.now.op }
     ensures { OnOk result
         (ids.new
         ≡ ids.old
-        ++ cond (conflicts spec.now world.now granted.now.call call.now) (granted.now.id ∷ []) []) }
+        ++ cond (conflicts new.now.spec.now new.now.world.now granted.now.call new.now.call.now)
+        (granted.now.id ∷ []) []) }
 {
-    if do_conflict(spec, world, rivals, &granted.call, call) {
+    if new.conflicts_with(&granted.call) {
         ids.push(granted.id)?;
     }
     Ok(())
@@ -104,20 +113,19 @@ fn add_conflicting(
 
 // Adds the id of the granted call of this number, if there is one, where it conflicts with another call.
 fn add_numbered(
-    spec: &Spec,
-    world: &World,
-    rivals: &[Rivalry],
-    call: &Call,
+    new: &NewCall,
     ids: &mut SharedList<EventId>,
     granted: &Items<Granted>,
     number: usize,
 ) -> Result<(), AllocError>
-    requires { rivals.now ≡ rivals_of spec.now call.now.op }
     ensures { OnOk result
-        (ids.new ≡ ids.old ++ id_if spec.now world.now call.now (slice_get granted.now number)) }
+        (ids.new
+        ≡ ids.old
+        ++ id_if new.now.spec.now new.now.world.now new.now.call.now
+        (slice_get granted.now number)) }
 {
     match granted.get(number) {
-        Some(earlier) => add_conflicting(spec, world, rivals, call, ids, earlier),
+        Some(earlier) => add_conflicting(new, ids, earlier),
         None => Ok(()),
     }
 }
@@ -125,40 +133,37 @@ fn add_numbered(
 // The calls granted so far that conflict with a call, in the order granted. Those on the list of its operation have these numbers.
 fn conflicting(
     alloc: Global,
-    spec: &Spec,
-    world: &World,
-    rivals: &[Rivalry],
+    new: &NewCall,
     granted: &Items<Granted>,
     numbers: &[usize],
-    call: &Call,
 ) -> Result<SharedList<EventId>, AllocError>
-    requires rivals { rivals.now ≡ rivals_of spec.now call.now.op }
-    requires numbers { numbers.now ≡ numbers_from rivals.now 0 granted.now }
-    ensures { IfOk result (λ ids. ids ≡ conflicting spec.now world.now granted.now call.now) }
+    requires numbers { numbers.now ≡ numbers_from new.now.rivals.now 0 granted.now }
+    ensures { IfOk result
+        (λ ids. ids
+        ≡ conflicting new.now.spec.now new.now.world.now granted.now new.now.call.now) }
 {
     let mut ids = SharedList::new(alloc);
     for number in numbers {
-        add_numbered(spec, world, rivals, call, &mut ids, granted, *number)?;
+        add_numbered(new, &mut ids, granted, *number)?;
     }
     Ok(ids)
 }
 
 // Adds the ids of the granted calls, from this number on, that conflict with a call, in their order.
 fn add_from(
-    spec: &Spec,
-    world: &World,
-    rivals: &[Rivalry],
-    call: &Call,
+    new: &NewCall,
     ids: &mut SharedList<EventId>,
     granted: &[Granted],
     from: usize,
 ) -> Result<(), AllocError>
-    requires { rivals.now ≡ rivals_of spec.now call.now.op }
     ensures { OnOk result
-        (ids.new ≡ ids.old ++ conflicting spec.now world.now (drop from granted.now) call.now) }
+        (ids.new
+        ≡ ids.old
+        ++ conflicting new.now.spec.now new.now.world.now (drop from granted.now)
+        new.now.call.now) }
 {
     for number in from..granted.len() {
-        add_conflicting(spec, world, rivals, call, ids, &granted[number])?;
+        add_conflicting(new, ids, &granted[number])?;
     }
     Ok(())
 }
@@ -166,20 +171,19 @@ fn add_from(
 // The calls granted so far that conflict with a call, in the order granted, by an earlier grant of a call with its tokens: those that this
 // grant names, and those from it on.
 fn conflicting_behind(
-    spec: &Spec,
-    world: &World,
-    rivals: &[Rivalry],
+    new: &NewCall,
     granted: &[Granted],
     number: usize,
-    call: &Call,
 ) -> Result<SharedList<EventId>, AllocError>
-    requires rivals { rivals.now ≡ rivals_of spec.now call.now.op }
-    requires kept { AreGrants spec.now world.now granted.now }
-    requires alike { IsAlikeAt spec.now world.now granted.now call.now number }
-    ensures { IfOk result (λ ids. ids ≡ conflicting spec.now world.now granted.now call.now) }
+    requires kept { AreGrants new.now.spec.now new.now.world.now granted.now }
+    requires alike { IsAlikeAt new.now.spec.now new.now.world.now granted.now new.now.call.now
+        number }
+    ensures { IfOk result
+        (λ ids. ids
+        ≡ conflicting new.now.spec.now new.now.world.now granted.now new.now.call.now) }
 {
     let mut ids = granted[number].after.share()?;
-    add_from(spec, world, rivals, call, &mut ids, granted, number)?;
+    add_from(new, &mut ids, granted, number)?;
     Ok(ids)
 }
 
@@ -221,15 +225,13 @@ impl Manager {
         let granted = self.granted.as_slice();
         self.index.catch_up(self.alloc, call.op, &rivals, granted)?;
         let numbers = self.index.numbers(call.op);
-        conflicting(
-            self.alloc,
+        let new = NewCall {
             spec,
             world,
-            &rivals,
-            &self.granted,
-            numbers,
             call,
-        )
+            rivals: rivals.as_slice(),
+        };
+        conflicting(self.alloc, &new, &self.granted, numbers)
     }
 
     // The number of an earlier grant of a call that takes the tokens of a call, if one is known.
@@ -260,7 +262,13 @@ impl Manager {
         };
         let rivals = rivals_of(self.alloc, spec, call.op)?;
         let granted = self.granted.as_slice();
-        conflicting_behind(spec, world, &rivals, granted, number, call)
+        let new = NewCall {
+            spec,
+            world,
+            call,
+            rivals: rivals.as_slice(),
+        };
+        conflicting_behind(&new, granted, number)
     }
 
     // What was granted to an id, if something was.

@@ -6,9 +6,9 @@ use Rattle.token_manager.proofs.manager.add_from.Goals as goal
 
 pub loop-number-preserved : goal.loop-number-preserved
 loop-number-preserved c =
-    let d = c.args.spec.now in
-    let w = c.args.world.now in
-    let call = c.args.call.now in
+    let d = c.args.new.now.spec.now in
+    let w = c.args.new.now.world.now in
+    let call = c.args.new.now.call.now in
     let granted = c.args.granted.now in
     next_earlier d w call granted c.loop-number.number c.index-granted-number.result (c.args.ids.now ++ conflicting d w (drop c.args.from granted) call) c.loop-number.ids
     c.loop-number-test.true c.index-granted-number.is c.loop-number.invariant
@@ -16,5 +16,5 @@ loop-number-preserved c =
 
 pub returns : goal.returns
 returns c =
-    all_added c.args.spec.now c.args.world.now c.args.call.now c.args.granted.now c.loop-number.number (omega (arith, c.loop-number-test.false))
-    (c.args.ids.now ++ conflicting c.args.spec.now c.args.world.now (drop c.args.from c.args.granted.now) c.args.call.now) c.loop-number.ids c.loop-number.invariant
+    all_added c.args.new.now.spec.now c.args.new.now.world.now c.args.new.now.call.now c.args.granted.now c.loop-number.number (omega (arith, c.loop-number-test.false))
+    (c.args.ids.now ++ conflicting c.args.new.now.spec.now c.args.new.now.world.now (drop c.args.from c.args.granted.now) c.args.new.now.call.now) c.loop-number.ids c.loop-number.invariant

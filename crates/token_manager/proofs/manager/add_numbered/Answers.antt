@@ -4,4 +4,4 @@ use Rattle.token_manager.specs.Named.{id_if}
 use Rattle.token_manager.proofs.manager.add_numbered.Goals as goal
 
 pub returns-in-None : goal.returns-in-None
-returns-in-None c = sym (append-nil c.args.ids.now) ∙ ap (λ o. c.args.ids.now ++ id_if c.args.spec.now c.args.world.now c.args.call.now o) c.in-None.ensures
+returns-in-None c = sym (append-nil c.args.ids.now) ∙ ap (λ o. c.args.ids.now ++ id_if c.args.new.now.spec.now c.args.new.now.world.now c.args.new.now.call.now o) c.in-None.ensures

@@ -5,4 +5,4 @@ use Rattle.token_manager.proofs.manager.conflicting.Given as goal
 
 -- all that conflict are those found so far, and those on the list from here on
 abbrev pub invariant-loop-number : goal.invariant-loop-number
-invariant-loop-number l = conflicting l.spec l.world l.granted l.call ≡ l.ids ++ ids_at l.spec l.world l.call l.granted (drop l.number-index l.numbers)
+invariant-loop-number l = conflicting l.new.spec.now l.new.world.now l.granted l.new.call.now ≡ l.ids ++ ids_at l.new.spec.now l.new.world.now l.new.call.now l.granted (drop l.number-index l.numbers)

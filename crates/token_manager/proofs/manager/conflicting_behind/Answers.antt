@@ -10,5 +10,5 @@ bounds-granted-number c = slice_get_within c.args.granted.now c.args.number c.re
 pub returns : goal.returns
 returns c =
     c.in_ok-add_from.ensures
-    ∙ named_by_tokens c.args.spec.now c.args.world.now c.args.call.now c.args.granted.now c.args.number c.index-granted-number.result c.in_ok-ids.ids c.requires.kept c.requires.alike
+    ∙ named_by_tokens c.args.new.now.spec.now c.args.new.now.world.now c.args.new.now.call.now c.args.granted.now c.args.number c.index-granted-number.result c.in_ok-ids.ids c.requires.kept c.requires.alike
     c.index-granted-number.is (c.in_ok-ids.ensures ∙ ap (λ (g : Granted). g.after) (sym c.index-granted-number.is))
