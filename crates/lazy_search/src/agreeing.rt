@@ -1,7 +1,7 @@
 // The pairs of tuples that an interpretation makes equal, and of which it reads one true and one false.
 //
-// The equalities that are true say for each constant the least one that it is equal to: that equality goes over is among the clauses that
-// are searched. Two tuples are equal where these are the same, place by place. The tuples of a relation stand in chains by a number
+// The equalities that are true say for each constant the least one that it is equal to, since they make all clauses true that say that
+// equality is transitive. Two tuples are equal where these are the same, place by place. The tuples of a relation stand in chains by a number
 // made of these, so that few are compared that aren't equal.
 use crate::parts::Part;
 use ground_atoms::Atom;

@@ -1,9 +1,10 @@
 // Which of the chosen clauses are searched.
 //
 // First those that say something of a later stage, and those of one literal: the conclusion, the definitions and most preconditions. Then
-// those of the others that name a reading, a row or a part that one of these names, and those on equality alone. The clauses of the entry,
-// which are mostly of invariants, are found by what they name, and chosen where they are searched (src/beside.rt). An interpretation of
-// these may make others false; they are searched too in the next round.
+// those of the others that name a reading, a row or a part that one of these names, and those on equality alone. That equality is
+// transitive takes three clauses for each three constants of a sort, and few are needed: first those whose equalities are all named. The
+// clauses of the entry, which are mostly of invariants, are found by what they name, and chosen where they are searched (src/beside.rt).
+// An interpretation of these may make others false; they are searched too in the next round.
 use crate::agreeing::value_of;
 use crate::beside::{kept_beside, take};
 use crate::parts::{Part, count_named};
@@ -53,8 +54,18 @@ fn is_central(atoms: &Atoms, lits: &[Lit]) -> bool {
     lits.len() < 2 || lits.iter().any(|lit| is_later(atoms, lit.atom))
 }
 
-// Whether a clause names a reading, a row or a part that is marked, or equalities alone.
+// Whether a clause says that equality is transitive, at three constants: two of three equalities imply the third.
+fn is_transitivity(atoms: &Atoms, lits: &[Lit]) -> bool {
+    let implied = lits.iter().filter(|lit| lit.positive).count();
+    lits.len() == 3 && implied == 1 && lits.iter().all(|lit| is_equality(atoms, lit.atom))
+}
+
+// Whether a clause names a reading, a row or a part that is marked, or equalities alone. Where it says that equality is transitive, all
+// of these have to be marked.
 fn is_beside(atoms: &Atoms, places: &[u32], lits: &[Lit]) -> bool {
+    if is_transitivity(atoms, lits) {
+        return lits.iter().all(|lit| place_of(places, lit.atom) != NOWHERE);
+    }
     let mut is_other = false;
     for lit in lits {
         if !is_equality(atoms, lit.atom) {

@@ -117,7 +117,8 @@ fn false_kept(
     }
 }
 
-// What truth values of a part come to.
+// What truth values of a part come to. Where they make a chosen clause false, no pairs are looked for: equality may not be transitive yet,
+// and then it makes tuples equal that aren't.
 fn judge_found(
     alloc: Global,
     ground: &LazyGround,
@@ -132,7 +133,11 @@ fn judge_found(
 {
     let is_picking = picked.pick_false(chosen, part, truths);
     let places = false_kept(alloc, ground, sizes, picked, part, truths)?;
-    let pairs = or_drop!(disagreeing(alloc, ground, part, truths); places);
+    let pairs = if is_picking {
+        Vec::new(alloc)
+    } else {
+        or_drop!(disagreeing(alloc, ground, part, truths); places)
+    };
     if !is_picking && places.is_empty() && pairs.is_empty() {
         drop(places);
         drop(pairs);
