@@ -4,4 +4,3 @@ pub mod Reports
 pub mod Fitting
 pub mod Decided
 pub mod Checking
-pub mod Keeping

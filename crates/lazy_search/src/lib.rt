@@ -42,11 +42,11 @@ macro_rules! or_drop {
 
 mod agreeing;
 mod beside;
-mod counting;
-mod parts;
+pub mod counting;
+pub mod parts;
 mod picking;
 mod searching;
-mod testing;
+pub mod testing;
 mod trying;
 
 pub use searching::{LazyAnswer, search_lazily};

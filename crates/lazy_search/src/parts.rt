@@ -16,7 +16,7 @@ use std::alloc::{AllocError, Global};
 
 /// A problem of some chosen clauses: these, the numbers of its atoms in the whole problem, and the place of each atom of that among these.
 #[derive(Drop)]
-pub(crate) struct Part {
+pub struct Part {
     pub picks: Picks,
     pub atoms: Vec<u32>,
     pub places: Vec<u32>,
@@ -98,7 +98,7 @@ fn marked(alloc: Global, chosen: &Chosen, picks: &[u32]) -> Result<Vec<u32>, All
 }
 
 /// The part of a whole problem that has the clauses that were picked; nothing where they don't make one.
-pub(crate) fn part_of(
+pub fn part_of(
     alloc: Global,
     ground: &LazyGround,
     sizes: &Sizes,

@@ -12,7 +12,7 @@ ghost use Rattle.lazy_search.specs.Refuting.{AreSizes, AreOf, IsLazyAnswer, IsSt
 ghost use Rattle.lazy_search.specs.Refuting.{IsLazyAnswerTo, IsStepTo};
 
 use crate::agreeing::{PairAt, disagreeing};
-use crate::counting::{Sizes, count_atoms};
+use crate::counting::{Sizes, count_atoms, sizes_of};
 use crate::parts::{Part, part_of};
 use crate::picking::Picked;
 use crate::trying::{Aim, broken_by};
@@ -312,22 +312,6 @@ fn rounds(
         pick_next(alloc, ground, sizes, chosen, picked, round)?;
     }
     Ok(LazyAnswer::Unknown)
-}
-
-// How many atoms and clauses the whole problem has, where so many of the atoms are those of the table.
-fn sizes_of(first: u32, layout: &Layout) -> Option<Sizes>
-    ensures first { IfSome result (λ s. s.first ≡ first) }
-    ensures atoms { IfSome result (λ s. s.atoms ≡ layout.now.behind.name) }
-    ensures names { IfSome result (λ s. layout.now.behind.name ≡ first + s.names) }
-    ensures clauses { IfSome result (λ s. s.clauses ≡ layout.now.behind.clause) }
-{
-    let names = layout.behind.name.checked_sub(first)?;
-    Some(Sizes {
-        first,
-        atoms: layout.behind.name as usize,
-        names,
-        clauses: layout.behind.clause as usize,
-    })
 }
 
 // How many clauses the entry has at least, where a search without them comes first.

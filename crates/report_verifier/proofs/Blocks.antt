@@ -43,7 +43,7 @@ use Rattle.report_bytes.specs.Collecting.{budget_in}
 use Rattle.report_verifier.specs.declared.judgement.Judgement.{Judgement}
 use Rattle.report_verifier.specs.Rules.{fault_at, unless, or_else, kind_of, has_many, refutes_shown, log_fault, problem_fault, many_fault, rule_fault, blocks_fault, verdict_fault}
 use Rattle.report_verifier.specs.Verified.{tally_of}
-use Rattle.report_verifier.specs.Verifier.{no_judgement, obligation_due, has_log, posed, begun_in, begun_behind, begun, after_line, logged_in, logged, kernel_fault, unrefuted, end_fault, ended, judge_all}
+use Rattle.report_verifier.specs.Verifier.{no_judgement, obligation_due, has_log, posed, begun_in, begun_behind, begun, after_line, logged_in, logged, log_all, kernel_fault, unrefuted, end_fault, ended, judge_all}
 
 -- ---- numbers of lines
 
@@ -103,11 +103,6 @@ behind (rows log r) n = let h = log_past log (suc n) (events.Rows r ∷ []) in o
 behind (range log r) n = let h = log_past log (suc n) (events.Range r ∷ []) in omega (arith, h)
 
 -- ---- logs
-
--- what is kept behind some lines of a log, of which the first has this number
-abbrev log_all : ℕ → List Line → Judgement → Judgement
-log_all n [] j = j
-log_all n (l ∷ ls) j = log_all (suc n) ls (logged n (Some l) j)
 
 no_end : (k : LogOf) (n : ℕ) → log_end k (suc (suc n)) ≡ None
 no_end log_of.Proved n = refl
@@ -288,7 +283,7 @@ counted n j = record { tally = j.tally; line = j.line; many = j.many; kernel = j
 plus_none : (j : Judgement) → counted 0 j ≡ j
 plus_none j = let e : j.log + 0 ≡ j.log = omega arith in λ i. record { tally = j.tally; line = j.line; many = j.many; kernel = j.kernel; log = e i; fault = j.fault }
 
-abbrev left_by : Judgement → ℕ → Option Standing → Option Fault → Judgement
+abbrev pub left_by : Judgement → ℕ → Option Standing → Option Fault → Judgement
 left_by j n kernel fault = record { tally = j.tally; line = j.line; many = j.many; kernel = kernel; log = j.log + n; fault = fault }
 
 more : (j : Judgement) (n : ℕ) (kernel : Option Standing) (fault : Option Fault) (i : Judgement) → i.tally ≡ j.tally → i.line ≡ j.line → i.many ≡ j.many → i.log ≡ suc j.log → left_by i n kernel fault ≡ left_by j (suc n) kernel fault
@@ -302,7 +297,7 @@ unposed n (l ∷ ls) j e =
     ∙ more j (length ls) None j.fault (logged_in n l j None) refl refl refl refl
 
 -- what is kept behind a log that ran
-abbrev ran : ℕ → Judgement → ℕ → Result Standing (ℕ × Why) → Judgement
+abbrev pub ran : ℕ → Judgement → ℕ → Result Standing (ℕ × Why) → Judgement
 ran line j n (Ok s) = left_by j n (Some s) j.fault
 ran line j n (Err e) = left_by j n None (or_else j.fault (fault_at (line + 1 + e.0) (kind_of e.1)))
 
@@ -315,7 +310,7 @@ abbrev after_next : ℕ → List Line → Result Standing Why → Result Standin
 after_next k ls (Ok s) = run_from (k + 1) s ls
 after_next k ls (Err w) = Err (k, w)
 
-posed_log : (line k : ℕ) (ls : List Line) (j : Judgement) (s : Standing) → j.kernel ≡ Some s → log_all (line + 1 + k) ls j ≡ ran line j (length ls) (run_from k s ls)
+pub posed_log : (line k : ℕ) (ls : List Line) (j : Judgement) (s : Standing) → j.kernel ≡ Some s → log_all (line + 1 + k) ls j ≡ ran line j (length ls) (run_from k s ls)
 posed_log line k [] j s e = let z : j.log ≡ j.log + 0 = omega arith in λ i. record { tally = j.tally; line = j.line; many = j.many; kernel = e i; log = z i; fault = j.fault }
 posed_log line k (l ∷ ls) j s e =
     ap (λ (x : Option Standing). log_all (suc (line + 1 + k)) ls (logged_in (line + 1 + k) l j x)) e ∙ by_line (λ t i h. posed_log line (k + 1) ls i t h) (next s l)

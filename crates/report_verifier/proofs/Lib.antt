@@ -10,3 +10,4 @@ mod Within
 mod CutPieces
 mod FedLines
 mod NotedLines
+mod Deferred

@@ -5,3 +5,5 @@ pub mod Verifier
 pub mod Taking
 pub mod Pieces
 pub mod Notes
+pub mod Posing
+pub mod Deferring

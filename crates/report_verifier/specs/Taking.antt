@@ -4,8 +4,6 @@ use Rattle.spec_core.specs.Specification.{Specification}
 use Rattle.obligation_list.specs.declared.obligation.Obligation.{Obligation}
 use Rattle.obligation_list.specs.declared.witness.Witness.{Witness}
 use Rattle.obligation_list.specs.Refuting.{refutes}
-use Rattle.proof_kernel.specs.Rules.{State as Standing, start}
-use Rattle.ground_numbers.specs.Problem.{problem_of}
 use Rattle.proof_kernel.specs.Evidence.{is_fresh, rows_hold, range_holds}
 use Rattle.report_lines.specs.declared.head.Tally.{Tally}
 use Rattle.proof_report.specs.declared.kind.Fault.{Fault}
@@ -15,14 +13,9 @@ use Rattle.proof_report.specs.declared.verdict.Ended.TheVariants as ends
 use Rattle.proof_report.specs.declared.verdict.Fed.{Fed}
 use Rattle.proof_report.specs.Events.{with_proved, with_refuted, with_undecided}
 use Rattle.report_verifier.specs.declared.judgement.Judgement.{Judgement}
-use Rattle.report_verifier.specs.Rules.{fault_at, unless, or_else, has_many}
+use Rattle.report_verifier.specs.Rules.{fault_at, unless, or_else}
 use Rattle.report_bytes.specs.Collecting.{budget_in}
 use Rattle.report_verifier.specs.Verifier.{obligation_due, begun, logged, kernel_fault, unrefuted, VerifierForm}
-
--- the kernel before a log on an obligation, or nothing where there are too many formulas
-abbrev pub IsPosed : Specification → Obligation → Option Standing → Type 0
-IsPosed d ob (Some s) = (has_many d ob ≡ false) × (s ≡ start (problem_of d ob))
-IsPosed d ob None = has_many d ob ≡ true
 
 -- the witness breaks the obligation
 abbrev pub witness_refutes : Specification → Obligation → Witness → Bool

@@ -124,6 +124,11 @@ abbrev pub logged : ℕ → Option Line → Judgement → Judgement
 logged n None j = j
 logged n (Some l) j = logged_in n l j j.kernel
 
+-- what is kept behind some lines of a log, of which the first one has this number
+abbrev pub log_all : ℕ → List Line → Judgement → Judgement
+log_all n [] j = j
+log_all n (l ∷ ls) j = log_all (suc n) ls (logged n (Some l) j)
+
 -- ---- a verdict ends
 
 -- what is said of the state in the kernel; evidence is missing where there are too many formulas
@@ -281,13 +286,13 @@ abbrev pub IsEnded : VerifierForm → List ℕ → Result Tally VerifyRefused �
 IsEnded v [] result = IsFinished v result
 IsEnded v (b ∷ bs) result = IsCutOff v result
 
--- the first fault of a verdict, or how many of each kind there are
+-- the first fault of a verdict, or how many of each kind there are, unless memory was wanting
 abbrev pub IsJudgement : Judgement → Result Tally VerifyRefused → Type 0
 IsJudgement j (Ok tally) = (j.fault ≡ None) × (tally ≡ j.tally)
 IsJudgement j (Err (refused.Line n k)) = j.fault ≡ Some (record { number = n; kind = k })
 IsJudgement j (Err refused.Long) = ⊥
 IsJudgement j (Err refused.Fault) = ⊥
-IsJudgement j (Err refused.Memory) = ⊥
+IsJudgement j (Err refused.Memory) = Unit {0}
 
 -- What is answered where the next line is missing.
 abbrev pub IsMissing : ℕ → Result Tally VerifyRefused → Type 0

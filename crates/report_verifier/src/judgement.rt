@@ -1,20 +1,18 @@
 // What is kept of the verdicts of a report, line by line.
 ghost use Rattle.std.specs.Prelude.{◌≡◌, suc, Some, IfOk, OnOk, slice_get};
-ghost use Rattle.instances.specs.Entry.{AreEntries};
 ghost use Rattle.std.specs.List.{Contains};
 ghost use Rattle.obligation_list.specs.Obligations.{IsObligation, obligations_of};
 ghost use Rattle.proof_report.specs.Events.{told};
 ghost use Rattle.report_verifier.specs.Rules.{or_else};
-ghost use Rattle.report_verifier.specs.Verifier.{no_judgement, has_log, begun, begun_in, logged};
-ghost use Rattle.report_verifier.specs.Taking.{end_fault_of, ended_as, with_ended_as, taken_as};
+ghost use Rattle.report_verifier.specs.Verifier.{no_judgement, has_log, logged};
+ghost use Rattle.report_verifier.specs.Taking.{end_fault_of, ended_as, with_ended_as};
 
 use crate::ending::end_fault;
 use crate::logs::kind_of;
-use crate::posing::Poser;
 use obligation_list::Obligation;
 use proof_kernel::Kernel;
 use proof_lines::{Line, LineRefused};
-use proof_report::{Ended, Fault, Fed};
+use proof_report::{Ended, Fault};
 use report_lines::head::Tally;
 use report_lines::verdict::VerdictWord;
 use spec_core::Spec;
@@ -62,7 +60,8 @@ fn told(tally: &Tally) -> Result<usize, AllocError>
     }
 }
 
-fn has_log(word: &VerdictWord) -> bool
+/// Whether a log follows the word.
+pub fn has_log(word: &VerdictWord) -> bool
     ensures { result ≡ has_log word.now }
 {
     match word {
@@ -81,8 +80,8 @@ fn or_else(first: Option<Fault>, later: Option<Fault>) -> Option<Fault>
     }
 }
 
-// The obligation of the next verdict. A report tells of no verdict beyond the last one.
-fn obligation_due<'o>(
+/// The obligation of the next verdict. A report tells of no verdict beyond the last one.
+pub fn obligation_due<'o>(
     obligations: &'o [Obligation],
     tally: &Tally,
 ) -> Result<&'o Obligation, AllocError>
@@ -92,61 +91,6 @@ fn obligation_due<'o>(
         Some(ob) => Ok(ob),
         None => Err(AllocError),
     }
-}
-
-// A verdict begins, whose obligation this is.
-fn begin_on(
-    poser: &mut Poser,
-    spec: &Spec,
-    ob: &Obligation,
-    number: u32,
-    logs: bool,
-    judgement: &mut Judgement,
-) -> Result<(), AllocError>
-    requires member { IsObligation spec.now ob.now }
-    requires kept { AreEntries spec.now poser.old.cache }
-    ensures kept { AreEntries spec.now poser.new.cache }
-    ensures begun { OnOk result (judgement.new ≡ begun_in spec.now ob.now number logs judgement.old) }
-{
-    let posed = poser.pose(spec, ob)?;
-    judgement.line = number;
-    judgement.log = 0;
-    match posed {
-        Some(kernel) => {
-            judgement.many = false;
-            judgement.kernel = if logs { Some(kernel) } else { None };
-        }
-        None => {
-            judgement.many = true;
-            judgement.kernel = None;
-        }
-    }
-    Ok(())
-}
-
-fn begin(
-    poser: &mut Poser,
-    spec: &Spec,
-    obligations: &[Obligation],
-    number: u32,
-    word: &VerdictWord,
-    judgement: &mut Judgement,
-) -> Result<(), AllocError>
-    requires list { obligations.now ≡ obligations_of spec.now }
-    requires members { (ob : Obligation) → Contains obligations.now ob → IsObligation spec.now ob }
-    requires kept { AreEntries spec.now poser.old.cache }
-    ensures kept { AreEntries spec.now poser.new.cache }
-    ensures begun { OnOk result (judgement.new ≡ begun spec.now number (Some word.now) judgement.old) }
-{
-    if judgement.fault.is_some() {
-        judgement.line = number;
-        judgement.many = false;
-        judgement.kernel = None;
-        judgement.log = 0;
-        return Ok(());
-    }
-    let ob = obligation_due(obligations, &judgement.tally)?;
-    begin_on(poser, spec, ob, number, has_log(word), judgement)
 }
 
 /// A line of a log. The kernel takes it where it stands, since to move a kernel is dearer than most lines.
@@ -184,7 +128,8 @@ fn one_more(count: u32) -> Result<u32, AllocError>
     }
 }
 
-fn with_ended(ended: &Ended, tally: Tally) -> Result<Tally, AllocError>
+/// How many verdicts of each kind there are behind one that ends so.
+pub fn with_ended(ended: &Ended, tally: Tally) -> Result<Tally, AllocError>
     ensures { IfOk result (λ t. t ≡ with_ended_as ended.now tally) }
 {
     let mut counted = tally;
@@ -196,8 +141,8 @@ fn with_ended(ended: &Ended, tally: Tally) -> Result<Tally, AllocError>
     Ok(counted)
 }
 
-// A verdict ends.
-fn end(
+/// A verdict ends, whose log the kernel has taken.
+pub fn end(
     spec: &Spec,
     obligations: &[Obligation],
     budget: u32,
@@ -215,33 +160,5 @@ fn end(
     judgement.tally = tally;
     judgement.kernel = None;
     judgement.fault = or_else(judgement.fault, fault);
-    Ok(())
-}
-
-/// Takes what a reader tells of the line of this number.
-pub fn take(
-    poser: &mut Poser,
-    spec: &Spec,
-    obligations: &[Obligation],
-    budget: u32,
-    number: u32,
-    fed: &Fed,
-    judgement: &mut Judgement,
-) -> Result<(), AllocError>
-    requires list { obligations.now ≡ obligations_of spec.now }
-    requires members { (ob : Obligation) → Contains obligations.now ob → IsObligation spec.now ob }
-    requires kept { AreEntries spec.now poser.old.cache }
-    ensures kept { AreEntries spec.now poser.new.cache }
-    ensures taken { OnOk result (judgement.new ≡ taken_as spec.now budget number fed.now judgement.old) }
-{
-    if let Some(word) = &fed.begin {
-        begin(poser, spec, obligations, number, word, judgement)?;
-    }
-    if let Some(line) = &fed.log {
-        log_line(number, line, judgement)?;
-    }
-    if let Some(ended) = &fed.ended {
-        end(spec, obligations, budget, ended, judgement)?;
-    }
     Ok(())
 }

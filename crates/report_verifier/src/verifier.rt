@@ -8,7 +8,8 @@ ghost use Rattle.report_verifier.specs.Verifier.{first_verifier, next_verifier, 
 ghost use Rattle.report_verifier.specs.Verifier.{IsCutOff};
 ghost use Rattle.report_verifier.specs.Verifier.{IsJudgement, IsMissing, clauses_in, most_kept};
 
-use crate::judgement::{Judgement, log_line, no_judgement, take};
+use crate::deferring::{Judging, log_or_defer, no_judging, settle};
+use crate::judging::take;
 use crate::notes::ResolvedPair;
 use crate::posing::Poser;
 use crate::refused::VerifyRefused;
@@ -22,15 +23,15 @@ use spec_core::Spec;
 use std::alloc::{AllocError, Global};
 use std::marker::Model;
 
-/// Verifies a report line by line. It keeps one block, of its log the clauses that weren't dropped (those that were, until
-/// they are half of all), and what problems of other blocks share with its. Contracts see it as a `VerifierForm`.
+/// Verifies a report line by line. It keeps one block, of its log the lines that were deferred, or the clauses that weren't dropped
+/// (those that were, until they are half of all), and what problems of other blocks share with its. Contracts see it as a `VerifierForm`.
 #[derive(Drop)]
 pub struct Verifier<'a> {
     poser: Poser,
     spec: &'a Spec,
     obligations: Items<Obligation>,
     reader: ReportReader<'a>,
-    judgement: Judgement,
+    judging: Judging,
     failed: bool,
 }
 
@@ -41,16 +42,17 @@ impl<'a> Model for Verifier<'a> {
     ghost use Rattle.spec_core.specs.Code.{coded_form};
     ghost use Rattle.obligation_list.specs.declared.obligation.Obligation.{Obligation};
     ghost use Rattle.obligation_list.specs.Obligations.{obligations_of, IsObligation};
-    ghost use Rattle.instances.specs.Entry.{AreEntries};
+    ghost use Rattle.ground_cache.specs.Keeping.{AreKept};
     ghost use Rattle.report_verifier.specs.Verifier.{VerifierForm, IsWithin};
+    ghost use Rattle.report_verifier.specs.Deferring.{judgement_of, HasDeferred};
 
     ghost Value = { VerifierForm };
 
     ghost coded = { Prim.hlevel (codes, coded_form) };
 
-    ghost view = { λ a. record { reader = a.reader; judgement = a.judgement; failed = a.failed } };
+    ghost view = { λ a. record { reader = a.reader; judgement = judgement_of a.spec.now a.judging; failed = a.failed } };
 
-    ghost invariant = { λ a. (a.obligations ≡ obligations_of a.spec.now) × (a.reader.spec ≡ a.spec.now) × ((ob : Obligation) → Contains a.obligations ob → IsObligation a.spec.now ob) × IsWithin a.spec.now a.judgement × AreEntries a.spec.now a.poser.cache };
+    ghost invariant = { λ a. (a.obligations ≡ obligations_of a.spec.now) × (a.reader.spec ≡ a.spec.now) × ((ob : Obligation) → Contains a.obligations ob → IsObligation a.spec.now ob) × IsWithin a.spec.now (judgement_of a.spec.now a.judging) × AreKept a.spec.now a.poser.cache × HasDeferred a.spec.now a.judging };
 }
 
 // The budget of log lines, where it was stated.
@@ -79,7 +81,7 @@ impl<'a> Verifier<'a> {
             spec,
             obligations,
             reader,
-            judgement: no_judgement(),
+            judging: no_judging(),
             failed: false,
         })
     }
@@ -89,7 +91,7 @@ impl<'a> Verifier<'a> {
         ensures failed { self.new.failed ≡ true }
         ensures error { IsErr result }
     {
-        self.judgement = no_judgement();
+        self.judging = no_judging();
         self.failed = true;
         Err(AllocError)
     }
@@ -106,11 +108,11 @@ impl<'a> Verifier<'a> {
             budget_in(&self.reader),
             self.reader.taken(),
             fed,
-            &mut self.judgement,
+            &mut self.judging,
         ) {
             Ok(()) => Ok(()),
             Err(error) => {
-                self.judgement = no_judgement();
+                self.judging = no_judging();
                 self.failed = true;
                 Err(error)
             }
@@ -127,10 +129,17 @@ impl<'a> Verifier<'a> {
             right: line.right,
             pivot: line.pivot,
         };
-        match log_line(self.reader.taken(), &line, &mut self.judgement) {
+        match log_or_defer(
+            &mut self.poser,
+            self.spec,
+            self.obligations.as_slice(),
+            self.reader.taken(),
+            &line,
+            &mut self.judging,
+        ) {
             Ok(()) => Ok(()),
             Err(error) => {
-                self.judgement = no_judgement();
+                self.judging = no_judging();
                 self.failed = true;
                 Err(error)
             }
@@ -200,28 +209,55 @@ impl<'a> Verifier<'a> {
         self.reader.taken()
     }
 
-    /// How many clauses the kernel has had, dropped or not: none outside a log; in a log at most those of the problem of its obligation,
-    /// and one for each line of the log so far.
-    pub fn kept(&self) -> u32
-        ensures clauses { result ≡ clauses_in self.now.judgement.kernel }
-        ensures bound { result ≤ most_kept self.now.reader.spec self.now.judgement }
+    // The kernel takes the lines that were deferred.
+    fn settle(&mut self) -> Result<(), AllocError>
+        ensures same { OnOk result (self.new ≡ self.old) }
+        ensures failed { OnErr result (self.new.failed ≡ true) }
     {
-        match &self.judgement.kernel {
-            Some(kernel) => kernel.clause_count(),
-            None => 0,
+        match settle(
+            &mut self.poser,
+            self.spec,
+            self.obligations.as_slice(),
+            &mut self.judging,
+        ) {
+            Ok(()) => Ok(()),
+            Err(error) => {
+                self.judging = no_judging();
+                self.failed = true;
+                Err(error)
+            }
         }
     }
 
-    // What is answered to the first fault of a verdict, or where there is none.
+    /// How many clauses the kernel has had, dropped or not: none outside a log; in a log at most those of the problem of its obligation,
+    /// and one for each line of the log so far. It takes the lines that were deferred first. A refusal is for want of memory, and each
+    /// later line is refused then too.
+    pub fn kept(&mut self) -> Result<u32, AllocError>
+        ensures clauses { IfOk result (λ n. n ≡ clauses_in self.new.judgement.kernel) }
+        ensures bound { IfOk result (λ n. n ≤ most_kept self.new.reader.spec self.new.judgement) }
+        ensures same { OnOk result (self.new ≡ self.old) }
+        ensures failed { OnErr result (self.new.failed ≡ true) }
+    {
+        self.settle()?;
+        match &self.judging.judgement.kernel {
+            Some(kernel) => Ok(kernel.clause_count()),
+            None => Ok(0),
+        }
+    }
+
+    // What is answered to the first fault of a verdict, or where there is none. The lines that were deferred were taken before.
     fn judged(&self) -> Result<Tally, VerifyRefused>
         ensures { IsJudgement self.now.judgement result }
     {
-        match self.judgement.fault {
+        if self.judging.deferred.is_some() {
+            return Err(VerifyRefused::Memory);
+        }
+        match self.judging.judgement.fault {
             Some(fault) => Err(VerifyRefused::Line {
                 number: fault.number,
                 kind: fault.kind,
             }),
-            None => Ok(self.judgement.tally),
+            None => Ok(self.judging.judgement.tally),
         }
     }
 
@@ -240,14 +276,17 @@ impl<'a> Verifier<'a> {
     }
 
     // What is answered behind the last line.
-    pub(crate) fn answer(&self) -> Result<Tally, VerifyRefused>
-        ensures { IsFinished self.now result }
+    pub(crate) fn answer(&mut self) -> Result<Tally, VerifyRefused>
+        ensures { IsFinished self.old result }
     {
         if self.failed {
             return Err(VerifyRefused::Memory);
         }
         match self.reader.finish() {
-            Ok(()) => self.judged(),
+            Ok(()) => match self.settle() {
+                Ok(()) => self.judged(),
+                Err(_) => Err(VerifyRefused::Memory),
+            },
             Err(ReportRefused::Line { number, kind }) => Err(VerifyRefused::Line { number, kind }),
             Err(ReportRefused::Memory) => Err(VerifyRefused::Memory),
         }
@@ -258,8 +297,9 @@ impl<'a> Verifier<'a> {
     pub fn finish(self) -> Result<Tally, VerifyRefused>
         ensures { IsFinished self.entry result }
     {
-        let answer = self.answer();
-        drop(self);
+        let mut verifier = self;
+        let answer = verifier.answer();
+        drop(verifier);
         answer
     }
 

@@ -17,8 +17,8 @@ use spec_core::Spec;
 use std::alloc::Global;
 
 // What is answered behind the last line and the bytes that no line feed ends.
-pub(crate) fn finish(verifier: &Verifier<'_>, rest: &[u8]) -> Result<Tally, VerifyRefused>
-    ensures { IsEnded verifier.now rest.now result }
+pub(crate) fn finish(verifier: &mut Verifier<'_>, rest: &[u8]) -> Result<Tally, VerifyRefused>
+    ensures { IsEnded verifier.old rest.now result }
 {
     if rest.is_empty() {
         verifier.answer()

@@ -1,4 +1,4 @@
-use Rattle.check_run.proofs.keeping.KeptCache.take.Goals as goal
+use Rattle.ground_cache.proofs.keeping.KeptCache.take.Goals as goal
 
 pub returns-else-place-len-clause-taken : goal.returns-else-place-len-clause-taken
 returns-else-place-len-clause-taken c = c.none.ensures c.args.spec.now

@@ -2,7 +2,7 @@
 use Rattle.std.specs.Prelude.{All}
 use Rattle.spec_core.specs.Specification.{Specification}
 use Rattle.lazy_ground.specs.Kept.{IsKept}
-use Rattle.check_run.specs.declared.keeping.KeptCache.{KeptCache}
+use Rattle.ground_cache.specs.declared.keeping.KeptCache.{KeptCache}
 
 -- each serves any obligation of the specification
 abbrev pub AreKept : Specification → KeptCache → Type 0

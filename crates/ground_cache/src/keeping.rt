@@ -5,7 +5,7 @@
 ghost use Rattle.spec_core.specs.Specification.{Specification};
 ghost use Rattle.obligation_list.specs.Obligations.{IsObligation};
 ghost use Rattle.lazy_ground.specs.Kept.{IsKept};
-ghost use Rattle.check_run.specs.Keeping.{AreKept};
+ghost use Rattle.ground_cache.specs.Keeping.{AreKept};
 
 use instances::EntryKey;
 use instances::caching::{MOST_ENTRIES, MOST_ENTRY_FORMULAS};

@@ -1,0 +1,38 @@
+// Whether a log refutes the lazy ground problem of an obligation, told over the clauses that it names alone.
+//
+// A log names few of the clauses of its problem. These are made, and the pairs of tuples whose clauses it names are told by their numbers
+// (src/choosing.rt); they are a problem of their own over the atoms that they name, which is tested to be a part of the whole, as in a
+// search (`lazy_search`). The lines are written with the numbers of that part (src/renaming.rt), and the kernel takes them there. Written
+// back, they have to be the lines of the log; then the whole problem's kernel takes the log too, as is proved of logs of a part
+// (`needed_clauses`).
+//
+// So the whole problem isn't made. Where a log isn't known to refute it, nothing is said: the kernel has to take it on the whole
+// problem.
+//
+// Definitions: specs/Refuted (when a log refutes a problem).
+//
+// Decisions:
+// - A log of any other lines than Resolve and Farkas, and one that names a clause or an atom that no
+//   clause of the part has, isn't looked at further.
+#![tactic(auto)]
+
+/// The value of a call; where it fails, lets go of these values and ends with its error. Values that are let go by name are let go
+/// once in a proof, and not once for each way out.
+macro_rules! or_drop {
+    ($call:expr; $($value:ident),*) => {
+        match $call {
+            Ok(value) => value,
+            Err(error) => {
+                $(drop($value);)*
+                return Err(error);
+            }
+        }
+    };
+}
+
+mod choosing;
+mod comparing;
+mod refuting;
+mod renaming;
+
+pub use refuting::is_refuted_by;

@@ -1,0 +1,244 @@
+// The log of a proved verdict, whose lines are deferred to its end.
+//
+// A log names few of the clauses of its obligation's problem, and most that prove are accepted over these alone (`lazy_logs`). So the whole
+// problem isn't made before the lines are there. Where they aren't known to refute it, where a line is of another kind, and where there
+// is no room for more of them, the whole problem is made, and its kernel takes the lines as if it had been there from the first one on.
+ghost use Rattle.std.specs.Prelude.{◌≡◌, suc, ◌++◌, ◌∷◌, [], Some, None, IfOk, OnOk, IsTrue};
+ghost use Rattle.std.specs.List.{Contains};
+ghost use Rattle.obligation_list.specs.declared.obligation.Obligation.{Obligation as TheObligation};
+ghost use Rattle.obligation_list.specs.Obligations.{IsObligation, obligations_of};
+ghost use Rattle.ground_cache.specs.Keeping.{AreKept};
+ghost use Rattle.report_verifier.specs.Verifier.{no_judgement, obligation_due, log_all, logged};
+ghost use Rattle.report_verifier.specs.Posing.{IsLazyOf};
+ghost use Rattle.report_verifier.specs.Deferring.{after_deferred, judgement_of, HasDeferred, IsRefutedBy};
+
+use crate::judgement::{Judgement, log_line, no_judgement, obligation_due};
+use crate::posing::Poser;
+use items::Items;
+use lazy_ground::LazyGround;
+use lazy_logs::is_refuted_by;
+use obligation_list::Obligation;
+use proof_lines::Line;
+use report_lines::verdict::VerdictWord;
+use spec_core::Spec;
+use std::alloc::{AllocError, Global};
+use std::mem;
+
+/// So many lines of a log at most are deferred: twice what a check writes that searched a part of a problem.
+const MOST_LINES: u32 = 4000;
+
+/// So many literals and steps at most have the lines that are deferred.
+const MOST_PARTS: usize = 40_000;
+
+/// The lines of a log that the kernel hasn't taken yet, how many literals and steps they have, and the lazy ground problem of their
+/// obligation.
+#[derive(Drop)]
+pub struct DeferredLog {
+    pub ground: LazyGround,
+    pub lines: Items<Line>,
+    pub parts: usize,
+}
+
+/// What is kept of the verdicts of a report, and the lines of the last one's log that were deferred.
+#[derive(Drop)]
+pub struct Judging {
+    pub judgement: Judgement,
+    pub deferred: Option<DeferredLog>,
+}
+
+/// Before the first verdict.
+pub fn no_judging() -> Judging
+    ensures judgement { result.judgement ≡ no_judgement }
+    ensures deferred { result.deferred ≡ None }
+{
+    Judging {
+        judgement: no_judgement(),
+        deferred: None,
+    }
+}
+
+/// Whether the log behind this word is deferred: one that proves, of few enough lines.
+pub fn is_deferred(word: &VerdictWord) -> bool {
+    match word {
+        VerdictWord::Proved(lines) => *lines <= MOST_LINES,
+        _ => false,
+    }
+}
+
+impl DeferredLog {
+    /// A log on a lazy ground problem, before its first line.
+    pub fn new(alloc: Global, ground: LazyGround) -> DeferredLog
+        ensures ground { result.ground ≡ ground }
+        ensures lines { result.lines ≡ [] }
+    {
+        DeferredLog {
+            ground,
+            lines: Items::new(alloc),
+            parts: 0,
+        }
+    }
+
+    // How many literals and steps there are with those of a line more; nothing where it is of another kind than those that are deferred.
+    fn parts_with(&self, line: &Line) -> Option<usize> {
+        match line {
+            Line::Resolve { .. } => Some(self.parts),
+            Line::Farkas { used, steps } => {
+                self.parts.checked_add(used.len())?.checked_add(steps.len())
+            }
+            _ => None,
+        }
+    }
+
+    // Whether a line of this number comes next, behind the word of this number, and may be deferred.
+    fn has_room(&self, word: u32, number: u32, line: &Line) -> bool
+        ensures { IsTrue result → number ≡ suc word + length self.now.lines }
+    {
+        let many = self.lines.len();
+        match self.parts_with(line) {
+            Some(parts) => {
+                parts <= MOST_PARTS
+                    && many < MOST_LINES as usize
+                    && number as usize == word as usize + 1 + many
+            }
+            None => false,
+        }
+    }
+
+    // Adds a line.
+    fn push(&mut self, alloc: Global, line: &Line) -> Result<(), AllocError>
+        ensures lines { OnOk result (self.new.lines ≡ self.old.lines ++ line.now ∷ []) }
+        ensures ground { self.new.ground ≡ self.old.ground }
+    {
+        let parts = match self.parts_with(line) {
+            Some(parts) => parts,
+            None => self.parts,
+        };
+        self.lines.push(line.copy(alloc)?)?;
+        self.parts = parts;
+        Ok(())
+    }
+}
+
+// The kernel takes lines, of which the first comes next behind the verdict's first line.
+fn add_lines(lines: &[Line], judgement: &mut Judgement) -> Result<(), AllocError>
+    ensures { OnOk result
+        (judgement.new ≡ log_all (suc judgement.old.line) lines.now judgement.old) }
+{
+    let mut number = judgement.line;
+    for line in lines {
+        let Some(next) = number.checked_add(1) else {
+            return Err(AllocError);
+        };
+        number = next;
+        log_line(number, line, judgement)?;
+    }
+    Ok(())
+}
+
+// The kernel of the whole problem takes the lines of a log that were deferred.
+fn settle_log(
+    poser: &mut Poser,
+    spec: &Spec,
+    obligations: &[Obligation],
+    log: DeferredLog,
+    judgement: &mut Judgement,
+) -> Result<(), AllocError>
+    requires list { obligations.now ≡ obligations_of spec.now }
+    requires members { (ob : TheObligation) → Contains obligations.now ob → IsObligation spec.now ob }
+    requires kept { AreKept spec.now poser.old.cache }
+    requires log { IsLazyOf spec.now (obligation_due spec.now judgement.old) log.ground }
+    ensures kept { AreKept spec.now poser.new.cache }
+    ensures settled { OnOk result
+        (judgement.new ≡ after_deferred spec.now judgement.old (Some log)) }
+{
+    let DeferredLog { ground, lines, .. } = log;
+    let ob = or_drop!(obligation_due(obligations, &judgement.tally); ground, lines);
+    let kernel = or_drop!(poser.complete(spec, ob, ground); lines);
+    judgement.kernel = Some(kernel);
+    let added = add_lines(lines.as_slice(), judgement);
+    drop(lines);
+    added
+}
+
+/// The kernel of the whole problem takes the lines that were deferred, if any were.
+pub fn settle(
+    poser: &mut Poser,
+    spec: &Spec,
+    obligations: &[Obligation],
+    judging: &mut Judging,
+) -> Result<(), AllocError>
+    requires list { obligations.now ≡ obligations_of spec.now }
+    requires members { (ob : TheObligation) → Contains obligations.now ob → IsObligation spec.now ob }
+    requires kept { AreKept spec.now poser.old.cache }
+    requires deferred { HasDeferred spec.now judging.old }
+    ensures kept { AreKept spec.now poser.new.cache }
+    ensures settled { OnOk result (judging.new.judgement ≡ judgement_of spec.now judging.old) }
+    ensures none { judging.new.deferred ≡ None }
+{
+    match mem::replace(&mut judging.deferred, None) {
+        Some(log) => settle_log(poser, spec, obligations, log, &mut judging.judgement),
+        None => Ok(()),
+    }
+}
+
+// Defers a line, where it may be. It says whether it did.
+fn defer(
+    alloc: Global,
+    spec: &Spec,
+    number: u32,
+    line: &Line,
+    judging: &mut Judging,
+) -> Result<bool, AllocError>
+    requires deferred { HasDeferred spec.now judging.old }
+    ensures deferred { OnOk result (HasDeferred spec.now judging.new) }
+    ensures taken { IfOk result (λ is. IsTrue is → judgement_of spec.now judging.new
+        ≡ logged number (Some line.now) (judgement_of spec.now judging.old)) }
+    ensures left { IfOk result (λ is. is ≡ false → judging.new ≡ judging.old) }
+{
+    let _spec = spec;
+    let Some(log) = &mut judging.deferred else {
+        return Ok(false);
+    };
+    if !log.has_room(judging.judgement.line, number, line) {
+        return Ok(false);
+    }
+    log.push(alloc, line)?;
+    Ok(true)
+}
+
+/// A line of a log. It is deferred where lines before it were, and it may be; else the kernel takes it.
+pub fn log_or_defer(
+    poser: &mut Poser,
+    spec: &Spec,
+    obligations: &[Obligation],
+    number: u32,
+    line: &Line,
+    judging: &mut Judging,
+) -> Result<(), AllocError>
+    requires list { obligations.now ≡ obligations_of spec.now }
+    requires members { (ob : TheObligation) → Contains obligations.now ob → IsObligation spec.now ob }
+    requires kept { AreKept spec.now poser.old.cache }
+    requires deferred { HasDeferred spec.now judging.old }
+    ensures kept { AreKept spec.now poser.new.cache }
+    ensures deferred { OnOk result (HasDeferred spec.now judging.new) }
+    ensures taken { OnOk result (judgement_of spec.now judging.new
+        ≡ logged number (Some line.now) (judgement_of spec.now judging.old)) }
+{
+    if defer(poser.alloc, spec, number, line, judging)? {
+        return Ok(());
+    }
+    settle(poser, spec, obligations, judging)?;
+    log_line(number, line, &mut judging.judgement)
+}
+
+/// Whether the lines that were deferred are known to refute their problem.
+pub fn is_refuted(alloc: Global, spec: &Spec, judging: &Judging) -> Result<bool, AllocError>
+    requires { HasDeferred spec.now judging.now }
+    ensures { IfOk result (λ b. IsTrue b → IsRefutedBy spec.now judging.now) }
+{
+    let _spec = spec;
+    match &judging.deferred {
+        Some(log) => is_refuted_by(alloc, &log.ground, log.lines.as_slice()),
+        None => Ok(false),
+    }
+}
