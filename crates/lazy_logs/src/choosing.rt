@@ -10,11 +10,12 @@ ghost use Rattle.lazy_search.specs.Refuting.{AreSizes, AreOf};
 
 use chosen_clauses::{Chosen, Layout};
 use instances::kept_clauses;
+use items::Items;
 use lazy_ground::LazyGround;
 use lazy_search::counting::Sizes;
 use lazy_search::testing::Picks;
 use needed_clauses::parts::{NOWHERE, number_of};
-use proof_lines::Line;
+use proof_lines::{Clause, Line, Lit};
 use std::alloc::{AllocError, Global};
 
 /// The numbers below a count that lines name, in rising order, each once.
@@ -39,6 +40,17 @@ pub fn numbers_named(alloc: Global, lines: &[Line], many: usize) -> Result<Vec<u
         }
     }
     Ok(each)
+}
+
+/// The literals that lines of rows use.
+pub fn literals_used(alloc: Global, lines: &[Line]) -> Result<Items<Lit>, AllocError> {
+    let mut used_by = Items::new(alloc);
+    for line in lines {
+        if let Line::Farkas { used, .. } = line {
+            used_by.extend_from_slice(used.as_slice())?;
+        }
+    }
+    Ok(used_by)
 }
 
 /// Two tuples of a relation's pairs, by their places.
@@ -82,6 +94,20 @@ fn pair_of(ground: &LazyGround, layout: &Layout, number: u32) -> Option<PairAt> 
         }
     }
     None
+}
+
+// The place of the first empty clause.
+fn place_of_empty(clauses: &[Clause]) -> Option<usize> {
+    clauses.iter().position(|clause| clause.lits().is_empty())
+}
+
+/// The number of an empty clause among the chosen ones, or those of the entry.
+pub fn number_of_empty(ground: &LazyGround, chosen: &Chosen) -> Option<u32> {
+    if let Some(place) = place_of_empty(chosen.clauses.as_slice()) {
+        return chosen.numbers.get(place).copied();
+    }
+    let (kept, _) = kept_clauses(&ground.part)?;
+    Some(number_of(place_of_empty(kept.clauses.as_slice())?))
 }
 
 // How many clauses of the entry are at hand: these have the first numbers.

@@ -7,7 +7,7 @@ ghost use Rattle.chosen_clauses.specs.Chosen.{IsLayout};
 ghost use Rattle.lazy_search.specs.Refuting.{AreSizes, AreOf};
 ghost use Rattle.lazy_logs.specs.Refuted.{Refutes};
 
-use crate::choosing::{add_named, numbers_named, picks_of};
+use crate::choosing::{add_named, literals_used, number_of_empty, numbers_named, picks_of};
 use crate::comparing::same_lines;
 use crate::renaming::lines_in;
 use chosen_clauses::{Chosen, Layout, chosen_front};
@@ -80,6 +80,23 @@ fn is_refuted_in(
     are_of_log(alloc, ground, sizes, part, own, lines)
 }
 
+// The numbers of the clauses that a log names, in rising order; of a log without lines that of an empty clause.
+fn numbers_of(
+    alloc: Global,
+    ground: &LazyGround,
+    sizes: &Sizes,
+    chosen: &Chosen,
+    lines: &[Line],
+) -> Result<Vec<u32>, AllocError> {
+    let mut numbers = numbers_named(alloc, lines, sizes.clauses)?;
+    if lines.is_empty() {
+        if let Some(number) = number_of_empty(ground, chosen) {
+            numbers.push(number)?;
+        }
+    }
+    Ok(numbers)
+}
+
 // Whether a log is accepted on the clauses that it names.
 fn is_refuted_with(
     alloc: Global,
@@ -96,12 +113,15 @@ fn is_refuted_with(
     requires chosen { AreOf ground.now chosen.now }
     ensures { IfOk result (λ b. IsTrue b → Refutes (lazy_problem ground.now) lines.now) }
 {
-    let numbers = numbers_named(alloc, lines, sizes.clauses)?;
+    let numbers = numbers_of(alloc, ground, sizes, chosen, lines)?;
     or_drop!(add_named(alloc, ground, sizes, layout, chosen, numbers.as_slice()); numbers);
     let Some(picks) = picks_of(alloc, chosen, numbers)? else {
         return Ok(false);
     };
-    let Some(part) = part_of(alloc, ground, sizes, chosen, picks)? else {
+    let others = or_drop!(literals_used(alloc, lines); picks);
+    let made = part_of(alloc, ground, sizes, chosen, picks, others.as_slice());
+    drop(others);
+    let Some(part) = made? else {
         return Ok(false);
     };
     let told = is_refuted_in(alloc, ground, sizes, &part, lines);

@@ -88,29 +88,37 @@ pub(crate) fn count_named(chosen: &Chosen) -> usize {
     many
 }
 
-// The places of the atoms that these clauses name, which aren't numbered yet.
-fn marked(alloc: Global, chosen: &Chosen, picks: &[u32]) -> Result<Vec<u32>, AllocError> {
+// The places of the atoms that these clauses and these literals name, which aren't numbered yet.
+fn marked(
+    alloc: Global,
+    chosen: &Chosen,
+    picks: &[u32],
+    others: &[Lit],
+) -> Result<Vec<u32>, AllocError> {
     let mut places = no_places(alloc, count_named(chosen))?;
     for pick in picks {
         mark(places.as_mut_slice(), lits_at(chosen, *pick));
     }
+    mark(places.as_mut_slice(), others);
     Ok(places)
 }
 
-/// The part of a whole problem that has the clauses that were picked; nothing where they don't make one.
+/// The part of a whole problem that has the clauses that were picked, and the atoms of some other literals too; nothing where they don't
+/// make one.
 pub fn part_of(
     alloc: Global,
     ground: &LazyGround,
     sizes: &Sizes,
     chosen: &Chosen,
     picks: Picks,
+    others: &[Lit],
 ) -> Result<Option<Part>, AllocError>
     requires sizes { AreSizes ground.now sizes.now }
     requires chosen { AreOf ground.now chosen.now }
     ensures { IfOk result (λ found. IfSome found (λ part. IsPart part.problem
         (lazy_problem ground.now) part.picks.numbers.items part.atoms.items)) }
 {
-    let mut places = marked(alloc, chosen, picks.places.as_slice())?;
+    let mut places = marked(alloc, chosen, picks.places.as_slice(), others)?;
     let atoms = number_marked(alloc, places.as_mut_slice())?;
     let own = problem_of(
         alloc,

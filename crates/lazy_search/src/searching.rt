@@ -165,7 +165,7 @@ fn search_picked(
     ensures { IfOk result (λ step. IsStepTo aim.now ground.now step) }
 {
     let picks = picked.picks(alloc, chosen.numbers.as_slice())?;
-    let Some(part) = part_of(alloc, ground, sizes, chosen, picks)? else {
+    let Some(part) = part_of(alloc, ground, sizes, chosen, picks, &[])? else {
         return Ok(Step::Answered(LazyAnswer::Unknown));
     };
     let few = few_of(aim.budget);

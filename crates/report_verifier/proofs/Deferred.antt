@@ -1,5 +1,5 @@
 -- What stands once the kernel has taken the lines of a log that were deferred.
-use Rattle.std.proofs.Common.{◌≡◌, ℕ, suc, ◌+◌, true, Bool, List, [], ◌∷◌, ◌++◌, length, Option, Some, None, Result, Ok, Err, refl, sym, ◌∙◌, ap, subst, arith}
+use Rattle.std.proofs.Common.{◌≡◌, ℕ, zero, suc, ◌+◌, true, Bool, List, [], ◌∷◌, ◌++◌, length, take, slice_get, Option, Some, None, Result, Ok, Err, refl, sym, ◌∙◌, ap, subst, arith}
 use Rattle.spec_core.specs.Specification.{Specification}
 use Rattle.proof_lines.specs.declared.line.Line.{Line}
 use Rattle.proof_lines.specs.declared.line.Why.{Why}
@@ -23,6 +23,14 @@ log_all-push n [] l j = refl
 log_all-push n (m ∷ ms) l j =
     let e : suc n + length ms ≡ n + suc (length ms) = omega arith in
     log_all-push (suc n) ms l (logged n (Some m) j) ∙ ap (λ (k : ℕ). logged k (Some l) (log_all (suc n) ms (logged n (Some m) j))) e
+
+-- one more of the lines is taken
+pub log_all-next : (n k : ℕ) (ls : List Line) (l : Line) (j : Judgement) → slice_get ls k ≡ Some l → log_all n (take (k + 1) ls) j ≡ logged (n + k) (Some l) (log_all n (take k ls) j)
+log_all-next n k [] l j h = absurd cc
+log_all-next n zero (m ∷ ms) l j h = let e : m ≡ l = cc in ap (λ (z : Line). logged n (Some z) j) e
+log_all-next n (suc k) (m ∷ ms) l j h =
+    let e : suc n + k ≡ n + suc k = omega arith in
+    log_all-next (suc n) k ms l (logged n (Some m) j) h ∙ ap (λ (i : ℕ). logged i (Some l) (log_all (suc n) (take k ms) (logged n (Some m) j))) e
 
 -- what is kept behind a proved verdict with so many lines and no fault
 abbrev pub proved_behind : ℕ → Judgement → Judgement
