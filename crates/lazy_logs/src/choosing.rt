@@ -5,15 +5,15 @@
 ghost use Rattle.std.specs.Prelude.{◌≡◌, length, OnOk};
 ghost use Rattle.lazy_ground.specs.Lazy.{ArePairs};
 ghost use Rattle.lazy_ground.specs.Kept.{HasClauses};
-ghost use Rattle.chosen_clauses.specs.Chosen.{IsLayout};
+ghost use Rattle.lazy_search.specs.Chosen.{IsLayout};
 ghost use Rattle.lazy_search.specs.Refuting.{AreSizes, AreOf};
 
-use chosen_clauses::{Chosen, Layout};
 use instances::kept_clauses;
 use items::Items;
 use lazy_ground::LazyGround;
 use lazy_search::counting::Sizes;
 use lazy_search::testing::Picks;
+use lazy_search::{Chosen, Layout};
 use needed_clauses::parts::{NOWHERE, number_of};
 use proof_lines::{Clause, Line, Lit};
 use std::alloc::{AllocError, Global};

@@ -1,2 +1,9 @@
+pub mod Pieces
+mod Sizes
+mod Ranks
+mod Adding
+mod Standing
+mod Placing
+mod Behind
 mod WholeAtoms
 mod Logs

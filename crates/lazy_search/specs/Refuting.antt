@@ -13,8 +13,8 @@ use Rattle.ground_numbers.specs.Numbers.{Table}
 use Rattle.ground_numbers.specs.Problem.{kind_of}
 use Rattle.lazy_ground.specs.declared.grounding.LazyGround.{LazyGround}
 use Rattle.lazy_ground.specs.Lazy.{lazy_problem}
-use Rattle.chosen_clauses.specs.declared.choosing.Chosen.{Chosen}
-use Rattle.chosen_clauses.specs.Chosen.{AreAt}
+use Rattle.lazy_search.specs.declared.choosing.Chosen.{Chosen}
+use Rattle.lazy_search.specs.Chosen.{AreAt}
 use Rattle.lazy_search.specs.declared.counting.Sizes.{Sizes}
 use Rattle.lazy_search.specs.declared.searching.LazyAnswer.{LazyAnswer}
 use Rattle.lazy_search.specs.declared.searching.LazyAnswer.TheVariants.{Refuted, Broken, Satisfiable, Unknown}

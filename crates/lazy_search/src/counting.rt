@@ -1,7 +1,7 @@
 // How many atoms and integer names a numbering has, and how many atoms and clauses the whole problem.
 ghost use Rattle.std.specs.Prelude.{◌≡◌, ◌+◌, length, IfSome};
 
-use chosen_clauses::Layout;
+use crate::Layout;
 use ground_atoms::Atoms;
 
 /// How many atoms have numbers, unless they are more than a number counts.

@@ -10,9 +10,16 @@
 // So no formula is made for a pair of tuples that no interpretation makes equal, and none is looked at. Nothing is answered where all
 // pairs agree, or where a search comes to no end in a few lines; then the whole problem is to be searched.
 //
-// Definitions: specs/Refuting (what is answered, and what the tests of a part say).
+// Some clauses of the problem are written without the others (src/choosing.rt). Every two tuples of a relation have three clauses that
+// say that they read the same where they are equal, and one atom that names a part; so the numbers of their clauses are told by how
+// many pairs there are before them (src/places.rt), and the others aren't made.
+//
+// Definitions: specs/Chosen (clauses that have numbers among all, and the places of pairs), specs/Refuting (what is answered, and
+// what the tests of a part say).
 //
 // Decisions:
+// - The numbers of a pair's clauses follow from places and counts alone, since its tuples differ.
+//   That they differ is tested too: they rise.
 // - Each interpretation of a round is read back as a witness before anything else is made of it, and
 //   where that breaks the obligation, it is the answer. Nothing has to be shown of the clauses that
 //   weren't searched, since `breaks` looks at the specification alone. The test costs about as much
@@ -42,11 +49,15 @@ macro_rules! or_drop {
 
 mod agreeing;
 mod beside;
+mod choosing;
 pub mod counting;
 pub mod parts;
 mod picking;
+mod places;
 mod searching;
 pub mod testing;
 mod trying;
 
+pub use choosing::{Chosen, chosen_front};
+pub use places::{Layout, Place};
 pub use searching::{LazyAnswer, search_lazily};

@@ -4,9 +4,9 @@ ghost use Rattle.needed_clauses.specs.Renaming.{IsPart};
 ghost use Rattle.lazy_ground.specs.Lazy.{lazy_problem};
 ghost use Rattle.lazy_search.specs.Refuting.{AreSizes, AreOf};
 
+use crate::Chosen;
 use crate::counting::{Sizes, count_ints};
 use crate::testing::{Picks, is_part};
-use chosen_clauses::Chosen;
 use ground_atoms::{Atom, Atoms};
 use items::Items;
 use lazy_ground::LazyGround;

@@ -5,11 +5,11 @@
 // transitive takes three clauses for each three constants of a sort, and few are needed: first those whose equalities are all named. The
 // clauses of the entry, which are mostly of invariants, are found by what they name, and chosen where they are searched (src/beside.rt).
 // An interpretation of these may make others false; they are searched too in the next round.
+use crate::Chosen;
 use crate::agreeing::value_of;
 use crate::beside::{kept_beside, take};
 use crate::parts::{Part, count_named};
 use crate::testing::Picks;
-use chosen_clauses::Chosen;
 use clausify::KeptClauses;
 use ground_atoms::{Atom, Atoms, IntName};
 use needed_clauses::parts::{NOWHERE, mark, no_places, number_of, place_of};

@@ -7,7 +7,7 @@ ghost use Rattle.sat_core.specs.Answers.{IsRefuted};
 ghost use Rattle.needed_clauses.specs.Renaming.{IsPart};
 ghost use Rattle.lazy_ground.specs.Lazy.{lazy_problem, ArePairs};
 ghost use Rattle.lazy_ground.specs.Kept.{HasClauses};
-ghost use Rattle.chosen_clauses.specs.Chosen.{IsLayout};
+ghost use Rattle.lazy_search.specs.Chosen.{IsLayout};
 ghost use Rattle.lazy_search.specs.Refuting.{AreSizes, AreOf, IsLazyAnswer, IsStep};
 ghost use Rattle.lazy_search.specs.Refuting.{IsLazyAnswerTo, IsStepTo};
 
@@ -16,7 +16,7 @@ use crate::counting::{Sizes, count_atoms, sizes_of};
 use crate::parts::{Part, part_of};
 use crate::picking::Picked;
 use crate::trying::{Aim, broken_by};
-use chosen_clauses::{Chosen, Layout, chosen_front};
+use crate::{Chosen, Layout, chosen_front};
 use instances::kept_clauses;
 use items::Items;
 use lazy_ground::LazyGround;

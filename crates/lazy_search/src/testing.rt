@@ -7,8 +7,8 @@ ghost use Rattle.ground_atoms.specs.Symbols.{atom_of};
 ghost use Rattle.lazy_ground.specs.Lazy.{lazy_problem};
 ghost use Rattle.lazy_search.specs.Refuting.{AreSizes, AreOf};
 
+use crate::Chosen;
 use crate::counting::Sizes;
-use chosen_clauses::Chosen;
 use ground_atoms::Atom;
 use lazy_ground::LazyGround;
 use lin_rows::same_row;

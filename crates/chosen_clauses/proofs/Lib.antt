@@ -1,7 +1,0 @@
-pub mod Pieces
-mod Sizes
-mod Ranks
-mod Adding
-mod Standing
-mod Placing
-mod Behind

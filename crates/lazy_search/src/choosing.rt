@@ -1,0 +1,269 @@
+// Some clauses of a lazy ground problem, with the numbers that they have among all.
+ghost use Rattle.std.specs.Prelude.{◌≡◌, ◌≤◌, ◌+◌, ◌++◌, ℕ, List, length, map, take, drop, OnOk, IfOk, IfSome};
+ghost use Rattle.std.specs.List.{range_with_len};
+ghost use Rattle.proof_lines.specs.declared.clause.Lit.{Lit as PlainLit};
+ghost use Rattle.ground_numbers.specs.Clauses.{all_clauses, all_names};
+ghost use Rattle.ground_atoms.specs.Formulas.{form_of};
+ghost use Rattle.lazy_ground.specs.Lazy.{lazy_forms, ArePairs};
+ghost use Rattle.clausify.specs.Kept.{AreClausesOf};
+ghost use Rattle.lazy_ground.specs.Kept.{HasClauses};
+ghost use Rattle.lazy_search.specs.Chosen.{AreAt, StandFrom, IsBehind, IsLayout};
+
+use crate::places::{Layout, Place, firsts_of, place_of_pair};
+use clausify::{KeptClauses, write_clauses};
+use ground_atoms::GroundFormula;
+use instances::kept_clauses;
+use items::Items;
+use lazy_ground::{LazyGround, pair_formula};
+use proof_lines::Clause;
+use std::alloc::{AllocError, Global};
+
+/// Some clauses, and the number that each has among all.
+#[derive(Drop)]
+pub struct Chosen {
+    pub clauses: Items<Clause>,
+    pub numbers: Vec<u32>,
+}
+
+// Adds so many numbers, from one on.
+fn add_numbers(numbers: &mut Vec<u32>, from: u32, many: usize) -> Result<(), AllocError>
+    ensures { OnOk result (numbers.new.items ≡ numbers.old.items ++ range_with_len from many) }
+{
+    for place in 0..many {
+        let Ok(further) = u32::try_from(place) else {
+            return Err(AllocError);
+        };
+        let Some(number) = from.checked_add(further) else {
+            return Err(AllocError);
+        };
+        numbers.push(number)?;
+    }
+    Ok(())
+}
+
+// The formulas behind so many.
+fn forms_behind(forms: &[GroundFormula], count: usize) -> &[GroundFormula]
+    ensures { map form_of result.now ≡ drop count (map form_of forms.now) }
+{
+    if count > forms.len() {
+        return &[];
+    }
+    &forms[count..]
+}
+
+impl Chosen {
+    // Adds the clauses of some formulas, which stand from a place on, and answers the place behind them.
+    fn add(
+        &mut self,
+        alloc: Global,
+        at: Place,
+        forms: &[GroundFormula],
+    ) -> Result<Place, AllocError>
+        ensures chosen { OnOk result ((all : List (List PlainLit))
+            → StandFrom all at.clause (all_clauses at.name (map form_of forms.now))
+            → AreAt all self.old.clauses self.old.numbers.items
+            → AreAt all self.new.clauses self.new.numbers.items) }
+        ensures clause { IfOk result (λ next. next.clause
+            ≡ at.clause + length (all_clauses at.name (map form_of forms.now))) }
+        ensures name { IfOk result (λ next. next.name
+            ≡ at.name + all_names (map form_of forms.now)) }
+    {
+        let before = self.clauses.len();
+        let name = write_clauses(alloc, at.name, forms, &mut self.clauses)?;
+        let more = self.clauses.len() - before;
+        add_numbers(&mut self.numbers, at.clause, more)?;
+        let Ok(more) = u32::try_from(more) else {
+            return Err(AllocError);
+        };
+        let Some(clause) = at.clause.checked_add(more) else {
+            return Err(AllocError);
+        };
+        Ok(Place { clause, name })
+    }
+
+    // Adds the clauses of the formulas behind the first so many, whose clauses were kept and aren't added, and answers the place behind
+    // them.
+    fn add_behind(
+        &mut self,
+        alloc: Global,
+        name: u32,
+        forms: &[GroundFormula],
+        count: usize,
+        kept: &KeptClauses,
+    ) -> Result<Place, AllocError>
+        requires within { kept.now.first ≤ name }
+        requires kept { AreClausesOf (take count (map form_of forms.now)) kept.now }
+        ensures chosen { OnOk result ((all : List (List PlainLit))
+            → StandFrom all 0 (all_clauses name (map form_of forms.now))
+            → AreAt all self.old.clauses self.old.numbers.items
+            → AreAt all self.new.clauses self.new.numbers.items) }
+        ensures behind { IfOk result (IsBehind name (map form_of forms.now)) }
+    {
+        let Ok(clause) = u32::try_from(kept.clauses.len()) else {
+            return Err(AllocError);
+        };
+        let Some(after) = name.checked_add(kept.names) else {
+            return Err(AllocError);
+        };
+        let at = Place {
+            clause,
+            name: after,
+        };
+        let next = self.add(alloc, at, forms_behind(forms, count))?;
+        Ok(next)
+    }
+
+    // Adds the clauses of those formulas in front of the pairs that aren't the entry's, and answers the place behind all in front of the
+    // pairs. Where no clauses of the entry are at hand, it adds those of all.
+    fn add_front(
+        &mut self,
+        alloc: Global,
+        ground: &LazyGround,
+        name: u32,
+    ) -> Result<Place, AllocError>
+        requires { HasClauses ground.now }
+        ensures chosen { OnOk result ((all : List (List PlainLit))
+            → StandFrom all 0 (all_clauses name (map form_of ground.now.front))
+            → AreAt all self.old.clauses self.old.numbers.items
+            → AreAt all self.new.clauses self.new.numbers.items) }
+        ensures behind { IfOk result (IsBehind name (map form_of ground.now.front)) }
+    {
+        let front = ground.front.as_slice();
+        match kept_clauses(&ground.part) {
+            Some((kept, count)) if kept.first <= name => {
+                self.add_behind(alloc, name, front, count, kept)
+            }
+            _ => self.add(alloc, Place { clause: 0, name }, front),
+        }
+    }
+
+    // Adds the clauses of the formulas in front of the pairs and of those behind them, without those of the entry's formulas, and answers
+    // where all stand.
+    fn add_around(
+        &mut self,
+        alloc: Global,
+        ground: &LazyGround,
+        name: u32,
+    ) -> Result<Option<Layout>, AllocError>
+        requires pairs { ArePairs ground.now.atoms.table ground.now.pairs }
+        requires clauses { HasClauses ground.now }
+        ensures chosen { IfOk result (λ found. IfSome found (λ layout.
+            AreAt (all_clauses name (lazy_forms ground.now))
+            self.old.clauses self.old.numbers.items
+            → AreAt (all_clauses name (lazy_forms ground.now))
+            self.new.clauses self.new.numbers.items)) }
+        ensures layout { IfOk result (λ found. IfSome found
+            (λ layout. IsLayout ground.now name layout)) }
+    {
+        let first = self.add_front(alloc, ground, name)?;
+        let Some((firsts, pairs_end)) = firsts_of(alloc, first, ground.pairs.as_slice())? else {
+            return Ok(None);
+        };
+        match self.add(alloc, pairs_end, ground.behind.as_slice()) {
+            Ok(behind) => Ok(Some(Layout { firsts, behind })),
+            Err(error) => {
+                drop(firsts);
+                Err(error)
+            }
+        }
+    }
+
+    /// Adds the clause of the entry that stands at a place among those that are at hand. It says whether it did: it does not where none
+    /// stands there.
+    pub fn add_kept(
+        &mut self,
+        alloc: Global,
+        ground: &LazyGround,
+        name: u32,
+        place: u32,
+    ) -> Result<bool, AllocError>
+        requires { HasClauses ground.now }
+        ensures { OnOk result (AreAt (all_clauses name (lazy_forms ground.now))
+            self.old.clauses self.old.numbers.items
+            → AreAt (all_clauses name (lazy_forms ground.now))
+            self.new.clauses self.new.numbers.items) }
+    {
+        let Some((kept, _)) = kept_clauses(&ground.part) else {
+            return Ok(false);
+        };
+        let Some(clause) = kept.at(alloc, name, place as usize)? else {
+            return Ok(false);
+        };
+        self.clauses.push(clause)?;
+        self.numbers.push(place)?;
+        Ok(true)
+    }
+
+    /// Adds the clauses of the tuples at two places of a relation's pairs, the earlier first, where `relation` is its place among these.
+    /// It says whether it did: it does not where the formula isn't told, a place isn't there, or numbers don't reach.
+    pub fn add_pair(
+        &mut self,
+        alloc: Global,
+        ground: &LazyGround,
+        layout: &Layout,
+        relation: usize,
+        earlier: usize,
+        later: usize,
+    ) -> Result<bool, AllocError>
+        requires { ArePairs ground.now.atoms.table ground.now.pairs }
+        ensures { OnOk result ((name : ℕ) → IsLayout ground.now name layout.now
+            → AreAt (all_clauses name (lazy_forms ground.now))
+            self.old.clauses self.old.numbers.items
+            → AreAt (all_clauses name (lazy_forms ground.now))
+            self.new.clauses self.new.numbers.items) }
+    {
+        if relation >= ground.pairs.len() || relation >= layout.firsts.len() {
+            return Ok(false);
+        }
+        let pairs = &ground.pairs.as_slice()[relation];
+        if earlier >= later || later >= pairs.tuples.len() {
+            return Ok(false);
+        }
+        let first = layout.firsts[relation];
+        let Some(at) = place_of_pair(first, pairs.tuples.len(), earlier, later) else {
+            return Ok(false);
+        };
+        let Some(form) = pair_formula(&ground.atoms, alloc, pairs, earlier, later)? else {
+            return Ok(false);
+        };
+        let forms = [form];
+        let added = self.add(alloc, at, &forms);
+        drop(forms);
+        match added {
+            Ok(_) => Ok(true),
+            Err(error) => Err(error),
+        }
+    }
+}
+
+/// The clauses of the formulas in front of the pairs and of those behind them, and where the pairs' clauses stand; nothing where numbers
+/// don't reach. `name` is the number of the first atom that names a part. Clauses of the entry that are at hand are left out: `add_kept`
+/// adds each.
+pub fn chosen_front(
+    alloc: Global,
+    ground: &LazyGround,
+    name: u32,
+) -> Result<Option<(Chosen, Layout)>, AllocError>
+    requires pairs { ArePairs ground.now.atoms.table ground.now.pairs }
+    requires clauses { HasClauses ground.now }
+    ensures chosen { IfOk result (λ answer. IfSome answer (λ found.
+        AreAt (all_clauses name (lazy_forms ground.now)) found.0.clauses found.0.numbers.items)) }
+    ensures layout { IfOk result (λ answer. IfSome answer
+        (λ found. IsLayout ground.now name found.1)) }
+{
+    let mut chosen = Chosen {
+        clauses: Items::new(alloc),
+        numbers: Vec::new(alloc),
+    };
+    match chosen.add_around(alloc, ground, name) {
+        Ok(Some(layout)) => Ok(Some((chosen, layout))),
+        Ok(None) => {
+            drop(chosen);
+            Ok(None)
+        }
+        Err(error) => {
+            drop(chosen);
+            Err(error)
+        }
+    }
+}
