@@ -9,7 +9,7 @@
 // shows). `Checking` and `Keeping` mirror the code.
 //
 // `KeptCache` holds what decided obligations left for others. Eviction is by last use: what was
-// used the longest ago goes first, within the limits of `EntryCache`.
+// used the longest ago goes first.
 //
 // Decisions:
 // - What obligations share is taken out of `KeptCache` and put back, by value, in `decide_next`;

@@ -1,6 +1,6 @@
 // What decided obligations leave for others.
 //
-// An entry and pairs of readings serve obligations whose constants are alike, and those don't stand in a row. So a few are kept, as
+// An entry and pairs of readings serve obligations whose constants are alike, and those don't stand in a row. So some are kept, as
 // `EntryCache` keeps entries alone.
 ghost use Rattle.spec_core.specs.Specification.{Specification};
 ghost use Rattle.obligation_list.specs.Obligations.{IsObligation};
@@ -8,11 +8,16 @@ ghost use Rattle.lazy_ground.specs.Kept.{IsKept};
 ghost use Rattle.ground_cache.specs.Keeping.{AreKept};
 
 use instances::EntryKey;
-use instances::caching::{MOST_ENTRIES, MOST_ENTRY_FORMULAS};
 use lazy_ground::Kept;
 use obligation_list::Obligation;
 use spec_core::Spec;
 use std::alloc::Global;
+
+// The most that is kept. Calls with many parameters have many lists of constants.
+const MOST: usize = 128;
+
+// The most formulas that stand in what is kept, together: as many as twelve obligations may have.
+const MOST_FORMULAS: usize = 240_000;
 
 /// What obligations left, each for others whose constants are alike. The one that was used last stands last.
 #[derive(Drop)]
@@ -86,7 +91,7 @@ impl KeptCache {
         for kept in self.kept.as_slice() {
             formulas = formulas.wrapping_add(count_formulas(kept));
         }
-        self.kept.len() < MOST_ENTRIES && formulas <= MOST_ENTRY_FORMULAS
+        self.kept.len() < MOST && formulas <= MOST_FORMULAS
     }
 
     // Lets go of what was used the longest ago.
@@ -106,7 +111,7 @@ impl KeptCache {
         requires { AreKept spec.now self.old }
         ensures { AreKept spec.now self.new }
     {
-        for _ in 0..MOST_ENTRIES {
+        for _ in 0..MOST {
             if self.has_room(more) {
                 return;
             }
