@@ -1,7 +1,7 @@
 // What the ground problems of obligations leave for others of their specification.
 //
 // It stands on `lazy_ground`, which makes the problem of an obligation from what another one left. A check and a verifier keep the same.
-// Eviction is by last use: what was used the longest ago goes first, within the limits of `instances`.
+// Eviction is by last use: what was used the longest ago goes first, where they are more than 128 or have more than 240,000 formulas.
 //
 // Definitions: specs/Keeping (that each thing that is kept serves any obligation).
 //
