@@ -6,16 +6,12 @@
 // `proof_report`, which writes the text. Definitions, in specs/: `Good` (when a verdict is good),
 // `Fitting` (which verdicts lines can hold), `Decided` (what can leave an obligation undecided
 // whose rows are differences), `Reports` (what is written), `Shown` (the state that a witness
-// shows). `Checking` and `Keeping` mirror the code.
-//
-// `KeptCache` holds what decided obligations left for others. Eviction is by last use: what was
-// used the longest ago goes first.
+// shows). `Checking` mirrors the code. What decided obligations leave for others is kept by
+// `ground_cache`.
 //
 // Decisions:
 // - What obligations share is taken out of `KeptCache` and put back, by value, in `decide_next`;
-//   `decide` begins with nothing. A refusal lets go of what it took. Entries have a cache of their
-//   own in `instances`, for the verifier, since a contract can't range over what is said of a
-//   type's values.
+//   `decide` begins with nothing. A refusal lets go of what it took.
 // - `decide_all` counts verdicts without a report; a generated specification is checked by it.
 #![tactic(auto)]
 
