@@ -1,8 +1,10 @@
 // Which clauses of the entry are searched first, found by what they name.
 //
-// Those that name one of some atoms, or a part that one of these names, and those of one literal on what these name. So the clauses of
-// invariants that say nothing of these atoms aren't looked at.
+// Those whose readings and rows are all among some atoms, those that name a part that one of these names, and those of one literal on what
+// these name. So the clauses of invariants that say nothing of these atoms aren't looked at, and those that lead from them to other readings
+// come later, where an interpretation makes them false.
 use clausify::KeptClauses;
+use ground_atoms::{Atom, Atoms};
 use needed_clauses::parts::{NOWHERE, number_of, place_of};
 use proof_lines::Lit;
 use std::alloc::{AllocError, Global};
@@ -21,6 +23,30 @@ fn lits_at(kept: &KeptClauses, place: u32) -> &[Lit] {
         Some(clause) => clause.lits(),
         None => &[],
     }
+}
+
+// Which of the first so many atoms are among these, or say that two constants are equal.
+fn allowed(
+    alloc: Global,
+    atoms: &Atoms,
+    many: u32,
+    named: &[u32],
+) -> Result<Vec<bool>, AllocError> {
+    let mut marks = Vec::with_capacity(alloc, many as usize)?;
+    for number in 0..many {
+        marks.push(matches!(atoms.atom(number), Some(Atom::Same(_, _))))?;
+    }
+    for number in named {
+        if let Some(mark) = marks.as_mut_slice().get_mut(*number as usize) {
+            *mark = true;
+        }
+    }
+    Ok(marks)
+}
+
+// Whether the atoms that a clause names are allowed, or name parts.
+fn are_allowed(marks: &[bool], lits: &[Lit]) -> bool {
+    lits.iter().all(|lit| marks.get(lit.atom as usize).copied().unwrap_or(true))
 }
 
 // The places of the clauses that were found, and for each part the first of them that names it.
@@ -52,6 +78,36 @@ impl Found {
         }
     }
 
+    // Adds the clause at a place, unless it was taken.
+    fn add(
+        &mut self,
+        kept: &KeptClauses,
+        place: u32,
+        taken: &mut [bool],
+    ) -> Result<(), AllocError> {
+        if take(taken, place as usize) {
+            self.places.push(place)?;
+            self.note_parts(kept.first, place, lits_at(kept, place));
+        }
+        Ok(())
+    }
+
+    // Adds the clauses that name an atom, and of others such as are allowed.
+    fn add_allowed(
+        &mut self,
+        kept: &KeptClauses,
+        atom: u32,
+        marks: &[bool],
+        taken: &mut [bool],
+    ) -> Result<(), AllocError> {
+        for place in kept.by_atom.naming(atom) {
+            if are_allowed(marks, lits_at(kept, *place)) {
+                self.add(kept, *place, taken)?;
+            }
+        }
+        Ok(())
+    }
+
     // Adds the clauses from a place on that name an atom.
     fn add_naming(
         &mut self,
@@ -61,9 +117,8 @@ impl Found {
         taken: &mut [bool],
     ) -> Result<(), AllocError> {
         for place in kept.by_atom.naming(atom) {
-            if *place >= from && take(taken, *place as usize) {
-                self.places.push(*place)?;
-                self.note_parts(kept.first, *place, lits_at(kept, *place));
+            if *place >= from {
+                self.add(kept, *place, taken)?;
             }
         }
         Ok(())
@@ -114,14 +169,16 @@ fn places_taken(alloc: Global, taken: &[bool], many: usize) -> Result<Vec<u32>, 
 /// The places of these clauses, where the atoms are these, in rising order. They are taken; none was before.
 pub(crate) fn kept_beside(
     alloc: Global,
+    atoms: &Atoms,
     kept: &KeptClauses,
     named: &[u32],
     taken: &mut [bool],
 ) -> Result<Vec<u32>, AllocError> {
+    let marks = allowed(alloc, atoms, kept.first, named)?;
     let mut found = Found::new(alloc, kept.names as usize)?;
     for atom in named {
         if *atom < kept.first {
-            found.add_naming(kept, *atom, 0, taken)?;
+            found.add_allowed(kept, *atom, marks.as_slice(), taken)?;
         }
     }
     found.add_of_parts(kept, taken)?;

@@ -164,10 +164,12 @@ impl Picked {
     pub fn choose_kept(
         &mut self,
         alloc: Global,
+        atoms: &Atoms,
         kept: &KeptClauses,
     ) -> Result<Vec<u32>, AllocError> {
         self.kept.resize(kept.clauses.len(), false)?;
-        kept_beside(alloc, kept, self.named.as_slice(), self.kept.as_mut_slice())
+        let named = self.named.as_slice();
+        kept_beside(alloc, atoms, kept, named, self.kept.as_mut_slice())
     }
 
     /// Chooses of the entry's clauses those that truth values of a part make false, and answers their places. `name` is the number of the

@@ -342,7 +342,7 @@ fn add_entry(
     let Some((kept, _)) = kept_clauses(&ground.part) else {
         return Ok(());
     };
-    let places = picked.choose_kept(alloc, kept)?;
+    let places = picked.choose_kept(alloc, &ground.atoms, kept)?;
     add_kept(alloc, ground, sizes, chosen, places.as_slice())?;
     picked.pick_new(chosen.clauses.len())
 }
