@@ -135,10 +135,8 @@ ended_within d budget (Some e) j h = omega arith
 pub taken_within : (d : Specification) (budget n : ℕ) (f : Fed) (j : Judgement) → IsWithin d j → IsWithin d (taken_as d budget n f j)
 taken_within d budget n f j h = ended_within d budget f.ended _ (logged_within d n f.log _ (begun_within d n f.begin j h))
 
-pub kept_bound : (d e : Specification) (j : Judgement) (s : State) (n : ℕ) → IsWithin d j → j.kernel ≡ Some s → n ≡ length s.slots → e ≡ d → n ≤ most_kept e j
-kept_bound d e j s n h k m same =
-    let w : length s.slots ≤ most_kept d j = subst (λ (o : Option State). clauses_in o ≤ most_kept d j) k h in
-    subst (λ (x : Specification). n ≤ most_kept x j) (sym same) (omega (arith, m, w))
+pub kept_bound : (d e : Specification) (j : Judgement) (n : ℕ) → IsWithin d j → n ≡ clauses_in j.kernel → e ≡ d → n ≤ most_kept e j
+kept_bound d e j n h m same = subst (λ (x : Specification). n ≤ most_kept x j) (sym same) (omega (arith, m, h))
 
 -- what a verifier is behind what was told of a line
 pub told_so : (v : VerifierForm) (d : Specification) (r : ReaderForm) (i j : Judgement) (failed : Bool) (f : Fed) (budget n : ℕ) → v ≡ record { reader = r; judgement = i; failed = failed } → r.spec ≡ d → v.failed ≡ false

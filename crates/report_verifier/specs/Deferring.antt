@@ -1,5 +1,5 @@
 -- What stands where the lines of a log are deferred.
-use Rattle.std.specs.Prelude.{◌≡◌, suc, IfSome, Option, Some, None}
+use Rattle.std.specs.Prelude.{suc, IfSome, Option, Some, None}
 use Rattle.spec_core.specs.Specification.{Specification}
 use Rattle.proof_kernel.specs.Rules.{State, start}
 use Rattle.ground_numbers.specs.Problem.{problem_of}

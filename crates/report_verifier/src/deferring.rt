@@ -3,14 +3,16 @@
 // A log names few of the clauses of its obligation's problem, and most that prove are accepted over these alone (`lazy_logs`). So the whole
 // problem isn't made before the lines are there. Where they aren't known to refute it, where a line is of another kind, and where there
 // is no room for more of them, the whole problem is made, and its kernel takes the lines as if it had been there from the first one on.
-ghost use Rattle.std.specs.Prelude.{◌≡◌, suc, ◌++◌, ◌∷◌, [], Some, None, IfOk, OnOk, IsTrue};
+ghost use Rattle.std.specs.Prelude.{◌≡◌, suc, ◌+◌, false, length, ◌++◌, ◌∷◌, [], Some, None, IfOk};
+ghost use Rattle.std.specs.Prelude.{OnOk, IsTrue};
 ghost use Rattle.std.specs.List.{Contains};
 ghost use Rattle.obligation_list.specs.declared.obligation.Obligation.{Obligation as TheObligation};
 ghost use Rattle.obligation_list.specs.Obligations.{IsObligation, obligations_of};
 ghost use Rattle.ground_cache.specs.Keeping.{AreKept};
 ghost use Rattle.report_verifier.specs.Verifier.{no_judgement, obligation_due, log_all, logged};
 ghost use Rattle.report_verifier.specs.Posing.{IsLazyOf};
-ghost use Rattle.report_verifier.specs.Deferring.{after_deferred, judgement_of, HasDeferred, IsRefutedBy};
+ghost use Rattle.report_verifier.specs.Deferring.{after_deferred, judgement_of, HasDeferred};
+ghost use Rattle.report_verifier.specs.Deferring.{IsRefutedBy};
 
 use crate::judgement::{Judgement, log_line, no_judgement, obligation_due};
 use crate::posing::Poser;
@@ -144,7 +146,8 @@ fn settle_log(
     judgement: &mut Judgement,
 ) -> Result<(), AllocError>
     requires list { obligations.now ≡ obligations_of spec.now }
-    requires members { (ob : TheObligation) → Contains obligations.now ob → IsObligation spec.now ob }
+    requires members { (ob : TheObligation) → Contains obligations.now ob
+        → IsObligation spec.now ob }
     requires kept { AreKept spec.now poser.old.cache }
     requires log { IsLazyOf spec.now (obligation_due spec.now judgement.old) log.ground }
     ensures kept { AreKept spec.now poser.new.cache }
@@ -168,7 +171,8 @@ pub fn settle(
     judging: &mut Judging,
 ) -> Result<(), AllocError>
     requires list { obligations.now ≡ obligations_of spec.now }
-    requires members { (ob : TheObligation) → Contains obligations.now ob → IsObligation spec.now ob }
+    requires members { (ob : TheObligation) → Contains obligations.now ob
+        → IsObligation spec.now ob }
     requires kept { AreKept spec.now poser.old.cache }
     requires deferred { HasDeferred spec.now judging.old }
     ensures kept { AreKept spec.now poser.new.cache }
@@ -216,7 +220,8 @@ pub fn log_or_defer(
     judging: &mut Judging,
 ) -> Result<(), AllocError>
     requires list { obligations.now ≡ obligations_of spec.now }
-    requires members { (ob : TheObligation) → Contains obligations.now ob → IsObligation spec.now ob }
+    requires members { (ob : TheObligation) → Contains obligations.now ob
+        → IsObligation spec.now ob }
     requires kept { AreKept spec.now poser.old.cache }
     requires deferred { HasDeferred spec.now judging.old }
     ensures kept { AreKept spec.now poser.new.cache }

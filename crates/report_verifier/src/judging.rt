@@ -1,5 +1,5 @@
 // What is kept of the verdicts of a report, as a reader tells of its lines.
-ghost use Rattle.std.specs.Prelude.{◌≡◌, ℕ, None, Some, OnOk};
+ghost use Rattle.std.specs.Prelude.{◌≡◌, ℕ, true, None, Some, OnOk};
 ghost use Rattle.std.specs.List.{Contains};
 ghost use Rattle.obligation_list.specs.declared.obligation.Obligation.{Obligation as TheObligation};
 ghost use Rattle.obligation_list.specs.Obligations.{IsObligation, obligations_of};
@@ -8,7 +8,8 @@ ghost use Rattle.ground_cache.specs.Keeping.{AreKept};
 ghost use Rattle.report_verifier.specs.Verifier.{obligation_due, posed, has_log, begun, begun_in};
 ghost use Rattle.report_verifier.specs.Taking.{ended_as, taken_as};
 ghost use Rattle.report_verifier.specs.Posing.{IsPosed};
-ghost use Rattle.report_verifier.specs.Deferring.{with_kernel, judgement_of, HasDeferred, IsRefutedBy};
+ghost use Rattle.report_verifier.specs.Deferring.{with_kernel, judgement_of, HasDeferred};
+ghost use Rattle.report_verifier.specs.Deferring.{IsRefutedBy};
 
 use crate::deferring::{DeferredLog, Judging, is_deferred, is_refuted, log_or_defer, settle};
 use crate::judgement::{end, has_log, obligation_due, with_ended};
@@ -94,7 +95,8 @@ fn begin(
     judging: &mut Judging,
 ) -> Result<(), AllocError>
     requires list { obligations.now ≡ obligations_of spec.now }
-    requires members { (ob : TheObligation) → Contains obligations.now ob → IsObligation spec.now ob }
+    requires members { (ob : TheObligation) → Contains obligations.now ob
+        → IsObligation spec.now ob }
     requires kept { AreKept spec.now poser.old.cache }
     requires deferred { HasDeferred spec.now judging.old }
     ensures kept { AreKept spec.now poser.new.cache }
@@ -153,7 +155,8 @@ fn end_or_settle(
     judging: &mut Judging,
 ) -> Result<(), AllocError>
     requires list { obligations.now ≡ obligations_of spec.now }
-    requires members { (ob : TheObligation) → Contains obligations.now ob → IsObligation spec.now ob }
+    requires members { (ob : TheObligation) → Contains obligations.now ob
+        → IsObligation spec.now ob }
     requires kept { AreKept spec.now poser.old.cache }
     requires deferred { HasDeferred spec.now judging.old }
     ensures kept { AreKept spec.now poser.new.cache }
@@ -181,7 +184,8 @@ pub fn take(
     judging: &mut Judging,
 ) -> Result<(), AllocError>
     requires list { obligations.now ≡ obligations_of spec.now }
-    requires members { (ob : TheObligation) → Contains obligations.now ob → IsObligation spec.now ob }
+    requires members { (ob : TheObligation) → Contains obligations.now ob
+        → IsObligation spec.now ob }
     requires kept { AreKept spec.now poser.old.cache }
     requires deferred { HasDeferred spec.now judging.old }
     ensures kept { AreKept spec.now poser.new.cache }

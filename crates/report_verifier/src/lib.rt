@@ -1,16 +1,20 @@
 // The verifier of reports: whether bytes are a report on a specification whose verdicts all rest on what they say.
 //
 // It believes nothing of the program that wrote the report. The text is read by `report_bytes`; for each verdict the ground problem of
-// its obligation is made anew (`instances`), the lines of a log are taken by the kernel (`proof_kernel`), and a witness is
+// its obligation is made anew (`lazy_ground`), the lines of a log are taken by the kernel (`proof_kernel`), and a witness is
 // tried by evaluation (`obligation_list`). So an accepted report whose verdicts are all proved shows that the specification is safe.
 //
 // Definitions, in the order in which a reader needs them: specs/Valid (when a verdict is valid), specs/Rules (the same as a function:
 // the fault of a verdict and its line, and the first one of a report), specs/Verified (what is answered to bytes), specs/Verifier
-// (what is kept of a report line by line), specs/Notes (what is noted of the lines of a report that is held). specs/Taking mirrors the code.
+// (what is kept of a report line by line), specs/Notes (what is noted of the lines of a report that is held). specs/Taking, specs/Posing and specs/Deferring mirror the code.
 //
 // Decisions:
 // - After the first fault of a verdict no further problem is posed; only the text is read on.
-// - What obligations share is kept as a check keeps it (`EntryCache`) and believed as little: it
+// - The lines of a log that proves are deferred to the end of their block, up to 4,000 of them. Most
+//   are accepted there over the clauses that they name (`lazy_logs`), and the whole problem isn't
+//   made. In each other case it is, and its kernel takes the lines that were deferred: what is
+//   answered is the same (src/deferring.rt).
+// - What obligations share is kept as a check keeps it (`KeptCache`) and believed as little: it
 //   was made here, of the specification. It holds what up to 32 problems of other blocks share with
 //   later ones, at most 60,000 formulas together.
 // - A witness is judged by what it shows: tuples that aren't shown are false, values 0.

@@ -1,5 +1,5 @@
 // A verifier of a report, line by line.
-ghost use Rattle.std.specs.Prelude.{◌≡◌, ◌≤◌, IfOk, OnErr, IsErr, true, false};
+ghost use Rattle.std.specs.Prelude.{◌≡◌, ◌≤◌, IfOk, OnOk, OnErr, IsErr, true, false};
 ghost use Rattle.report_reader.specs.Resolving.{resolve_told};
 ghost use Rattle.report_bytes.specs.Collecting.{budget_in};
 ghost use Rattle.report_verifier.specs.Notes.{IsPair};
@@ -9,6 +9,7 @@ ghost use Rattle.report_verifier.specs.Verifier.{IsCutOff};
 ghost use Rattle.report_verifier.specs.Verifier.{IsJudgement, IsMissing, clauses_in, most_kept};
 
 use crate::deferring::{Judging, log_or_defer, no_judging, settle};
+use crate::judgement::Judgement;
 use crate::judging::take;
 use crate::notes::ResolvedPair;
 use crate::posing::Poser;
@@ -61,6 +62,16 @@ fn budget_in(reader: &ReportReader<'_>) -> u32
 {
     match reader.budget() {
         Some(budget) => budget,
+        None => 0,
+    }
+}
+
+// How many clauses are in the kernel.
+fn clauses_in(judgement: &Judgement) -> u32
+    ensures { result ≡ clauses_in judgement.now.kernel }
+{
+    match &judgement.kernel {
+        Some(kernel) => kernel.clause_count(),
         None => 0,
     }
 }
@@ -238,10 +249,18 @@ impl<'a> Verifier<'a> {
         ensures same { OnOk result (self.new ≡ self.old) }
         ensures failed { OnErr result (self.new.failed ≡ true) }
     {
-        self.settle()?;
-        match &self.judging.judgement.kernel {
-            Some(kernel) => Ok(kernel.clause_count()),
-            None => Ok(0),
+        match settle(
+            &mut self.poser,
+            self.spec,
+            self.obligations.as_slice(),
+            &mut self.judging,
+        ) {
+            Ok(()) => Ok(clauses_in(&self.judging.judgement)),
+            Err(error) => {
+                self.judging = no_judging();
+                self.failed = true;
+                Err(error)
+            }
         }
     }
 
