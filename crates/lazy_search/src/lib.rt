@@ -5,7 +5,7 @@
 // problem, and the kernel takes it there. Where they have one, it says which constants are equal and which readings are true. That is
 // read back as a witness, which is the answer where it breaks the obligation (src/trying.rt). Else the pairs of tuples that the
 // interpretation makes equal and of which it reads one true and one false (src/agreeing.rt) are those whose clauses are false. These
-// and the other clauses that it makes false join the first ones, and all are searched again (src/searching.rt).
+// or other clauses that it makes false join the first ones, and all are searched again (src/searching.rt).
 //
 // So no formula is made for a pair of tuples that no interpretation makes equal, and none is looked at. Nothing is answered where all
 // pairs agree, or where a search comes to no end in a few lines; then the whole problem is to be searched.
@@ -27,9 +27,14 @@
 // - Where no witness of a round breaks it and all pairs agree, the problem is completed and searched
 //   whole. The formulas are counted before the first round, so too many of them leave an obligation
 //   undecided, whether or not a witness would be found.
+// - Of the clauses that say that equality is transitive, those come first whose equalities are all
+//   named by the conclusion, the definitions and the preconditions; of the entry's, those whose
+//   readings and rows are. Most others are true in what is found, and those that aren't join the next
+//   round. Pairs are looked for only where all chosen clauses are true: else tuples may seem equal
+//   that aren't.
 // - Two calls mostly commute whatever the invariants say. So an obligation on two calls whose entry
 //   has at least 256 clauses is first searched without these, and its time doesn't grow with the
-//   number of invariants. Of one call the invariants are needed nearly always. After three rounds
+//   number of invariants. Of one call the invariants are needed nearly always. After five rounds
 //   all clauses but those of pairs are searched.
 #![tactic(auto)]
 

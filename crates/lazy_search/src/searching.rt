@@ -31,7 +31,7 @@ use std::alloc::{AllocError, Global};
 const ROUNDS: u32 = 12;
 
 // After so many rounds all chosen clauses are searched.
-const PICKY_ROUNDS: u32 = 3;
+const PICKY_ROUNDS: u32 = 5;
 
 // So many lines of a log at most, in a round.
 const FEW_LINES: u32 = 2000;
