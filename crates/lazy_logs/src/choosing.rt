@@ -18,16 +18,21 @@ use needed_clauses::parts::{NOWHERE, number_of};
 use proof_lines::{Clause, Line, Lit};
 use std::alloc::{AllocError, Global};
 
+// Adds a number, where it is below a count.
+fn push_below(named: &mut Vec<u32>, number: u32, many: usize) -> Result<(), AllocError> {
+    if (number as usize) < many {
+        named.push(number)?;
+    }
+    Ok(())
+}
+
 /// The numbers below a count that lines name, in rising order, each once.
 pub fn numbers_named(alloc: Global, lines: &[Line], many: usize) -> Result<Vec<u32>, AllocError> {
     let mut named = Vec::new(alloc);
     for line in lines {
         if let Line::Resolve { left, right, .. } = line {
-            for number in [*left, *right] {
-                if (number as usize) < many {
-                    named.push(number)?;
-                }
-            }
+            push_below(&mut named, *left, many)?;
+            push_below(&mut named, *right, many)?;
         }
     }
     named.sort_unstable();
@@ -83,14 +88,13 @@ fn pair_from(first: u32, many: usize, number: u32) -> Option<(usize, usize)> {
 // The pair that a clause is of, if it is of one.
 fn pair_of(ground: &LazyGround, layout: &Layout, number: u32) -> Option<PairAt> {
     for (relation, pairs) in ground.pairs.iter().enumerate() {
-        if let Some(first) = layout.firsts.get(relation) {
-            if let Some((earlier, later)) = pair_from(first.clause, pairs.tuples.len(), number) {
-                return Some(PairAt {
-                    relation,
-                    earlier,
-                    later,
-                });
-            }
+        let first = layout.firsts.get(relation)?;
+        if let Some((earlier, later)) = pair_from(first.clause, pairs.tuples.len(), number) {
+            return Some(PairAt {
+                relation,
+                earlier,
+                later,
+            });
         }
     }
     None
@@ -161,10 +165,9 @@ pub fn picks_of(
 ) -> Result<Option<Picks>, AllocError> {
     let mut places = vec![in alloc; NOWHERE; numbers.len()]?;
     for (place, number) in chosen.numbers.iter().enumerate() {
-        if let Ok(at) = numbers.as_slice().binary_search(number) {
-            if at < places.len() {
-                places[at] = number_of(place);
-            }
+        match numbers.as_slice().binary_search(number) {
+            Ok(at) if at < places.len() => places[at] = number_of(place),
+            _ => {}
         }
     }
     if places.iter().any(|place| *place == NOWHERE) {

@@ -6,7 +6,6 @@
 ghost use Rattle.std.specs.Prelude.{◌≡◌, suc, ◌+◌, false, length, ◌++◌, ◌∷◌, [], Some, None, IfOk};
 ghost use Rattle.std.specs.Prelude.{OnOk, IsTrue};
 ghost use Rattle.std.specs.List.{Contains};
-ghost use Rattle.obligation_list.specs.declared.obligation.Obligation.{Obligation as TheObligation};
 ghost use Rattle.obligation_list.specs.Obligations.{IsObligation, obligations_of};
 ghost use Rattle.ground_cache.specs.Keeping.{AreKept};
 ghost use Rattle.report_verifier.specs.Verifier.{no_judgement, obligation_due, log_all, logged};
@@ -146,8 +145,7 @@ fn settle_log(
     judgement: &mut Judgement,
 ) -> Result<(), AllocError>
     requires list { obligations.now ≡ obligations_of spec.now }
-    requires members { (ob : TheObligation) → Contains obligations.now ob
-        → IsObligation spec.now ob }
+    requires members { (ob : Obligation) → Contains obligations.now ob → IsObligation spec.now ob }
     requires kept { AreKept spec.now poser.old.cache }
     requires log { IsLazyOf spec.now (obligation_due spec.now judgement.old) log.ground }
     ensures kept { AreKept spec.now poser.new.cache }
@@ -171,8 +169,7 @@ pub fn settle(
     judging: &mut Judging,
 ) -> Result<(), AllocError>
     requires list { obligations.now ≡ obligations_of spec.now }
-    requires members { (ob : TheObligation) → Contains obligations.now ob
-        → IsObligation spec.now ob }
+    requires members { (ob : Obligation) → Contains obligations.now ob → IsObligation spec.now ob }
     requires kept { AreKept spec.now poser.old.cache }
     requires deferred { HasDeferred spec.now judging.old }
     ensures kept { AreKept spec.now poser.new.cache }
@@ -220,8 +217,7 @@ pub fn log_or_defer(
     judging: &mut Judging,
 ) -> Result<(), AllocError>
     requires list { obligations.now ≡ obligations_of spec.now }
-    requires members { (ob : TheObligation) → Contains obligations.now ob
-        → IsObligation spec.now ob }
+    requires members { (ob : Obligation) → Contains obligations.now ob → IsObligation spec.now ob }
     requires kept { AreKept spec.now poser.old.cache }
     requires deferred { HasDeferred spec.now judging.old }
     ensures kept { AreKept spec.now poser.new.cache }

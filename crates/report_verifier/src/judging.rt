@@ -1,7 +1,6 @@
 // What is kept of the verdicts of a report, as a reader tells of its lines.
 ghost use Rattle.std.specs.Prelude.{◌≡◌, ℕ, true, None, Some, OnOk};
 ghost use Rattle.std.specs.List.{Contains};
-ghost use Rattle.obligation_list.specs.declared.obligation.Obligation.{Obligation as TheObligation};
 ghost use Rattle.obligation_list.specs.Obligations.{IsObligation, obligations_of};
 ghost use Rattle.proof_report.specs.declared.verdict.Ended.TheVariants as ends;
 ghost use Rattle.ground_cache.specs.Keeping.{AreKept};
@@ -95,8 +94,7 @@ fn begin(
     judging: &mut Judging,
 ) -> Result<(), AllocError>
     requires list { obligations.now ≡ obligations_of spec.now }
-    requires members { (ob : TheObligation) → Contains obligations.now ob
-        → IsObligation spec.now ob }
+    requires members { (ob : Obligation) → Contains obligations.now ob → IsObligation spec.now ob }
     requires kept { AreKept spec.now poser.old.cache }
     requires deferred { HasDeferred spec.now judging.old }
     ensures kept { AreKept spec.now poser.new.cache }
@@ -155,8 +153,7 @@ fn end_or_settle(
     judging: &mut Judging,
 ) -> Result<(), AllocError>
     requires list { obligations.now ≡ obligations_of spec.now }
-    requires members { (ob : TheObligation) → Contains obligations.now ob
-        → IsObligation spec.now ob }
+    requires members { (ob : Obligation) → Contains obligations.now ob → IsObligation spec.now ob }
     requires kept { AreKept spec.now poser.old.cache }
     requires deferred { HasDeferred spec.now judging.old }
     ensures kept { AreKept spec.now poser.new.cache }
@@ -184,8 +181,7 @@ pub fn take(
     judging: &mut Judging,
 ) -> Result<(), AllocError>
     requires list { obligations.now ≡ obligations_of spec.now }
-    requires members { (ob : TheObligation) → Contains obligations.now ob
-        → IsObligation spec.now ob }
+    requires members { (ob : Obligation) → Contains obligations.now ob → IsObligation spec.now ob }
     requires kept { AreKept spec.now poser.old.cache }
     requires deferred { HasDeferred spec.now judging.old }
     ensures kept { AreKept spec.now poser.new.cache }

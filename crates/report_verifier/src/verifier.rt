@@ -51,7 +51,11 @@ impl<'a> Model for Verifier<'a> {
 
     ghost coded = { Prim.hlevel (codes, coded_form) };
 
-    ghost view = { λ a. record { reader = a.reader; judgement = judgement_of a.spec.now a.judging; failed = a.failed } };
+    ghost view = { λ a. record {
+      reader = a.reader;
+      judgement = judgement_of a.spec.now a.judging;
+      failed = a.failed;
+    } };
 
     ghost invariant = { λ a. (a.obligations ≡ obligations_of a.spec.now) × (a.reader.spec ≡ a.spec.now) × ((ob : Obligation) → Contains a.obligations ob → IsObligation a.spec.now ob) × IsWithin a.spec.now (judgement_of a.spec.now a.judging) × AreKept a.spec.now a.poser.cache × HasDeferred a.spec.now a.judging };
 }
