@@ -72,7 +72,7 @@ STORIES = {
         "examples/seats/refuted.cise",
         "stable book 1 book",
     ): """1. another book takes away what book requires
-   [stable book 1 book, report line 204]
+   [stable book 1 book, report line 195]
 
   Both replicas hold:
       (nothing: every fact is false, every counter 0)
