@@ -142,12 +142,20 @@ from launch import start  # noqa: E402, F401
 '''
 
 
+# The modules of launch/ that answer only where the sources stand.
+WITH_SOURCES = tuple(
+    f"launch/{name}.py"
+    for name in "choosing kit lanes proving seen sources times unproved".split()
+)
+
+
 def is_left_out(path: str) -> bool:
-    """Whether the one file can do without a file: the script, the record, which it has folded, and
-    of the patterns all but the index and what is printed of them."""
+    """Whether the one file can do without a file: the script, the record, which it has folded, what
+    answers only where the sources stand, and of the patterns all but the index and what is printed
+    of them."""
     if path.startswith("patterns/"):
         return path != "patterns/README.md" and not path.endswith("/accepted.cise")
-    return path in ("cise", KEPT_RECORD)
+    return path in ("cise", KEPT_RECORD) or path in WITH_SOURCES
 
 
 def one_file(of: Commit) -> bytes:

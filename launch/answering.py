@@ -58,9 +58,7 @@ def main(words: list[str]) -> int:
     if status is not None:
         return status
     if words[:1] == ["prove"]:
-        from launch import proving
-
-        return proving.main(words[1:])
+        return prove(words[1:])
     if words == ["about"]:
         from launch import about
 
@@ -80,6 +78,21 @@ def main(words: list[str]) -> int:
     from launch import unproved
 
     return unproved.answer(words, reasons, lambda: tell_words(words))
+
+
+def prove(words: list[str]) -> int:
+    """Proves the sources, where they stand, and returns the status."""
+    from launch import packed
+
+    if words:
+        say("prove takes no words")
+        return BAD_WORDS
+    if packed.is_so():
+        say(packed.NO_SOURCES)
+        return NO_PROGRAM
+    from launch import proving
+
+    return proving.main()
 
 
 def helped(words: list[str]) -> int | None:

@@ -19,6 +19,10 @@ PACKED = "prebuilt/packed"
 # The record in the one file, with its sums as bytes, which takes a quarter less.
 FOLDED = f"{KEPT_RECORD}.folded"
 SUM_BYTES = 32
+NO_SOURCES = (
+    "there are no sources here to be proved: they stand in the repository, whose ./cise prove"
+    " proves them"
+)
 TOLD = (
     f"cise {VERSION} answers by a program that its makers proved and built; "
     "cise about says what that rests on (said once)"

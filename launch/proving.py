@@ -7,7 +7,7 @@ import os
 import subprocess
 import time
 
-from launch import kit, lanes, packed, record
+from launch import kit, lanes, record
 from launch.choosing import HOME, named, why_not
 from launch.paths import (
     BAD_WORDS,
@@ -34,16 +34,7 @@ PROVED_BY = "./cise prove"
 PROVED_FROM_NOTHING = "./cise prove, from nothing"
 
 
-def main(words: list[str]) -> int:
-    if words:
-        say("prove takes no words")
-        return BAD_WORDS
-    if packed.is_so():
-        say(
-            "there are no sources here to be proved: they stand in the repository, whose ./cise"
-            " prove proves them"
-        )
-        return NO_PROGRAM
+def main() -> int:
     if not kit.is_here():
         say(kit.LACKING)
         return NO_PROGRAM
