@@ -16,7 +16,7 @@ use crate::copies::declarations::{
 };
 use crate::copies::operations::copy_with_takes;
 use crate::naming::unused_names;
-use items::Items;
+use items::{Items, or_drop};
 use spec_core::{Elem, Kind, Name, Operation, Pattern, Rule, Spec, Take, Token};
 use std::alloc::{AllocError, Global};
 
@@ -208,13 +208,13 @@ fn keyed_operations(alloc: Global, spec: &Spec, key: Key) -> Result<Items<Operat
 fn key_sort(spec: &Spec, op: u8, param: u8) -> u8
     ensures { result ≡ key_sort_of spec.now op param }
 {
-    match spec.operations.as_slice().get(op as usize) {
-        Some(operation) => match operation.params.as_slice().get(param as usize) {
-            Some(found) => match found.kind {
-                Kind::Sort(sort) => sort,
-                Kind::Int => 0,
-            },
-            None => 0,
+    let Some(operation) = spec.operations.as_slice().get(op as usize) else {
+        return 0;
+    };
+    match operation.params.as_slice().get(param as usize) {
+        Some(found) => match found.kind {
+            Kind::Sort(sort) => sort,
+            Kind::Int => 0,
         },
         None => 0,
     }

@@ -1,147 +1,38 @@
-// The list type of the project: a vector that contracts see as the list of its elements.
+// The list types of the project.
 //
-// Wherever a type that contracts compare has a field that is a sequence or a text, it is an `Items<T>`, so that `≡` of two
-// values compares contents and never the memory that holds them. It stands on std alone.
+// `Items` is a vector that contracts see as the list of its elements. Wherever a type that contracts compare has a field that is a
+// sequence or a text, it is an `Items<T>`, so that `≡` of two values compares contents and never the memory that holds them.
+//
+// `SharedList` is a list of which copies share their elements. It is kept as blocks of 128 elements and the elements after them. A
+// copy shares the blocks, so it takes one word for each, and has copies of the last elements alone; `specs/Joined.antt` says what
+// the list of some blocks is.
+//
+// `ShortList` is a list of numbers of which the first few stand in the list itself.
+//
+// `or_drop!` is for calls that fail while lists are held. All of it stands on std alone.
 #![tactic(auto)]
 
-ghost use Rattle.std.specs.Prelude.{◌≡◌, [], ◌∷◌, ◌++◌, ◌==◌, ◌<◌, ◌^◌, length, OnOk, OnErr, IfOk};
-ghost use Rattle.std.specs.Prelude.{IfSome, IfNone, slice_get, option_copied};
-ghost use Rattle.std.specs.Slice.Iter.{iter_rest};
-ghost use Rattle.std.specs.Iterator.Adapters.{IterYieldsInOrder};
+mod block;
+mod items;
+mod shared_list;
+mod short_list;
 
-use std::alloc::{AllocError, Global};
-use std::marker::Model;
-use std::slice::Iter;
+pub use block::Block;
+pub use items::Items;
+pub use shared_list::SharedList;
+pub use short_list::ShortList;
 
-/// A growing list, seen by contracts as the list of its elements.
-#[derive(Drop)]
-pub struct Items<T> {
-    vec: Vec<T>,
-}
-
-impl<T> Model for Items<T> {
-    ghost use Rattle.std.specs.Prelude.{List};
-
-    ghost Value = { List T };
-
-    ghost view = { λ a. a.vec.items };
-}
-
-impl<T> Items<T> {
-    /// An empty list, which takes no memory until it grows.
-    pub fn new(alloc: Global) -> Self
-        ensures { result ≡ [] }
-    {
-        Items {
-            vec: Vec::new(alloc),
+/// The value of a call; where it fails, lets go of these values and ends with its error. Values that are let go by name are let go
+/// once in a proof, and not once for each way out.
+#[macro_export]
+macro_rules! or_drop {
+    ($call:expr; $($value:ident),*) => {
+        match $call {
+            Ok(value) => value,
+            Err(error) => {
+                $(drop($value);)*
+                return Err(error);
+            }
         }
-    }
-
-    /// The list of a vector's elements.
-    pub fn from_vec(vec: Vec<T>) -> Self
-        ensures { result ≡ vec.items }
-    {
-        Items { vec }
-    }
-
-    /// The vector that holds the elements.
-    pub fn into_vec(self) -> Vec<T>
-        ensures { result.items ≡ self }
-    {
-        self.vec
-    }
-
-    /// All elements, in their order.
-    pub fn as_slice(&self) -> &[T]
-        ensures { result.now ≡ self.now }
-    {
-        self.vec.as_slice()
-    }
-
-    /// How many elements there are.
-    pub fn len(&self) -> usize
-        ensures { result ≡ length self.now }
-    {
-        self.vec.len()
-    }
-
-    /// Whether there is no element.
-    pub fn is_empty(&self) -> bool
-        ensures { result ≡ (length self.now == 0) }
-    {
-        self.vec.len() == 0
-    }
-
-    /// The element at a place, counted from 0.
-    pub fn get(&self, index: usize) -> Option<&T>
-        ensures { option_copied result ≡ slice_get self.now index }
-    {
-        self.vec.as_slice().get(index)
-    }
-
-    /// The elements in their order.
-    pub fn iter(&self) -> Iter<'_, T>
-        ensures rest { iter_rest result ≡ self.now }
-        ensures runs { IterYieldsInOrder T }
-    {
-        self.vec.as_slice().iter()
-    }
-}
-
-impl<T: Drop> Items<T> {
-    /// Adds an element at the end. A refused one leaves the list as it was.
-    pub fn push(&mut self, item: T) -> Result<(), AllocError>
-        ensures ok { OnOk result (self.new ≡ self.old ++ item ∷ []) }
-        ensures err { OnErr result (self.new ≡ self.old) }
-    {
-        self.vec.push(item)?;
-        Ok(())
-    }
-
-    /// Takes the last element out.
-    pub fn pop(&mut self) -> Option<T>
-        ensures last { IfSome result (λ item. self.old ≡ self.new ++ item ∷ []) }
-        ensures none { IfNone result (self.old ≡ []) }
-        ensures none_left { IfNone result (self.new ≡ []) }
-    {
-        self.vec.pop()
-    }
-
-    /// Takes all elements out. The memory stays.
-    pub fn clear(&mut self)
-        ensures { self.new ≡ [] }
-    {
-        self.vec.clear();
-    }
-}
-
-impl<T: Copy> Items<T> {
-    /// A copy of a slice.
-    pub fn from_slice(alloc: Global, items: &[T]) -> Result<Self, AllocError>
-        ensures { IfOk result (λ list. list ≡ items.now) }
-    {
-        let vec = Vec::from_slice(alloc, items)?;
-        Ok(Items { vec })
-    }
-
-    /// Adds copies of a slice's elements at the end. A refused call leaves the list as it was.
-    pub fn extend_from_slice(&mut self, items: &[T]) -> Result<(), AllocError>
-        ensures ok { OnOk result (self.new ≡ self.old ++ items.now) }
-        ensures err { OnErr result (self.new ≡ self.old) }
-    {
-        self.vec.extend_from_slice(items)
-    }
-}
-
-impl<'a, T> IntoIterator for &'a Items<T> {
-    type Item = &'a T;
-
-    type IntoIter = Iter<'a, T>;
-
-    ghost into_iter_gives = { λ list it. (iter_rest it ≡ list.now) × (length (iter_rest it) < 2 ^ 64)
-        × IterYieldsInOrder T };
-
-    fn into_iter(self) -> Iter<'a, T> {
-        self.iter()
-    }
+    };
 }

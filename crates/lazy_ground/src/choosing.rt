@@ -137,11 +137,12 @@ fn has_enough(readings: &[NamedReading]) -> bool {
     let mut counts = [0usize; MOST_RELATIONS];
     let mut pairs = 0usize;
     for reading in readings {
-        if let Thing::Relation(relation) = reading.thing {
-            if let Some(count) = counts.get_mut(relation as usize) {
-                pairs = pairs.wrapping_add(*count);
-                *count = count.wrapping_add(1);
-            }
+        let Thing::Relation(relation) = reading.thing else {
+            continue;
+        };
+        if let Some(count) = counts.get_mut(relation as usize) {
+            pairs = pairs.wrapping_add(*count);
+            *count = count.wrapping_add(1);
         }
     }
     pairs >= FEWEST_PAIRS

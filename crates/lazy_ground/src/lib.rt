@@ -30,22 +30,9 @@
 //   order.
 // - Where the list has too many formulas, what was made of the entry is left for the next
 //   obligation, which mostly has too many too.
-// - `verify` makes the whole problem, since a log may name any clause.
+// - `verify` makes the clauses that a log names (`lazy_logs`), and the whole problem where these
+//   don't do.
 #![tactic(auto)]
-
-/// The value of a call; where it fails, lets go of these values and ends with its error. Values that are let go by name are let go
-/// once in a proof, and not once for each way out.
-macro_rules! or_drop {
-    ($call:expr; $($value:ident),*) => {
-        match $call {
-            Ok(value) => value,
-            Err(error) => {
-                $(drop($value);)*
-                return Err(error);
-            }
-        }
-    };
-}
 
 mod choosing;
 mod columns;

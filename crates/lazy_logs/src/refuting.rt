@@ -10,7 +10,7 @@ ghost use Rattle.lazy_logs.specs.Refuted.{Refutes};
 use crate::choosing::{add_named, literals_used, number_of_empty, numbers_named, picks_of};
 use crate::comparing::same_lines;
 use crate::renaming::lines_in;
-use items::Items;
+use items::{Items, or_drop};
 use lazy_ground::LazyGround;
 use lazy_search::counting::{Sizes, count_atoms, sizes_of};
 use lazy_search::parts::{Part, part_of};

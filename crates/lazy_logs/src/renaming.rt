@@ -1,7 +1,7 @@
 // The lines of a log with the numbers that its clauses and atoms have in a part.
 //
 // Nothing is promised of them: with the numbers of the whole, they are compared with the log.
-use items::Items;
+use items::{Items, or_drop};
 use lazy_search::parts::Part;
 use needed_clauses::parts::{NOWHERE, number_of, place_of};
 use proof_lines::{Line, Lit};

@@ -8,7 +8,7 @@ use crate::Chosen;
 use crate::counting::{Sizes, count_ints};
 use crate::testing::{Picks, is_part};
 use ground_atoms::{Atom, Atoms};
-use items::Items;
+use items::{Items, or_drop};
 use lazy_ground::LazyGround;
 use needed_clauses::parts::{mark, no_places, number_marked, placed};
 use proof_lines::{AtomKind, Clause, Lit, Problem};

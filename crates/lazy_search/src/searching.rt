@@ -18,7 +18,7 @@ use crate::picking::Picked;
 use crate::trying::{Aim, broken_by};
 use crate::{Chosen, Layout, chosen_front};
 use instances::kept_clauses;
-use items::Items;
+use items::{Items, or_drop};
 use lazy_ground::LazyGround;
 use needed_clauses::renumbering::{are_plain_lines, renumbered};
 use obligation_list::{Obligation, Witness};

@@ -10,7 +10,7 @@ ghost use Rattle.lazy_search.specs.Refuting.{IsBroken};
 
 use crate::agreeing::value_of;
 use crate::parts::Part;
-use items::Items;
+use items::{Items, or_drop};
 use lazy_ground::LazyGround;
 use model_back::{Named, tried_witness};
 use needed_clauses::parts::number_of;

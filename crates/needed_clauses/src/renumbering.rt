@@ -4,7 +4,7 @@ ghost use Rattle.std.specs.List.{list_all};
 ghost use Rattle.needed_clauses.specs.Renaming.{number_in, lit_by, line_by, is_plain_line};
 
 use crate::testing::{lit_in, number_in};
-use items::Items;
+use items::{Items, or_drop};
 use proof_lines::{Line, Lit};
 use std::alloc::{AllocError, Global};
 

@@ -11,7 +11,7 @@ use crate::judging::{Taken, take_each_false, take_false, values_by};
 use crate::parts::{Part, number_of, part_of};
 use crate::renumbering::{are_plain_lines, renumbered};
 use crate::testing::sizes;
-use items::Items;
+use items::{Items, or_drop};
 use proof_lines::problem::law_rows;
 use proof_lines::{Interpretation, Line, Problem};
 use sat_core::Answer;

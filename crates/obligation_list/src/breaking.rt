@@ -19,8 +19,7 @@ use crate::lines::{invariant_line, is_ready, line_at, requires_line};
 use crate::obligation::Obligation;
 use crate::witness::Witness;
 use effectors::{After, post2_count, post2_has};
-use partial_truth::invariant_broken_at;
-use spec_core::{Call, Prefix, Prefixed, Spec, Thing, World};
+use spec_core::{Call, Prefix, Prefixed, Spec, Thing, World, invariant_broken_at};
 use spec_states::State;
 use token_rules::conflicts;
 

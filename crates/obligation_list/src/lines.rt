@@ -9,8 +9,9 @@ ghost use Rattle.spec_core.specs.Fits.{in_state_range, fits_places, world_fits, 
 ghost use Rattle.spec_core.specs.Fits.{line_fits};
 ghost use Rattle.obligation_list.specs.Breaking.{requires_line, failing_vars, line_at};
 
-use partial_truth::{line_holds, requires_broken_at};
-use spec_core::{Call, Prefix, Prefixed, Readings, Spec, World, holds};
+use spec_core::{
+    Call, Prefix, Prefixed, Readings, Spec, World, holds, line_holds, requires_broken_at,
+};
 use spec_states::State;
 
 /// The line of an invariant.

@@ -2,7 +2,7 @@
 ghost use Rattle.std.specs.Prelude.{◌≡◌, IfOk};
 
 use crate::clause::Lit;
-use items::Items;
+use items::{Items, or_drop};
 use std::alloc::{AllocError, Global};
 
 /// A new row from two earlier ones: `first` times row `left` plus `second` times row `right`, tightened.

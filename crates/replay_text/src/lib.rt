@@ -21,8 +21,8 @@ mod writing;
 
 pub use law::law_safe_replays;
 pub use lines::{counter_name, invariant_name, push, push_number, push_range};
-pub use partial_truth::invariant_broken_at;
 pub use recorded::replay_bytes;
+pub use spec_core::invariant_broken_at;
 pub use stop::Stop;
 pub use touched_lines::invariant_broken_after;
 pub use writing::{replay, replay_by};

@@ -15,9 +15,8 @@ ghost use Rattle.replay_text.specs.Asked.{AllHeld, OthersHeld, IsFrontElsewhere,
 use crate::lines::{push, push_number, push_step, push_stop};
 use crate::stop::Stop;
 use byte_ports::{ACCEPTED, Answer, REFUSED, REJECTED};
-use partial_truth::invariant_broken_at;
 use replica_replay::{Plain, Replay, Runner, Step, StepRefused};
-use spec_core::{Spec, World};
+use spec_core::{Spec, World, invariant_broken_at};
 use spec_states::write_state;
 use std::alloc::{AllocError, Global};
 use touched_lines::invariant_broken_after;

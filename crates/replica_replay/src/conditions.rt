@@ -7,8 +7,7 @@ ghost use Rattle.spec_core.specs.State.{reads};
 ghost use Rattle.spec_core.specs.Meaning.{first_false};
 ghost use Rattle.spec_core.specs.Fits.{world_fits, call_fits};
 
-use partial_truth::{observes_broken_at, requires_broken_at};
-use spec_core::{Call, Spec, World};
+use spec_core::{Call, Spec, World, observes_broken_at, requires_broken_at};
 use spec_states::State;
 
 /// The first requires line of a call that is false, counted from 1.

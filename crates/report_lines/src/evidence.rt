@@ -13,7 +13,7 @@ use crate::fields::count;
 use crate::log::{decided, put_used, put_values, used};
 use crate::words::{ReadError, Words, keyword, next};
 use crate::writing::put_number;
-use items::Items;
+use items::{Items, or_drop};
 use proof_lines::{Lit, RangeWhat, RowStep};
 use std::alloc::{AllocError, Global};
 

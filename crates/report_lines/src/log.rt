@@ -13,7 +13,7 @@ use crate::fields::{count, pair};
 use crate::list::list;
 use crate::words::{ReadError, Words, next};
 use crate::writing::{put_integer, put_list, put_number};
-use items::Items;
+use items::{Items, or_drop};
 use proof_lines::{Line, Lit, RowStep};
 use std::alloc::{AllocError, Global};
 

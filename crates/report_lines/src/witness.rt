@@ -16,7 +16,7 @@ use crate::names::name_among;
 use crate::verdict::operation_name;
 use crate::words::{ReadError, Words, next, these};
 use crate::writing::{put_entries, put_integer, put_number, put_word, write_words};
-use items::Items;
+use items::{Items, or_drop};
 use itoa::Buffer;
 use spec_core::{Call, Kind, Param, Spec, World};
 use std::alloc::{AllocError, Global};

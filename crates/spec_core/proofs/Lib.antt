@@ -8,3 +8,5 @@ pub mod States
 pub mod Members
 pub mod Operations
 pub mod Agreeing
+pub mod Forcing
+mod Rest

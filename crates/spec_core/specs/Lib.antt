@@ -13,3 +13,4 @@ pub mod Fits
 pub mod Typed
 pub mod Sizes
 pub mod Choices
+pub mod Forced

@@ -7,7 +7,11 @@
 // `Limits` and `Name` have the limits of the language and its names. `Code`, `Sizes` and `Choices` serve the proofs alone.
 //
 // Truth is computed over whatever reads like a state, without memory, by `holds`, `line_holds`, `invariant_broken_at`,
-// `requires_broken_at` and `observes_broken_at`.
+// `requires_broken_at` and `observes_broken_at`. The elements of a line's variables are chosen one after the other. As soon as those
+// that are chosen force the body's truth (specs/Forced), no element is chosen for the others, so parts in which the last variables
+// don't stand are asked once for all elements of these. With sparse relations nearly all choices end at the first or second
+// variable. Where nothing is forced before the last variable, the work is the product of the sizes of the sorts, and the tests on
+// the way there add a part in as many as the last sort has elements.
 //
 // Decisions:
 // - The field of an operation for its precondition is `requires_`, since `requires` is a word of
@@ -20,29 +24,30 @@
 //   language is kept by `Spec`; reserved words aren't excluded there.
 #![tactic(auto)]
 
-mod broken_lines;
+mod choices;
 mod fits;
+mod forced;
 mod formula;
 mod laws;
 pub mod limits;
 mod line;
+mod lines;
 mod name;
 mod operation;
-mod quantified;
 mod spec;
 mod truth;
 mod tuples;
 mod update;
 mod world;
 
-pub use broken_lines::{observes_broken_at, requires_broken_at};
 pub use fits::is_in_state_range;
+pub use forced::is_forced;
 pub use formula::{Body, Cmp, Elem, Formula, Summand, Term};
 pub use laws::{law_operations_fit, law_readings_that_agree};
 pub use line::{Prefix, Prefixed};
+pub use lines::{invariant_broken_at, line_holds, observes_broken_at, requires_broken_at};
 pub use name::{Name, is_word_name};
 pub use operation::{Kind, Operation, Param, Take};
-pub use quantified::{invariant_broken_at, line_holds};
 pub use spec::{Const, Counter, Invariant, Pattern, Relation, Rule, Spec, Token};
 pub use truth::{Readings, count_at, elem_at, has_at, holds, term_value};
 pub use update::{Change, Spot, Thing, Update};

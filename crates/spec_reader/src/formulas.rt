@@ -12,6 +12,7 @@ ghost use Rattle.spec_reader.specs.Reading.{plain_at, form_at, starts_term as te
 
 use crate::terms::{atom, more, term};
 use crate::words::{comparison, connective, is_connective};
+use items::or_drop;
 use parser_combinators::{
     Key, Kind, ReadError, Token, Version, closing, is_key, is_name, is_number, is_opening, key,
     next_kind, opening,

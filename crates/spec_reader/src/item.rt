@@ -15,7 +15,7 @@ use crate::lines::lines;
 use crate::sentences::sentence;
 use crate::terms::{args, minus, reading};
 use crate::words::{figure, name};
-use items::Items;
+use items::{Items, or_drop};
 use parser_combinators::{Key, Kind, ReadError, Token, Version, is_key, key, next_kind, sign};
 use spec_trees::{Item, Mark, Param, ParamKind, Value};
 use std::alloc::Global;

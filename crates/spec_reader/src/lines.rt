@@ -15,7 +15,7 @@ use crate::formulas::formula;
 use crate::sentences::sentence;
 use crate::terms::{reading, term};
 use crate::words::name;
-use items::Items;
+use items::{Items, or_drop};
 use parser_combinators::{
     Key, Kind, ReadError, Token, Version, is_key, key, kind_of_symbol, next_kind, sign,
 };
@@ -105,16 +105,13 @@ fn guard(
 fn mode(version: Version, tokens: &[Token]) -> Result<(Mode, &[Token]), ReadError>
     ensures { Gives (λ x. (x.0, x.1.now)) result (mode_at version tokens.now) }
 {
-    match version {
-        Version::First => Ok((Mode::Missing, tokens)),
-        Version::Second => match tokens {
-            [] => Ok((Mode::Missing, tokens)),
-            [token, rest @ ..] => match kind_of_symbol(&token.symbol) {
-                Kind::Shared => Ok((Mode::Shared, rest)),
-                Kind::Exclusive => Ok((Mode::Exclusive, rest)),
-                _ => Ok((Mode::Missing, tokens)),
-            },
+    match (version, tokens) {
+        (Version::Second, [token, rest @ ..]) => match kind_of_symbol(&token.symbol) {
+            Kind::Shared => Ok((Mode::Shared, rest)),
+            Kind::Exclusive => Ok((Mode::Exclusive, rest)),
+            _ => Ok((Mode::Missing, tokens)),
         },
+        _ => Ok((Mode::Missing, tokens)),
     }
 }
 

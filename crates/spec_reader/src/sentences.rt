@@ -8,7 +8,7 @@ ghost use Rattle.spec_reader.specs.Reading.{variable_at, variables_at, prefix_at
 
 use crate::formulas::formula;
 use crate::words::{is_quantifier, name, quantifier};
-use items::Items;
+use items::{Items, or_drop};
 use parser_combinators::{Key, ReadError, Token, Version, is_key, next_kind, sign};
 use spec_trees::{Prefix, Prefixed, Variable};
 use std::alloc::Global;

@@ -7,7 +7,7 @@ ghost use Rattle.spec_reader.specs.Reading.{name_at, args_at, reading_at, atom_a
 ghost use Rattle.spec_reader.specs.Reading.{summand_at, signed_at, minus_at, more_at, term_at};
 
 use crate::words::{figure, is_sign, name, plus};
-use items::Items;
+use items::{Items, or_drop};
 use parser_combinators::{Key, ReadError, Token, Version, is_key, is_number, next_kind, sign};
 use spec_trees::{Mark, Product, Reading, Signed, Summand, Term};
 use std::alloc::Global;

@@ -14,6 +14,7 @@ ghost use Rattle.spec_types.specs.Views.{known_of};
 use crate::faults::{Draft, Fault, declared_fault, limit_at, sort_fault, sort_number};
 use crate::known::{Known, heading_fault, scope_in, sort_numbers, sorts_fault};
 use crate::refusal::Stop;
+use items::or_drop;
 use spec_core::limits::{
     MOST_CONSTANTS, MOST_COUNTERS, MOST_KEYS, MOST_PLACES, MOST_RELATIONS, MOST_SORTS, MOST_TOKENS,
 };

@@ -26,7 +26,7 @@ use crate::faults::{
 };
 use crate::known::{Known, heading_fault, scope_in};
 use crate::refusal::Stop;
-use items::Items;
+use items::{Items, or_drop};
 use spec_core::limits::{MOST_INVARIANTS, MOST_OPERATIONS, MOST_PARAMETERS};
 use spec_core::{Invariant, Kind, Name, Operation};
 use spec_trees as tree;

@@ -22,7 +22,7 @@ use crate::faults::{
 };
 use crate::known::{Known, scope_in};
 use crate::refusal::Stop;
-use items::Items;
+use items::{Items, or_drop};
 use spec_core::limits::MOST_RULES;
 use spec_core::{Pattern, Rule};
 use spec_trees::{Mark, Reading};

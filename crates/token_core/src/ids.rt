@@ -9,7 +9,7 @@ ghost use Rattle.token_protocol.specs.declared.message.EventId.{EventId as Id};
 ghost use Rattle.token_protocol.specs.Ids.{same_id, is_among, first_outside};
 ghost use Rattle.token_core.specs.Members.{has_id, room, mark_of, is_marked};
 
-use shared_lists::SharedList;
+use items::SharedList;
 use std::alloc::{AllocError, Global};
 use std::collections::HashSet;
 use std::marker::Model;

@@ -7,7 +7,7 @@
 //
 // `log` keeps what was sent in a network and the calls that were run, in their orders; `ids` has the ids of the events that a node has
 // taken, and answers whether an id is one of them; `node` and `replica` have a node, `net` the network. The lists of messages and events
-// share their elements, by `shared_lists`.
+// share their elements, by `items`.
 //
 // `specs/Log.antt` has the lists of a log, and when each has room for one element more; `specs/Held.antt` and `specs/HeldNet.antt` have a
 // node and a network as a program holds them, `specs/Stepped.antt` what a step of such a network is; the other files of `specs/` mirror
@@ -22,7 +22,7 @@
 //   nothing to show, and no step is counted past the number that counts it.
 // - The spare state of a replica is kept beside its node: that it fits is a fact about a
 //   specification, of which a node knows nothing. `Node::begin` and `Node::hear` go without.
-// - Grants, messages and events share the elements of their lists (`shared_lists`); who reads one
+// - Grants, messages and events share the elements of their lists (`items`); who reads one
 //   makes it whole first. The list that a replica's events share is compared with what the replica
 //   has taken, so it has no invariant.
 // - Marks are for the turns of 64 replicas. An id whose mark would be far after the others is kept

@@ -5,7 +5,7 @@ ghost use Rattle.std.specs.Prelude.{vec_capacity, OnOk};
 ghost use Rattle.token_protocol.specs.Network.{number_of};
 ghost use Rattle.token_core.specs.Log.{lists_of, no_lists, HasRoom};
 
-use shared_lists::SharedList;
+use items::SharedList;
 use spec_core::Call;
 use std::alloc::{AllocError, Global};
 use std::marker::Model;

@@ -20,8 +20,8 @@ ghost use Rattle.token_manager.specs.Grants.{AreGrants};
 
 use crate::log::{CallEvent, Happened, Log, make_room, number_of, put};
 use crate::node::Node;
+use items::SharedList;
 use replica_replay::Runner;
-use shared_lists::SharedList;
 use spec_core::Call;
 use spec_states::State;
 use std::alloc::{AllocError, Global};

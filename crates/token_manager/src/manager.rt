@@ -18,8 +18,7 @@ ghost use Rattle.token_manager.specs.Grants.{AreGrants, IsAlikeAt};
 
 use crate::alike::{take_alike, token_sum};
 use crate::index::GrantIndex;
-use items::Items;
-use shared_lists::SharedList;
+use items::{Items, SharedList};
 use spec_core::{Call, Spec, World};
 use std::alloc::{AllocError, Global};
 use std::collections::HashMap;

@@ -1,7 +1,7 @@
 // What the manager keeps of a grant.
 
 use crate::message::EventId;
-use shared_lists::SharedList;
+use items::SharedList;
 use spec_core::Call;
 
 /// A granted call, and the calls that have to be taken, or known as void, before it runs.

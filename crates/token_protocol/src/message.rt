@@ -1,6 +1,6 @@
 // What the nodes and the manager send each other.
 
-use shared_lists::SharedList;
+use items::SharedList;
 use spec_core::Call;
 
 /// The id of a call: the replica that made it, and which of that replica's turns it used up, counted from 0.

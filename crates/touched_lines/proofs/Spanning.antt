@@ -7,8 +7,8 @@ use Rattle.spec_core.specs.World.{size_of, below, tuples}
 use Rattle.spec_core.specs.Form.{Form}
 use Rattle.spec_core.specs.State.{Reads}
 use Rattle.spec_core.specs.Truth.{truth}
-use Rattle.partial_truth.specs.Forced.{is_forced}
-use Rattle.partial_truth.proofs.Forcing.{SameFront, forced_truth}
+use Rattle.spec_core.specs.Forced.{is_forced}
+use Rattle.spec_core.proofs.Forcing.{SameFront, forced_truth}
 use Rattle.spec_core.specs.Fits.{fits_places}
 use Rattle.spec_core.specs.Choices.{all_below}
 use Rattle.spec_core.proofs.Choosing.{list_all-each_before, list_all-below, all_below-at, all_below-fails, all_below-from}

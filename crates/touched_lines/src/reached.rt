@@ -15,10 +15,9 @@ ghost use Rattle.touched_lines.specs.Touched.{term_true, form_true};
 use crate::spans::span_of;
 use crate::within::{true_last, true_last_two, true_three};
 use effectors::is_thing;
-use partial_truth::line_holds;
 use spec_core::{
     Body, Call, Elem, Formula, Prefix, Prefixed, Readings, Spec, Spot, Summand, Term, Thing,
-    Update, World, holds,
+    Update, World, holds, line_holds,
 };
 
 // Whether a body over variables of these sorts is true at all elements at which the reading at these places is one that the spots reach.

@@ -10,8 +10,7 @@ ghost use Rattle.spec_core.specs.Fits.{world_fits, form_fits};
 ghost use Rattle.touched_lines.specs.Spans.{all_within};
 
 use crate::spans::Span;
-use partial_truth::is_forced;
-use spec_core::{Formula, Readings, Spec, World, holds};
+use spec_core::{Formula, Readings, Spec, World, holds, is_forced};
 
 // Whether the body is true with one more element chosen.
 fn holds_with<R: Readings>(

@@ -22,7 +22,7 @@
 // Where a false clause is met while a list is gone through, what is left of the list goes back to its place, since watches have to last.
 // So a conflict costs what its chain and its further clauses take, and the others aren't looked at.
 //
-// The layer stands on `sat_core`, whose contract of `find` its own has word for word, on `sat_core` and on `short_lists`. Definitions, in
+// The layer stands on `sat_core`, whose contract of `find` its own has word for word, on `sat_core` and on `items`. Definitions, in
 // the order in which a reader needs them: specs/Watches (clauses at rest, what is watched), specs/Ready (where the watched literals stand
 // between the steps of a search).
 //
@@ -31,7 +31,7 @@
 //   to be looked at: a chain needs that no clause was false before the newest literal.
 // - `find` and what keeps the watches are apart from the search, whose steps know no list of
 //   clauses.
-// - The first six clauses of a literal are in its list itself (`short_lists`), since most literals
+// - The first six clauses of a literal are in its list itself (`items`), since most literals
 //   are watched by fewer.
 #![tactic(auto)]
 

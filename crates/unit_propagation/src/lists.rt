@@ -2,8 +2,8 @@
 ghost use Rattle.std.specs.Prelude.{◌≡◌, ◌≢◌, ◌<◌, ℕ, [], true, cond, length, slice_index_or, OnOk, IfOk};
 ghost use Rattle.unit_propagation.specs.Watches.{is_among, list_at, Keeps, code};
 
+use items::ShortList;
 use proof_lines::Lit;
-use short_lists::ShortList;
 use std::alloc::{AllocError, Global};
 use std::mem;
 

@@ -10,11 +10,11 @@ ghost use Rattle.unit_propagation.specs.Ready.{IsReady, StayWatched, MayPush};
 use crate::lists::{code, enter, exchange};
 use crate::looking::ClauseStatus;
 use crate::watches::Watches;
+use items::ShortList;
 use proof_lines::{Lit, Problem};
 use sat_core::finding::Found;
 use sat_core::growing::{clause_count, lits_of};
 use sat_core::{Entry, Trail};
-use short_lists::ShortList;
 use std::alloc::{AllocError, Global};
 
 /// The watched literals, with the number of a false clause if one was met, and the clauses that are still to be looked at.

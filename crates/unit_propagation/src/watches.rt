@@ -6,10 +6,9 @@ ghost use Rattle.unit_propagation.specs.Watches.{is_among, list_at, code, pair_a
 
 use crate::lists::{code, enter};
 use crate::looking::{ClauseStatus, Watched, look_at, pair_of, rests};
-use items::Items;
+use items::{Items, ShortList};
 use proof_lines::Lit;
 use sat_core::Trail;
-use short_lists::ShortList;
 use std::alloc::{AllocError, Global};
 
 /// The literals that each clause watches, the clauses that watch each literal, and the clauses that may be unit.

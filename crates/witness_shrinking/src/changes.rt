@@ -1,7 +1,7 @@
 // Drafts with a change: facts left out, two elements made one, other numbers.
 
 use crate::draft::{Draft, Fact, copies, is_number};
-use items::Items;
+use items::{Items, or_drop};
 use obligation_list::Obligation;
 use spec_core::{Call, Kind, Param, Spec, Thing};
 use std::alloc::{AllocError, Global};

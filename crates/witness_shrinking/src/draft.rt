@@ -4,7 +4,7 @@
 // are a witness at all, `witness` and `breaks` say.
 ghost use Rattle.std.specs.Prelude.{◌≡◌, ◌≤◌, length};
 
-use items::Items;
+use items::{Items, or_drop};
 use obligation_list::Witness;
 use spec_core::{Call, Kind, Spec, Thing, World, is_in_state_range};
 use spec_states::State;

@@ -24,20 +24,6 @@
 //      of kinds 2 and 3 follow, and all of it is kept only where the end is smaller.
 #![tactic(auto)]
 
-/// What a call returns, or its error, before which the values named are dropped: a `?` while they are alive would be
-/// dear to prove.
-macro_rules! or_drop {
-    ($call:expr; $($value:ident),*) => {
-        match $call {
-            Ok(value) => value,
-            Err(error) => {
-                $(drop($value);)*
-                return Err(error);
-            }
-        }
-    };
-}
-
 mod changes;
 mod draft;
 mod elements;

@@ -151,10 +151,11 @@ impl Refutation<'_> {
     fn of_size(&self, size: i64) -> Result<Items<Number>, AllocError> {
         let mut found = Items::new(self.alloc);
         for n in 0..MOST_ARGUMENTS.saturating_add(self.draft.facts.len()) {
-            if let Some(number) = self.number(place_at(n)) {
-                if size == number.value.wrapping_mul(number.value.signum()) {
-                    found.push(number)?;
-                }
+            let Some(number) = self.number(place_at(n)) else {
+                continue;
+            };
+            if size == number.value.wrapping_mul(number.value.signum()) {
+                found.push(number)?;
             }
         }
         Ok(found)

@@ -1,6 +1,7 @@
 // A refutation that is made smaller: what is tried becomes its witness where it is smaller and refutes the obligation too.
 
 use crate::draft::Draft;
+use items::or_drop;
 use obligation_list::{Obligation, Witness, breaks};
 use spec_core::Spec;
 use std::alloc::{AllocError, Global};

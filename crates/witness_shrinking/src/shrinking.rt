@@ -5,6 +5,7 @@ ghost use Rattle.witness_shrinking.specs.Refuted.{IsRefutedBy};
 use crate::changes::{has, with_thing};
 use crate::draft::Draft;
 use crate::refutation::Refutation;
+use items::or_drop;
 use obligation_list::{Obligation, Witness, breaks};
 use spec_core::{Spec, Thing};
 use std::alloc::{AllocError, Global};

@@ -6,8 +6,7 @@ ghost use Rattle.token_core.specs.Held.{waiting_fits, message_fits};
 
 use crate::tokens::examples::purses;
 use crate::tokens::setting::{items, spec};
-use items::Items;
-use shared_lists::SharedList;
+use items::{Items, SharedList};
 use spec_core::{Call, Spec, World};
 use std::alloc::Global;
 use std::process::Abort;

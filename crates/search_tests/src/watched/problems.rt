@@ -3,24 +3,11 @@ ghost use Rattle.std.specs.Prelude.{◌≡◌};
 ghost use Rattle.lin_rows.specs.Numbers.{in_range};
 ghost use Rattle.lin_rows.specs.Rows.{all_in_range};
 
-use items::Items;
+use items::{Items, or_drop};
 use lin_rows::number::is_in_range;
 use lin_rows::{Row, RowTerm, row_of};
 use proof_lines::{AtomKind, Clause, Lit, Problem};
 use std::alloc::{AllocError, Global};
-
-/// What was made. Where memory was wanting, a list is let go of first, so that it isn't let go of part by part at each `?`.
-macro_rules! or_drop {
-    ($made:expr, $list:ident) => {
-        match $made {
-            Ok(made) => made,
-            Err(_) => {
-                drop($list);
-                return Err(AllocError);
-            }
-        }
-    };
-}
 
 fn literal(word: &str) -> Option<Lit> {
     let (positive, number) = match word.split_once('-') {
@@ -40,7 +27,7 @@ fn clause(alloc: Global, part: &str) -> Result<Clause, AllocError> {
     let mut clause = Clause::empty(alloc);
     for word in part.split(' ') {
         if let Some(lit) = literal(word) {
-            or_drop!(clause.insert(lit), clause);
+            or_drop!(clause.insert(lit); clause);
         }
     }
     Ok(clause)
@@ -67,7 +54,7 @@ fn terms(alloc: Global, words: &str) -> Result<Vec<RowTerm>, AllocError> {
     let mut place = 0u32;
     for word in words.split(' ') {
         if let Ok(coef) = word.parse::<i128>() {
-            or_drop!(terms.push(RowTerm { place, coef }), terms);
+            or_drop!(terms.push(RowTerm { place, coef }); terms);
             place = place.saturating_add(1);
         }
     }
@@ -88,12 +75,12 @@ fn kinds(alloc: Global, atoms: usize, parts: &str) -> Result<Items<AtomKind>, Al
     let mut kinds = Items::new(alloc);
     for part in parts.split(';') {
         if let Some((words, bound)) = part.split_once("<= ") {
-            let row = or_drop!(row(alloc, words, bound), kinds);
-            or_drop!(kinds.push(AtomKind::Row(row)), kinds);
+            let row = or_drop!(row(alloc, words, bound); kinds);
+            or_drop!(kinds.push(AtomKind::Row(row)); kinds);
         }
     }
     for _ in kinds.len()..atoms {
-        or_drop!(kinds.push(AtomKind::Plain), kinds);
+        or_drop!(kinds.push(AtomKind::Plain); kinds);
     }
     Ok(kinds)
 }
@@ -102,8 +89,8 @@ fn clauses(alloc: Global, parts: &str) -> Result<Items<Clause>, AllocError> {
     let mut clauses = Items::new(alloc);
     for part in parts.split(';') {
         if part.split_once("<= ").is_none() {
-            let clause = or_drop!(clause(alloc, part), clauses);
-            or_drop!(clauses.push(clause), clauses);
+            let clause = or_drop!(clause(alloc, part); clauses);
+            or_drop!(clauses.push(clause); clauses);
         }
     }
     Ok(clauses)

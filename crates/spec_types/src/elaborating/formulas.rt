@@ -28,7 +28,7 @@ ghost use Rattle.spec_types.specs.faults.Views.{scope_of};
 use crate::faults::{
     Names, Scope, elem_of, number_named, side_element, sort_number, vars_of, with_vars,
 };
-use items::Items;
+use items::{Items, or_drop};
 use spec_core::{Body, Cmp, Elem, Prefix, Prefixed, Summand, Term};
 use spec_trees as tree;
 use spec_trees::{

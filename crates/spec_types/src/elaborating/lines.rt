@@ -14,7 +14,7 @@ ghost use Rattle.spec_types.specs.faults.Views.{scope_of};
 
 use crate::elaborating::formulas::{elems_of, guard_of, sentence_of, term_of};
 use crate::faults::{Scope, elem_of};
-use items::Items;
+use items::{Items, or_drop};
 use spec_core::{Change, Operation, Spot, Take, Thing, Update};
 use spec_trees as tree;
 use spec_trees::{Formula, Line, Mark, Mode, Reading};

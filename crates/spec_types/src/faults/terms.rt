@@ -90,18 +90,18 @@ fn lone_fault<'t>(
 ) -> Option<Fault<'t>>
     ensures { faulted result ≡ lone_fault_of (scope_of scope.now) mark.now number counter }
 {
-    match number {
-        Some(_) => None,
-        None => match counter {
-            Some(place) => {
-                if counter_keys(scope, place).len() == 0 {
-                    None
-                } else {
-                    Some(Fault::Kind(mark))
-                }
+    if number.is_some() {
+        return None;
+    }
+    match counter {
+        Some(place) => {
+            if counter_keys(scope, place).len() == 0 {
+                None
+            } else {
+                Some(Fault::Kind(mark))
             }
-            None => stranger_fault(scope, mark),
-        },
+        }
+        None => stranger_fault(scope, mark),
     }
 }
 

@@ -1,2 +1,0 @@
-pub mod Forcing
-mod Rest

@@ -1,6 +1,0 @@
-use Rattle.shared_lists.proofs.Joining.{added}
-use Rattle.shared_lists.proofs.list.SharedList.add.Goals as goal
-
-pub returns-clause-ok : goal.returns-clause-ok
-returns-clause-ok g c =
-    added c.push.result c.self.inside.blocks.items c.self.inside.rest c.push.new.self c.args.self.now c.args.item c.self.view_is c.push.ensures.ok

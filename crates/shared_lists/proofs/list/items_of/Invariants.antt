@@ -1,7 +1,0 @@
-use Rattle.std.proofs.Common.{◌≡◌, [], ◌++◌, drop}
-use Rattle.shared_lists.specs.Joined.{joined}
-use Rattle.shared_lists.proofs.list.items_of.Given as goal
-
--- all are those added so far, and those of the blocks from here on
-abbrev pub invariant-loop-block : goal.invariant-loop-block
-invariant-loop-block g l = joined l.blocks [] ≡ l.items.items ++ joined (drop l.block-index l.blocks) []

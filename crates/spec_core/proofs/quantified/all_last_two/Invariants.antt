@@ -1,8 +1,0 @@
-use Rattle.std.proofs.Common.{◌≡◌, true, [], ◌∷◌, ◌++◌}
-use Rattle.spec_core.specs.Form.{form_of}
-use Rattle.spec_core.specs.Truth.{truth}
-use Rattle.spec_core.specs.Choices.{all_below, all_choices, agrees}
-use Rattle.spec_core.proofs.quantified.all_last_two.Given as goal
-
-abbrev pub invariant-loop-e : goal.invariant-loop-e
-invariant-loop-e g l = all_below l.e (λ e. all_choices l.world (l.chosen ++ e ∷ []) (l.last ∷ []) (λ vars. agrees l.wanted (truth l.world (g.R.Readings.reads l.at) l.args vars (form_of l.body)))) ≡ true
