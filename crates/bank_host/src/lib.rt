@@ -14,6 +14,20 @@
 //   where those are known. Words that aren't accepted are refused before the source is read.
 #![tactic(auto)]
 
+/// What a call returns, or its error, before which the values named are dropped: a `?` while they are alive would be
+/// dear to prove.
+macro_rules! or_drop {
+    ($call:expr; $($value:ident),*) => {
+        match $call {
+            Ok(value) => value,
+            Err(error) => {
+                $(drop($value);)*
+                return Err(error);
+            }
+        }
+    };
+}
+
 mod effect;
 mod guard;
 mod hosting;

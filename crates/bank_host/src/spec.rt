@@ -13,7 +13,7 @@ ghost use Rattle.bank_host.specs.Bank.{add_to_balance as add_to_balance_of};
 ghost use Rattle.bank_host.specs.Bank.{takes_purse as takes_purse_of, deposit as deposit_of};
 ghost use Rattle.bank_host.specs.Bank.{withdraw as withdraw_of, bank};
 
-use items::{Items, or_drop};
+use items::Items;
 use spec_core::{
     Body, Change, Cmp, Counter, Elem, Formula, Invariant, Kind, Name, Operation, Param, Pattern,
     Prefix, Prefixed, Rule, Spec, Spot, Summand, Take, Term, Thing, Token, Update,

@@ -16,7 +16,7 @@ use crate::copies::declarations::{
 };
 use crate::copies::operations::copy_with_takes;
 use crate::naming::unused_names;
-use items::{Items, or_drop};
+use items::Items;
 use spec_core::{Elem, Kind, Name, Operation, Pattern, Rule, Spec, Take, Token};
 use std::alloc::{AllocError, Global};
 

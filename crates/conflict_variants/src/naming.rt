@@ -7,7 +7,7 @@ ghost use Rattle.conflict_variants.specs.Keyed.{names_in_use, token_name as toke
 ghost use Rattle.conflict_variants.specs.Keyed.{unused_names as unused_names_of};
 
 use crate::in_use::is_in_use;
-use items::{Items, or_drop};
+use items::Items;
 use spec_core::{Name, Spec};
 use std::alloc::{AllocError, Global};
 

@@ -19,7 +19,7 @@ use crate::gathering::Named;
 use crate::parts::{all_of, join_same};
 use crate::refused::GroundRefused;
 use ground_atoms::{Atoms, GroundFormula};
-use items::{Items, or_drop};
+use items::Items;
 use spec_core::{Elem, Rule, Spec, Take};
 use stage_defs::setting::const_of;
 use stage_defs::{Setting, Stage, negated};

@@ -10,7 +10,7 @@ ghost use Rattle.ground_atoms.specs.Calls.{args_from, ints_among, calls_from, ca
 ghost use Rattle.ground_groups.specs.Calls.{constants_in};
 
 use ground_atoms::{GroundArg, GroundCall};
-use items::{Items, or_drop};
+use items::Items;
 use obligation_list::Obligation;
 use spec_core::{Kind, Param, Prefix, Prefixed, Spec};
 use std::alloc::{AllocError, Global};

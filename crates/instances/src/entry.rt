@@ -19,7 +19,7 @@ use clausify::{KeptClauses, keep_clauses};
 use ground_atoms::{Atoms, GroundFormula, KnownSize};
 use ground_groups::entry::add_invariants;
 use ground_groups::{GroundRefused, Named};
-use items::{Items, or_drop};
+use items::Items;
 use obligation_list::Obligation;
 use spec_core::Spec;
 use std::alloc::{AllocError, Global};

@@ -28,7 +28,7 @@ use ground_atoms::{Atoms, GroundCall, GroundFormula, NamedReading};
 use ground_groups::defining::readings_after;
 use ground_groups::{GroundRefused, Named, constants, number_arguments, operations_of, things_of};
 use ground_numbers::law_arguments_are_first;
-use items::{Items, or_drop};
+use items::Items;
 use obligation_list::Obligation;
 use proof_lines::Problem;
 use spec_core::{Spec, Thing};

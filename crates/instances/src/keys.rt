@@ -6,7 +6,7 @@ use crate::entry::{Entry, is_alike};
 use crate::grounding::numbered;
 use ground_atoms::Atoms;
 use ground_groups::{constants, operations_of};
-use items::{Items, or_drop};
+use items::Items;
 use obligation_list::Obligation;
 use spec_core::Spec;
 use std::alloc::{AllocError, Global};

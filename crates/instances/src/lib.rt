@@ -22,6 +22,20 @@
 //   kept it would want it while the list still grows.
 #![tactic(auto)]
 
+/// The value of a call; where it fails, lets go of these values and ends with its error. Values that are let go by name are let go
+/// once in a proof, and not once for each way out.
+macro_rules! or_drop {
+    ($call:expr; $($value:ident),*) => {
+        match $call {
+            Ok(value) => value,
+            Err(error) => {
+                $(drop($value);)*
+                return Err(error);
+            }
+        }
+    };
+}
+
 mod agreeing;
 pub mod caching;
 mod concluding;

@@ -21,7 +21,7 @@ use crate::keeping::KeptPairs;
 use crate::pairs::ReadingPairs;
 use ground_atoms::{Atoms, GroundFormula};
 use instances::{Grounded, congruent};
-use items::{Items, or_drop};
+use items::Items;
 use obligation_list::Obligation;
 use spec_core::{Spec, Thing};
 use std::alloc::{AllocError, Global};

@@ -19,7 +19,7 @@ use instances::entry::{Begun, begin};
 use instances::grounding::numbered;
 use instances::listing::add_all_defined;
 use instances::{EntryPart, add_equality};
-use items::{Items, or_drop};
+use items::Items;
 use obligation_list::Obligation;
 use spec_core::Spec;
 use std::alloc::Global;

@@ -24,7 +24,7 @@ use crate::pairs::ReadingPairs;
 use ground_atoms::{Atoms, GroundCall, GroundFormula, NamedReading};
 use ground_groups::{GroundRefused, Named, things_of};
 use instances::{Entry, EntryPart, Grounded, add_congruence};
-use items::{Items, or_drop};
+use items::Items;
 use obligation_list::Obligation;
 use spec_core::{Spec, Thing};
 use std::alloc::{AllocError, Global};

@@ -34,6 +34,20 @@
 //   don't do.
 #![tactic(auto)]
 
+/// The value of a call; where it fails, lets go of these values and ends with its error. Values that are let go by name are let go
+/// once in a proof, and not once for each way out.
+macro_rules! or_drop {
+    ($call:expr; $($value:ident),*) => {
+        match $call {
+            Ok(value) => value,
+            Err(error) => {
+                $(drop($value);)*
+                return Err(error);
+            }
+        }
+    };
+}
+
 mod choosing;
 mod columns;
 mod completing;

@@ -15,7 +15,7 @@ ghost use Rattle.report_verifier.specs.Deferring.{IsRefutedBy};
 
 use crate::judgement::{Judgement, log_line, no_judgement, obligation_due};
 use crate::posing::Poser;
-use items::{Items, or_drop};
+use items::Items;
 use lazy_ground::LazyGround;
 use lazy_logs::is_refuted_by;
 use obligation_list::Obligation;

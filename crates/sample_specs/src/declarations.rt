@@ -8,7 +8,7 @@ ghost use Rattle.sample_specs.specs.Sample.{pattern as pattern_of, the_rule, nee
 ghost use Rattle.sample_specs.specs.Sample.{from_one};
 
 use crate::parts::{numbered, one, relation_holds};
-use items::{Items, or_drop};
+use items::Items;
 use spec_core::{Elem, Formula, Invariant, Name, Pattern, Prefix, Prefixed, Relation, Rule, Token};
 use std::alloc::{AllocError, Global};
 

@@ -10,7 +10,7 @@ ghost use Rattle.sample_specs.specs.Sample.{takes_item as takes_item_of, on_item
 ghost use Rattle.sample_specs.specs.Sample.{adding as adding_of, deleting as deleting_of};
 
 use crate::parts::{numbered, one, relation_holds};
-use items::{Items, or_drop};
+use items::Items;
 use spec_core::{
     Change, Elem, Formula, Kind, Name, Operation, Param, Prefix, Prefixed, Spot, Take, Thing,
     Update,

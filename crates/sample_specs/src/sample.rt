@@ -6,7 +6,7 @@ ghost use Rattle.sample_specs.specs.Sample.{sample};
 
 use crate::declarations::{invariants, relations, rules, sorts, tokens};
 use crate::operations::operations;
-use items::{Items, or_drop};
+use items::Items;
 use spec_core::Spec;
 use std::alloc::{AllocError, Global};
 

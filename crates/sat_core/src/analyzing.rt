@@ -11,7 +11,7 @@ ghost use Rattle.sat_core.specs.Searching.{IsChain, GoesOn, IsChained, IsAnalyze
 use crate::growing::{add_clause, clause_at, lits_of};
 use crate::state::SearchState;
 use crate::trail::Trail;
-use items::{Items, or_drop};
+use items::Items;
 use proof_lines::clause::holds;
 use proof_lines::{Clause, Line, Lit, Problem, RowStep};
 use std::alloc::{AllocError, Global};

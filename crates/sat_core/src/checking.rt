@@ -19,7 +19,7 @@ use crate::growing::{add_row, int_count};
 use crate::row_assignments::{RowAssignment, pick, row_assignment, truths};
 use crate::state::SearchState;
 use crate::trail::Trail;
-use items::{Items, or_drop};
+use items::Items;
 use line_rows::splitting::at_most;
 use proof_lines::{Interpretation, Line, Lit, Problem, RangeWhat, RowStep};
 use std::alloc::{AllocError, Global};

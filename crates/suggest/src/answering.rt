@@ -16,7 +16,7 @@ use crate::known::Known;
 use crate::listing::{list_keys, list_pairs};
 use crate::writing::is_refuted;
 use conflict_variants::{bare, keyed};
-use items::{Items, or_drop};
+use items::Items;
 use obligation_list::Obligation;
 use spec_core::Spec;
 use std::alloc::{AllocError, Global};

@@ -14,7 +14,7 @@ ghost use Rattle.suggest.specs.Writing.{CanBeWritten};
 use crate::answer::{Found, Pair};
 use crate::known::Known;
 use crate::listing::list_pair;
-use items::{Items, or_drop};
+use items::Items;
 use obligation_list::Obligation;
 use proof_report::{Cause, Verdict};
 use spec_core::Spec;

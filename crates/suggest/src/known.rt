@@ -11,7 +11,7 @@ ghost use Rattle.check_run.specs.Good.{IsGood};
 ghost use Rattle.check_run.specs.Reports.{written_version};
 
 use check_run::{decide, refuted_by};
-use items::{Items, or_drop};
+use items::Items;
 use obligation_list::{Obligation, Witness, breaks};
 use proof_report::Verdict;
 use spec_core::{Call, Spec, World};

@@ -20,6 +20,20 @@
 //   as any witness.
 #![tactic(auto)]
 
+/// What a call returns, or its error, before which the values named are dropped: a `?` while they are alive would be
+/// dear to prove.
+macro_rules! or_drop {
+    ($call:expr; $($value:ident),*) => {
+        match $call {
+            Ok(value) => value,
+            Err(error) => {
+                $(drop($value);)*
+                return Err(error);
+            }
+        }
+    };
+}
+
 mod answer;
 mod answering;
 mod finding;

@@ -15,7 +15,7 @@ ghost use Rattle.suggest.specs.declared.answer.Pair.{Pair};
 ghost use Rattle.suggest.specs.declared.answer.Key.{Key};
 
 use crate::answer::{Key, Pair};
-use items::{Items, or_drop};
+use items::Items;
 use obligation_list::{Obligation, list};
 use spec_core::{Kind, Spec};
 use std::alloc::{AllocError, Global};

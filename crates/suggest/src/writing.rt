@@ -23,7 +23,7 @@ use crate::finding::{find_bare, find_in};
 use crate::known::Known;
 use crate::listing::list_keys;
 use conflict_variants::keyed;
-use items::{Items, or_drop};
+use items::Items;
 use itoa::Buffer;
 use obligation_list::Obligation;
 use proof_report::{Verdict, write_verdict};

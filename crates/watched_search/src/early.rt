@@ -11,7 +11,7 @@ ghost use Rattle.sat_core.specs.Answers.{AreRowsOf};
 ghost use Rattle.theory_api.specs.Laws.{all_below, IsAnswer};
 ghost use Rattle.watched_search.specs.Early.{AreHeld, IsSaid};
 
-use items::{Items, or_drop};
+use items::Items;
 use lin_rows::Row;
 use linear_ints::tested;
 use proof_lines::{AtomKind, Lit, Problem, RowStep};

@@ -9,7 +9,7 @@ ghost use Rattle.proof_lines.specs.Problems.{row_true};
 ghost use Rattle.sat_core.specs.Answers.{IsModelOf};
 ghost use Rattle.watched_search.specs.Reduced.{truth_in, HasTruth, HaveTruths};
 
-use items::{Items, or_drop};
+use items::Items;
 use lin_rows::{Row, truth_at};
 use proof_lines::{AtomKind, Interpretation, Lit, Problem};
 use std::alloc::{AllocError, Global};

@@ -15,7 +15,7 @@ ghost use Rattle.watched_search.specs.Reduced.{IsReduced};
 use crate::early::{Clash, Said, ask_rows};
 use crate::evaluating::evaluated;
 use implicants::{choose, relaxed};
-use items::{Items, or_drop};
+use items::Items;
 use proof_lines::{Interpretation, Lit, Problem};
 use sat_core::SearchState;
 use std::alloc::{AllocError, Global};

@@ -22,7 +22,7 @@ use crate::proposed::proposed;
 use crate::reducing::{Reduced, ask_reduced};
 use crate::row_hints::RowHints;
 use decision_queue::Order;
-use items::{Items, or_drop};
+use items::Items;
 use proof_lines::problem::law_rows;
 use proof_lines::{Lit, Problem, RangeEvidence, RowsEvidence};
 use sat_core::checking::Outcome;

@@ -3,7 +3,7 @@
 ghost use Rattle.std.specs.Prelude.{◌≡◌, IfOk};
 
 use crate::copies::formulas::copy_line;
-use items::{Items, or_drop};
+use items::Items;
 use spec_core::{Const, Counter, Invariant, Name, Relation};
 use std::alloc::{AllocError, Global};
 

@@ -3,7 +3,7 @@
 ghost use Rattle.std.specs.Prelude.{◌≡◌, IfOk};
 ghost use Rattle.spec_core.specs.Form.{form_of, and_form, or_form, implies_form, compare_form};
 
-use items::{Items, or_drop};
+use items::Items;
 use spec_core::{Body, Cmp, Formula, Prefixed, Summand, Term};
 use std::alloc::{AllocError, Global};
 

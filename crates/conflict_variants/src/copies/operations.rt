@@ -6,7 +6,7 @@ ghost use Rattle.conflict_variants.specs.Takes.{with_takes};
 
 use crate::copies::declarations::copy_name;
 use crate::copies::formulas::{copy_formula, copy_lines, copy_term};
-use items::{Items, or_drop};
+use items::Items;
 use spec_core::{Change, Operation, Param, Take, Update};
 use std::alloc::{AllocError, Global};
 
