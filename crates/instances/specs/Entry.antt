@@ -1,6 +1,6 @@
 -- What obligations share whose constants are of the same sorts and whose calls have the same whole numbers among their arguments: the
 -- invariants at these constants, made and numbered, and their clauses.
-use Rattle.std.specs.Prelude.{◌≡◌, ℕ, true, false, Option, Some, None, Result, Ok, Err, IfSome, All, List, [], length, map, take}
+use Rattle.std.specs.Prelude.{◌≡◌, ℕ, true, false, Option, Some, None, Result, Ok, Err, IfSome, List, [], length, map, take}
 use Rattle.spec_core.specs.Specification.{Specification}
 use Rattle.obligation_list.specs.declared.obligation.Obligation.{Obligation}
 use Rattle.ground_problem.specs.Symbols.{Integer, Symbolic}
@@ -17,7 +17,6 @@ use Rattle.ground_groups.specs.Limited.{make_upto}
 use Rattle.ground_groups.specs.declared.refused.GroundRefused.{GroundRefused}
 use Rattle.ground_groups.specs.declared.refused.GroundRefused.TheVariants.{TooMany, Memory}
 use Rattle.instances.specs.declared.entry.Entry.{Entry}
-use Rattle.instances.specs.declared.caching.EntryCache.{EntryCache}
 use Rattle.instances.specs.declared.entry.EntryPart.{EntryPart}
 use Rattle.instances.specs.declared.entry.Begun.{Begun}
 use Rattle.instances.specs.declared.grounding.Grounded.{Grounded}
@@ -44,10 +43,6 @@ pub record IsEntry (d : Specification) (e : Entry) : Type 0 where
         forms = take e.part.size.formulas (map form_of e.formulas);
       })
   pub clauses : HasClausesOf (map form_of e.formulas) e.part
-
--- each is an entry of the specification
-abbrev pub AreEntries : Specification → EntryCache → Type 0
-AreEntries d c = All (IsEntry d) c.entries.items
 
 -- a part of this size, with the clauses of these formulas, which are all that there are
 pub record IsPart (ints : List Integer) (k : Known) (fs : List Numbered)

@@ -3,18 +3,14 @@
 // It stands on `ground_groups`, which makes the groups that state the obligation, and on `clausify`. Here the groups stand one after
 // another: what is true at the entry, that the conclusion fails, the definitions of later readings, and equality. Equality goes over each
 // of three constants to the other two (src/equating), and equal tuples have equal readings (src/agreeing); pairs are counted before their
-// formulas are made. What obligations share at the entry is made once (src/entry.rt) and kept for a few kinds of constants
-// (src/caching.rt).
+// formulas are made. What obligations share at the entry is made once (src/entry.rt), and goes on from one to the next. Which of those
+// that were kept serves is a hint, and is tested where it is used (src/keys.rt).
 //
 // Definitions: specs/Ground (what the ground problem is, as a program holds it), specs/Entry (what is shared), specs/Pairs (how many pairs
 // there are), specs/Congruent (what the code has of the two parts of a formula on equal readings).
 //
 // In the field's words this is an instantiation: each line of the specification at all choices of
 // constants for its variables.
-//
-// Entries of 32 kinds of constants, with 60,000 formulas together, are the most that `EntryCache`
-// keeps. Eviction is by last use: the entry that was used the longest ago goes first. Which one
-// serves is a hint, and is tested where it is used.
 //
 // Decisions:
 // - `Grounded` keeps nothing by its type. What its parts keep is said once, of the definition
@@ -37,7 +33,6 @@ macro_rules! or_drop {
 }
 
 mod agreeing;
-pub mod caching;
 mod concluding;
 mod congruence;
 pub mod entry;
@@ -47,7 +42,6 @@ mod keys;
 pub mod listing;
 
 pub use agreeing::{add_congruence, rising};
-pub use caching::EntryCache;
 pub use clausify::KeptClauses;
 pub use congruence::congruent;
 pub use entry::{Entry, EntryPart, EntrySize, kept_clauses};
