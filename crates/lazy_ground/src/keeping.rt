@@ -68,12 +68,13 @@ fn are_named(atoms: &Atoms, readings: &[NamedReading]) -> bool
 {
     let mut count: usize = 0;
     for reading in atoms.named() {
-        if is_entry(reading.stage) {
-            if count >= readings.len() || !is_same_reading(reading, &readings[count]) {
-                return false;
-            }
-            count += 1;
+        if !is_entry(reading.stage) {
+            continue;
         }
+        if count >= readings.len() || !is_same_reading(reading, &readings[count]) {
+            return false;
+        }
+        count += 1;
     }
     count == readings.len()
 }
