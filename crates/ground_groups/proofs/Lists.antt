@@ -9,7 +9,6 @@ use Rattle.std.proofs.lemmas.List.{length-map, map-append}
 use Rattle.spec_core.specs.World.{each_before}
 use Rattle.spec_core.specs.declared.spec.Invariant.{Invariant}
 use Rattle.ground_atoms.specs.Formulas.{form_of}
-use Rattle.ground_atoms.specs.declared.formula.GroundFormula.{GroundFormula}
 use Rattle.ground_problem.specs.Symbols.{Symbolic, negated}
 use Rattle.ground_numbers.specs.Numbered.{Numbered}
 use Rattle.ground_atoms.specs.Known.{Known}
@@ -17,8 +16,9 @@ use Rattle.ground_atoms.specs.Making.{MadeList, make, make_all}
 use Rattle.ground_problem.specs.Formulas.{Caller, Readings, formula, instances}
 use Rattle.ground_problem.specs.Constants.{Constants, assignments}
 use Rattle.ground_problem.specs.Problem.{most_formulas}
-use Rattle.ground_groups.specs.Limited.{make_upto, Appends, HasRoomFor, IsWithin}
+use Rattle.ground_groups.specs.Limited.{make_upto, made_in, made_with, Appends, Makes, HasRoomFor, IsWithin}
 use Rattle.ground_groups.specs.Lines.{signed}
+use Rattle.ground_groups.specs.declared.grounding.Grounding.{Grounding}
 use Rattle.ground_groups.specs.declared.refused.GroundRefused.{GroundRefused}
 use Rattle.ground_groups.specs.declared.refused.GroundRefused.TheVariants.{TooMany, Memory}
 
@@ -51,13 +51,6 @@ upto_beyond so_far k (f ∷ fs) h = by_test (ltb (length so_far) most_formulas) 
     by_test true e g = g (omega (arith, longer, h, ltb-true (length so_far) most_formulas e))
     by_test false e g = refl
 
--- the same for what a program holds
-pub instances_beyond : (old : List GroundFormula) (k : Known) (f : List ℕ → Symbolic) (vs : List (List ℕ)) → most_formulas - length old < length vs → make_upto (map form_of old) k (map f vs) ≡ None
-instances_beyond old k f vs h =
-    let e : length (map form_of old) ≡ length old = length-map old form_of in
-    let g : length (map f vs) ≡ length vs = length-map vs f in
-    upto_beyond (map form_of old) k (map f vs) (omega (arith, e, g, h))
-
 -- ---- one group of formulas for each member of a list
 
 next_of : {X Y : Type 0} (f : X → List Y) (xs : List X) (i : ℕ) (d : X) → i < length xs → flat_map f (drop i xs) ≡ f (get_or xs i d) ++ flat_map f (drop (i + 1) xs)
@@ -89,20 +82,24 @@ none_group : {X : Type 0} (f : X → List Symbolic) (xs : List X) (i : ℕ) (x :
 none_group f xs i x h q so_far k e = ap (make_upto so_far k) (next_of f xs i x h) ∙ upto_none so_far k (f (get_or xs i x)) (flat_map f (drop (i + 1) xs)) (ap (λ y. make_upto so_far k (f y)) (sym q) ∙ e)
 
 -- a refusal at it is one of all
-pub group_refused : {X : Type 0} (f : X → List Symbolic) (xs : List X) (i : ℕ) (x : X) → i < length xs → x ≡ get_or xs i x → (why : GroundRefused) (out new first : List GroundFormula) (k now start : Known)
-    → make_upto (map form_of out) k (flat_map f (drop i xs)) ≡ make_upto (map form_of first) start (flat_map f xs)
-    → Appends {A = Unit {0}} (Err why) out k (f x) new now → Appends {A = Unit {0}} (Err why) first start (flat_map f xs) new now
-group_refused f xs i x h q TooMany out new first k now start e g = sym e ∙ none_group f xs i x h q (map form_of out) k g
-group_refused f xs i x h q Memory out new first k now start e g = tt
+pub group_refused : {X : Type 0} (f : X → List Symbolic) (xs : List X) (i : ℕ) (x : X) → i < length xs → x ≡ get_or xs i x → (why : GroundRefused) (old first new : Grounding)
+    → made_with old (flat_map f (drop i xs)) ≡ made_with first (flat_map f xs)
+    → Appends {A = Unit {0}} (Err why) old (f x) new → Appends {A = Unit {0}} (Err why) first (flat_map f xs) new
+group_refused f xs i x h q TooMany old first new e g = sym e ∙ none_group f xs i x h q (map form_of old.formulas) old.atoms g
+group_refused f xs i x h q Memory old first new e g = tt
 
-pub group_refused_at : {X : Type 0} (f : X → List Symbolic) (xs : List X) (i : ℕ) (d : X) → i < length xs → (why : GroundRefused) (out new first : List GroundFormula) (k now start : Known)
-    → make_upto (map form_of out) k (flat_map f (drop i xs)) ≡ make_upto (map form_of first) start (flat_map f xs)
-    → Appends {A = Unit {0}} (Err why) out k (f (get_or xs i d)) new now → Appends {A = Unit {0}} (Err why) first start (flat_map f xs) new now
-group_refused_at f xs i d h why out new first k now start e g = group_refused f xs i (get_or xs i d) h (any_default xs i d (get_or xs i d) h) why out new first k now start e g
+pub group_refused_at : {X : Type 0} (f : X → List Symbolic) (xs : List X) (i : ℕ) (d : X) → i < length xs → (why : GroundRefused) (old first new : Grounding)
+    → made_with old (flat_map f (drop i xs)) ≡ made_with first (flat_map f xs)
+    → Appends {A = Unit {0}} (Err why) old (f (get_or xs i d)) new → Appends {A = Unit {0}} (Err why) first (flat_map f xs) new
+group_refused_at f xs i d h = group_refused f xs i (get_or xs i d) h (any_default xs i d (get_or xs i d) h)
 
-pub refused_beyond : (why : GroundRefused) (old new : List GroundFormula) (k now : Known) (f : List ℕ → Symbolic) (vs : List (List ℕ)) → HasRoomFor (Err why) (most_formulas - length old) (length vs) → Appends {A = Unit {0}} (Err why) old k (map f vs) new now
-refused_beyond TooMany old new k now f vs h = instances_beyond old k f vs h
-refused_beyond Memory old new k now f vs h = tt
+-- more of them than there is room for
+pub refused_beyond : (why : GroundRefused) (old new : Grounding) (f : List ℕ → Symbolic) (vs : List (List ℕ)) → HasRoomFor (Err why) (most_formulas - length old.formulas) (length vs) → Appends {A = Unit {0}} (Err why) old (map f vs) new
+refused_beyond TooMany old new f vs h =
+    let e : length (map form_of old.formulas) ≡ length old.formulas = length-map old.formulas form_of in
+    let g : length (map f vs) ≡ length vs = length-map vs f in
+    upto_beyond (map form_of old.formulas) old.atoms (map f vs) (omega (arith, e, g, h))
+refused_beyond Memory old new f vs h = tt
 
 -- ---- how many formulas all invariants give
 
@@ -125,13 +122,13 @@ invariants-length z r c (i ∷ is) =
     let g = invariants-length z r c is in
     omega (arith, a, b, e, g)
 
-pub invariants_beyond : (why : GroundRefused) (old new : List GroundFormula) (k now : Known) (z : Constants) (r : Readings) (c : Caller) (is : List Invariant)
-    → HasRoomFor (Err why) (most_formulas - length old) (length (flat_map (λ i. assignments z i.line.vars) is)) → Appends {A = Unit {0}} (Err why) old k (flat_map (λ i. instances z r c i.line.vars i.line.body) is) new now
-invariants_beyond TooMany old new k now z r c is h =
-    let e : length (map form_of old) ≡ length old = length-map old form_of in
+pub invariants_beyond : (why : GroundRefused) (old new : Grounding) (z : Constants) (r : Readings) (c : Caller) (is : List Invariant)
+    → HasRoomFor (Err why) (most_formulas - length old.formulas) (length (flat_map (λ i. assignments z i.line.vars) is)) → Appends {A = Unit {0}} (Err why) old (flat_map (λ i. instances z r c i.line.vars i.line.body) is) new
+invariants_beyond TooMany old new z r c is h =
+    let e : length (map form_of old.formulas) ≡ length old.formulas = length-map old.formulas form_of in
     let g = invariants-length z r c is in
-    upto_beyond (map form_of old) k (flat_map (λ i. instances z r c i.line.vars i.line.body) is) (omega (arith, e, g, h))
-invariants_beyond Memory old new k now z r c is h = tt
+    upto_beyond (map form_of old.formulas) old.atoms (flat_map (λ i. instances z r c i.line.vars i.line.body) is) (omega (arith, e, g, h))
+invariants_beyond Memory old new z r c is h = tt
 
 -- ---- one formula for each choice of constants
 
@@ -171,24 +168,43 @@ pub pair_step : (fs gs hs : List Symbolic) → hs ≡ fs ++ gs → (so_far more 
     → make_upto so_far k fs ≡ Some (record { known = l; forms = more }) → make_upto more l gs ≡ make_upto so_far k hs
 pair_step fs gs hs s so_far more k l e = sym (upto_then so_far more k l fs gs e) ∙ ap (make_upto so_far k) (sym s)
 
-pub pair_refused : (fs gs hs all : List Symbolic) → hs ≡ fs ++ gs → (why : GroundRefused) (out new first : List GroundFormula) (k now start : Known)
-    → make_upto (map form_of out) k hs ≡ make_upto (map form_of first) start all
-    → Appends {A = Unit {0}} (Err why) out k fs new now → Appends {A = Unit {0}} (Err why) first start all new now
-pair_refused fs gs hs all s TooMany out new first k now start e g = sym e ∙ ap (make_upto (map form_of out) k) s ∙ upto_none (map form_of out) k fs gs g
-pair_refused fs gs hs all s Memory out new first k now start e g = tt
+pub pair_refused : (fs gs hs : List Symbolic) → hs ≡ fs ++ gs → (why : GroundRefused) (old first new : Grounding) (all : List Symbolic)
+    → made_with old hs ≡ made_with first all
+    → Appends {A = Unit {0}} (Err why) old fs new → Appends {A = Unit {0}} (Err why) first all new
+pair_refused fs gs hs s TooMany old first new all e g = sym e ∙ ap (made_with old) s ∙ upto_none (map form_of old.formulas) old.atoms fs gs g
+pair_refused fs gs hs s Memory old first new all e g = tt
 
 -- ---- one group after another
 
-pub seq : {A : Type 0} (r : Result A GroundRefused) (old mid new : List GroundFormula) (k l now : Known) (xs ys : List Symbolic)
-    → make_upto (map form_of old) k xs ≡ Some (record { known = l; forms = map form_of mid }) → Appends r mid l ys new now → Appends r old k (xs ++ ys) new now
-seq (Ok v) old mid new k l now xs ys e g = upto_then (map form_of old) (map form_of mid) k l xs ys e ∙ g
-seq (Err TooMany) old mid new k l now xs ys e g = upto_then (map form_of old) (map form_of mid) k l xs ys e ∙ g
-seq (Err Memory) old mid new k l now xs ys e g = tt
+pub seq : {A : Type 0} (r : Result A GroundRefused) (old mid new : Grounding) (xs ys : List Symbolic)
+    → made_with old xs ≡ Some (made_in mid) → Appends r mid ys new → Appends r old (xs ++ ys) new
+seq (Ok v) old mid new xs ys e g = upto_then (map form_of old.formulas) (map form_of mid.formulas) old.atoms mid.atoms xs ys e ∙ g
+seq (Err TooMany) old mid new xs ys e g = upto_then (map form_of old.formulas) (map form_of mid.formulas) old.atoms mid.atoms xs ys e ∙ g
+seq (Err Memory) old mid new xs ys e g = tt
 
-pub seq_refused : (why : GroundRefused) (old mid : List GroundFormula) (k l : Known) (xs ys : List Symbolic)
-    → Appends {A = Unit {0}} (Err why) old k xs mid l → Appends {A = Unit {0}} (Err why) old k (xs ++ ys) mid l
-seq_refused TooMany old mid k l xs ys e = upto_none (map form_of old) k xs ys e
-seq_refused Memory old mid k l xs ys e = tt
+pub seq_refused : (why : GroundRefused) (old new : Grounding) (xs ys : List Symbolic)
+    → Appends {A = Unit {0}} (Err why) old xs new → Appends {A = Unit {0}} (Err why) old (xs ++ ys) new
+seq_refused TooMany old new xs ys e = upto_none (map form_of old.formulas) old.atoms xs ys e
+seq_refused Memory old new xs ys e = tt
+
+-- the same from the first formula on
+pub makes_then : {A : Type 0} (r : Result A GroundRefused) (k : Known) (mid new : Grounding) (xs ys : List Symbolic)
+    → make_upto [] k xs ≡ Some (made_in mid) → Appends r mid ys new → Makes r k (xs ++ ys) new
+makes_then (Ok v) k mid new xs ys e g = upto_then [] (map form_of mid.formulas) k mid.atoms xs ys e ∙ g
+makes_then (Err TooMany) k mid new xs ys e g = upto_then [] (map form_of mid.formulas) k mid.atoms xs ys e ∙ g
+makes_then (Err Memory) k mid new xs ys e g = tt
+
+pub makes_refused : (why : GroundRefused) (k : Known) (new : Grounding) (xs ys : List Symbolic)
+    → Makes {A = Unit {0}} (Err why) k xs new → Makes {A = Unit {0}} (Err why) k (xs ++ ys) new
+makes_refused TooMany k new xs ys e = upto_none [] k xs ys e
+makes_refused Memory k new xs ys e = tt
+
+-- what is appended to no formulas
+pub makes_first : {A : Type 0} (r : Result A GroundRefused) (old new : Grounding) (k : Known) (fs : List Symbolic)
+    → old.formulas ≡ [] → old.atoms ≡ k → Appends r old fs new → Makes r k fs new
+makes_first (Ok v) old new k fs a b e = (λ i. make_upto (map form_of (sym a i)) (sym b i) fs) ∙ e
+makes_first (Err TooMany) old new k fs a b e = (λ i. make_upto (map form_of (sym a i)) (sym b i) fs) ∙ e
+makes_first (Err Memory) old new k fs a b e = tt
 
 -- ---- lists that are made whole, and tested afterwards
 
@@ -211,16 +227,16 @@ upto_is_all so_far k (f ∷ fs) h = by_test (ltb (length so_far) most_formulas) 
     by_test true e g = g
     by_test false e g = absurd (let n = ltb-false (length so_far) most_formulas e in omega (arith, n, h))
 
-pub limited : (r : Result (Unit {0}) GroundRefused) (old new : List GroundFormula) (k now : Known) (fs : List Symbolic) → 0 < length fs
-    → make_all (map form_of old) k fs ≡ record { known = now; forms = map form_of new } → IsWithin r (length new) → Appends r old k fs new now
-limited r old new k now fs s e w =
-    let a : length (map form_of new) ≡ length (map form_of old) + length fs = ap (λ (m : MadeList). length m.forms) (sym e) ∙ all-length (map form_of old) k fs in
-    let b : length (map form_of new) ≡ length new = length-map new form_of in
+pub limited : (r : Result (Unit {0}) GroundRefused) (old new : Grounding) (fs : List Symbolic) → 0 < length fs
+    → make_all (map form_of old.formulas) old.atoms fs ≡ made_in new → IsWithin r (length new.formulas) → Appends r old fs new
+limited r old new fs s e w =
+    let a : length (map form_of new.formulas) ≡ length (map form_of old.formulas) + length fs = ap (λ (m : MadeList). length m.forms) (sym e) ∙ all-length (map form_of old.formulas) old.atoms fs in
+    let b : length (map form_of new.formulas) ≡ length new.formulas = length-map new.formulas form_of in
     by_result r a b w
   where
-    by_result : (r : Result (Unit {0}) GroundRefused) → length (map form_of new) ≡ length (map form_of old) + length fs → length (map form_of new) ≡ length new → IsWithin r (length new) → Appends r old k fs new now
-    by_result (Ok v) a b w = upto_is_all (map form_of old) k fs (omega (arith, a, b, w)) ∙ ap Some e
-    by_result (Err TooMany) a b w = upto_beyond (map form_of old) k fs (omega (arith, a, b, w, s))
+    by_result : (r : Result (Unit {0}) GroundRefused) → length (map form_of new.formulas) ≡ length (map form_of old.formulas) + length fs → length (map form_of new.formulas) ≡ length new.formulas → IsWithin r (length new.formulas) → Appends r old fs new
+    by_result (Ok v) a b w = upto_is_all (map form_of old.formulas) old.atoms fs (omega (arith, a, b, w)) ∙ ap Some e
+    by_result (Err TooMany) a b w = upto_beyond (map form_of old.formulas) old.atoms fs (omega (arith, a, b, w, s))
     by_result (Err Memory) a b w = absurd w
 
 -- what was made up to the limit is what is made

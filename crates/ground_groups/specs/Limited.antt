@@ -1,4 +1,4 @@
--- Lists of formulas that are made up to a limit.
+-- Groundings: lists of formulas that are made up to a limit.
 use Rattle.std.specs.Prelude.{◌≡◌, ℕ, ◌<◌, ◌≤◌, ltb, true, false, cond, Option, Some, None, Result, Ok, Err, List, [], ◌∷◌, ◌++◌, length, map}
 use Rattle.ground_problem.specs.Symbols.{Symbolic}
 use Rattle.ground_problem.specs.Problem.{most_formulas}
@@ -6,7 +6,7 @@ use Rattle.ground_numbers.specs.Numbered.{Numbered}
 use Rattle.ground_atoms.specs.Known.{Known}
 use Rattle.ground_atoms.specs.Making.{MadeList, make}
 use Rattle.ground_atoms.specs.Formulas.{form_of}
-use Rattle.ground_atoms.specs.declared.formula.GroundFormula.{GroundFormula}
+use Rattle.ground_groups.specs.declared.grounding.Grounding.{Grounding}
 use Rattle.ground_groups.specs.declared.refused.GroundRefused.{GroundRefused}
 use Rattle.ground_groups.specs.declared.refused.GroundRefused.TheVariants.{TooMany, Memory}
 
@@ -18,13 +18,27 @@ make_upto so_far k (f ∷ fs) =
     (make_upto (so_far ++ (make k f).form ∷ []) (make k f).known fs)
     None
 
--- a call appends these formulas: too many comes exactly where there are more, and want of memory at any time
-abbrev pub Appends : {A : Type 0} → Result A GroundRefused → List GroundFormula → Known
-    → List Symbolic → List GroundFormula → Known → Type 0
-Appends (Ok value) old k fs new now =
-    make_upto (map form_of old) k fs ≡ Some (record { known = now; forms = map form_of new })
-Appends (Err TooMany) old k fs new now = make_upto (map form_of old) k fs ≡ None
-Appends (Err Memory) old k fs new now = Unit {0}
+-- what is known in a grounding, and its formulas over numbers
+abbrev pub made_in : Grounding → MadeList
+made_in g = record { known = g.atoms; forms = map form_of g.formulas }
+
+-- these formulas, after those of a grounding
+abbrev pub made_with : Grounding → List Symbolic → Option MadeList
+made_with g fs = make_upto (map form_of g.formulas) g.atoms fs
+
+-- a call appends these formulas to a grounding: too many comes exactly where there are more, and want of memory at any time
+abbrev pub Appends : {A : Type 0} → Result A GroundRefused → Grounding → List Symbolic → Grounding
+    → Type 0
+Appends (Ok value) old fs new = made_with old fs ≡ Some (made_in new)
+Appends (Err TooMany) old fs new = made_with old fs ≡ None
+Appends (Err Memory) old fs new = Unit {0}
+
+-- a call leaves these formulas and no others, where so much was known before the first one
+abbrev pub Makes : {A : Type 0} → Result A GroundRefused → Known → List Symbolic → Grounding
+    → Type 0
+Makes (Ok value) k fs new = make_upto [] k fs ≡ Some (made_in new)
+Makes (Err TooMany) k fs new = make_upto [] k fs ≡ None
+Makes (Err Memory) k fs new = Unit {0}
 
 -- room for one more
 abbrev pub HasRoom : Result (Unit {0}) GroundRefused → ℕ → Type 0

@@ -14,16 +14,31 @@ ghost use Rattle.ground_groups.specs.Limited.{Appends};
 ghost use Rattle.ground_groups.specs.Rules.{unmatched_as};
 
 use crate::adding::has_room;
-use crate::entry::args_of;
+use crate::entry::at_entry;
 use crate::gathering::Named;
+use crate::grounding::Grounding;
 use crate::parts::{all_of, join_same};
 use crate::refused::GroundRefused;
 use ground_atoms::{Atoms, GroundFormula};
 use items::Items;
 use spec_core::{Elem, Rule, Spec, Take};
 use stage_defs::setting::const_of;
-use stage_defs::{Setting, Stage, negated};
+use stage_defs::{Setting, negated};
 use std::alloc::{AllocError, Global};
+
+// A call, and one of its takes lines.
+#[derive(Clone, Copy)]
+struct Taking<'a> {
+    call: Setting<'a>,
+    line: &'a Take,
+}
+
+// A call, and all its takes lines.
+#[derive(Clone, Copy)]
+struct AllTaking<'a> {
+    call: Setting<'a>,
+    lines: &'a [Take],
+}
 
 // Whether the tokens of two takes lines are those of a rule's patterns, and the lines aren't both shared.
 fn are_ruled(rule: &Rule, left: &Take, right: &Take) -> bool
@@ -51,19 +66,17 @@ fn add_consts(
 // The constants of two takes lines.
 fn consts_of_both(
     alloc: Global,
-    a: &Setting<'_>,
-    left: &Take,
-    b: &Setting<'_>,
-    right: &Take,
+    left: &Taking<'_>,
+    right: &Taking<'_>,
 ) -> Result<Items<u32>, AllocError>
     ensures { IfOk result
         (λ cs. cs
-        ≡ consts_of (caller_in a.now) [] left.now.args
-        ++ consts_of (caller_in b.now) [] right.now.args) }
+        ≡ consts_of (caller_in left.now.call) [] left.now.line.now.args
+        ++ consts_of (caller_in right.now.call) [] right.now.line.now.args) }
 {
     let mut consts = Items::new(alloc);
-    add_consts(a, left.args.as_slice(), &mut consts)?;
-    add_consts(b, right.args.as_slice(), &mut consts)?;
+    add_consts(&left.call, left.line.args.as_slice(), &mut consts)?;
+    add_consts(&right.call, right.line.args.as_slice(), &mut consts)?;
     Ok(consts)
 }
 
@@ -77,34 +90,6 @@ fn vars_of(alloc: Global, rule: &Rule) -> Result<Items<u8>, AllocError>
     Ok(vars)
 }
 
-// Joins the equality of a constant with each later one at a place of its variable.
-fn same_later(
-    atoms: &mut Atoms,
-    alloc: Global,
-    var: u8,
-    constant: u32,
-    vars: &[u8],
-    consts: &[u32],
-    mut done: Option<GroundFormula>,
-) -> Result<Option<GroundFormula>, AllocError>
-    ensures { IfOk result
-        (λ all. make_parts (option_map form_of done) atoms.old (entry.same_later var constant vars.now consts.now)
-        ≡ record { known = atoms.new; parts = option_map form_of all }) }
-{
-    let count = vars.len().min(consts.len());
-    for place in 0..count {
-        done = join_same(
-            atoms,
-            alloc,
-            vars[place] == var,
-            constant,
-            consts[place],
-            done,
-        )?;
-    }
-    Ok(done)
-}
-
 // Whether the variable at a place stands at an earlier one.
 fn is_met(vars: &[u8], place: usize) -> bool
     requires { place < length vars.now }
@@ -112,6 +97,32 @@ fn is_met(vars: &[u8], place: usize) -> bool
 {
     let var = vars[place];
     vars[..place].iter().any(|earlier| var == *earlier)
+}
+
+// Joins the equality of the constant at a place with each later one at a place of its variable.
+fn same_later(
+    atoms: &mut Atoms,
+    alloc: Global,
+    vars: &[u8],
+    consts: &[u32],
+    place: usize,
+    mut done: Option<GroundFormula>,
+) -> Result<Option<GroundFormula>, AllocError>
+    requires vars { place < length vars.now }
+    requires consts { place < length consts.now }
+    ensures { IfOk result
+        (λ all. make_parts (option_map form_of done) atoms.old
+        (entry.same_later (slice_index vars.now place) (slice_index consts.now place)
+        (drop (place + 1) vars.now) (drop (place + 1) consts.now))
+        ≡ record { known = atoms.new; parts = option_map form_of all }) }
+{
+    let (var, constant) = (vars[place], consts[place]);
+    let count = vars.len().min(consts.len());
+    for later in place + 1..count {
+        let counts = vars[later] == var;
+        done = join_same(atoms, alloc, counts, constant, consts[later], done)?;
+    }
+    Ok(done)
 }
 
 // Joins the equalities of the constant at a place, unless its variable stands at an earlier one.
@@ -126,22 +137,16 @@ fn same_from(
     requires vars { place < length vars.now }
     requires consts { place < length consts.now }
     ensures { IfOk result
-        (λ all. make_parts (option_map form_of done) atoms.old (cond (list_any (λ u. slice_index vars.now place == u) (take place vars.now)) [] (entry.same_later (slice_index vars.now place) (slice_index consts.now place) (drop (place + 1) vars.now) (drop (place + 1) consts.now)))
+        (λ all. make_parts (option_map form_of done) atoms.old
+        (cond (list_any (λ u. slice_index vars.now place == u) (take place vars.now)) []
+        (entry.same_later (slice_index vars.now place) (slice_index consts.now place)
+        (drop (place + 1) vars.now) (drop (place + 1) consts.now)))
         ≡ record { known = atoms.new; parts = option_map form_of all }) }
 {
     if is_met(vars, place) {
         return Ok(done);
     }
-    let later = place + 1;
-    same_later(
-        atoms,
-        alloc,
-        vars[place],
-        consts[place],
-        &vars[later..],
-        &consts[later..],
-        done,
-    )
+    same_later(atoms, alloc, vars, consts, place, done)
 }
 
 // One assignment gives these constants to these variables.
@@ -169,18 +174,19 @@ fn not_one_element_each(
     atoms: &mut Atoms,
     alloc: Global,
     rule: &Rule,
-    a: &Setting<'_>,
-    left: &Take,
-    b: &Setting<'_>,
-    right: &Take,
+    left: &Taking<'_>,
+    right: &Taking<'_>,
 ) -> Result<GroundFormula, AllocError>
     ensures { IfOk result
         (λ f. IsMade atoms.old
-        (symbols.negated (symbols.all_parts (entry.one_element_each [] (rule.now.left.vars ++ rule.now.right.vars) (consts_of (caller_in a.now) [] left.now.args ++ consts_of (caller_in b.now) [] right.now.args))))
+        (symbols.negated (symbols.all_parts (entry.one_element_each []
+        (rule.now.left.vars ++ rule.now.right.vars)
+        (consts_of (caller_in left.now.call) [] left.now.line.now.args
+        ++ consts_of (caller_in right.now.call) [] right.now.line.now.args))))
         atoms.new f) }
 {
     let vars = vars_of(alloc, rule)?;
-    let consts = or_drop!(consts_of_both(alloc, a, left, b, right); vars);
+    let consts = or_drop!(consts_of_both(alloc, left, right); vars);
     let matched = one_element_each(atoms, alloc, vars.as_slice(), consts.as_slice());
     drop(vars);
     drop(consts);
@@ -189,71 +195,64 @@ fn not_one_element_each(
 
 // Appends that a rule doesn't match two takes lines, by its left pattern the first and by its right pattern the second.
 fn add_unmatched(
-    atoms: &mut Atoms,
-    alloc: Global,
+    grounding: &mut Grounding,
     rule: &Rule,
-    a: &Setting<'_>,
-    left: &Take,
-    b: &Setting<'_>,
-    right: &Take,
-    out: &mut Items<GroundFormula>,
+    left: &Taking<'_>,
+    right: &Taking<'_>,
 ) -> Result<(), GroundRefused>
-    ensures { Appends result out.old atoms.old
-        (entry.unmatched rule.now (caller_in a.now) left.now (caller_in b.now) right.now) out.new
-        atoms.new }
+    ensures { Appends result grounding.old
+        (entry.unmatched rule.now (caller_in left.now.call) left.now.line.now
+        (caller_in right.now.call) right.now.line.now)
+        grounding.new }
 {
-    if !are_ruled(rule, left, right) {
+    if !are_ruled(rule, left.line, right.line) {
         return Ok(());
     }
-    has_room(out)?;
-    let made = not_one_element_each(atoms, alloc, rule, a, left, b, right)?;
-    out.push(made)?;
+    has_room(grounding)?;
+    let made = not_one_element_each(&mut grounding.atoms, grounding.alloc, rule, left, right)?;
+    grounding.formulas.push(made)?;
     Ok(())
 }
 
 // The same with the left pattern at the second line where they are swapped.
 fn add_unmatched_as(
-    atoms: &mut Atoms,
-    alloc: Global,
+    grounding: &mut Grounding,
     rule: &Rule,
     swapped: bool,
-    a: &Setting<'_>,
-    left: &Take,
-    b: &Setting<'_>,
-    right: &Take,
-    out: &mut Items<GroundFormula>,
+    left: &Taking<'_>,
+    right: &Taking<'_>,
 ) -> Result<(), GroundRefused>
-    ensures { Appends result out.old atoms.old
-        (unmatched_as swapped rule.now (caller_in a.now) left.now (caller_in b.now) right.now)
-        out.new atoms.new }
+    ensures { Appends result grounding.old
+        (unmatched_as swapped rule.now (caller_in left.now.call) left.now.line.now
+        (caller_in right.now.call) right.now.line.now)
+        grounding.new }
 {
     if swapped {
-        add_unmatched(atoms, alloc, rule, b, right, a, left, out)
+        add_unmatched(grounding, rule, right, left)
     } else {
-        add_unmatched(atoms, alloc, rule, a, left, b, right, out)
+        add_unmatched(grounding, rule, left, right)
     }
 }
 
-// The same for one takes line and each of these.
+// The same for one takes line and each of these of another call.
 fn add_with_each(
-    atoms: &mut Atoms,
-    alloc: Global,
+    grounding: &mut Grounding,
     rule: &Rule,
     swapped: bool,
-    a: &Setting<'_>,
-    left: &Take,
-    b: &Setting<'_>,
-    rights: &[Take],
-    out: &mut Items<GroundFormula>,
+    left: &Taking<'_>,
+    other: &Setting<'_>,
+    lines: &[Take],
 ) -> Result<(), GroundRefused>
-    ensures { Appends result out.old atoms.old
+    ensures { Appends result grounding.old
         (flat_map
-        (λ u. unmatched_as swapped rule.now (caller_in a.now) left.now (caller_in b.now) u)
-        rights.now)
-        out.new atoms.new }
+        (λ u. unmatched_as swapped rule.now (caller_in left.now.call) left.now.line.now
+        (caller_in other.now) u)
+        lines.now)
+        grounding.new }
 {
-    for right in rights {
-        match add_unmatched_as(atoms, alloc, rule, swapped, a, left, b, right, out) {
+    for line in lines {
+        let right = Taking { call: *other, line };
+        match add_unmatched_as(grounding, rule, swapped, left, &right) {
             Ok(()) => {}
             Err(refused) => return Err(refused),
         }
@@ -261,27 +260,26 @@ fn add_with_each(
     Ok(())
 }
 
-// The same for each two takes lines of the two calls.
+// The same for each of these takes lines of a call and each of another call.
 fn add_each_with_each(
-    atoms: &mut Atoms,
-    alloc: Global,
+    grounding: &mut Grounding,
     rule: &Rule,
     swapped: bool,
-    a: &Setting<'_>,
-    lefts: &[Take],
-    b: &Setting<'_>,
-    rights: &[Take],
-    out: &mut Items<GroundFormula>,
+    call: &Setting<'_>,
+    lines: &[Take],
+    other: &AllTaking<'_>,
 ) -> Result<(), GroundRefused>
-    ensures { Appends result out.old atoms.old
+    ensures { Appends result grounding.old
         (flat_map
-        (λ t. flat_map (λ u. unmatched_as swapped rule.now (caller_in a.now) t (caller_in b.now) u)
-        rights.now)
-        lefts.now)
-        out.new atoms.new }
+        (λ t. flat_map
+        (λ u. unmatched_as swapped rule.now (caller_in call.now) t (caller_in other.now.call) u)
+        other.now.lines.now)
+        lines.now)
+        grounding.new }
 {
-    for left in lefts {
-        match add_with_each(atoms, alloc, rule, swapped, a, left, b, rights, out) {
+    for line in lines {
+        let left = Taking { call: *call, line };
+        match add_with_each(grounding, rule, swapped, &left, &other.call, other.lines) {
             Ok(()) => {}
             Err(refused) => return Err(refused),
         }
@@ -291,44 +289,39 @@ fn add_each_with_each(
 
 // Appends that a rule matches no takes line of the one call and none of the other, in either order.
 fn add_rule(
-    atoms: &mut Atoms,
-    alloc: Global,
+    grounding: &mut Grounding,
     rule: &Rule,
-    a: &Setting<'_>,
-    lefts: &[Take],
-    b: &Setting<'_>,
-    rights: &[Take],
-    out: &mut Items<GroundFormula>,
+    a: &AllTaking<'_>,
+    b: &AllTaking<'_>,
 ) -> Result<(), GroundRefused>
-    ensures { Appends result out.old atoms.old
-        (entry.rule_unmatched (caller_in a.now) lefts.now (caller_in b.now) rights.now rule.now)
-        out.new atoms.new }
+    ensures { Appends result grounding.old
+        (entry.rule_unmatched (caller_in a.now.call) a.now.lines.now (caller_in b.now.call)
+        b.now.lines.now rule.now)
+        grounding.new }
 {
-    match add_each_with_each(atoms, alloc, rule, false, a, lefts, b, rights, out) {
+    match add_each_with_each(grounding, rule, false, &a.call, a.lines, b) {
         Ok(()) => {}
         Err(refused) => return Err(refused),
     }
-    add_each_with_each(atoms, alloc, rule, true, a, lefts, b, rights, out)
+    add_each_with_each(grounding, rule, true, &a.call, a.lines, b)
 }
 
 // The same for each of these rules.
 fn add_rules(
-    atoms: &mut Atoms,
-    alloc: Global,
+    grounding: &mut Grounding,
     rules: &[Rule],
-    a: &Setting<'_>,
-    lefts: &[Take],
-    b: &Setting<'_>,
-    rights: &[Take],
-    out: &mut Items<GroundFormula>,
+    a: &AllTaking<'_>,
+    b: &AllTaking<'_>,
 ) -> Result<(), GroundRefused>
-    ensures { Appends result out.old atoms.old
-        (flat_map (entry.rule_unmatched (caller_in a.now) lefts.now (caller_in b.now) rights.now)
+    ensures { Appends result grounding.old
+        (flat_map
+        (entry.rule_unmatched (caller_in a.now.call) a.now.lines.now (caller_in b.now.call)
+        b.now.lines.now)
         rules.now)
-        out.new atoms.new }
+        grounding.new }
 {
     for rule in rules {
-        match add_rule(atoms, alloc, rule, a, lefts, b, rights, out) {
+        match add_rule(grounding, rule, a, b) {
             Ok(()) => {}
             Err(refused) => return Err(refused),
         }
@@ -338,42 +331,25 @@ fn add_rules(
 
 /// Appends that the calls of these operations don't conflict; one call alone has none to conflict with.
 pub fn add_free(
-    atoms: &mut Atoms,
-    alloc: Global,
+    grounding: &mut Grounding,
     spec: &Spec,
     named: &Named,
     ops: &[u8],
-    out: &mut Items<GroundFormula>,
 ) -> Result<(), GroundRefused>
-    ensures { Appends result out.old atoms.old
-        (entry.calls_free spec.now (constants_in named.now) ops.now) out.new atoms.new }
+    ensures { Appends result grounding.old
+        (entry.calls_free spec.now (constants_in named.now) ops.now) grounding.new }
 {
     match ops {
         [first, second, ..] => {
-            let a = Setting {
-                spec,
-                stage: Stage::Numbered(0),
-                call: 0,
-                args: args_of(named, 0),
+            let a = AllTaking {
+                call: at_entry(spec, named, 0),
+                lines: spec.takes_of(*first),
             };
-            let b = Setting {
-                spec,
-                stage: Stage::Numbered(0),
-                call: 1,
-                args: args_of(named, 1),
+            let b = AllTaking {
+                call: at_entry(spec, named, 1),
+                lines: spec.takes_of(*second),
             };
-            let lefts = spec.takes_of(*first);
-            let rights = spec.takes_of(*second);
-            add_rules(
-                atoms,
-                alloc,
-                spec.rules.as_slice(),
-                &a,
-                lefts,
-                &b,
-                rights,
-                out,
-            )
+            add_rules(grounding, spec.rules.as_slice(), &a, &b)
         }
         _ => Ok(()),
     }

@@ -12,8 +12,9 @@ ghost use Rattle.ground_atoms.specs.Calls.{calls_of};
 ghost use Rattle.ground_groups.specs.Defined.{defined_at, defined_by};
 
 use crate::adding::within_limit;
+use crate::grounding::Grounding;
 use crate::refused::GroundRefused;
-use ground_atoms::{Atoms, GroundCall, GroundFormula, NamedReading};
+use ground_atoms::{Atoms, GroundCall, NamedReading};
 use items::Items;
 use spec_core::{Spec, Thing};
 use stage_defs::Defined;
@@ -52,101 +53,95 @@ pub fn readings_after(
 }
 
 // Appends the definition of a relation's reading.
-fn add_relation(
-    atoms: &mut Atoms,
-    alloc: Global,
-    reading: &Defined<'_>,
-    out: &mut Items<GroundFormula>,
-) -> Result<(), GroundRefused>
-    ensures { Appends result out.old atoms.old (has_defined reading.now) out.new atoms.new }
+fn add_relation(grounding: &mut Grounding, reading: &Defined<'_>) -> Result<(), GroundRefused>
+    ensures { Appends result grounding.old (has_defined reading.now) grounding.new }
 {
-    add_has(atoms, alloc, reading, out)?;
-    within_limit(out)
+    add_has(
+        &mut grounding.atoms,
+        grounding.alloc,
+        reading,
+        &mut grounding.formulas,
+    )?;
+    within_limit(grounding)
 }
 
 // Appends the definition of a counter's reading.
-fn add_counter(
-    atoms: &mut Atoms,
-    alloc: Global,
-    reading: &Defined<'_>,
-    out: &mut Items<GroundFormula>,
-) -> Result<(), GroundRefused>
-    ensures { Appends result out.old atoms.old (count_defined reading.now) out.new atoms.new }
+fn add_counter(grounding: &mut Grounding, reading: &Defined<'_>) -> Result<(), GroundRefused>
+    ensures { Appends result grounding.old (count_defined reading.now) grounding.new }
 {
-    add_count(atoms, alloc, reading, out)?;
-    within_limit(out)
+    add_count(
+        &mut grounding.atoms,
+        grounding.alloc,
+        reading,
+        &mut grounding.formulas,
+    )?;
+    within_limit(grounding)
 }
 
 // Appends the definition of a thing's reading at a stage after this call.
 fn add_defined(
+    grounding: &mut Grounding,
     spec: &Spec,
-    atoms: &mut Atoms,
-    alloc: Global,
     call: &GroundCall,
     reading: &NamedReading,
-    out: &mut Items<GroundFormula>,
 ) -> Result<(), GroundRefused>
-    ensures { Appends result out.old atoms.old
+    ensures { Appends result grounding.old
         (defined_at spec.now call.now reading.now.stage reading.now.thing reading.now.tuple)
-        out.new atoms.new }
+        grounding.new }
 {
     let (stage, tuple) = (reading.stage, reading.tuple.consts());
     match reading.thing {
         Thing::Relation(number) => {
             let defined = Defined::after(spec, call, stage, number, tuple);
-            add_relation(atoms, alloc, &defined, out)
+            add_relation(grounding, &defined)
         }
         Thing::Counter(number) => {
             let defined = Defined::after(spec, call, stage, number, tuple);
-            add_counter(atoms, alloc, &defined, out)
+            add_counter(grounding, &defined)
         }
     }
 }
 
 // Appends the definition of a reading, none for one at the entry.
 fn add_definition(
+    grounding: &mut Grounding,
     spec: &Spec,
-    atoms: &mut Atoms,
-    alloc: Global,
     calls: &[GroundCall],
     reading: &NamedReading,
-    out: &mut Items<GroundFormula>,
 ) -> Result<(), GroundRefused>
-    ensures { Appends result out.old atoms.old
+    ensures { Appends result grounding.old
         (defined_by spec.now calls.now reading.now.stage reading.now.thing reading.now.tuple)
-        out.new atoms.new }
+        grounding.new }
 {
     let stage = reading.stage;
     if stage == 0 {
         return Ok(());
     }
     match calls.get(latest_call(stage) as usize) {
-        Some(call) => add_defined(spec, atoms, alloc, call, reading, out),
+        Some(call) => add_defined(grounding, spec, call, reading),
         None => {
             let call = GroundCall {
                 op: 0,
-                args: Items::new(alloc),
+                args: Items::new(grounding.alloc),
             };
-            add_defined(spec, atoms, alloc, &call, reading, out)
+            add_defined(grounding, spec, &call, reading)
         }
     }
 }
 
 // Appends the definitions of these readings.
 fn add_each_definition(
+    grounding: &mut Grounding,
     spec: &Spec,
-    atoms: &mut Atoms,
-    alloc: Global,
     calls: &[GroundCall],
     readings: &[NamedReading],
-    out: &mut Items<GroundFormula>,
 ) -> Result<(), GroundRefused>
-    ensures { Appends result out.old atoms.old
-        (flat_map (λ q. defined_by spec.now calls.now q.stage q.thing q.tuple) readings.now) out.new
-        atoms.new }
+    ensures { Appends result grounding.old
+        (flat_map (λ q. defined_by spec.now calls.now q.stage q.thing q.tuple) readings.now)
+        grounding.new }
 {
     for reading in readings {
-        match add_definition(spec, atoms, alloc, calls, reading, out) {
+        match add_definition(grounding, spec, calls, reading) {
             Ok(()) => {}
             Err(refused) => return Err(refused),
         }
@@ -156,19 +151,17 @@ fn add_each_definition(
 
 /// Appends the definitions of the readings after so many calls that were named so far, in the order in which they were first named.
 pub fn add_definitions(
+    grounding: &mut Grounding,
     spec: &Spec,
-    atoms: &mut Atoms,
-    alloc: Global,
     calls: &[GroundCall],
     count: usize,
-    out: &mut Items<GroundFormula>,
 ) -> Result<(), GroundRefused>
     ensures { (ob : Obligation) → calls.now ≡ calls_of spec.now ob
-        → Appends result out.old atoms.old
+        → Appends result grounding.old
         (flat_map (definition spec.now ob (constants_of spec.now ob))
-        (filter (λ q. length q.stage == count) atoms.old.named))
-        out.new atoms.new }
+        (filter (λ q. length q.stage == count) grounding.old.atoms.named))
+        grounding.new }
 {
-    let readings = readings_after(alloc, atoms, count)?;
-    add_each_definition(spec, atoms, alloc, calls, readings.as_slice(), out)
+    let readings = readings_after(grounding.alloc, &grounding.atoms, count)?;
+    add_each_definition(grounding, spec, calls, readings.as_slice())
 }

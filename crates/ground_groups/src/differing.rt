@@ -9,6 +9,7 @@ ghost use Rattle.stage_defs.specs.Settings.{IsMade};
 ghost use Rattle.ground_groups.specs.Limited.{Appends};
 
 use crate::adding::has_room;
+use crate::grounding::Grounding;
 use crate::refused::GroundRefused;
 use ground_atoms::{Atoms, GroundFormula, SumPart, Tuple};
 use items::Items;
@@ -60,47 +61,43 @@ pub fn sum(
     Ok(parts)
 }
 
-// A relation holds at the one stage and not at the other.
-fn only_at(
+// A relation holds after two calls in the one order and not in the other.
+fn only_first(
     atoms: &mut Atoms,
     alloc: Global,
     spec: &Spec,
     relation: u8,
     tuple: &[u32],
-    at: u8,
-    not_at: u8,
 ) -> Result<GroundFormula, AllocError>
     ensures { IfOk result
         (λ f. IsMade atoms.old
-        (symbols.both (symbols.has (stage_of at) relation tuple.now)
-        (symbols.negated (symbols.has (stage_of not_at) relation tuple.now)))
+        (symbols.both (symbols.has (stage_of 2) relation tuple.now)
+        (symbols.negated (symbols.has (stage_of 4) relation tuple.now)))
         atoms.new f) }
 {
-    let left = reading(atoms, alloc, spec, at, relation, tuple)?;
-    let other = reading(atoms, alloc, spec, not_at, relation, tuple)?;
+    let left = reading(atoms, alloc, spec, 2, relation, tuple)?;
+    let other = reading(atoms, alloc, spec, 4, relation, tuple)?;
     let right = negated(alloc, other)?;
     both(alloc, left, right)
 }
 
-// A relation doesn't hold at the one stage, and holds at the other.
-fn not_at_but(
+// A relation holds after two calls in the other order and not in the one.
+fn only_second(
     atoms: &mut Atoms,
     alloc: Global,
     spec: &Spec,
     relation: u8,
     tuple: &[u32],
-    not_at: u8,
-    at: u8,
 ) -> Result<GroundFormula, AllocError>
     ensures { IfOk result
         (λ f. IsMade atoms.old
-        (symbols.both (symbols.negated (symbols.has (stage_of not_at) relation tuple.now))
-        (symbols.has (stage_of at) relation tuple.now))
+        (symbols.both (symbols.negated (symbols.has (stage_of 2) relation tuple.now))
+        (symbols.has (stage_of 4) relation tuple.now))
         atoms.new f) }
 {
-    let other = reading(atoms, alloc, spec, not_at, relation, tuple)?;
+    let other = reading(atoms, alloc, spec, 2, relation, tuple)?;
     let left = negated(alloc, other)?;
-    let right = reading(atoms, alloc, spec, at, relation, tuple)?;
+    let right = reading(atoms, alloc, spec, 4, relation, tuple)?;
     both(alloc, left, right)
 }
 
@@ -116,8 +113,8 @@ fn relation_differs(
         (conclusion.differ (thing.Relation relation) (stage_of 2) (stage_of 4) tuple.now) atoms.new
         f) }
 {
-    let left = only_at(atoms, alloc, spec, relation, tuple, 2, 4)?;
-    let right = not_at_but(atoms, alloc, spec, relation, tuple, 2, 4)?;
+    let left = only_first(atoms, alloc, spec, relation, tuple)?;
+    let right = only_second(atoms, alloc, spec, relation, tuple)?;
     either(alloc, left, right)
 }
 
@@ -137,23 +134,35 @@ fn counter_differs(
     unequal(atoms, alloc, first.as_slice(), second.as_slice())
 }
 
-/// Appends that a thing reads differently after two calls in the one order and in the other.
-pub fn add_differs(
+fn differs(
     atoms: &mut Atoms,
     alloc: Global,
     spec: &Spec,
     thing: Thing,
     elements: &[u32],
-    out: &mut Items<GroundFormula>,
-) -> Result<(), GroundRefused>
-    ensures { Appends result out.old atoms.old
-        (conclusion.differ thing (stage_of 2) (stage_of 4) elements.now ∷ []) out.new atoms.new }
+) -> Result<GroundFormula, AllocError>
+    ensures { IfOk result
+        (λ f. IsMade atoms.old
+        (conclusion.differ thing (stage_of 2) (stage_of 4) elements.now) atoms.new f) }
 {
-    has_room(out)?;
-    let made = match thing {
-        Thing::Relation(relation) => relation_differs(atoms, alloc, spec, relation, elements)?,
-        Thing::Counter(counter) => counter_differs(atoms, alloc, spec, counter, elements)?,
-    };
-    out.push(made)?;
+    match thing {
+        Thing::Relation(relation) => relation_differs(atoms, alloc, spec, relation, elements),
+        Thing::Counter(counter) => counter_differs(atoms, alloc, spec, counter, elements),
+    }
+}
+
+/// Appends that a thing reads differently after two calls in the one order and in the other.
+pub fn add_differs(
+    grounding: &mut Grounding,
+    spec: &Spec,
+    thing: Thing,
+    elements: &[u32],
+) -> Result<(), GroundRefused>
+    ensures { Appends result grounding.old
+        (conclusion.differ thing (stage_of 2) (stage_of 4) elements.now ∷ []) grounding.new }
+{
+    has_room(grounding)?;
+    let made = differs(&mut grounding.atoms, grounding.alloc, spec, thing, elements)?;
+    grounding.formulas.push(made)?;
     Ok(())
 }

@@ -3,7 +3,7 @@ ghost use Rattle.std.specs.Prelude.{◌≡◌, ◌≤◌, ◌-◌, [], length, g
 ghost use Rattle.std.specs.List.{flat_map};
 ghost use Rattle.ground_problem.specs.Constants.{assignments};
 ghost use Rattle.ground_atoms.specs.Formulas.{consts_of_args};
-ghost use Rattle.ground_problem.specs.Formulas.{caller, instances};
+ghost use Rattle.ground_problem.specs.Formulas.{at_stage, caller, instances};
 ghost use Rattle.ground_problem.specs.Entry as entry;
 ghost use Rattle.ground_problem.specs.Problem.{most_formulas};
 ghost use Rattle.spec_core.specs.Specification.{op_of};
@@ -15,9 +15,10 @@ ghost use Rattle.ground_groups.specs.Lines.{line_at, lines_at};
 use crate::adding::MOST_FORMULAS;
 use crate::assigning::{count_choices, options_of};
 use crate::gathering::Named;
+use crate::grounding::Grounding;
 use crate::instancing::{add_instances, add_true};
 use crate::refused::GroundRefused;
-use ground_atoms::{Atoms, GroundArg, GroundFormula};
+use ground_atoms::GroundArg;
 use items::Items;
 use spec_core::{Invariant, Prefix, Prefixed, Spec};
 use stage_defs::{Setting, Stage};
@@ -47,16 +48,15 @@ fn count_all(alloc: Global, named: &Named, invariants: &[Invariant]) -> Result<u
 
 // Whether there is room for each of these invariants once for each assignment. No formula is made for this.
 fn has_room_for_all(
-    alloc: Global,
+    grounding: &Grounding,
     named: &Named,
     invariants: &[Invariant],
-    out: &Items<GroundFormula>,
 ) -> Result<(), GroundRefused>
-    ensures { HasRoomFor result (most_formulas - length out.now)
+    ensures { HasRoomFor result (most_formulas - length grounding.now.formulas)
         (length (flat_map (λ i. assignments (constants_in named.now) i.line.vars) invariants.now)) }
 {
-    let count = count_all(alloc, named, invariants)?;
-    if count > MOST_FORMULAS.saturating_sub(out.len()) {
+    let count = count_all(grounding.alloc, named, invariants)?;
+    if count > MOST_FORMULAS.saturating_sub(grounding.formulas.len()) {
         return Err(GroundRefused::TooMany);
     }
     Ok(())
@@ -64,14 +64,12 @@ fn has_room_for_all(
 
 /// Appends each invariant, once for each assignment.
 pub fn add_invariants(
-    atoms: &mut Atoms,
-    alloc: Global,
+    grounding: &mut Grounding,
     spec: &Spec,
     named: &Named,
-    out: &mut Items<GroundFormula>,
 ) -> Result<(), GroundRefused>
-    ensures { Appends result out.old atoms.old
-        (entry.invariants_hold spec.now (constants_in named.now)) out.new atoms.new }
+    ensures { Appends result grounding.old
+        (entry.invariants_hold spec.now (constants_in named.now)) grounding.new }
 {
     let setting = Setting {
         spec,
@@ -79,55 +77,44 @@ pub fn add_invariants(
         call: 0,
         args: &[],
     };
-    add_all(
-        atoms,
-        alloc,
-        &setting,
-        named,
-        spec.invariants.as_slice(),
-        out,
-    )
+    add_all(grounding, &setting, named, spec.invariants.as_slice())
 }
 
 // Appends each of these invariants, once for each assignment, or says that there is no room for so many.
 fn add_all(
-    atoms: &mut Atoms,
-    alloc: Global,
+    grounding: &mut Grounding,
     setting: &Setting<'_>,
     named: &Named,
     invariants: &[Invariant],
-    out: &mut Items<GroundFormula>,
 ) -> Result<(), GroundRefused>
-    ensures { Appends result out.old atoms.old
+    ensures { Appends result grounding.old
         (flat_map
         (λ i. instances (constants_in named.now) (readings_in setting.now) (caller_in setting.now)
         i.line.vars i.line.body)
         invariants.now)
-        out.new atoms.new }
+        grounding.new }
 {
-    if let Err(refused) = has_room_for_all(alloc, named, invariants, out) {
+    if let Err(refused) = has_room_for_all(grounding, named, invariants) {
         return Err(refused);
     }
-    add_each(atoms, alloc, setting, named, invariants, out)
+    add_each(grounding, setting, named, invariants)
 }
 
 fn add_each(
-    atoms: &mut Atoms,
-    alloc: Global,
+    grounding: &mut Grounding,
     setting: &Setting<'_>,
     named: &Named,
     invariants: &[Invariant],
-    out: &mut Items<GroundFormula>,
 ) -> Result<(), GroundRefused>
-    ensures { Appends result out.old atoms.old
+    ensures { Appends result grounding.old
         (flat_map
         (λ i. instances (constants_in named.now) (readings_in setting.now) (caller_in setting.now)
         i.line.vars i.line.body)
         invariants.now)
-        out.new atoms.new }
+        grounding.new }
 {
     for invariant in invariants {
-        match add_line(atoms, alloc, setting, named, &invariant.line, out) {
+        match add_line(grounding, setting, named, &invariant.line) {
             Ok(()) => {}
             Err(refused) => return Err(refused),
         }
@@ -137,76 +124,54 @@ fn add_each(
 
 // Appends a line once for each assignment.
 fn add_line(
-    atoms: &mut Atoms,
-    alloc: Global,
+    grounding: &mut Grounding,
     setting: &Setting<'_>,
     named: &Named,
     line: &Prefixed,
-    out: &mut Items<GroundFormula>,
 ) -> Result<(), GroundRefused>
-    ensures { Appends result out.old atoms.old
+    ensures { Appends result grounding.old
         (instances (constants_in named.now) (readings_in setting.now) (caller_in setting.now)
         line.now.vars line.now.body)
-        out.new atoms.new }
+        grounding.new }
 {
-    add_instances(
-        atoms,
-        alloc,
-        setting,
-        named,
-        line.vars.as_slice(),
-        &line.body,
-        out,
-    )
+    add_instances(grounding, setting, named, line.vars.as_slice(), &line.body)
 }
 
 /// Appends a requires line: with `exists` at its own constants, else once for each assignment.
 pub fn add_requires(
-    atoms: &mut Atoms,
-    alloc: Global,
+    grounding: &mut Grounding,
     setting: &Setting<'_>,
     named: &Named,
     line: &Prefixed,
     own: &Items<u32>,
-    out: &mut Items<GroundFormula>,
 ) -> Result<(), GroundRefused>
-    ensures { Appends result out.old atoms.old
+    ensures { Appends result grounding.old
         (line_at (constants_in named.now) (readings_in setting.now) (caller_in setting.now) line.now
         own.now)
-        out.new atoms.new }
+        grounding.new }
 {
     match line.prefix {
-        Prefix::Exists => add_true(atoms, alloc, setting, own.as_slice(), &line.body, out),
-        _ => add_line(atoms, alloc, setting, named, line, out),
+        Prefix::Exists => add_true(grounding, setting, own.as_slice(), &line.body),
+        _ => add_line(grounding, setting, named, line),
     }
 }
 
 // Appends each requires line of a call.
 fn add_lines(
-    atoms: &mut Atoms,
-    alloc: Global,
+    grounding: &mut Grounding,
     setting: &Setting<'_>,
     named: &Named,
     lines: &[Prefixed],
     owns: &[Items<u32>],
-    out: &mut Items<GroundFormula>,
 ) -> Result<(), GroundRefused>
-    ensures { Appends result out.old atoms.old
+    ensures { Appends result grounding.old
         (lines_at (constants_in named.now) (readings_in setting.now) (caller_in setting.now) 0
         lines.now owns.now)
-        out.new atoms.new }
+        grounding.new }
 {
     let count = lines.len().min(owns.len());
     for place in 0..count {
-        match add_requires(
-            atoms,
-            alloc,
-            setting,
-            named,
-            &lines[place],
-            &owns[place],
-            out,
-        ) {
+        match add_requires(grounding, setting, named, &lines[place], &owns[place]) {
             Ok(()) => {}
             Err(refused) => return Err(refused),
         }
@@ -224,28 +189,34 @@ pub fn args_of(named: &Named, call: u8) -> &[GroundArg]
     }
 }
 
+/// The readings at the entry, for the call at a place.
+pub fn at_entry<'a>(spec: &'a Spec, named: &'a Named, call: u8) -> Setting<'a>
+    ensures readings { readings_in result ≡ at_stage [] }
+    ensures caller { caller_in result ≡ caller (constants_in named.now) call }
+{
+    Setting {
+        spec,
+        stage: Stage::Numbered(0),
+        call,
+        args: args_of(named, call),
+    }
+}
+
 /// Appends each requires line of the call at a place, which is one of this operation.
 pub fn add_call_ready(
-    atoms: &mut Atoms,
-    alloc: Global,
+    grounding: &mut Grounding,
     spec: &Spec,
     named: &Named,
     call: u8,
     op: u8,
     owns: &Items<Items<u32>>,
-    out: &mut Items<GroundFormula>,
 ) -> Result<(), GroundRefused>
-    ensures { Appends result out.old atoms.old
+    ensures { Appends result grounding.old
         (entry.lines_hold (constants_in named.now) (caller (constants_in named.now) call)
         (op_of spec.now op).requires_ owns.now)
-        out.new atoms.new }
+        grounding.new }
 {
-    let setting = Setting {
-        spec,
-        stage: Stage::Numbered(0),
-        call,
-        args: args_of(named, call),
-    };
+    let setting = at_entry(spec, named, call);
     let lines = spec.requires_of(op);
-    add_lines(atoms, alloc, &setting, named, lines, owns.as_slice(), out)
+    add_lines(grounding, &setting, named, lines, owns.as_slice())
 }

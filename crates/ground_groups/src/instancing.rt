@@ -16,19 +16,19 @@ ghost use Rattle.ground_groups.specs.Lines.{signed};
 use crate::adding::{MOST_FORMULAS, has_room};
 use crate::assigning::{count_choices, options_of};
 use crate::gathering::Named;
+use crate::grounding::Grounding;
 use crate::refused::GroundRefused;
-use ground_atoms::{Atoms, GroundFormula};
 use items::Items;
 use spec_core::Formula;
 use stage_defs::{Setting, formula, negated};
-use std::alloc::Global;
 
 // Whether there is room for a formula once for each choice of these options. No choice is made for this.
-fn has_room_for(options: &[Items<u32>], out: &Items<GroundFormula>) -> Result<(), GroundRefused>
-    ensures { HasRoomFor result (most_formulas - length out.now) (length (choices options.now)) }
+fn has_room_for(grounding: &Grounding, options: &[Items<u32>]) -> Result<(), GroundRefused>
+    ensures { HasRoomFor result (most_formulas - length grounding.now.formulas)
+        (length (choices options.now)) }
 {
     let count = count_choices(options);
-    if count > MOST_FORMULAS.saturating_sub(out.len()) {
+    if count > MOST_FORMULAS.saturating_sub(grounding.formulas.len()) {
         return Err(GroundRefused::TooMany);
     }
     Ok(())
@@ -36,26 +36,24 @@ fn has_room_for(options: &[Items<u32>], out: &Items<GroundFormula>) -> Result<()
 
 // Appends a formula at these constants, or that it is false at them.
 fn add_signed(
-    atoms: &mut Atoms,
-    alloc: Global,
+    grounding: &mut Grounding,
     setting: &Setting<'_>,
     sign: bool,
     form: &Formula,
     vars: &[u32],
-    out: &mut Items<GroundFormula>,
 ) -> Result<(), GroundRefused>
-    ensures { Appends result out.old atoms.old
+    ensures { Appends result grounding.old
         (signed sign
         (formula (readings_in setting.now) (caller_in setting.now) vars.now (form_of form.now)) ∷
         [])
-        out.new atoms.new }
+        grounding.new }
 {
-    has_room(out)?;
-    let made = formula(atoms, alloc, setting, vars, form)?;
+    has_room(grounding)?;
+    let made = formula(&mut grounding.atoms, grounding.alloc, setting, vars, form)?;
     if sign {
-        out.push(made)?;
+        grounding.formulas.push(made)?;
     } else {
-        out.push(negated(alloc, made)?)?;
+        grounding.formulas.push(negated(grounding.alloc, made)?)?;
     }
     Ok(())
 }
@@ -69,135 +67,121 @@ fn remove_last(chosen: &mut Items<u32>)
 
 // Appends it once for each choice for the variables that are left, after the constants that are chosen.
 fn add_choices(
-    atoms: &mut Atoms,
-    alloc: Global,
+    grounding: &mut Grounding,
     setting: &Setting<'_>,
     sign: bool,
     form: &Formula,
     options: &[Items<u32>],
     chosen: &mut Items<u32>,
-    out: &mut Items<GroundFormula>,
 ) -> Result<(), GroundRefused>
-    ensures added { Appends result out.old atoms.old
+    ensures added { Appends result grounding.old
         (map
         (λ vs. signed sign
         (formula (readings_in setting.now) (caller_in setting.now) (chosen.old ++ vs)
         (form_of form.now)))
         (choices options.now))
-        out.new atoms.new }
+        grounding.new }
     ensures chosen { OnOk result (chosen.new ≡ chosen.old) }
 {
-    match options {
-        [] => add_signed(atoms, alloc, setting, sign, form, chosen.as_slice(), out),
-        [first, rest @ ..] => {
-            let constants = first.as_slice();
-            for constant in constants {
-                chosen.push(*constant)?;
-                match add_choices(atoms, alloc, setting, sign, form, rest, chosen, out) {
-                    Ok(()) => {}
-                    Err(refused) => return Err(refused),
-                }
-                remove_last(chosen);
-            }
-            Ok(())
+    let [first, rest @ ..] = options else {
+        return add_signed(grounding, setting, sign, form, chosen.as_slice());
+    };
+    let constants = first.as_slice();
+    for constant in constants {
+        chosen.push(*constant)?;
+        match add_choices(grounding, setting, sign, form, rest, chosen) {
+            Ok(()) => {}
+            Err(refused) => return Err(refused),
         }
+        remove_last(chosen);
     }
+    Ok(())
 }
 
 #[tactic(auto, using(crate::proofs::Lists::refused_beyond))]
 // Appends it once for each choice of these options, or says that there is no room for so many.
 fn add_each_choice(
-    atoms: &mut Atoms,
-    alloc: Global,
+    grounding: &mut Grounding,
     setting: &Setting<'_>,
     sign: bool,
     form: &Formula,
     options: &[Items<u32>],
-    out: &mut Items<GroundFormula>,
 ) -> Result<(), GroundRefused>
-    ensures { Appends result out.old atoms.old
+    ensures { Appends result grounding.old
         (map
         (λ vs. signed sign
         (formula (readings_in setting.now) (caller_in setting.now) vs (form_of form.now)))
         (choices options.now))
-        out.new atoms.new }
+        grounding.new }
 {
-    if let Err(refused) = has_room_for(options, out) {
+    if let Err(refused) = has_room_for(grounding, options) {
         return Err(refused);
     }
-    let mut chosen = Items::new(alloc);
-    add_choices(atoms, alloc, setting, sign, form, options, &mut chosen, out)
+    let mut chosen = Items::new(grounding.alloc);
+    add_choices(grounding, setting, sign, form, options, &mut chosen)
 }
 
 /// Appends a formula once for each assignment of constants to variables of these sorts.
 pub fn add_instances(
-    atoms: &mut Atoms,
-    alloc: Global,
+    grounding: &mut Grounding,
     setting: &Setting<'_>,
     named: &Named,
     vars: &[u8],
     form: &Formula,
-    out: &mut Items<GroundFormula>,
 ) -> Result<(), GroundRefused>
-    ensures { Appends result out.old atoms.old
+    ensures { Appends result grounding.old
         (instances (constants_in named.now) (readings_in setting.now) (caller_in setting.now)
         vars.now (form_of form.now))
-        out.new atoms.new }
+        grounding.new }
 {
-    let options = options_of(alloc, named.sorts.as_slice(), vars)?;
-    add_each_choice(atoms, alloc, setting, true, form, options.as_slice(), out)
+    let options = options_of(grounding.alloc, named.sorts.as_slice(), vars)?;
+    add_each_choice(grounding, setting, true, form, options.as_slice())
 }
 
 /// Appends that a formula is false, once for each assignment of constants to variables of these sorts.
 pub fn add_false_instances(
-    atoms: &mut Atoms,
-    alloc: Global,
+    grounding: &mut Grounding,
     setting: &Setting<'_>,
     named: &Named,
     vars: &[u8],
     form: &Formula,
-    out: &mut Items<GroundFormula>,
 ) -> Result<(), GroundRefused>
-    ensures { Appends result out.old atoms.old
+    ensures { Appends result grounding.old
         (map negated
         (instances (constants_in named.now) (readings_in setting.now) (caller_in setting.now)
         vars.now (form_of form.now)))
-        out.new atoms.new }
+        grounding.new }
 {
-    let options = options_of(alloc, named.sorts.as_slice(), vars)?;
-    add_each_choice(atoms, alloc, setting, false, form, options.as_slice(), out)
+    let options = options_of(grounding.alloc, named.sorts.as_slice(), vars)?;
+    add_each_choice(grounding, setting, false, form, options.as_slice())
 }
 
 /// Appends a formula at these constants.
 pub fn add_true(
-    atoms: &mut Atoms,
-    alloc: Global,
+    grounding: &mut Grounding,
     setting: &Setting<'_>,
     vars: &[u32],
     form: &Formula,
-    out: &mut Items<GroundFormula>,
 ) -> Result<(), GroundRefused>
-    ensures { Appends result out.old atoms.old
+    ensures { Appends result grounding.old
         (formula (readings_in setting.now) (caller_in setting.now) vars.now (form_of form.now) ∷ [])
-        out.new atoms.new }
+        grounding.new }
 {
-    add_signed(atoms, alloc, setting, true, form, vars, out)
+    add_signed(grounding, setting, true, form, vars)
 }
 
 /// Appends that a formula is false at these constants.
 pub fn add_false(
-    atoms: &mut Atoms,
-    alloc: Global,
+    grounding: &mut Grounding,
     setting: &Setting<'_>,
     vars: &[u32],
     form: &Formula,
-    out: &mut Items<GroundFormula>,
 ) -> Result<(), GroundRefused>
-    ensures { Appends result out.old atoms.old
+    ensures { Appends result grounding.old
         (negated
         (formula (readings_in setting.now) (caller_in setting.now) vars.now (form_of form.now)) ∷
         [])
-        out.new atoms.new }
+        grounding.new }
 {
-    add_signed(atoms, alloc, setting, false, form, vars, out)
+    add_signed(grounding, setting, false, form, vars)
 }

@@ -3,10 +3,10 @@
 //
 // It stands on `ground_problem`, which says what the constants are, on `ground_atoms`, which numbers atoms, and on `stage_defs`, which
 // makes formulas at a stage. `gathering` gathers the constants, `assigning` has those that a variable may have, `numbering` gives the whole
-// numbers among the arguments their numbers, and `things` lists the relations and the counters. Each group is appended to the formulas so
-// far; it says that there are too many exactly where the list would have more than its limit.
+// numbers among the arguments their numbers, and `things` lists the relations and the counters. Each group is appended to a `Grounding`, a
+// ground problem in the making; it says that there are too many exactly where the list would have more than its limit.
 //
-// Definitions, in specs/: `Calls` (the constants and the calls, as a program holds them), `Limited` (lists of formulas up to a limit).
+// Definitions, in specs/: `Calls` (the constants and the calls, as a program holds them), `Limited` (groundings, up to a limit).
 // `Lines`, `Defined` and `Rules` say groups as a program goes over them, and serve the proofs. The groups of equality stand in `instances`.
 //
 // Decisions:
@@ -39,6 +39,7 @@ pub mod defining;
 pub mod differing;
 pub mod entry;
 mod gathering;
+pub mod grounding;
 pub mod instancing;
 mod numbering;
 pub mod parts;
@@ -48,6 +49,7 @@ mod things;
 
 pub use assigning::as_number;
 pub use gathering::{Named, constants, invariant_line, operations_of, requires_line};
+pub use grounding::Grounding;
 pub use numbering::number_arguments;
 pub use refused::GroundRefused;
 pub use things::things_of;

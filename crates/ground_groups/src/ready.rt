@@ -8,58 +8,44 @@ ghost use Rattle.ground_groups.specs.Calls.{constants_in};
 
 use crate::entry::add_call_ready;
 use crate::gathering::Named;
+use crate::grounding::Grounding;
 use crate::numbering::as_small;
 use crate::refused::GroundRefused;
-use ground_atoms::{Atoms, GroundFormula};
 use items::Items;
 use spec_core::Spec;
-use std::alloc::Global;
 
 // Appends those of the call at a place.
 fn add_ready_at(
-    atoms: &mut Atoms,
-    alloc: Global,
+    grounding: &mut Grounding,
     spec: &Spec,
     named: &Named,
     place: usize,
     op: u8,
     own: &Items<Items<u32>>,
-    out: &mut Items<GroundFormula>,
 ) -> Result<(), GroundRefused>
-    ensures { Appends result out.old atoms.old
+    ensures { Appends result grounding.old
         (entry.lines_hold (constants_in named.now) (caller (constants_in named.now) place)
         (op_of spec.now op).requires_ own.now)
-        out.new atoms.new }
+        grounding.new }
 {
     let call = as_small(place)?;
-    add_call_ready(atoms, alloc, spec, named, call, op, own, out)
+    add_call_ready(grounding, spec, named, call, op, own)
 }
 
 /// Appends each requires line of each of these operations' calls, which have these constants of their own.
 pub fn add_ready(
-    atoms: &mut Atoms,
-    alloc: Global,
+    grounding: &mut Grounding,
     spec: &Spec,
     named: &Named,
     ops: &[u8],
     owns: &[Items<Items<u32>>],
-    out: &mut Items<GroundFormula>,
 ) -> Result<(), GroundRefused>
-    ensures { Appends result out.old atoms.old
-        (entry.calls_ready spec.now (constants_in named.now) 0 ops.now owns.now) out.new atoms.new }
+    ensures { Appends result grounding.old
+        (entry.calls_ready spec.now (constants_in named.now) 0 ops.now owns.now) grounding.new }
 {
     let count = ops.len().min(owns.len());
     for place in 0..count {
-        match add_ready_at(
-            atoms,
-            alloc,
-            spec,
-            named,
-            place,
-            ops[place],
-            &owns[place],
-            out,
-        ) {
+        match add_ready_at(grounding, spec, named, place, ops[place], &owns[place]) {
             Ok(()) => {}
             Err(refused) => return Err(refused),
         }
@@ -69,17 +55,15 @@ pub fn add_ready(
 
 /// The same with the constants that the calls have.
 pub fn add_all_ready(
-    atoms: &mut Atoms,
-    alloc: Global,
+    grounding: &mut Grounding,
     spec: &Spec,
     named: &Named,
     ops: &[u8],
-    out: &mut Items<GroundFormula>,
 ) -> Result<(), GroundRefused>
-    ensures { Appends result out.old atoms.old
+    ensures { Appends result grounding.old
         (entry.calls_ready spec.now (constants_in named.now) 0 ops.now
         (constants_in named.now).chosen)
-        out.new atoms.new }
+        grounding.new }
 {
-    add_ready(atoms, alloc, spec, named, ops, named.chosen.as_slice(), out)
+    add_ready(grounding, spec, named, ops, named.chosen.as_slice())
 }

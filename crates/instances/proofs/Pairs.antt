@@ -6,9 +6,8 @@ use Rattle.spec_core.specs.declared.update.Thing.{Thing}
 use Rattle.ground_problem.specs.Equality.{congruent, congruent_pairs}
 use Rattle.ground_problem.specs.Problem.{most_formulas}
 use Rattle.ground_atoms.specs.Formulas.{form_of}
-use Rattle.ground_atoms.specs.Known.{Known}
-use Rattle.ground_atoms.specs.declared.formula.GroundFormula.{GroundFormula}
 use Rattle.ground_groups.specs.Limited.{Appends, HasRoomFor}
+use Rattle.ground_groups.specs.declared.grounding.Grounding.{Grounding}
 use Rattle.ground_groups.specs.declared.refused.GroundRefused.{GroundRefused}
 use Rattle.ground_groups.specs.declared.refused.GroundRefused.TheVariants.{TooMany, Memory}
 use Rattle.ground_groups.proofs.Lists.{upto_beyond}
@@ -27,10 +26,10 @@ pairs_length x (t ∷ ts) =
     e ∙ (λ i. f i + g i)
 
 -- where there is no room for all pairs, there are too many
-pub pairs_beyond : (why : GroundRefused) (old new : List GroundFormula) (k now : Known) (x : Thing) (ts : List (List ℕ))
-    → HasRoomFor (Err why) (most_formulas - length old) (pair_count (length ts)) → Appends {A = Unit {0}} (Err why) old k (congruent_pairs x ts) new now
-pairs_beyond TooMany old new k now x ts h =
-    let e : length (map form_of old) ≡ length old = length-map old form_of in
+pub pairs_beyond : (why : GroundRefused) (old new : Grounding) (x : Thing) (ts : List (List ℕ))
+    → HasRoomFor (Err why) (most_formulas - length old.formulas) (pair_count (length ts)) → Appends {A = Unit {0}} (Err why) old (congruent_pairs x ts) new
+pairs_beyond TooMany old new x ts h =
+    let e : length (map form_of old.formulas) ≡ length old.formulas = length-map old.formulas form_of in
     let g = pairs_length x ts in
-    upto_beyond (map form_of old) k (congruent_pairs x ts) (omega (arith, e, g, h))
-pairs_beyond Memory old new k now x ts h = tt
+    upto_beyond (map form_of old.formulas) old.atoms (congruent_pairs x ts) (omega (arith, e, g, h))
+pairs_beyond Memory old new x ts h = tt

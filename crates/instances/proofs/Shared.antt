@@ -27,12 +27,13 @@ use Rattle.ground_atoms.proofs.Numbering.{make_all-is}
 use Rattle.ground_atoms.proofs.Cutting.{Begins, then_more, front_of, Grows, grows_then, all_grows, forms_begin, cut-grown}
 use Rattle.clausify.specs.Kept.{AreClausesOf}
 use Rattle.ground_groups.specs.Calls.{numbered_arguments}
-use Rattle.ground_groups.specs.Limited.{make_upto, Appends}
+use Rattle.ground_groups.specs.Limited.{make_upto, made_in, made_with, Appends}
 use Rattle.ground_groups.proofs.Lists.{upto_then, upto_none, upto_made}
 use Rattle.instances.specs.declared.entry.Entry.{Entry}
 use Rattle.instances.specs.declared.entry.EntryPart.{EntryPart}
 use Rattle.instances.specs.declared.entry.Begun.{Begun}
 use Rattle.instances.specs.declared.grounding.Grounded.{Grounded}
+use Rattle.ground_groups.specs.declared.grounding.Grounding.{Grounding}
 use Rattle.ground_groups.specs.declared.refused.GroundRefused.{GroundRefused}
 use Rattle.ground_groups.specs.declared.refused.GroundRefused.TheVariants.{TooMany, Memory}
 use Rattle.instances.specs.Ground.{IsGround}
@@ -62,40 +63,39 @@ upto_below k l fs forms e =
     (all-below (naming_all k.table fs) fs (naming_all-has k.table fs))
 
 -- So it is with formulas that a call appends to none.
-pub made_below : {A : Type 0} (r : Result A GroundRefused) (value : A) (old new forms : List GroundFormula) (k now : Known) (fs : List Symbolic)
-    → r ≡ Ok value → old ≡ [] → forms ≡ new → Appends r old k fs new now → list_all (is_below (length now.table.atoms)) (map form_of forms) ≡ true
-made_below r value old new forms k now fs ok none same made =
-    let there : make_upto (map form_of old) k fs ≡ Some (record { known = now; forms = map form_of new }) = subst (λ z. Appends z old k fs new now) ok made in
-    let first : make_upto [] k fs ≡ Some (record { known = now; forms = map form_of new }) = ap (λ (z : List GroundFormula). make_upto (map form_of z) k fs) (sym none) ∙ there in
-    subst (λ (z : List GroundFormula). list_all (is_below (length now.table.atoms)) (map form_of z) ≡ true) (sym same) (upto_below k now fs (map form_of new) first)
+pub made_below : {A : Type 0} (r : Result A GroundRefused) (value : A) (old new : Grounding) (fs : List Symbolic)
+    → r ≡ Ok value → old.formulas ≡ [] → Appends r old fs new → list_all (is_below (length new.atoms.table.atoms)) (map form_of new.formulas) ≡ true
+made_below r value old new fs ok none made =
+    let there : made_with old fs ≡ Some (made_in new) = subst (λ z. Appends z old fs new) ok made in
+    upto_below old.atoms new.atoms fs (map form_of new.formulas) (ap (λ (z : List GroundFormula). make_upto (map form_of z) old.atoms fs) (sym none) ∙ there)
 
 -- ---- an entry that is cut back
 
 -- what is left of a part where its entry is cut back
 abbrev IsCut : Entry → Begun → EntryPart → Type 0
-IsCut e b p = (p.size.arguments ≡ e.part.size.arguments) × (p.size.known ≡ size_of b.atoms) × (p.size.formulas ≡ length b.formulas) × (p.clauses ≡ e.part.clauses)
+IsCut e b p = (p.size.arguments ≡ e.part.size.arguments) × (p.size.known ≡ size_of b.grounding.atoms) × (p.size.formulas ≡ length b.grounding.formulas) × (p.clauses ≡ e.part.clauses)
 
 pub cut_shared : (d : Specification) (e : Entry) (k : Known) (sorts : List ℕ) (b : Begun) → IsEntry d e → k ≡ known_from k.table.ints → e.sorts ≡ sorts
     → e.part.size.arguments ≡ length k.table.ints → take (length k.table.ints) e.atoms.table.ints ≡ k.table.ints
-    → b.atoms ≡ cut_back e.part.size.known e.atoms → map form_of b.formulas ≡ take e.part.size.formulas (map form_of e.formulas) → IfSome b.part (IsCut e b) → IsShared d k sorts b
+    → b.grounding.atoms ≡ cut_back e.part.size.known e.atoms → map form_of b.grounding.formulas ≡ take e.part.size.formulas (map form_of e.formulas) → IfSome b.part (IsCut e b) → IsShared d k sorts b
 cut_shared d e k sorts b is start same count arguments atoms forms part = record { made = made; part = by_part b.part part }
   where
     ints : take e.part.size.arguments e.atoms.table.ints ≡ k.table.ints
     ints = ap (λ (n : ℕ). take n e.atoms.table.ints) count ∙ arguments
 
-    made : make_upto [] k (invariants_at d sorts) ≡ Some (record { known = b.atoms; forms = map form_of b.formulas })
+    made : make_upto [] k (invariants_at d sorts) ≡ Some (record { known = b.grounding.atoms; forms = map form_of b.grounding.formulas })
     made =
         ap (λ (z : Known). make_upto [] z (invariants_at d sorts)) start
         ∙ ap (λ (xs : List Integer). make_upto [] (known_from xs) (invariants_at d sorts)) (sym ints)
         ∙ ap (λ (xs : List ℕ). make_upto [] (known_from (take e.part.size.arguments e.atoms.table.ints)) (invariants_at d xs)) (sym same)
         ∙ is.made ∙ (λ i. Some (record { known = sym atoms i; forms = sym forms i }))
 
-    by_part : (found : Option EntryPart) → IfSome found (IsCut e b) → IfSome found (IsPart k.table.ints b.atoms (map form_of b.formulas))
+    by_part : (found : Option EntryPart) → IfSome found (IsCut e b) → IfSome found (IsPart k.table.ints b.grounding.atoms (map form_of b.grounding.formulas))
     by_part None h = tt
     by_part (Some p) h = record {
       arguments = h.0 ∙ count;
       known = h.1;
-      formulas = h.2 ∙ sym (length-map b.formulas form_of);
+      formulas = h.2 ∙ sym (length-map b.grounding.formulas form_of);
       clauses = subst (λ (z : List Numbered). AreClausesOf z p.clauses) (sym forms) (subst (AreClausesOf (take e.part.size.formulas (map form_of e.formulas))) (sym h.3) is.clauses);
     }
 
@@ -154,18 +154,18 @@ entry_of d ob b all now new is begins e = by_part b.part is.shared
     z : Constants
     z = constants_of d ob
 
-    on : make_upto (map form_of b.formulas) b.atoms begins.more ≡ Some (record { known = now; forms = map form_of new })
-    on = sym (upto_then [] (map form_of b.formulas) (numbered_arguments d ob) b.atoms (entry d ob z) begins.more is.made) ∙ ap (make_upto [] (numbered_arguments d ob)) (sym begins.is) ∙ e
+    on : make_upto (map form_of b.grounding.formulas) b.grounding.atoms begins.more ≡ Some (record { known = now; forms = map form_of new })
+    on = sym (upto_then [] (map form_of b.grounding.formulas) (numbered_arguments d ob) b.grounding.atoms (entry d ob z) begins.more is.made) ∙ ap (make_upto [] (numbered_arguments d ob)) (sym begins.is) ∙ e
 
     by_part : (found : Option EntryPart)
-        → IfSome found (λ p. (entry d ob z ≡ invariants_at d z.sorts) × IsPart (numbered_arguments d ob).table.ints b.atoms (map form_of b.formulas) p)
+        → IfSome found (λ p. (entry d ob z ≡ invariants_at d z.sorts) × IsPart (numbered_arguments d ob).table.ints b.grounding.atoms (map form_of b.grounding.formulas) p)
         → IfSome found (λ p. IsEntry d (entry_with z.sorts now new p))
     by_part None h = tt
     by_part (Some p) h =
-        entry_in d z.sorts (numbered_arguments d ob) b.atoms now (map form_of b.formulas) new p refl
+        entry_in d z.sorts (numbered_arguments d ob) b.grounding.atoms now (map form_of b.grounding.formulas) new p refl
         (ap (make_upto [] (numbered_arguments d ob)) (sym h.0) ∙ is.made) h.1
-        (upto_grows (map form_of b.formulas) b.atoms begins.more (record { known = now; forms = map form_of new }) on)
-        (upto_begins (map form_of b.formulas) b.atoms begins.more (record { known = now; forms = map form_of new }) on)
+        (upto_grows (map form_of b.grounding.formulas) b.grounding.atoms begins.more (record { known = now; forms = map form_of new }) on)
+        (upto_begins (map form_of b.grounding.formulas) b.grounding.atoms begins.more (record { known = now; forms = map form_of new }) on)
 
 -- ---- what is begun
 
@@ -174,7 +174,7 @@ pub begun_from : (d : Specification) (ob : Obligation) (k : Known) (sorts : List
     → k ≡ numbered_arguments d ob → sorts ≡ (constants_of d ob).sorts
     → entry d ob (constants_of d ob) ≡ invariants_at d (constants_of d ob).sorts → IsSharedOr d k sorts r → IsBegunOr d ob r
 begun_from d ob k sorts (Ok b) a s e h =
-    record { made = start h.made; shared = with_part b.part (subst (λ (l : Known). IfSome b.part (IsPart l.table.ints b.atoms (map form_of b.formulas))) a h.part) }
+    record { made = start h.made; shared = with_part b.part (subst (λ (l : Known). IfSome b.part (IsPart l.table.ints b.grounding.atoms (map form_of b.grounding.formulas))) a h.part) }
   where
     z : Constants
     z = constants_of d ob
@@ -183,8 +183,8 @@ begun_from d ob k sorts (Ok b) a s e h =
     start h = ap (make_upto [] (numbered_arguments d ob)) e ∙ ap (λ (xs : List ℕ). make_upto [] (numbered_arguments d ob) (invariants_at d xs)) (sym s)
         ∙ ap (λ (l : Known). make_upto [] l (invariants_at d sorts)) (sym a) ∙ h
 
-    with_part : (found : Option EntryPart) → IfSome found (IsPart (numbered_arguments d ob).table.ints b.atoms (map form_of b.formulas))
-        → IfSome found (λ p. (entry d ob z ≡ invariants_at d z.sorts) × IsPart (numbered_arguments d ob).table.ints b.atoms (map form_of b.formulas) p)
+    with_part : (found : Option EntryPart) → IfSome found (IsPart (numbered_arguments d ob).table.ints b.grounding.atoms (map form_of b.grounding.formulas))
+        → IfSome found (λ p. (entry d ob z ≡ invariants_at d z.sorts) × IsPart (numbered_arguments d ob).table.ints b.grounding.atoms (map form_of b.grounding.formulas) p)
     with_part None g = tt
     with_part (Some p) g = (e, g)
 begun_from d ob k sorts (Err TooMany) a s e h =

@@ -1,13 +1,13 @@
 -- Readings that stand in a formula twice: the second time nothing is new.
-use Rattle.std.proofs.Common.{◌≡◌, ℕ, true, List, [], refl, sym, ◌∙◌, ap}
+use Rattle.std.proofs.Common.{◌≡◌, ℕ, true, List, [], sym, ◌∙◌, ap}
 use Rattle.spec_core.specs.declared.update.Thing.TheVariants as thing
 use Rattle.ground_problem.specs.Equality.{readings_same}
 use Rattle.ground_numbers.specs.Numbered.{Numbered, literal, negation, conjunction, disjunction}
-use Rattle.ground_numbers.specs.Numbers.{Atom, has_atom, has_number, number_of}
+use Rattle.ground_numbers.specs.Numbers.{has_atom, has_number, number_of}
 use Rattle.ground_numbers.proofs.Stepping.{with_atom-number}
 use Rattle.ground_numbers.proofs.Growing.{with_atom-extends, with_atom-has}
 use Rattle.ground_atoms.specs.Known.{Known, know_atom}
-use Rattle.ground_atoms.specs.Making.{Made, make}
+use Rattle.ground_atoms.specs.Making.{make}
 use Rattle.ground_atoms.proofs.Same.{atom_stays}
 
 -- both readings, or neither, over these numbers

@@ -14,11 +14,11 @@ use Rattle.ground_atoms.specs.Known.{Known}
 use Rattle.ground_atoms.specs.Making.{MadeList, make_all}
 use Rattle.ground_atoms.proofs.Numbering.{make_all-is, readings_after-made}
 use Rattle.ground_problem.specs.Problem.{most_formulas}
-use Rattle.ground_groups.specs.Limited.{make_upto, Appends}
+use Rattle.ground_groups.specs.Limited.{make_upto, Makes}
 use Rattle.instances.specs.Ground.{IsGround}
 use Rattle.ground_groups.specs.declared.refused.GroundRefused.{GroundRefused}
 use Rattle.ground_groups.specs.declared.refused.GroundRefused.TheVariants.{TooMany, Memory}
-use Rattle.ground_atoms.specs.declared.formula.GroundFormula.{GroundFormula}
+use Rattle.ground_groups.specs.declared.grounding.Grounding.{Grounding}
 use Rattle.ground_groups.specs.Calls.{numbered_arguments}
 use Rattle.ground_groups.proofs.Lists.{upto_beyond, upto_is_all, upto_made}
 
@@ -52,6 +52,6 @@ many_made k list e = by_test (ltb most_formulas (length list)) refl
     by_test true h = ltb-true most_formulas (length list) h
     by_test false h = absurd (let l = ltb-false most_formulas (length list) h in let n : make_upto [] k list ≡ Some (make_all [] k list) = upto_is_all [] k list (omega (arith, l)) in none-some (make_all [] k list) (sym e ∙ n))
 
-pub ground_refused : (d : Specification) (ob : Obligation) (why : GroundRefused) (new : List GroundFormula) (now : Known) → Appends {A = Unit {0}} (Err why) [] (numbered_arguments d ob) (formulas_of d ob) new now → IsGround d ob (Err why)
-ground_refused d ob TooMany new now e = many_made (numbered_arguments d ob) (formulas_of d ob) e
-ground_refused d ob Memory new now e = tt
+pub ground_refused : (d : Specification) (ob : Obligation) (why : GroundRefused) (new : Grounding) → Makes {A = Unit {0}} (Err why) (numbered_arguments d ob) (formulas_of d ob) new → IsGround d ob (Err why)
+ground_refused d ob TooMany new e = many_made (numbered_arguments d ob) (formulas_of d ob) e
+ground_refused d ob Memory new e = tt

@@ -1,5 +1,4 @@
 -- What the code has of a premise, that two tuples are equal, and of its conclusion, that their readings are one.
-use Rattle.std.specs.Prelude.{ℕ}
 use Rattle.ground_numbers.specs.Numbered.{Numbered}
 use Rattle.ground_atoms.specs.Formulas.{form_of, tuples_equal, readings_agree}
 use Rattle.instances.specs.declared.congruence.Premise.{Premise}

@@ -13,7 +13,7 @@ use Rattle.ground_atoms.specs.Known.{Known}
 use Rattle.ground_atoms.specs.Sizes.{size_of, cut_back}
 use Rattle.clausify.specs.Kept.{AreClausesOf}
 use Rattle.ground_groups.specs.Calls.{numbered_arguments}
-use Rattle.ground_groups.specs.Limited.{make_upto}
+use Rattle.ground_groups.specs.Limited.{make_upto, made_in}
 use Rattle.ground_groups.specs.declared.refused.GroundRefused.{GroundRefused}
 use Rattle.ground_groups.specs.declared.refused.GroundRefused.TheVariants.{TooMany, Memory}
 use Rattle.instances.specs.declared.entry.Entry.{Entry}
@@ -54,9 +54,9 @@ pub record IsPart (ints : List Integer) (k : Known) (fs : List Numbered)
 
 -- The invariants at constants of these sorts, made of what is known, with the size of all that.
 pub record IsShared (d : Specification) (k : Known) (sorts : List ℕ) (b : Begun) : Type 0 where
-  pub made : make_upto [] k (invariants_at d sorts)
-      ≡ Some (record { known = b.atoms; forms = map form_of b.formulas })
-  pub part : IfSome b.part (IsPart k.table.ints b.atoms (map form_of b.formulas))
+  pub made : make_upto [] k (invariants_at d sorts) ≡ Some (made_in b.grounding)
+  pub part : IfSome b.part
+      (IsPart k.table.ints b.grounding.atoms (map form_of b.grounding.formulas))
 
 -- They are made, or they have too many formulas.
 abbrev pub IsSharedOr : Specification → Known → List ℕ → Result Begun GroundRefused → Type 0
@@ -67,10 +67,11 @@ IsSharedOr d k sorts (Err Memory) = Unit {0}
 -- What is true at the entry of an obligation, made; in the initial state nothing is asked, and nothing is shared.
 pub record IsBegun (d : Specification) (ob : Obligation) (b : Begun) : Type 0 where
   pub made : make_upto [] (numbered_arguments d ob) (entry d ob (constants_of d ob))
-      ≡ Some (record { known = b.atoms; forms = map form_of b.formulas })
+      ≡ Some (made_in b.grounding)
   pub shared : IfSome b.part (λ p.
       (entry d ob (constants_of d ob) ≡ invariants_at d (constants_of d ob).sorts)
-      × IsPart (numbered_arguments d ob).table.ints b.atoms (map form_of b.formulas) p)
+      × IsPart (numbered_arguments d ob).table.ints b.grounding.atoms
+      (map form_of b.grounding.formulas) p)
 
 -- There is one, or what is true at the entry has too many formulas.
 abbrev pub IsBegunOr : Specification → Obligation → Result Begun GroundRefused → Type 0
@@ -81,7 +82,7 @@ IsBegunOr d ob (Err Memory) = Unit {0}
 
 -- Where it was cut back, what is known is what was known when the entry that was kept had been made.
 abbrev pub IsCutBack : Option Entry → Begun → Type 0
-IsCutBack (Some e) b = b.is_cut ≡ true → b.atoms ≡ cut_back e.part.size.known e.atoms
+IsCutBack (Some e) b = b.is_cut ≡ true → b.grounding.atoms ≡ cut_back e.part.size.known e.atoms
 IsCutBack None b = b.is_cut ≡ false
 
 -- the entry in what was made of it and more

@@ -12,83 +12,69 @@ ghost use Rattle.instances.specs.Pairs.{pair_count};
 
 use crate::congruence::congruent;
 use effectors::is_thing;
-use ground_atoms::{Atoms, GroundFormula, NamedReading};
-use ground_groups::GroundRefused;
+use ground_atoms::NamedReading;
 use ground_groups::adding::{MOST_FORMULAS, has_room};
+use ground_groups::{GroundRefused, Grounding};
 use items::Items;
 use spec_core::{Spec, Thing};
 use std::alloc::{AllocError, Global};
 
 // Appends this for a tuple and each of these.
 fn add_with_each(
-    atoms: &mut Atoms,
-    alloc: Global,
+    grounding: &mut Grounding,
     spec: &Spec,
     thing: Thing,
     tuple: &Items<u32>,
     later: &[Items<u32>],
-    out: &mut Items<GroundFormula>,
 ) -> Result<(), GroundRefused>
-    ensures { Appends result out.old atoms.old
-        (map (equality.congruent thing tuple.now) later.now) out.new atoms.new }
+    ensures { Appends result grounding.old
+        (map (equality.congruent thing tuple.now) later.now) grounding.new }
 {
     for other in later {
-        has_room(out)?;
+        has_room(grounding)?;
+        let (left, right) = (tuple.as_slice(), other.as_slice());
         let made = congruent(
-            atoms,
-            alloc,
+            &mut grounding.atoms,
+            grounding.alloc,
             spec,
             thing,
-            tuple.as_slice(),
-            other.as_slice(),
+            left,
+            right,
         )?;
-        out.push(made)?;
+        grounding.formulas.push(made)?;
     }
     Ok(())
 }
 
 // The same for a tuple and each after a place.
 fn add_from(
-    atoms: &mut Atoms,
-    alloc: Global,
+    grounding: &mut Grounding,
     spec: &Spec,
     thing: Thing,
     tuple: &Items<u32>,
     tuples: &[Items<u32>],
     place: usize,
-    out: &mut Items<GroundFormula>,
 ) -> Result<(), GroundRefused>
     requires { place < length tuples.now }
-    ensures { Appends result out.old atoms.old
-        (map (equality.congruent thing tuple.now) (drop (place + 1) tuples.now)) out.new atoms.new }
+    ensures { Appends result grounding.old
+        (map (equality.congruent thing tuple.now) (drop (place + 1) tuples.now)) grounding.new }
 {
     let next = place + 1;
-    add_with_each(atoms, alloc, spec, thing, tuple, &tuples[next..], out)
+    add_with_each(grounding, spec, thing, tuple, &tuples[next..])
 }
 
 // The same for every two of these tuples.
 fn add_pairs(
-    atoms: &mut Atoms,
-    alloc: Global,
+    grounding: &mut Grounding,
     spec: &Spec,
     thing: Thing,
     tuples: &[Items<u32>],
-    out: &mut Items<GroundFormula>,
 ) -> Result<(), GroundRefused>
-    ensures { Appends result out.old atoms.old
-        (equality.congruent_pairs thing tuples.now) out.new atoms.new }
+    ensures { Appends result grounding.old
+        (equality.congruent_pairs thing tuples.now) grounding.new }
 {
     for place in 0..tuples.len() {
-        match add_from(
-            atoms,
-            alloc,
-            spec,
-            thing,
-            &tuples[place],
-            tuples,
-            place,
-            out,
-        ) {
+        match add_from(grounding, spec, thing, &tuples[place], tuples, place) {
             Ok(()) => {}
             Err(refused) => return Err(refused),
         }
@@ -185,14 +171,12 @@ fn count_pairs(tuples: usize) -> usize
 }
 
 // Whether there is room for a formula for every two of these tuples. No formula is made for this.
-fn has_room_for_pairs(
-    tuples: &[Items<u32>],
-    out: &Items<GroundFormula>,
-) -> Result<(), GroundRefused>
-    ensures { HasRoomFor result (most_formulas - length out.now) (pair_count (length tuples.now)) }
+fn has_room_for_pairs(grounding: &Grounding, tuples: &[Items<u32>]) -> Result<(), GroundRefused>
+    ensures { HasRoomFor result (most_formulas - length grounding.now.formulas)
+        (pair_count (length tuples.now)) }
 {
     let count = count_pairs(tuples.len());
-    if count > MOST_FORMULAS.saturating_sub(out.len()) {
+    if count > MOST_FORMULAS.saturating_sub(grounding.formulas.len()) {
         return Err(GroundRefused::TooMany);
     }
     Ok(())
@@ -200,54 +184,48 @@ fn has_room_for_pairs(
 
 // The same for every two of these tuples, or that there is no room for so many.
 fn add_pairs_within(
-    atoms: &mut Atoms,
-    alloc: Global,
+    grounding: &mut Grounding,
     spec: &Spec,
     thing: Thing,
     tuples: &[Items<u32>],
-    out: &mut Items<GroundFormula>,
 ) -> Result<(), GroundRefused>
-    ensures { Appends result out.old atoms.old
-        (equality.congruent_pairs thing tuples.now) out.new atoms.new }
+    ensures { Appends result grounding.old
+        (equality.congruent_pairs thing tuples.now) grounding.new }
 {
-    if let Err(refused) = has_room_for_pairs(tuples, out) {
+    if let Err(refused) = has_room_for_pairs(grounding, tuples) {
         return Err(refused);
     }
-    add_pairs(atoms, alloc, spec, thing, tuples, out)
+    add_pairs(grounding, spec, thing, tuples)
 }
 
 // Appends that a thing reads the same at equal tuples among these readings.
 fn add_thing(
-    atoms: &mut Atoms,
-    alloc: Global,
+    grounding: &mut Grounding,
     spec: &Spec,
     readings: &[NamedReading],
     thing: &Thing,
-    out: &mut Items<GroundFormula>,
 ) -> Result<(), GroundRefused>
-    ensures { Appends result out.old atoms.old
+    ensures { Appends result grounding.old
         (equality.congruent_pairs thing.now
         (equality.rising (filter (λ q. effect.is_thing q.thing thing.now) (map reading_of readings.now))))
-        out.new atoms.new }
+        grounding.new }
 {
-    let tuples = rising(alloc, readings, *thing)?;
-    add_pairs_within(atoms, alloc, spec, *thing, tuples.as_slice(), out)
+    let tuples = rising(grounding.alloc, readings, *thing)?;
+    add_pairs_within(grounding, spec, *thing, tuples.as_slice())
 }
 
 /// Appends that each of these things reads the same at equal tuples among these readings.
 pub fn add_congruence(
-    atoms: &mut Atoms,
-    alloc: Global,
+    grounding: &mut Grounding,
     spec: &Spec,
     readings: &[NamedReading],
     things: &[Thing],
-    out: &mut Items<GroundFormula>,
 ) -> Result<(), GroundRefused>
-    ensures { Appends result out.old atoms.old
-        (equality.congruence (map reading_of readings.now) things.now) out.new atoms.new }
+    ensures { Appends result grounding.old
+        (equality.congruence (map reading_of readings.now) things.now) grounding.new }
 {
     for thing in things {
-        match add_thing(atoms, alloc, spec, readings, thing, out) {
+        match add_thing(grounding, spec, readings, thing) {
             Ok(()) => {}
             Err(refused) => return Err(refused),
         }

@@ -6,66 +6,44 @@ ghost use Rattle.obligation_list.specs.Obligations.{IsObligation};
 ghost use Rattle.ground_groups.specs.Calls.{constants_in};
 ghost use Rattle.ground_groups.specs.Limited.{Appends};
 
-use ground_atoms::{Atoms, GroundFormula};
 use ground_groups::differing::add_differs;
 use ground_groups::entry::args_of;
 use ground_groups::instancing::{add_false, add_false_instances};
-use ground_groups::{GroundRefused, Named, invariant_line, requires_line};
-use items::Items;
+use ground_groups::{GroundRefused, Grounding, Named, invariant_line, requires_line};
 use obligation_list::Obligation;
 use spec_core::{Prefix, Prefixed, Spec};
 use stage_defs::{Setting, Stage};
-use std::alloc::Global;
 
 // Appends that a line is false: with `exists` once for each assignment, else at the elements.
 fn add_fails(
-    atoms: &mut Atoms,
-    alloc: Global,
+    grounding: &mut Grounding,
     setting: &Setting<'_>,
     named: &Named,
     line: &Prefixed,
-    out: &mut Items<GroundFormula>,
 ) -> Result<(), GroundRefused>
-    ensures { Appends result out.old atoms.old
+    ensures { Appends result grounding.old
         (conclusion.line_fails (constants_in named.now) (readings_in setting.now)
         (caller_in setting.now) line.now)
-        out.new atoms.new }
+        grounding.new }
 {
     match line.prefix {
         Prefix::Exists => {
-            add_false_instances(
-                atoms,
-                alloc,
-                setting,
-                named,
-                line.vars.as_slice(),
-                &line.body,
-                out,
-            )
+            add_false_instances(grounding, setting, named, line.vars.as_slice(), &line.body)
         }
-        _ => add_false(
-            atoms,
-            alloc,
-            setting,
-            named.elements.as_slice(),
-            &line.body,
-            out,
-        ),
+        _ => add_false(grounding, setting, named.elements.as_slice(), &line.body),
     }
 }
 
 /// Appends that the conclusion of an obligation fails.
 pub fn add_conclusion(
-    atoms: &mut Atoms,
-    alloc: Global,
+    grounding: &mut Grounding,
     spec: &Spec,
     ob: &Obligation,
     named: &Named,
-    out: &mut Items<GroundFormula>,
 ) -> Result<(), GroundRefused>
     requires { IsObligation spec.now ob.now }
-    ensures { Appends result out.old atoms.old
-        (conclusion.conclusion spec.now ob.now (constants_in named.now)) out.new atoms.new }
+    ensures { Appends result grounding.old
+        (conclusion.conclusion spec.now ob.now (constants_in named.now)) grounding.new }
 {
     match ob {
         Obligation::Init { inv } => {
@@ -76,7 +54,7 @@ pub fn add_conclusion(
                 args: &[],
             };
             let line = invariant_line(spec, *inv);
-            add_fails(atoms, alloc, &setting, named, line, out)
+            add_fails(grounding, &setting, named, line)
         }
         Obligation::Safety { inv, .. } => {
             let setting = Setting {
@@ -86,11 +64,11 @@ pub fn add_conclusion(
                 args: &[],
             };
             let line = invariant_line(spec, *inv);
-            add_fails(atoms, alloc, &setting, named, line, out)
+            add_fails(grounding, &setting, named, line)
         }
         Obligation::Commute { thing, .. } => {
             let elements = named.elements.as_slice();
-            add_differs(atoms, alloc, spec, *thing, elements, out)
+            add_differs(grounding, spec, *thing, elements)
         }
         Obligation::Stable { op, line, .. } => {
             let setting = Setting {
@@ -100,7 +78,7 @@ pub fn add_conclusion(
                 args: args_of(named, 0),
             };
             let line = requires_line(spec, *op, *line);
-            add_fails(atoms, alloc, &setting, named, line, out)
+            add_fails(grounding, &setting, named, line)
         }
     }
 }

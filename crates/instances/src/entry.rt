@@ -18,7 +18,7 @@ ghost use Rattle.instances.specs.Entry.{known_from, HasClausesOf, IsEntry, IsSha
 use clausify::{KeptClauses, keep_clauses};
 use ground_atoms::{Atoms, GroundFormula, KnownSize};
 use ground_groups::entry::add_invariants;
-use ground_groups::{GroundRefused, Named};
+use ground_groups::{GroundRefused, Grounding, Named};
 use items::Items;
 use obligation_list::Obligation;
 use spec_core::Spec;
@@ -59,12 +59,11 @@ pub struct Entry {
     pub part: EntryPart,
 }
 
-/// What is known, and the formulas, once what is true at the entry of an obligation is made; nothing of it is shared in the initial
-/// state. It is cut where it was cut back from an entry that was kept.
+/// A grounding once what is true at the entry of an obligation is made; nothing of it is shared in the initial state. It is cut where it
+/// was cut back from an entry that was kept.
 #[derive(Drop)]
 pub struct Begun {
-    pub atoms: Atoms,
-    pub formulas: Items<GroundFormula>,
+    pub grounding: Grounding,
     pub part: Option<EntryPart>,
     pub is_cut: bool,
 }
@@ -84,26 +83,26 @@ pub fn is_alike(entry: &Entry, sorts: &[u8], arguments: &Atoms) -> bool
 }
 
 // How much there is.
-fn size_of(arguments: usize, atoms: &Atoms, formulas: &[GroundFormula]) -> EntrySize
+fn size_of(arguments: usize, grounding: &Grounding) -> EntrySize
     ensures arguments { result.arguments ≡ arguments }
-    ensures known { result.known ≡ size_of atoms.now }
-    ensures formulas { result.formulas ≡ length formulas.now }
+    ensures known { result.known ≡ size_of grounding.now.atoms }
+    ensures formulas { result.formulas ≡ length grounding.now.formulas }
 {
     EntrySize {
         arguments,
-        known: atoms.size(),
-        formulas: formulas.len(),
+        known: grounding.atoms.size(),
+        formulas: grounding.formulas.len(),
     }
 }
 
 // An entry without what was appended to it.
-fn cut(entry: Entry) -> Begun
-    ensures atoms { result.atoms ≡ cut_back entry.part.size.known entry.atoms }
-    ensures formulas { map form_of result.formulas
+fn cut(alloc: Global, entry: Entry) -> Begun
+    ensures atoms { result.grounding.atoms ≡ cut_back entry.part.size.known entry.atoms }
+    ensures formulas { map form_of result.grounding.formulas
         ≡ take entry.part.size.formulas (map form_of entry.formulas) }
     ensures part { IfSome result.part (λ p. (p.size.arguments ≡ entry.part.size.arguments)
-        × (p.size.known ≡ size_of result.atoms)
-        × (p.size.formulas ≡ length result.formulas) × (p.clauses ≡ entry.part.clauses)) }
+        × (p.size.known ≡ size_of result.grounding.atoms)
+        × (p.size.formulas ≡ length result.grounding.formulas) × (p.clauses ≡ entry.part.clauses)) }
 {
     let Entry {
         sorts,
@@ -116,29 +115,29 @@ fn cut(entry: Entry) -> Begun
     let atoms = atoms.cut_back(size.known);
     let mut list = formulas.into_vec();
     list.truncate(size.formulas);
-    let size = size_of(size.arguments, &atoms, list.as_slice());
-    Begun {
+    let grounding = Grounding {
         atoms,
         formulas: Items::from_vec(list),
+        alloc,
+    };
+    let size = size_of(size.arguments, &grounding);
+    Begun {
+        grounding,
         part: Some(EntryPart { size, clauses }),
         is_cut: true,
     }
 }
 
 // The clauses of the formulas that were made. The atoms that name their parts come behind those that are known.
-fn clauses_of(
-    alloc: Global,
-    atoms: &Atoms,
-    formulas: &[GroundFormula],
-) -> Result<KeptClauses, AllocError>
-    requires { list_all (is_below (length atoms.now.table.atoms)) (map form_of formulas.now)
-        ≡ true }
-    ensures { IfOk result (AreClausesOf (map form_of formulas.now)) }
+fn clauses_of(grounding: &Grounding) -> Result<KeptClauses, AllocError>
+    requires { list_all (is_below (length grounding.now.atoms.table.atoms))
+        (map form_of grounding.now.formulas) ≡ true }
+    ensures { IfOk result (AreClausesOf (map form_of grounding.now.formulas)) }
 {
-    let Ok(first) = u32::try_from(atoms.size().atoms) else {
+    let Ok(first) = u32::try_from(grounding.atoms.size().atoms) else {
         return Err(AllocError);
     };
-    keep_clauses(alloc, first, formulas)
+    keep_clauses(grounding.alloc, first, grounding.formulas.as_slice())
 }
 
 // The invariants at some constants, made of what is known.
@@ -146,20 +145,17 @@ fn made(alloc: Global, spec: &Spec, named: &Named, arguments: Atoms) -> Result<B
     ensures shared { IsSharedOr spec.now arguments named.now.sorts result }
     ensures cut { IfOk result (λ b. b.is_cut ≡ false) }
 {
-    let mut atoms = arguments;
-    let count = atoms.size().ints;
-    let mut formulas = Items::new(alloc);
-    let added = add_invariants(&mut atoms, alloc, spec, named, &mut formulas);
-    or_drop!(added; formulas, atoms);
-    let Ok(clauses) = clauses_of(alloc, &atoms, formulas.as_slice()) else {
-        drop(formulas);
-        drop(atoms);
+    let count = arguments.size().ints;
+    let mut grounding = Grounding::new(alloc, arguments);
+    let added = add_invariants(&mut grounding, spec, named);
+    or_drop!(added; grounding);
+    let Ok(clauses) = clauses_of(&grounding) else {
+        drop(grounding);
         return Err(GroundRefused::Memory);
     };
-    let size = size_of(count, &atoms, formulas.as_slice());
+    let size = size_of(count, &grounding);
     Ok(Begun {
-        atoms,
-        formulas,
+        grounding,
         part: Some(EntryPart { size, clauses }),
         is_cut: false,
     })
@@ -182,7 +178,7 @@ fn shared(
         Some(entry) => {
             if is_alike(&entry, named.sorts.as_slice(), &arguments) {
                 drop(arguments);
-                return Ok(cut(entry));
+                return Ok(cut(alloc, entry));
             }
             drop(entry);
             made(alloc, spec, named, arguments)
@@ -212,8 +208,7 @@ pub fn begin(
         Obligation::Init { .. } => {
             drop(kept);
             Ok(Begun {
-                atoms: arguments,
-                formulas: Items::new(alloc),
+                grounding: Grounding::new(alloc, arguments),
                 part: None,
                 is_cut: false,
             })

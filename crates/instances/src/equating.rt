@@ -11,115 +11,100 @@ ghost use Rattle.ground_groups.specs.Limited.{Appends};
 
 use ground_atoms::{Atom, Atoms, GroundFormula};
 use ground_groups::adding::has_room;
-use ground_groups::{GroundRefused, as_number};
+use ground_groups::{GroundRefused, Grounding, as_number};
 use items::Items;
 use std::alloc::{AllocError, Global};
 
 // The number of the equality of two constants, the lesser first.
-fn number_of(atoms: &mut Atoms, lesser: u32, greater: u32) -> Result<u32, AllocError>
+fn number_of(atoms: &mut Atoms, pair: (u32, u32)) -> Result<u32, AllocError>
     ensures { IfOk result
-        (λ n. make atoms.old (symbols.same lesser greater)
+        (λ n. make atoms.old (symbols.same pair.0 pair.1)
         ≡ record { known = atoms.new; form = literal n true }) }
 {
+    let (lesser, greater) = pair;
     atoms.number_of(Atom::Same(lesser, greater))
 }
 
-// Where a is b and c is d, e is f.
+// Where the first two pairs are equal, so is the third one.
 fn implied(
     atoms: &mut Atoms,
-    a: u32,
-    b: u32,
-    c: u32,
-    d: u32,
-    e: u32,
-    f: u32,
+    first: (u32, u32),
+    second: (u32, u32),
+    third: (u32, u32),
 ) -> Result<GroundFormula, AllocError>
     ensures { IfOk result
         (λ made. IsMade atoms.old
-        (symbols.either (symbols.negated (symbols.both (symbols.same a b) (symbols.same c d)))
-        (symbols.same e f))
+        (symbols.either
+        (symbols.negated
+        (symbols.both (symbols.same first.0 first.1) (symbols.same second.0 second.1)))
+        (symbols.same third.0 third.1))
         atoms.new made) }
 {
-    let first = number_of(atoms, a, b)?;
-    let second = number_of(atoms, c, d)?;
-    let third = number_of(atoms, e, f)?;
+    let first = number_of(atoms, first)?;
+    let second = number_of(atoms, second)?;
+    let third = number_of(atoms, third)?;
     Ok(GroundFormula::Implied(first, second, third))
 }
 
 // Appends it.
 fn add_implied(
-    atoms: &mut Atoms,
-    a: u32,
-    b: u32,
-    c: u32,
-    d: u32,
-    e: u32,
-    f: u32,
-    out: &mut Items<GroundFormula>,
+    grounding: &mut Grounding,
+    first: (u32, u32),
+    second: (u32, u32),
+    third: (u32, u32),
 ) -> Result<(), GroundRefused>
-    ensures { Appends result out.old atoms.old
-        (symbols.either (symbols.negated (symbols.both (symbols.same a b) (symbols.same c d)))
-        (symbols.same e f) ∷ [])
-        out.new atoms.new }
+    ensures { Appends result grounding.old
+        (symbols.either
+        (symbols.negated
+        (symbols.both (symbols.same first.0 first.1) (symbols.same second.0 second.1)))
+        (symbols.same third.0 third.1) ∷ [])
+        grounding.new }
 {
-    has_room(out)?;
-    let made = implied(atoms, a, b, c, d, e, f)?;
-    out.push(made)?;
+    has_room(grounding)?;
+    let made = implied(&mut grounding.atoms, first, second, third)?;
+    grounding.formulas.push(made)?;
     Ok(())
 }
 
 // Appends that equality goes over the first and over the last of three constants.
-fn add_over_ends(
-    atoms: &mut Atoms,
-    a: u32,
-    b: u32,
-    c: u32,
-    out: &mut Items<GroundFormula>,
-) -> Result<(), GroundRefused>
-    ensures { Appends result out.old atoms.old
+fn add_over_ends(grounding: &mut Grounding, a: u32, b: u32, c: u32) -> Result<(), GroundRefused>
+    ensures { Appends result grounding.old
         (symbols.either (symbols.negated (symbols.both (symbols.same a b) (symbols.same a c)))
         (symbols.same b c) ∷ symbols.either
         (symbols.negated (symbols.both (symbols.same a c) (symbols.same b c))) (symbols.same a b) ∷
         [])
-        out.new atoms.new }
+        grounding.new }
 {
-    match add_implied(atoms, a, b, a, c, b, c, out) {
+    match add_implied(grounding, (a, b), (a, c), (b, c)) {
         Ok(()) => {}
         Err(refused) => return Err(refused),
     }
-    add_implied(atoms, a, c, b, c, a, b, out)
+    add_implied(grounding, (a, c), (b, c), (a, b))
 }
 
 // Appends that equality goes over each of three constants.
-fn add_three(
-    atoms: &mut Atoms,
-    a: u32,
-    b: u32,
-    c: u32,
-    out: &mut Items<GroundFormula>,
-) -> Result<(), GroundRefused>
-    ensures { Appends result out.old atoms.old (equality.three_agree a b c) out.new atoms.new }
+fn add_three(grounding: &mut Grounding, a: u32, b: u32, c: u32) -> Result<(), GroundRefused>
+    ensures { Appends result grounding.old (equality.three_agree a b c) grounding.new }
 {
-    match add_implied(atoms, a, b, b, c, a, c, out) {
+    match add_implied(grounding, (a, b), (b, c), (a, c)) {
         Ok(()) => {}
         Err(refused) => return Err(refused),
     }
-    add_over_ends(atoms, a, b, c, out)
+    add_over_ends(grounding, a, b, c)
 }
 
 // The same for two constants and each of these.
 fn add_triples(
-    atoms: &mut Atoms,
+    grounding: &mut Grounding,
     a: u32,
     b: u32,
     later: &[u32],
-    out: &mut Items<GroundFormula>,
 ) -> Result<(), GroundRefused>
-    ensures { Appends result out.old atoms.old
-        (flat_map (equality.three_agree a b) later.now) out.new atoms.new }
+    ensures { Appends result grounding.old
+        (flat_map (equality.three_agree a b) later.now) grounding.new }
 {
     for place in 0..later.len() {
-        match add_three(atoms, a, b, later[place], out) {
+        match add_three(grounding, a, b, later[place]) {
             Ok(()) => {}
             Err(refused) => return Err(refused),
         }
@@ -129,34 +114,28 @@ fn add_triples(
 
 // The same for a constant, the one at a place and each after it.
 fn add_from(
-    atoms: &mut Atoms,
+    grounding: &mut Grounding,
     a: u32,
     later: &[u32],
     place: usize,
-    out: &mut Items<GroundFormula>,
 ) -> Result<(), GroundRefused>
     requires { place < length later.now }
-    ensures { Appends result out.old atoms.old
+    ensures { Appends result grounding.old
         (flat_map (equality.three_agree a (slice_index later.now place))
         (drop (place + 1) later.now))
-        out.new atoms.new }
+        grounding.new }
 {
     let next = place + 1;
-    add_triples(atoms, a, later[place], &later[next..], out)
+    add_triples(grounding, a, later[place], &later[next..])
 }
 
 // The same for a constant and each two of these.
-fn add_pairs(
-    atoms: &mut Atoms,
-    a: u32,
-    later: &[u32],
-    out: &mut Items<GroundFormula>,
-) -> Result<(), GroundRefused>
-    ensures { Appends result out.old atoms.old
-        (equality.agree_with_pairs a later.now) out.new atoms.new }
+fn add_pairs(grounding: &mut Grounding, a: u32, later: &[u32]) -> Result<(), GroundRefused>
+    ensures { Appends result grounding.old
+        (equality.agree_with_pairs a later.now) grounding.new }
 {
     for place in 0..later.len() {
-        match add_from(atoms, a, later, place, out) {
+        match add_from(grounding, a, later, place) {
             Ok(()) => {}
             Err(refused) => return Err(refused),
         }
@@ -184,35 +163,24 @@ fn of_sort_from(
 }
 
 // The same for the constant at a place and each two after it of its sort.
-fn add_of_sort(
-    atoms: &mut Atoms,
-    alloc: Global,
-    sorts: &[u8],
-    place: usize,
-    out: &mut Items<GroundFormula>,
-) -> Result<(), GroundRefused>
+fn add_of_sort(grounding: &mut Grounding, sorts: &[u8], place: usize) -> Result<(), GroundRefused>
     requires { place < length sorts.now }
-    ensures { Appends result out.old atoms.old
+    ensures { Appends result grounding.old
         (equality.agree_with_pairs place
         (of_sort (place + 1) (drop (place + 1) sorts.now) (slice_index sorts.now place)))
-        out.new atoms.new }
+        grounding.new }
 {
     let constant = as_number(place)?;
-    let later = of_sort_from(alloc, sorts, place + 1, sorts[place])?;
-    add_pairs(atoms, constant, later.as_slice(), out)
+    let later = of_sort_from(grounding.alloc, sorts, place + 1, sorts[place])?;
+    add_pairs(grounding, constant, later.as_slice())
 }
 
 /// Appends this for every three constants of one sort, the triples in rising order.
-pub fn add_equality(
-    atoms: &mut Atoms,
-    alloc: Global,
-    sorts: &[u8],
-    out: &mut Items<GroundFormula>,
-) -> Result<(), GroundRefused>
-    ensures { Appends result out.old atoms.old (equality.equality 0 sorts.now) out.new atoms.new }
+pub fn add_equality(grounding: &mut Grounding, sorts: &[u8]) -> Result<(), GroundRefused>
+    ensures { Appends result grounding.old (equality.equality 0 sorts.now) grounding.new }
 {
     for place in 0..sorts.len() {
-        match add_of_sort(atoms, alloc, sorts, place, out) {
+        match add_of_sort(grounding, sorts, place) {
             Ok(()) => {}
             Err(refused) => return Err(refused),
         }

@@ -10,7 +10,7 @@ ghost use Rattle.ground_problem.specs.Problem.{formulas_of};
 ghost use Rattle.ground_numbers.specs.Numbered.{is_below};
 ghost use Rattle.ground_numbers.specs.Problem.{kind_of, problem};
 ghost use Rattle.ground_atoms.specs.Symbols.{reading_of};
-ghost use Rattle.ground_groups.specs.Limited.{Appends, make_upto};
+ghost use Rattle.ground_groups.specs.Limited.{Appends, Makes, make_upto, made_in};
 ghost use Rattle.ground_problem.specs.Entry.{entry};
 ghost use Rattle.ground_atoms.specs.Formulas.{form_of};
 ghost use Rattle.spec_core.specs.Specification.{Specification};
@@ -26,7 +26,9 @@ use crate::listing::add_all_defined;
 use clausify::problem_from;
 use ground_atoms::{Atoms, GroundCall, GroundFormula, NamedReading};
 use ground_groups::defining::readings_after;
-use ground_groups::{GroundRefused, Named, constants, number_arguments, operations_of, things_of};
+use ground_groups::{
+    GroundRefused, Grounding, Named, constants, number_arguments, operations_of, things_of,
+};
 use ground_numbers::law_arguments_are_first;
 use items::Items;
 use obligation_list::Obligation;
@@ -117,35 +119,31 @@ pub fn numbered(
 
 // Appends that equality goes over constants of one sort, and that these things read the same at equal tuples.
 fn add_equal(
-    atoms: &mut Atoms,
-    alloc: Global,
+    grounding: &mut Grounding,
     spec: &Spec,
     sorts: &[u8],
     readings: &[NamedReading],
     things: &[Thing],
-    out: &mut Items<GroundFormula>,
 ) -> Result<(), GroundRefused>
-    ensures { Appends result out.old atoms.old
+    ensures { Appends result grounding.old
         (equality.equality 0 sorts.now
         ++ equality.congruence (map reading_of readings.now) things.now)
-        out.new atoms.new }
+        grounding.new }
 {
-    match add_equality(atoms, alloc, sorts, out) {
+    match add_equality(grounding, sorts) {
         Ok(()) => {}
         Err(refused) => return Err(refused),
     }
-    add_congruence(atoms, alloc, spec, readings, things, out)
+    add_congruence(grounding, spec, readings, things)
 }
 
 // Appends to what is true at the entry all other formulas of an obligation.
 fn add_all(
-    atoms: &mut Atoms,
-    alloc: Global,
+    grounding: &mut Grounding,
     spec: &Spec,
     ob: &Obligation,
     ops: &[u8],
     named: &Named,
-    out: &mut Items<GroundFormula>,
 ) -> Result<(), GroundRefused>
     requires member { IsObligation spec.now ob.now }
     requires ops { ops.now ≡ breaking.operations_of ob.now }
@@ -153,30 +151,27 @@ fn add_all(
     requires constants { constants_in named.now ≡ constants_of spec.now ob.now }
     requires begun { make_upto [] (numbered_arguments spec.now ob.now)
         (entry spec.now ob.now (constants_of spec.now ob.now))
-        ≡ Some (record { known = atoms.now; forms = map form_of out.now }) }
-    ensures { Appends result [] (numbered_arguments spec.now ob.now)
-        (formulas_of spec.now ob.now) out.new atoms.new }
+        ≡ Some (made_in grounding.now) }
+    ensures { Makes result (numbered_arguments spec.now ob.now)
+        (formulas_of spec.now ob.now) grounding.new }
 {
-    match add_all_defined(atoms, alloc, spec, ob, ops, named, out) {
+    match add_all_defined(grounding, spec, ob, ops, named) {
         Ok(()) => {}
         Err(refused) => return Err(refused),
     }
-    let readings = readings_after(alloc, atoms, 0)?;
-    let things = things_of(alloc, spec)?;
+    let readings = readings_after(grounding.alloc, &grounding.atoms, 0)?;
+    let things = things_of(grounding.alloc, spec)?;
     add_equal(
-        atoms,
-        alloc,
+        grounding,
         spec,
         named.sorts.as_slice(),
         readings.as_slice(),
         things.as_slice(),
-        out,
     )
 }
 
 // The ground problem of which the entry is made.
 fn finish(
-    alloc: Global,
     spec: &Spec,
     ob: &Obligation,
     ops: &[u8],
@@ -192,26 +187,19 @@ fn finish(
     ensures entry { IfOk result (HasEntry spec.now) }
 {
     let Begun {
-        mut atoms,
-        mut formulas,
+        mut grounding,
         part,
         ..
     } = begun;
-    let added = add_all(&mut atoms, alloc, spec, ob, ops, &named, &mut formulas);
-    or_drop!(added; part, formulas, named, atoms);
-    let Named {
-        sorts,
-        calls,
-        chosen,
-        elements,
-    } = named;
-    drop(chosen);
+    let added = add_all(&mut grounding, spec, ob, ops, &named);
+    or_drop!(added; part, grounding, named);
+    drop(named.chosen);
     Ok(Grounded {
-        consts: sorts,
-        calls,
-        elements,
-        atoms,
-        formulas,
+        consts: named.sorts,
+        calls: named.calls,
+        elements: named.elements,
+        atoms: grounding.atoms,
+        formulas: grounding.formulas,
         part,
     })
 }
@@ -262,7 +250,7 @@ fn ground_ops(
         return Err(GroundRefused::Memory);
     };
     match begin(alloc, spec, ob, &named, arguments, kept) {
-        Ok(begun) => finish(alloc, spec, ob, ops, named, begun),
+        Ok(begun) => finish(spec, ob, ops, named, begun),
         Err(refused) => {
             drop(named);
             Err(refused)

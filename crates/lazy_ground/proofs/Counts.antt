@@ -17,7 +17,6 @@ use Rattle.ground_problem.specs.Definitions.{Reading}
 use Rattle.ground_problem.specs.Equality.{congruent_pairs, insert_rising, rising, congruence}
 use Rattle.ground_problem.specs.Problem.{formulas_of, most_formulas}
 use Rattle.ground_atoms.specs.Formulas.{form_of}
-use Rattle.ground_atoms.specs.Known.{Known}
 use Rattle.ground_atoms.specs.Symbols.{reading_of}
 use Rattle.ground_atoms.specs.declared.atom.NamedReading.{NamedReading}
 use Rattle.ground_groups.specs.Calls.{numbered_arguments}
@@ -32,7 +31,9 @@ use Rattle.lazy_ground.specs.Front.{front_of, entry_readings, IsFront}
 use Rattle.lazy_ground.specs.Lazy.{IsGroundEither}
 use Rattle.lazy_ground.specs.declared.pairs.ReadingPairs.{ReadingPairs}
 use Rattle.lazy_ground.specs.Pairs.{pairs_of}
-use Rattle.lazy_ground.specs.Named.{AreFound, AreMadeBehind, known_after}
+use Rattle.lazy_ground.specs.Named.{AreFound, known_after}
+use Rattle.ground_groups.specs.declared.grounding.Grounding.{Grounding}
+use Rattle.ground_groups.specs.Limited.{made_in, Makes}
 use Rattle.lazy_ground.proofs.Parts.{front_then, three_parts, found_pairs}
 
 -- ---- pairs
@@ -106,45 +107,45 @@ count_next ss i s m h is k =
 
 -- The same, where the pairs of the first things are made.
 pub found_count : (d : Specification) (ob : Obligation) (f : Front) (rs : List NamedReading) (ss : List ReadingPairs) (xs ys : List Thing) → IsFront d ob f → rs ≡ f.readings
-    → AreFound f.atoms.table (map reading_of f.readings) xs ss → xs ++ ys ≡ things d
-    → length f.formulas + (length (flat_map pairs_of ss) + length (congruence (map reading_of rs) ys)) ≡ length (formulas_of d ob)
+    → AreFound f.grounding.atoms.table (map reading_of f.readings) xs ss → xs ++ ys ≡ things d
+    → length f.grounding.formulas + (length (flat_map pairs_of ss) + length (congruence (map reading_of rs) ys)) ≡ length (formulas_of d ob)
 found_count d ob f rs ss xs ys is q found all =
-    let a = upto_length [] (numbered_arguments d ob) (front_of d ob) (record { known = f.atoms; forms = map form_of f.formulas }) is.made in
-    let b = length-map f.formulas form_of in
+    let a = upto_length [] (numbered_arguments d ob) (front_of d ob) (made_in f.grounding) is.made in
+    let b = length-map f.grounding.formulas form_of in
     let c = ap length (sym (three_parts d ob xs ys all)) ∙ length-append (front_of d ob) (congruence (entry_readings d ob) xs ++ congruence (entry_readings d ob) ys) in
     let e = length-append (congruence (entry_readings d ob) xs) (congruence (entry_readings d ob) ys) in
     let g : length (flat_map pairs_of ss) ≡ length (congruence (entry_readings d ob) xs) =
-    ap length (found_pairs f.atoms.table (map reading_of f.readings) xs ss found) ∙ ap (λ (qs : List Reading). length (congruence qs xs)) is.readings in
+    ap length (found_pairs f.grounding.atoms.table (map reading_of f.readings) xs ss found) ∙ ap (λ (qs : List Reading). length (congruence qs xs)) is.readings in
     let h : length (congruence (map reading_of rs) ys) ≡ length (congruence (entry_readings d ob) ys) = ap (λ (qs : List Reading). length (congruence qs ys)) (ap (map reading_of) q ∙ is.readings) in
     omega (arith, a, b, c, e, g, h)
 
 -- The list has as many as the front, and those on equal readings.
 pub front_count : (d : Specification) (ob : Obligation) (f : Front) (rs : List NamedReading) (xs : List Thing) → IsFront d ob f → rs ≡ f.readings → xs ≡ things d
-    → length f.formulas + length (congruence (map reading_of rs) xs) ≡ length (formulas_of d ob)
+    → length f.grounding.formulas + length (congruence (map reading_of rs) xs) ≡ length (formulas_of d ob)
 front_count d ob f rs xs is q e =
-    let a = upto_length [] (numbered_arguments d ob) (front_of d ob) (record { known = f.atoms; forms = map form_of f.formulas }) is.made in
-    let b = length-map f.formulas form_of in
+    let a = upto_length [] (numbered_arguments d ob) (front_of d ob) (made_in f.grounding) is.made in
+    let b = length-map f.grounding.formulas form_of in
     let c = ap length (sym (front_then d ob)) ∙ length-append (front_of d ob) (congruence (entry_readings d ob) (things d)) in
     let p : map reading_of rs ≡ entry_readings d ob = ap (map reading_of) q ∙ is.readings in
     let g : length (congruence (map reading_of rs) xs) ≡ length (congruence (entry_readings d ob) (things d)) = (λ i. length (congruence (p i) (e i))) in
     omega (arith, a, b, c, g)
 
 -- The front has no more than there may be.
-pub front_few : (d : Specification) (ob : Obligation) (f : Front) → IsFront d ob f → length f.formulas ≤ most_formulas
+pub front_few : (d : Specification) (ob : Obligation) (f : Front) → IsFront d ob f → length f.grounding.formulas ≤ most_formulas
 front_few d ob f is =
-    let a = upto_length [] (numbered_arguments d ob) (front_of d ob) (record { known = f.atoms; forms = map form_of f.formulas }) is.made in
-    let b = length-map f.formulas form_of in
+    let a = upto_length [] (numbered_arguments d ob) (front_of d ob) (made_in f.grounding) is.made in
+    let b = length-map f.grounding.formulas form_of in
     let c = few_made (numbered_arguments d ob) (front_of d ob) _ is.made in
     omega (arith, a, b, c)
 
 -- Where some of those on equal readings are too many, the list has too many.
-pub behind_refused : (d : Specification) (ob : Obligation) (why : GroundRefused) (f : Front) (ps : List Symbolic) (now : Known) (rs : List NamedReading) (xs ys : List Thing)
-    → IsFront d ob f → xs ++ ys ≡ things d → rs ≡ f.readings → AreMadeBehind f.atoms ps (congruence (map reading_of rs) ys) now (Err why) → IsGroundEither d ob (Err why)
-behind_refused d ob TooMany f ps now rs xs ys is all e h =
-    let n = many_made (known_after f.atoms ps) (congruence (map reading_of rs) ys) h in
+pub behind_refused : (d : Specification) (ob : Obligation) (why : GroundRefused) (f : Front) (ps : List Symbolic) (new : Grounding) (rs : List NamedReading) (xs ys : List Thing)
+    → IsFront d ob f → xs ++ ys ≡ things d → rs ≡ f.readings → Makes {A = Unit {0}} (Err why) (known_after f.grounding.atoms ps) (congruence (map reading_of rs) ys) new → IsGroundEither d ob (Err why)
+behind_refused d ob TooMany f ps new rs xs ys is all e h =
+    let n = many_made (known_after f.grounding.atoms ps) (congruence (map reading_of rs) ys) h in
     let q : congruence (map reading_of rs) ys ≡ congruence (entry_readings d ob) ys = ap (λ (qs : List Reading). congruence qs ys) (ap (map reading_of) e ∙ is.readings) in
     let a = ap length (sym (three_parts d ob xs ys all)) ∙ length-append (front_of d ob) (congruence (entry_readings d ob) xs ++ congruence (entry_readings d ob) ys) in
     let b = length-append (congruence (entry_readings d ob) xs) (congruence (entry_readings d ob) ys) in
     let c = ap length q in
     omega (arith, n, a, b, c)
-behind_refused d ob Memory f ps now rs xs ys is all e h = tt
+behind_refused d ob Memory f ps new rs xs ys is all e h = tt

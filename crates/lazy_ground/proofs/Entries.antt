@@ -17,7 +17,7 @@ use Rattle.ground_atoms.specs.declared.formula.GroundFormula.{GroundFormula}
 use Rattle.ground_atoms.proofs.Cutting.{Begins, same_list, then_more, Grows, stays, grows_then}
 use Rattle.ground_numbers.proofs.Growing.{Extends}
 use Rattle.ground_groups.specs.Calls.{numbered_arguments}
-use Rattle.ground_groups.specs.Limited.{make_upto}
+use Rattle.ground_groups.specs.Limited.{make_upto, made_in, made_with}
 use Rattle.ground_groups.specs.declared.refused.GroundRefused.{GroundRefused}
 use Rattle.ground_groups.specs.declared.refused.GroundRefused.TheVariants.{TooMany, Memory}
 use Rattle.ground_groups.proofs.Lists.{upto_then}
@@ -37,6 +37,7 @@ use Rattle.lazy_ground.specs.Pairs.{pairs_of, AllNumbered}
 use Rattle.lazy_ground.specs.Named.{known_after, AreFound}
 use Rattle.lazy_ground.specs.Kept.{AllBuilt, IsKept, HasLazyKept, HasKept, HasClauses, HasEitherClauses}
 use Rattle.lazy_ground.proofs.Parts.{lazy_of, made_extends, numbered_stay}
+use Rattle.ground_groups.specs.declared.grounding.Grounding.{Grounding}
 use Rattle.lazy_ground.proofs.NamedAfter.{after_grows, numbered_after}
 
 -- ---- the front
@@ -48,41 +49,41 @@ front_begins d ob =
     then_more (entry d ob z) (defined d ob z) _ (defined-begins d ob z) (record { more = equality 0 z.sorts; is = refl })
 
 -- What is made of the entry stands first in what is made of the front.
-pub front_shared : (d : Specification) (ob : Obligation) (b : Begun) (now : Known) (new : List GroundFormula) → IsBegun d ob b
-    → make_upto [] (numbered_arguments d ob) (front_of d ob) ≡ Some (record { known = now; forms = map form_of new })
-    → IfSome b.part (HasPart d ob now new)
-front_shared d ob b now new is e = by_part b.part is.shared
+pub front_shared : (d : Specification) (ob : Obligation) (b : Begun) (new : Grounding) → IsBegun d ob b
+    → make_upto [] (numbered_arguments d ob) (front_of d ob) ≡ Some (made_in new)
+    → IfSome b.part (HasPart d ob new)
+front_shared d ob b new is e = by_part b.part is.shared
   where
     begins : Begins (entry d ob (constants_of d ob)) (front_of d ob)
     begins = front_begins d ob
 
-    on : make_upto (map form_of b.formulas) b.atoms begins.more ≡ Some (record { known = now; forms = map form_of new })
-    on = sym (upto_then [] (map form_of b.formulas) (numbered_arguments d ob) b.atoms (entry d ob (constants_of d ob)) begins.more is.made) ∙ ap (make_upto [] (numbered_arguments d ob)) (sym begins.is) ∙ e
+    on : make_upto (map form_of b.grounding.formulas) b.grounding.atoms begins.more ≡ Some (made_in new)
+    on = sym (upto_then [] (map form_of b.grounding.formulas) (numbered_arguments d ob) b.grounding.atoms (entry d ob (constants_of d ob)) begins.more is.made) ∙ ap (make_upto [] (numbered_arguments d ob)) (sym begins.is) ∙ e
 
     by_part : (found : Option EntryPart)
-        → IfSome found (λ p. (entry d ob (constants_of d ob) ≡ invariants_at d (constants_of d ob).sorts) × IsPart (numbered_arguments d ob).table.ints b.atoms (map form_of b.formulas) p)
-        → IfSome found (HasPart d ob now new)
+        → IfSome found (λ p. (entry d ob (constants_of d ob) ≡ invariants_at d (constants_of d ob).sorts) × IsPart (numbered_arguments d ob).table.ints b.grounding.atoms (map form_of b.grounding.formulas) p)
+        → IfSome found (HasPart d ob new)
     by_part None h = tt
     by_part (Some p) h = record {
-      known = b.atoms;
-      forms = map form_of b.formulas;
+      known = b.grounding.atoms;
+      forms = map form_of b.grounding.formulas;
       made = ap (make_upto [] (numbered_arguments d ob)) (sym h.0) ∙ is.made;
       part = h.1;
-      grows = upto_grows (map form_of b.formulas) b.atoms begins.more (record { known = now; forms = map form_of new }) on;
-      begins = upto_begins (map form_of b.formulas) b.atoms begins.more (record { known = now; forms = map form_of new }) on;
+      grows = upto_grows (map form_of b.grounding.formulas) b.grounding.atoms begins.more (made_in new) on;
+      begins = upto_begins (map form_of b.grounding.formulas) b.grounding.atoms begins.more (made_in new) on;
     }
 
 -- What is made of the front has the numbers that there were at the entry.
-pub front_extends : (d : Specification) (ob : Obligation) (b : Begun) (now : Known) (new : List GroundFormula) → IsBegun d ob b
-    → make_upto [] (numbered_arguments d ob) (front_of d ob) ≡ Some (record { known = now; forms = map form_of new })
-    → Extends b.atoms.table now.table
-front_extends d ob b now new is e =
+pub front_extends : (d : Specification) (ob : Obligation) (b : Begun) (new : Grounding) → IsBegun d ob b
+    → make_upto [] (numbered_arguments d ob) (front_of d ob) ≡ Some (made_in new)
+    → Extends b.grounding.atoms.table new.atoms.table
+front_extends d ob b new is e =
     let begins = front_begins d ob in
-    made_extends (map form_of b.formulas) b.atoms now begins.more (map form_of new)
-    (sym (upto_then [] (map form_of b.formulas) (numbered_arguments d ob) b.atoms (entry d ob (constants_of d ob)) begins.more is.made) ∙ ap (make_upto [] (numbered_arguments d ob)) (sym begins.is) ∙ e)
+    made_extends (map form_of b.grounding.formulas) b.grounding.atoms new.atoms begins.more (map form_of new.formulas)
+    (sym (upto_then [] (map form_of b.grounding.formulas) (numbered_arguments d ob) b.grounding.atoms (entry d ob (constants_of d ob)) begins.more is.made) ∙ ap (make_upto [] (numbered_arguments d ob)) (sym begins.is) ∙ e)
 
 -- pairs of these readings, with their numbers
-pub pairs_for : (f : Front) (found : Option (List ReadingPairs)) → IfSome found (AllBuilt (map reading_of f.readings)) → IfSome found (AllNumbered f.atoms.table) → IfSome found (ArePairsFor f)
+pub pairs_for : (f : Front) (found : Option (List ReadingPairs)) → IfSome found (AllBuilt (map reading_of f.readings)) → IfSome found (AllNumbered f.grounding.atoms.table) → IfSome found (ArePairsFor f)
 pairs_for f None h k = tt
 pairs_for f (Some ss) h k = (h, k)
 
@@ -90,7 +91,7 @@ pub built_for : (f : Front) (found : Option (List ReadingPairs)) → IfSome foun
 built_for f None h = tt
 built_for f (Some ss) h = h.0
 
-pub numbers_for : (f : Front) (found : Option (List ReadingPairs)) → IfSome found (ArePairsFor f) → IfSome found (AllNumbered f.atoms.table)
+pub numbers_for : (f : Front) (found : Option (List ReadingPairs)) → IfSome found (ArePairsFor f) → IfSome found (AllNumbered f.grounding.atoms.table)
 numbers_for f None h = tt
 numbers_for f (Some ss) h = h.1
 
@@ -100,47 +101,49 @@ front_begun_refused d ob Memory h = tt
 
 -- ---- after the front
 
-part_entry : (d : Specification) (ob : Obligation) (sorts : List ℕ) (atoms now : Known) (formulas new : List GroundFormula) (p : EntryPart) → sorts ≡ (constants_of d ob).sorts
-    → HasPart d ob atoms formulas p → Grows atoms now → Begins (map form_of formulas) (map form_of new) → IsEntry d (entry_with sorts now new p)
-part_entry d ob sorts atoms now formulas new p e h g b =
-    subst (λ (ss : List ℕ). IsEntry d (entry_with ss now new p)) (sym e)
-    (entry_in d (constants_of d ob).sorts (numbered_arguments d ob) h.known now h.forms new p refl h.made h.part
-    (grows_then h.known atoms now h.grows g) (then_more h.forms (map form_of formulas) (map form_of new) h.begins b))
+part_entry : (d : Specification) (ob : Obligation) (sorts : List ℕ) (old new : Grounding) (p : EntryPart) → sorts ≡ (constants_of d ob).sorts
+    → HasPart d ob old p → Grows old.atoms new.atoms → Begins (map form_of old.formulas) (map form_of new.formulas) → IsEntry d (entry_with sorts new.atoms new.formulas p)
+part_entry d ob sorts old new p e h g b =
+    subst (λ (ss : List ℕ). IsEntry d (entry_with ss new.atoms new.formulas p)) (sym e)
+    (entry_in d (constants_of d ob).sorts (numbered_arguments d ob) h.known new.atoms h.forms new.formulas p refl h.made h.part
+    (grows_then h.known old.atoms new.atoms h.grows g) (then_more h.forms (map form_of old.formulas) (map form_of new.formulas) h.begins b))
 
-parts_entry : (d : Specification) (ob : Obligation) (sorts : List ℕ) (atoms now : Known) (formulas new : List GroundFormula) (found : Option EntryPart) → sorts ≡ (constants_of d ob).sorts
-    → IfSome found (HasPart d ob atoms formulas) → Grows atoms now → Begins (map form_of formulas) (map form_of new) → IfSome found (λ p. IsEntry d (entry_with sorts now new p))
-parts_entry d ob sorts atoms now formulas new None e h g b = tt
-parts_entry d ob sorts atoms now formulas new (Some p) e h g b = part_entry d ob sorts atoms now formulas new p e h g b
+parts_entry : (d : Specification) (ob : Obligation) (sorts : List ℕ) (old new : Grounding) (found : Option EntryPart) → sorts ≡ (constants_of d ob).sorts
+    → IfSome found (HasPart d ob old) → Grows old.atoms new.atoms → Begins (map form_of old.formulas) (map form_of new.formulas) → IfSome found (λ p. IsEntry d (entry_with sorts new.atoms new.formulas p))
+parts_entry d ob sorts old new None e h g b = tt
+parts_entry d ob sorts old new (Some p) e h g b = part_entry d ob sorts old new p e h g b
 
 -- the sorts of the constants
 front_sorts : (d : Specification) (ob : Obligation) (f : Front) → IsFront d ob f → f.named.sorts ≡ (constants_of d ob).sorts
 front_sorts d ob f is = ap (λ (z : Constants). z.sorts) is.constants
 
 -- The entry stands first in the front.
-pub front_entry : (d : Specification) (ob : Obligation) (f : Front) → IsFront d ob f → IfSome f.part (λ p. IsEntry d (entry_with f.named.sorts f.atoms f.formulas p))
+pub front_entry : (d : Specification) (ob : Obligation) (f : Front) → IsFront d ob f → IfSome f.part (λ p. IsEntry d (entry_with f.named.sorts f.grounding.atoms f.grounding.formulas p))
 front_entry d ob f is =
-    parts_entry d ob f.named.sorts f.atoms f.atoms f.formulas f.formulas f.part (front_sorts d ob f is) is.shared (stays f.atoms) (same_list (map form_of f.formulas))
+    parts_entry d ob f.named.sorts f.grounding f.grounding f.part (front_sorts d ob f is) is.shared (stays f.grounding.atoms) (same_list (map form_of f.grounding.formulas))
 
 -- The entry stands first in the whole ground problem.
-pub whole_entry : (d : Specification) (ob : Obligation) (f : Front) (fs : List Symbolic) (now : Known) (new : List GroundFormula) → IsFront d ob f
-    → make_upto (map form_of f.formulas) f.atoms fs ≡ Some (record { known = now; forms = map form_of new })
-    → IfSome f.part (λ p. IsEntry d (entry_with f.named.sorts now new p))
-whole_entry d ob f fs now new is e =
-    parts_entry d ob f.named.sorts f.atoms now f.formulas new f.part (front_sorts d ob f is) is.shared
-    (upto_grows (map form_of f.formulas) f.atoms fs (record { known = now; forms = map form_of new }) e)
-    (upto_begins (map form_of f.formulas) f.atoms fs (record { known = now; forms = map form_of new }) e)
+pub whole_entry : (d : Specification) (ob : Obligation) (f : Front) (fs : List Symbolic) (new : Grounding) → IsFront d ob f
+    → made_with f.grounding fs ≡ Some (made_in new)
+    → IfSome f.part (λ p. IsEntry d (entry_with f.named.sorts new.atoms new.formulas p))
+whole_entry d ob f fs new is e =
+    parts_entry d ob f.named.sorts f.grounding new f.part (front_sorts d ob f is) is.shared
+    (upto_grows (map form_of f.grounding.formulas) f.grounding.atoms fs (made_in new) e)
+    (upto_begins (map form_of f.grounding.formulas) f.grounding.atoms fs (made_in new) e)
 
 -- So it does in the lazy one, whose pairs are those of its readings.
-pub lazy_kept : (d : Specification) (ob : Obligation) (f : Front) (ss : List ReadingPairs) (xs : List Thing) (fs : List Symbolic) (mid now : Known) (behind : List GroundFormula)
-    → IsFront d ob f → AreFound f.atoms.table (map reading_of f.readings) xs ss → mid ≡ known_after f.atoms (flat_map pairs_of ss)
-    → make_upto [] mid fs ≡ Some (record { known = now; forms = map form_of behind }) → HasLazyKept d (lazy_of f ss now behind)
-lazy_kept d ob f ss xs fs mid now behind is found between made = record {
-  entry = parts_entry d ob f.named.sorts f.atoms now f.formulas f.formulas f.part (front_sorts d ob f is) is.shared
-      (grows_then f.atoms mid now (subst (Grows f.atoms) (sym between) (after_grows f.atoms (flat_map pairs_of ss)))
-      (upto_grows [] mid fs (record { known = now; forms = map form_of behind }) made)) (same_list (map form_of f.formulas));
-  pairs = found.built;
-  numbers = numbered_stay mid.table now.table ss (made_extends [] mid now fs (map form_of behind) made) (numbered_after f.atoms mid (flat_map pairs_of ss) ss between found.numbered);
-}
+pub lazy_kept : (d : Specification) (ob : Obligation) (f : Front) (ss : List ReadingPairs) (xs : List Thing) (fs : List Symbolic) (mid : Known) (behind : Grounding)
+    → IsFront d ob f → AreFound f.grounding.atoms.table (map reading_of f.readings) xs ss → mid ≡ known_after f.grounding.atoms (flat_map pairs_of ss)
+    → make_upto [] mid fs ≡ Some (made_in behind) → HasLazyKept d (lazy_of f ss behind)
+lazy_kept d ob f ss xs fs mid behind is found between made =
+    let g = f.grounding in
+    record {
+      entry = parts_entry d ob f.named.sorts g (record { atoms = behind.atoms; formulas = g.formulas; alloc = g.alloc }) f.part (front_sorts d ob f is) is.shared
+          (grows_then g.atoms mid behind.atoms (subst (Grows g.atoms) (sym between) (after_grows g.atoms (flat_map pairs_of ss)))
+          (upto_grows [] mid fs (made_in behind) made)) (same_list (map form_of g.formulas));
+      pairs = found.built;
+      numbers = numbered_stay mid.table behind.atoms.table ss (made_extends [] mid behind.atoms fs (map form_of behind.formulas) made) (numbered_after g.atoms mid (flat_map pairs_of ss) ss between found.numbered);
+    }
 
 -- ---- what is left
 

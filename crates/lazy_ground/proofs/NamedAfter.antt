@@ -15,16 +15,13 @@ use Rattle.ground_atoms.specs.Known.{Known}
 use Rattle.ground_atoms.specs.Making.{Made, make, make_all}
 use Rattle.ground_atoms.specs.declared.formula.GroundFormula.{GroundFormula}
 use Rattle.ground_atoms.specs.Formulas.{form_of}
-use Rattle.ground_groups.specs.Limited.{make_upto, Appends}
-use Rattle.ground_groups.specs.declared.refused.GroundRefused.{GroundRefused}
-use Rattle.ground_groups.specs.declared.refused.GroundRefused.TheVariants.{TooMany, Memory}
 use Rattle.ground_atoms.proofs.Numbering.{make-is}
 use Rattle.ground_atoms.proofs.Cutting.{Grows, all_grows}
 use Rattle.lazy_ground.specs.declared.pairs.ReadingPairs.{ReadingPairs}
 use Rattle.lazy_ground.specs.Equal.{all_known, fits}
 use Rattle.lazy_ground.specs.Pairs.{pairs_of, readings_known, AllNumbered}
 use Rattle.lazy_ground.specs.Kept.{AllBuilt}
-use Rattle.lazy_ground.specs.Named.{known_after, AreMadeBehind, AllFit, AllNamed, columns_known}
+use Rattle.lazy_ground.specs.Named.{known_after, AllFit, AllNamed, columns_known}
 use Rattle.lazy_ground.proofs.Stays.{made_there, names_apart, all_names-append, all_names_there}
 use Rattle.lazy_ground.proofs.Tested.{pairs_named}
 use Rattle.lazy_ground.proofs.Parts.{readings_stay, numbered_stay}
@@ -204,11 +201,3 @@ pub named_after : (qs : List Reading) (k new : Known) (ss : List ReadingPairs) �
 named_after qs k new ss e b n =
     named_over qs new.table ss b (numbered_after k new (flat_map pairs_of ss) ss e n)
     (subst (λ (o : Table). AllNamesIn o (flat_map pairs_of ss)) (sym (ap (λ (z : Known). z.table) e ∙ after_table k (flat_map pairs_of ss))) (naming_all-has k.table (flat_map pairs_of ss)))
-
--- ---- what is made behind the pairs
-
-pub too_many_behind : (why : GroundRefused) (k mid now : Known) (ps fs : List Symbolic) (old new : List GroundFormula) → mid ≡ known_after k ps → old ≡ []
-    → Appends {A = Unit {0}} (Err why) old mid fs new now → AreMadeBehind k ps fs now (Err why)
-too_many_behind TooMany k mid now ps fs old new e none h =
-    ap (λ (z : Known). make_upto [] z fs) (sym e) ∙ ap (λ (l : List GroundFormula). make_upto (map form_of l) mid fs) (sym none) ∙ h
-too_many_behind Memory k mid now ps fs old new e none h = tt

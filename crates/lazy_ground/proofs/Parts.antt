@@ -25,13 +25,12 @@ use Rattle.ground_atoms.specs.Symbols.{reading_of}
 use Rattle.ground_atoms.specs.Known.{Known}
 use Rattle.ground_atoms.specs.Making.{MadeList}
 use Rattle.ground_atoms.specs.declared.atom.NamedReading.{NamedReading}
-use Rattle.ground_atoms.specs.declared.formula.GroundFormula.{GroundFormula}
 use Rattle.ground_atoms.proofs.Numbering.{make_all-is}
 use Rattle.ground_groups.specs.Calls.{numbered_arguments}
-use Rattle.ground_groups.specs.Limited.{make_upto, Appends}
+use Rattle.ground_groups.specs.Limited.{make_upto, Appends, made_in, Makes}
 use Rattle.ground_groups.specs.declared.refused.GroundRefused.{GroundRefused}
 use Rattle.ground_groups.specs.declared.refused.GroundRefused.TheVariants.{TooMany, Memory}
-use Rattle.ground_groups.proofs.Lists.{upto_made, upto_none, seq}
+use Rattle.ground_groups.proofs.Lists.{upto_made, upto_none, makes_then}
 use Rattle.instances.specs.declared.entry.EntryPart.{EntryPart}
 use Rattle.instances.proofs.Whole.{many_made}
 use Rattle.lazy_ground.specs.declared.pairs.ReadingPairs.{ReadingPairs}
@@ -42,6 +41,7 @@ use Rattle.lazy_ground.specs.Lazy.{IsLazyGround, ArePairs, IsGroundEither}
 use Rattle.lazy_ground.specs.Kept.{thing_of, AllBuilt}
 use Rattle.lazy_ground.specs.Named.{AllNamed, AreFound}
 use Rattle.lazy_ground.specs.Front.{front_of, entry_readings, HasPart, IsFront, IsFrontOr}
+use Rattle.ground_groups.specs.declared.grounding.Grounding.{Grounding}
 use Rattle.lazy_ground.proofs.Stays.{naming_all-append, all_names_there, all_numbered-stay, all_names-stay, all_names_in}
 
 -- ---- the list
@@ -58,25 +58,20 @@ three_parts d ob rs cs e =
     ∙ ap (λ (xs : List Thing). front_of d ob ++ congruence (entry_readings d ob) xs) e
     ∙ front_then d ob
 
-pub front_refused : (A : Type 0) (d : Specification) (ob : Obligation) (why : GroundRefused) (new : List GroundFormula) (now : Known)
-    → Appends {A = A} (Err why) [] (numbered_arguments d ob) (front_of d ob) new now → IsFrontOr d ob (Err why)
-front_refused A d ob TooMany new now e =
+pub front_refused : (A : Type 0) (d : Specification) (ob : Obligation) (why : GroundRefused) (new : Grounding)
+    → Makes {A = A} (Err why) (numbered_arguments d ob) (front_of d ob) new → IsFrontOr d ob (Err why)
+front_refused A d ob TooMany new e =
     many_made (numbered_arguments d ob) (formulas_of d ob)
     (ap (make_upto [] (numbered_arguments d ob)) (sym (front_then d ob)) ∙ upto_none [] (numbered_arguments d ob) (front_of d ob) (congruence (entry_readings d ob) (things d)) e)
-front_refused A d ob Memory new now e = tt
-
--- a refusal says the same of any result
-pub refused_any : (A : Type 0) (why : GroundRefused) (old new : List GroundFormula) (k now : Known) (fs : List Symbolic) → Appends {A = Unit {0}} (Err why) old k fs new now → Appends {A = A} (Err why) old k fs new now
-refused_any A TooMany old new k now fs h = h
-refused_any A Memory old new k now fs h = tt
+front_refused A d ob Memory new e = tt
 
 -- the front: what is defined, and then equality
-pub front_seq : (d : Specification) (ob : Obligation) (r : Result (Unit {0}) GroundRefused) (mid new : List GroundFormula) (l now : Known) (ss : List ℕ) → ss ≡ (constants_of d ob).sorts
-    → make_upto [] (numbered_arguments d ob) (defined d ob (constants_of d ob)) ≡ Some (record { known = l; forms = map form_of mid })
-    → Appends r mid l (equality 0 ss) new now → Appends r [] (numbered_arguments d ob) (front_of d ob) new now
-front_seq d ob r mid new l now ss e made h =
-    seq r [] mid new (numbered_arguments d ob) l now (defined d ob (constants_of d ob)) (equality 0 (constants_of d ob).sorts) made
-    (subst (λ (xs : List ℕ). Appends r mid l (equality 0 xs) new now) e h)
+pub front_seq : (d : Specification) (ob : Obligation) (r : Result (Unit {0}) GroundRefused) (mid new : Grounding) (ss : List ℕ) → ss ≡ (constants_of d ob).sorts
+    → make_upto [] (numbered_arguments d ob) (defined d ob (constants_of d ob)) ≡ Some (made_in mid)
+    → Appends r mid (equality 0 ss) new → Makes r (numbered_arguments d ob) (front_of d ob) new
+front_seq d ob r mid new ss e made h =
+    makes_then r (numbered_arguments d ob) mid new (defined d ob (constants_of d ob)) (equality 0 (constants_of d ob).sorts) made
+    (subst (λ (xs : List ℕ). Appends r mid (equality 0 xs) new) e h)
 
 -- ---- what is made of it
 
@@ -233,37 +228,37 @@ lazy_made d ob l n m rs cs g consts calls elements entry all in_front found betw
 -- ---- the whole ground problem
 
 -- formulas on equal readings of all things, after the front
-pub whole_then : (d : Specification) (ob : Obligation) (r : Result (Unit {0}) GroundRefused) (f : Front) (rs : List NamedReading) (xs : List Thing) (new : List GroundFormula) (now : Known)
-    → IsFront d ob f → rs ≡ f.readings → xs ≡ things d → Appends r f.formulas f.atoms (congruence (map reading_of rs) xs) new now → Appends r [] (numbered_arguments d ob) (formulas_of d ob) new now
-whole_then d ob r f rs xs new now is q e h =
-    subst (λ (list : List Symbolic). Appends r [] (numbered_arguments d ob) list new now) (front_then d ob)
-    (seq r [] f.formulas new (numbered_arguments d ob) f.atoms now (front_of d ob) (congruence (entry_readings d ob) (things d)) is.made
-    (subst (λ (qs : List Reading). Appends r f.formulas f.atoms (congruence qs (things d)) new now) (ap (map reading_of) q ∙ is.readings)
-    (subst (λ (ys : List Thing). Appends r f.formulas f.atoms (congruence (map reading_of rs) ys) new now) e h)))
+pub whole_then : (d : Specification) (ob : Obligation) (r : Result (Unit {0}) GroundRefused) (f : Front) (rs : List NamedReading) (xs : List Thing) (new : Grounding)
+    → IsFront d ob f → rs ≡ f.readings → xs ≡ things d → Appends r f.grounding (congruence (map reading_of rs) xs) new → Makes r (numbered_arguments d ob) (formulas_of d ob) new
+whole_then d ob r f rs xs new is q e h =
+    subst (λ (list : List Symbolic). Makes r (numbered_arguments d ob) list new) (front_then d ob)
+    (makes_then r (numbered_arguments d ob) f.grounding new (front_of d ob) (congruence (entry_readings d ob) (things d)) is.made
+    (subst (λ (qs : List Reading). Appends r f.grounding (congruence qs (things d)) new) (ap (map reading_of) q ∙ is.readings)
+    (subst (λ (ys : List Thing). Appends r f.grounding (congruence (map reading_of rs) ys) new) e h)))
 
-pub whole_refused : (d : Specification) (ob : Obligation) (why : GroundRefused) (new : List GroundFormula) (now : Known)
-    → Appends {A = Unit {0}} (Err why) [] (numbered_arguments d ob) (formulas_of d ob) new now → IsGroundEither d ob (Err why)
-whole_refused d ob TooMany new now e = many_made (numbered_arguments d ob) (formulas_of d ob) e
-whole_refused d ob Memory new now e = tt
+pub whole_refused : (d : Specification) (ob : Obligation) (why : GroundRefused) (new : Grounding)
+    → Makes {A = Unit {0}} (Err why) (numbered_arguments d ob) (formulas_of d ob) new → IsGroundEither d ob (Err why)
+whole_refused d ob TooMany new e = many_made (numbered_arguments d ob) (formulas_of d ob) e
+whole_refused d ob Memory new e = tt
 
 -- ---- the lazy one, of what is chosen
 
 -- the entry's formulas are among those in front
-part_within : (d : Specification) (ob : Obligation) (atoms : Known) (formulas : List GroundFormula) (found : Option EntryPart) → IfSome found (HasPart d ob atoms formulas) → IfSome found (λ p. p.size.formulas ≤ length formulas)
-part_within d ob atoms formulas None h = tt
-part_within d ob atoms formulas (Some p) h =
+part_within : (d : Specification) (ob : Obligation) (g : Grounding) (found : Option EntryPart) → IfSome found (HasPart d ob g) → IfSome found (λ p. p.size.formulas ≤ length g.formulas)
+part_within d ob g None h = tt
+part_within d ob g (Some p) h =
     let a = h.part.formulas in
     let b = ap length h.begins.is ∙ length-append h.forms h.begins.more in
-    let c = length-map formulas form_of in
+    let c = length-map g.formulas form_of in
     omega (arith, a, b, c)
 
 -- what is made of the front, the pairs and the formulas behind them
-abbrev pub lazy_of : Front → List ReadingPairs → Known → List GroundFormula → LazyGround
-lazy_of f ss now behind = record {
-  atoms = now;
-  front = f.formulas;
+abbrev pub lazy_of : Front → List ReadingPairs → Grounding → LazyGround
+lazy_of f ss behind = record {
+  atoms = behind.atoms;
+  front = f.grounding.formulas;
   pairs = ss;
-  behind = behind;
+  behind = behind.formulas;
   sorts = f.named.sorts;
   calls = f.named.calls;
   elements = f.named.elements;
@@ -271,18 +266,18 @@ lazy_of f ss now behind = record {
   part = f.part;
 }
 
-pub lazy_from : (d : Specification) (ob : Obligation) (f : Front) (ss : List ReadingPairs) (xs ys : List Thing) (rs : List NamedReading) (mid new : Known) (behind : List GroundFormula)
-    → length (formulas_of d ob) ≤ most_formulas → IsFront d ob f → AreFound f.atoms.table (map reading_of f.readings) xs ss → xs ++ ys ≡ things d → rs ≡ f.readings
-    → mid.table ≡ naming_all f.atoms.table (flat_map pairs_of ss) → AllNamed mid.table ss
-    → make_upto [] mid (congruence (map reading_of rs) ys) ≡ Some (record { known = new; forms = map form_of behind }) → IsLazyGround d ob (lazy_of f ss new behind)
-lazy_from d ob f ss xs ys rs mid new behind few is found all q between named made =
-    lazy_made d ob f.atoms mid new xs ys (lazy_of f ss new behind)
+pub lazy_from : (d : Specification) (ob : Obligation) (f : Front) (ss : List ReadingPairs) (xs ys : List Thing) (rs : List NamedReading) (mid : Known) (behind : Grounding)
+    → length (formulas_of d ob) ≤ most_formulas → IsFront d ob f → AreFound f.grounding.atoms.table (map reading_of f.readings) xs ss → xs ++ ys ≡ things d → rs ≡ f.readings
+    → mid.table ≡ naming_all f.grounding.atoms.table (flat_map pairs_of ss) → AllNamed mid.table ss
+    → make_upto [] mid (congruence (map reading_of rs) ys) ≡ Some (made_in behind) → IsLazyGround d ob (lazy_of f ss behind)
+lazy_from d ob f ss xs ys rs mid behind few is found all q between named made =
+    lazy_made d ob f.grounding.atoms mid behind.atoms xs ys (lazy_of f ss behind)
     (ap (λ (z : Constants). z.sorts) is.constants)
     is.calls
     (ap (λ (z : Constants). z.elements) is.constants)
-    (part_within d ob f.atoms f.formulas f.part is.shared)
+    (part_within d ob f.grounding f.part is.shared)
     all is.made
-    (found_pairs f.atoms.table (map reading_of f.readings) xs ss found ∙ ap (λ (qs : List Reading). congruence qs xs) is.readings)
+    (found_pairs f.grounding.atoms.table (map reading_of f.readings) xs ss found ∙ ap (λ (qs : List Reading). congruence qs xs) is.readings)
     between named
     (ap (λ (qs : List Reading). make_upto [] mid (congruence qs ys)) (sym (ap (map reading_of) q ∙ is.readings)) ∙ made)
     refl few

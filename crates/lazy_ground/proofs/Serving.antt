@@ -108,15 +108,15 @@ numbered_in_front t o n (s ∷ ss) e b h =
     (record { known = q.0; numbers = h.0.numbers ∙ q.1 }, numbered_in_front t o n ss e p.1 h.1)
 
 -- the numbers of pairs that were kept stand where what is known was cut back, and has their readings
-pub still_numbered : (entry : Option Entry) (b : Begun) (kept : Option KeptPairs) (k : KeptPairs) → kept ≡ Some k → b.is_cut ≡ true → numbers_below (length b.atoms.table.atoms) k.pairs ≡ true
-    → HaveNumbers entry kept → IsCutBack entry b → AllNumbered b.atoms.table k.pairs
+pub still_numbered : (entry : Option Entry) (b : Begun) (kept : Option KeptPairs) (k : KeptPairs) → kept ≡ Some k → b.is_cut ≡ true → numbers_below (length b.grounding.atoms.table.atoms) k.pairs ≡ true
+    → HaveNumbers entry kept → IsCutBack entry b → AllNumbered b.grounding.atoms.table k.pairs
 still_numbered None b kept k is cut below h back = absurd (not_both b.is_cut cut back)
   where
     not_both : (c : Bool) → c ≡ true → c ≡ false → ⊥
     not_both true e f = absurd cc
     not_both false e f = absurd cc
 still_numbered (Some e) b kept k is cut below h back =
-    numbered_in_front e.atoms.table b.atoms.table e.part.size.known.atoms k.pairs (ap (λ (z : Known). z.table.atoms) (back cut)) below
+    numbered_in_front e.atoms.table b.grounding.atoms.table e.part.size.known.atoms k.pairs (ap (λ (z : Known). z.table.atoms) (back cut)) below
     (subst (HaveNumbers (Some e)) is h)
 
 -- ---- the numbers that are kept

@@ -11,9 +11,8 @@ use Rattle.ground_atoms.specs.Calls.{calls_of}
 use Rattle.ground_atoms.specs.Formulas.{form_of}
 use Rattle.ground_atoms.specs.Known.{Known}
 use Rattle.ground_atoms.specs.Symbols.{reading_of}
-use Rattle.ground_atoms.specs.declared.formula.GroundFormula.{GroundFormula}
 use Rattle.ground_groups.specs.Calls.{constants_in, numbered_arguments}
-use Rattle.ground_groups.specs.Limited.{make_upto}
+use Rattle.ground_groups.specs.Limited.{make_upto, made_in}
 use Rattle.ground_numbers.specs.Numbered.{Numbered}
 use Rattle.ground_atoms.proofs.Cutting.{Begins, Grows}
 use Rattle.instances.specs.Entry.{invariants_at, IsPart}
@@ -24,6 +23,7 @@ use Rattle.lazy_ground.specs.declared.front.Front.{Front}
 use Rattle.lazy_ground.specs.declared.front.FrontAndPairs.{FrontAndPairs}
 use Rattle.lazy_ground.specs.declared.pairs.ReadingPairs.{ReadingPairs}
 use Rattle.lazy_ground.specs.Pairs.{AllNumbered}
+use Rattle.ground_groups.specs.declared.grounding.Grounding.{Grounding}
 use Rattle.lazy_ground.specs.Kept.{AllBuilt}
 
 -- what is stated and defined, and that equality goes over constants
@@ -34,14 +34,15 @@ front_of d ob = defined d ob (constants_of d ob) ++ equality 0 (constants_of d o
 abbrev pub entry_readings : Specification → Obligation → List Reading
 entry_readings d ob = readings_after 0 (defined d ob (constants_of d ob))
 
--- What is made of the entry stands first in what is known and made, so that it can be taken back.
-pub record HasPart (d : Specification) (ob : Obligation) (atoms : Known) (formulas : List GroundFormula) (p : EntryPart) : Type 0 where
+-- What is made of the entry stands first in a grounding, so that it can be taken back.
+pub record HasPart (d : Specification) (ob : Obligation) (g : Grounding)
+    (p : EntryPart) : Type 0 where
   pub known : Known
   pub forms : List Numbered
   pub made : make_upto [] (numbered_arguments d ob) (invariants_at d (constants_of d ob).sorts) ≡ Some (record { known = known; forms = forms })
   pub part : IsPart (numbered_arguments d ob).table.ints known forms p
-  pub grows : Grows known atoms
-  pub begins : Begins forms (map form_of formulas)
+  pub grows : Grows known g.atoms
+  pub begins : Begins forms (map form_of g.formulas)
 
 -- these formulas, made, with the readings that they name
 pub record IsFront (d : Specification) (ob : Obligation) (f : Front) : Type 0 where
@@ -49,12 +50,12 @@ pub record IsFront (d : Specification) (ob : Obligation) (f : Front) : Type 0 wh
   pub calls : f.named.calls ≡ calls_of d ob
   pub readings : map reading_of f.readings ≡ entry_readings d ob
   pub made : make_upto [] (numbered_arguments d ob) (front_of d ob)
-      ≡ Some (record { known = f.atoms; forms = map form_of f.formulas })
-  pub shared : IfSome f.part (HasPart d ob f.atoms f.formulas)
+      ≡ Some (made_in f.grounding)
+  pub shared : IfSome f.part (HasPart d ob f.grounding)
 
 -- pairs of the readings that the front names, with their numbers
 abbrev pub ArePairsFor : Front → List ReadingPairs → Type 0
-ArePairsFor f ss = AllBuilt (map reading_of f.readings) ss × AllNumbered f.atoms.table ss
+ArePairsFor f ss = AllBuilt (map reading_of f.readings) ss × AllNumbered f.grounding.atoms.table ss
 
 -- They are made, with pairs of their readings, if any; or the whole list has too many.
 abbrev pub IsFrontOr : Specification → Obligation → Result FrontAndPairs GroundRefused → Type 0

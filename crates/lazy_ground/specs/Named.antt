@@ -1,5 +1,5 @@
 -- Readings of relations, and what the formulas of their pairs name. It mirrors the code.
-use Rattle.std.specs.Prelude.{◌≡◌, ℕ, ltb, true, Bool, ◌&&◌, Some, None, Result, Ok, Err, List, [], ◌∷◌, map}
+use Rattle.std.specs.Prelude.{◌≡◌, ℕ, ltb, true, Bool, ◌&&◌, List, [], ◌∷◌, map}
 use Rattle.std.specs.List.{list_all}
 use Rattle.std.specs.Ordering.{nat_cmp, is_lt}
 use Rattle.std.specs.Cmp.Lexicographic.{slice_cmp}
@@ -9,11 +9,6 @@ use Rattle.ground_problem.specs.Definitions.{Reading}
 use Rattle.ground_numbers.specs.Numbers.{Table, naming_all}
 use Rattle.ground_atoms.specs.Known.{Known}
 use Rattle.ground_atoms.specs.Making.{make}
-use Rattle.ground_atoms.specs.Formulas.{form_of}
-use Rattle.ground_atoms.specs.declared.formula.GroundFormula.{GroundFormula}
-use Rattle.ground_groups.specs.Limited.{make_upto}
-use Rattle.ground_groups.specs.declared.refused.GroundRefused.{GroundRefused}
-use Rattle.ground_groups.specs.declared.refused.GroundRefused.TheVariants.{TooMany, Memory}
 use Rattle.lazy_ground.specs.declared.pairs.ReadingPairs.{ReadingPairs}
 use Rattle.lazy_ground.specs.Equal.{all_known, fits}
 use Rattle.lazy_ground.specs.Pairs.{pairs_of, AreDifferent, HasAtoms, readings_known, AreNumbers, AllNumbered}
@@ -33,14 +28,6 @@ all_rise (t ∷ ts) = rise_from t ts
 abbrev pub known_after : Known → List Symbolic → Known
 known_after k [] = k
 known_after k (f ∷ fs) = known_after (make k f).known fs
-
--- formulas are made after others of which only what they name is known: too many comes exactly where there are more
-abbrev pub AreMadeBehind : Known → List Symbolic → List Symbolic → Known
-    → Result (List GroundFormula) GroundRefused → Type 0
-AreMadeBehind k ps fs now (Ok behind) =
-    make_upto [] (known_after k ps) fs ≡ Some (record { known = now; forms = map form_of behind })
-AreMadeBehind k ps fs now (Err TooMany) = make_upto [] (known_after k ps) fs ≡ None
-AreMadeBehind k ps fs now (Err Memory) = Unit {0}
 
 -- the tuples are different, their readings have these numbers, and the formulas of their pairs name nothing new
 pub record IsNamed (o : Table) (s : ReadingPairs) : Type 0 where

@@ -102,7 +102,8 @@ pub fn has_too_many_beside(
     counters: &[Thing],
 ) -> bool
     requires front { IsFront spec.now ob.now front.now }
-    requires pairs { AreFound front.now.atoms.table (map reading_of front.now.readings) relations.now pairs.now }
+    requires pairs { AreFound front.now.grounding.atoms.table (map reading_of front.now.readings)
+        relations.now pairs.now }
     requires things { relations.now ++ counters.now ≡ things spec.now }
     ensures { result ≡ ltb most_formulas (length (formulas_of spec.now ob.now)) }
 {
@@ -113,7 +114,7 @@ pub fn has_too_many_beside(
         return true;
     };
     match count_equal(front.readings.as_slice(), counters) {
-        Some(others) => front.formulas.len() + found + others > MOST_FORMULAS,
+        Some(others) => front.grounding.formulas.len() + found + others > MOST_FORMULAS,
         None => true,
     }
 }
@@ -127,7 +128,7 @@ pub fn has_too_many(spec: &Spec, ob: &Obligation, front: &Front, all: &[Thing]) 
     let _spec = spec;
     let _ob = ob;
     match count_equal(front.readings.as_slice(), all) {
-        Some(count) => front.formulas.len() + count > MOST_FORMULAS,
+        Some(count) => front.grounding.formulas.len() + count > MOST_FORMULAS,
         None => true,
     }
 }
@@ -155,12 +156,18 @@ fn made_pairs(
     relations: &[Thing],
 ) -> Result<Option<Items<ReadingPairs>>, AllocError>
     ensures { IfOk result (λ found. IfSome found
-        (AreFound front.now.atoms.table (map reading_of front.now.readings) relations.now)) }
+        (AreFound front.now.grounding.atoms.table (map reading_of front.now.readings)
+        relations.now)) }
 {
     if !has_enough(front.readings.as_slice()) {
         return Ok(None);
     }
-    pairs_of_all(&front.atoms, alloc, front.readings.as_slice(), relations)
+    pairs_of_all(
+        &front.grounding.atoms,
+        alloc,
+        front.readings.as_slice(),
+        relations,
+    )
 }
 
 /// The pairs of the readings of these relations, where it is worthwhile to leave their formulas to them. Those that were kept are
@@ -173,7 +180,8 @@ pub fn choose(
 ) -> Result<Option<Items<ReadingPairs>>, AllocError>
     requires { IfSome kept (ArePairsFor front.now) }
     ensures { IfOk result (λ found. IfSome found
-        (AreFound front.now.atoms.table (map reading_of front.now.readings) relations.now)) }
+        (AreFound front.now.grounding.atoms.table (map reading_of front.now.readings)
+        relations.now)) }
 {
     match kept {
         Some(pairs) => {

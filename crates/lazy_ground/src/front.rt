@@ -13,8 +13,8 @@ ghost use Rattle.lazy_ground.specs.Front.{IsFrontOr};
 use crate::grounding::Kept;
 use crate::keeping::{EntryReadings, KeptPairs, entry_readings, standing};
 use crate::pairs::ReadingPairs;
-use ground_atoms::{Atoms, GroundFormula, NamedReading};
-use ground_groups::{GroundRefused, Named, constants, operations_of};
+use ground_atoms::NamedReading;
+use ground_groups::{GroundRefused, Grounding, Named, constants, operations_of};
 use instances::entry::{Begun, begin};
 use instances::grounding::numbered;
 use instances::listing::add_all_defined;
@@ -24,13 +24,11 @@ use obligation_list::Obligation;
 use spec_core::Spec;
 use std::alloc::Global;
 
-/// The constants of an obligation, the atoms and integer names so far, the formulas so far, the readings at the entry, and how much of
-/// the atoms and the formulas is the entry's.
+/// The constants of an obligation, its grounding so far, the readings at the entry, and how much of the grounding is the entry's.
 #[derive(Drop)]
 pub struct Front {
     pub named: Named,
-    pub atoms: Atoms,
-    pub formulas: Items<GroundFormula>,
+    pub grounding: Grounding,
     pub readings: Items<NamedReading>,
     pub part: Option<EntryPart>,
 }
@@ -45,7 +43,6 @@ pub struct FrontAndPairs {
 // These formulas, of which those that are true at the entry are made: the rest of what is stated and defined, and then that equality goes
 // over constants. The readings are those before equality, which names none.
 fn after_entry(
-    alloc: Global,
     spec: &Spec,
     ob: &Obligation,
     ops: &[u8],
@@ -59,32 +56,29 @@ fn after_entry(
     requires constants { constants_in named ≡ constants_of spec.now ob.now }
     requires begun { IsBegun spec.now ob.now begun }
     requires kept { IfSome kept IsKeptPairs }
-    requires numbers { IfSome kept (λ k. AllNumbered begun.atoms.table k.pairs) }
+    requires numbers { IfSome kept (λ k. AllNumbered begun.grounding.atoms.table k.pairs) }
     ensures { IsFrontOr spec.now ob.now result }
 {
     let Begun {
-        mut atoms,
-        mut formulas,
+        mut grounding,
         part,
         ..
     } = begun;
-    let defined = add_all_defined(&mut atoms, alloc, spec, ob, ops, &named, &mut formulas);
-    or_drop!(defined; kept, part, formulas, named, atoms);
-    let Ok(read) = entry_readings(alloc, &atoms, kept) else {
+    let defined = add_all_defined(&mut grounding, spec, ob, ops, &named);
+    or_drop!(defined; kept, part, named, grounding);
+    let Ok(read) = entry_readings(grounding.alloc, &grounding.atoms, kept) else {
         drop(part);
-        drop(formulas);
         drop(named);
-        drop(atoms);
+        drop(grounding);
         return Err(GroundRefused::Memory);
     };
-    let equated = add_equality(&mut atoms, alloc, named.sorts.as_slice(), &mut formulas);
-    or_drop!(equated; read, part, formulas, named, atoms);
+    let equated = add_equality(&mut grounding, named.sorts.as_slice());
+    or_drop!(equated; read, part, named, grounding);
     let EntryReadings { readings, pairs } = read;
     Ok(FrontAndPairs {
         front: Front {
             named,
-            atoms,
-            formulas,
+            grounding,
             readings,
             part,
         },
@@ -119,7 +113,7 @@ fn front_at(
     };
     let begun = or_drop!(begin(alloc, spec, ob, &named, arguments, entry); pairs, named);
     let pairs = standing(&begun, pairs);
-    after_entry(alloc, spec, ob, ops, named, begun, pairs)
+    after_entry(spec, ob, ops, named, begun, pairs)
 }
 
 /// These formulas of an obligation of the specification; too many where the whole list has too many. They go on from what was kept, where

@@ -1,6 +1,6 @@
 // The ground problem of an obligation: the whole of it where it has few pairs of readings, and else the lazy one. The formulas are counted
 // before those on equal readings are made: where they are too many, none of these is.
-ghost use Rattle.std.specs.Prelude.{◌≡◌, ◌≤◌, ◌++◌, length, map, IfOk, IfSome};
+ghost use Rattle.std.specs.Prelude.{◌≡◌, ◌≤◌, ◌++◌, [], length, map, IfOk, IfSome};
 ghost use Rattle.std.specs.List.{flat_map};
 ghost use Rattle.obligation_list.specs.Obligations.{IsObligation, things};
 ghost use Rattle.obligation_list.specs.declared.obligation.Obligation.{Obligation};
@@ -8,9 +8,10 @@ ghost use Rattle.ground_problem.specs.Problem.{formulas_of, most_formulas};
 ghost use Rattle.ground_atoms.specs.Symbols.{reading_of};
 ghost use Rattle.ground_numbers.specs.Numbers.{Table};
 ghost use Rattle.ground_problem.specs.Equality.{congruence};
+ghost use Rattle.ground_groups.specs.Limited.{Makes};
 ghost use Rattle.lazy_ground.specs.Front.{IsFront, ArePairsFor};
 ghost use Rattle.lazy_ground.specs.Pairs.{pairs_of, AllNumbered};
-ghost use Rattle.lazy_ground.specs.Named.{AllFit, AreFound, AreMadeBehind};
+ghost use Rattle.lazy_ground.specs.Named.{AllFit, AreFound, known_after};
 ghost use Rattle.spec_core.specs.Specification.{Specification};
 ghost use Rattle.instances.specs.Entry.{IsEntry, entry_with};
 ghost use Rattle.lazy_ground.specs.Kept.{IsKeptPairs, IsKept, HasLazyKept, HasKept, HasEitherClauses};
@@ -22,7 +23,7 @@ use crate::keeping::KeptPairs;
 use crate::numbering::number_all_pairs;
 use crate::pairs::ReadingPairs;
 use ground_atoms::{Atoms, GroundCall, GroundFormula, NamedReading};
-use ground_groups::{GroundRefused, Named, things_of};
+use ground_groups::{GroundRefused, Grounding, Named, things_of};
 use instances::{Entry, EntryPart, Grounded, add_congruence};
 use items::Items;
 use obligation_list::Obligation;
@@ -124,22 +125,15 @@ impl Front {
     {
         let Front {
             named,
-            atoms,
-            formulas,
+            grounding,
             readings,
             part,
         } = self;
-        let Named {
-            sorts,
-            calls,
-            chosen,
-            elements,
-        } = named;
-        drop(calls);
-        drop(chosen);
-        drop(elements);
+        drop(named.calls);
+        drop(named.chosen);
+        drop(named.elements);
         Kept {
-            entry: entry_of(sorts, atoms, formulas, part),
+            entry: entry_of(named.sorts, grounding.atoms, grounding.formulas, part),
             pairs: kept_with(readings, pairs),
         }
     }
@@ -189,7 +183,6 @@ impl EitherGround {
 
 // The whole ground problem, of which the front is made.
 fn whole(
-    alloc: Global,
     spec: &Spec,
     ob: &Obligation,
     front: Front,
@@ -203,62 +196,44 @@ fn whole(
     let _ob = ob;
     let Front {
         named,
-        mut atoms,
-        mut formulas,
+        mut grounding,
         readings,
         part,
     } = front;
-    let added = add_congruence(
-        &mut atoms,
-        alloc,
-        spec,
-        readings.as_slice(),
-        all,
-        &mut formulas,
-    );
+    let added = add_congruence(&mut grounding, spec, readings.as_slice(), all);
     drop(readings);
-    or_drop!(added; part, formulas, named, atoms);
-    let Named {
-        sorts,
-        calls,
-        chosen,
-        elements,
-    } = named;
-    drop(chosen);
+    or_drop!(added; part, named, grounding);
+    drop(named.chosen);
     Ok(EitherGround::Whole(Grounded {
-        consts: sorts,
-        calls,
-        elements,
-        atoms,
-        formulas,
+        consts: named.sorts,
+        calls: named.calls,
+        elements: named.elements,
+        atoms: grounding.atoms,
+        formulas: grounding.formulas,
         part,
     }))
 }
 
 // The formulas on equal readings of counters, made behind those that these pairs stand for: what these name gets its numbers first.
-fn behind_pairs(
-    atoms: &mut Atoms,
-    alloc: Global,
+fn add_behind(
+    behind: &mut Grounding,
     spec: &Spec,
     readings: &[NamedReading],
     pairs: &[ReadingPairs],
     counters: &[Thing],
-) -> Result<Items<GroundFormula>, GroundRefused>
-    requires numbered { AllNumbered atoms.old.table pairs.now }
+) -> Result<(), GroundRefused>
+    requires none { behind.old.formulas ≡ [] }
+    requires numbered { AllNumbered behind.old.atoms.table pairs.now }
     requires fit { AllFit pairs.now }
-    ensures { AreMadeBehind atoms.old (flat_map pairs_of pairs.now)
-        (congruence (map reading_of readings.now) counters.now) atoms.new result }
+    ensures { Makes result (known_after behind.old.atoms (flat_map pairs_of pairs.now))
+        (congruence (map reading_of readings.now) counters.now) behind.new }
 {
-    number_all_pairs(atoms, pairs)?;
-    let mut behind = Items::new(alloc);
-    let added = add_congruence(atoms, alloc, spec, readings, counters, &mut behind);
-    or_drop!(added; behind);
-    Ok(behind)
+    number_all_pairs(&mut behind.atoms, pairs)?;
+    add_congruence(behind, spec, readings, counters)
 }
 
 // The lazy ground problem, of which the front and the pairs are made.
 fn lazily(
-    alloc: Global,
     spec: &Spec,
     ob: &Obligation,
     front: Front,
@@ -268,7 +243,8 @@ fn lazily(
 ) -> Result<EitherGround, GroundRefused>
     requires few { length (formulas_of spec.now ob.now) ≤ most_formulas }
     requires front { IsFront spec.now ob.now front }
-    requires pairs { AreFound front.atoms.table (map reading_of front.readings) relations.now pairs }
+    requires pairs { AreFound front.grounding.atoms.table (map reading_of front.readings)
+        relations.now pairs }
     requires things { relations.now ++ counters.now ≡ things spec.now }
     ensures ground { IsGroundEither spec.now ob.now result }
     ensures kept { IfOk result (HasKept spec.now) }
@@ -277,35 +253,29 @@ fn lazily(
     let _relations = relations;
     let Front {
         named,
-        mut atoms,
-        formulas,
+        grounding,
         readings,
         part,
     } = front;
-    let made = behind_pairs(
-        &mut atoms,
-        alloc,
+    let front = grounding.formulas;
+    let mut behind = Grounding::new(grounding.alloc, grounding.atoms);
+    let added = add_behind(
+        &mut behind,
         spec,
         readings.as_slice(),
         pairs.as_slice(),
         counters,
     );
-    let behind = or_drop!(made; pairs, part, readings, formulas, named, atoms);
-    let Named {
-        sorts,
-        calls,
-        chosen,
-        elements,
-    } = named;
-    drop(chosen);
+    or_drop!(added; pairs, part, readings, front, named, behind);
+    drop(named.chosen);
     Ok(EitherGround::Lazy(LazyGround {
-        atoms,
-        front: formulas,
+        atoms: behind.atoms,
+        front,
         pairs,
-        behind,
-        sorts,
-        calls,
-        elements,
+        behind: behind.formulas,
+        sorts: named.sorts,
+        calls: named.calls,
+        elements: named.elements,
         readings,
         part,
     }))
@@ -313,7 +283,6 @@ fn lazily(
 
 // The lazy ground problem, of which the front and the pairs are made; or that there are too many formulas.
 fn lazily_within(
-    alloc: Global,
     spec: &Spec,
     ob: &Obligation,
     front: Front,
@@ -322,7 +291,8 @@ fn lazily_within(
     counters: &[Thing],
 ) -> Result<EitherGround, GroundRefused>
     requires front { IsFront spec.now ob.now front }
-    requires pairs { AreFound front.atoms.table (map reading_of front.readings) relations.now pairs }
+    requires pairs { AreFound front.grounding.atoms.table (map reading_of front.readings)
+        relations.now pairs }
     requires things { relations.now ++ counters.now ≡ things spec.now }
     ensures ground { IsGroundEither spec.now ob.now result }
     ensures kept { IfOk result (HasKept spec.now) }
@@ -330,12 +300,11 @@ fn lazily_within(
     if has_too_many_beside(spec, ob, &front, pairs.as_slice(), relations, counters) {
         return Ok(EitherGround::TooMany(front.into_kept(Some(pairs))));
     }
-    lazily(alloc, spec, ob, front, pairs, relations, counters)
+    lazily(spec, ob, front, pairs, relations, counters)
 }
 
 // The whole ground problem, of which the front is made; or that there are too many formulas.
 fn whole_within(
-    alloc: Global,
     spec: &Spec,
     ob: &Obligation,
     front: Front,
@@ -349,7 +318,7 @@ fn whole_within(
     if has_too_many(spec, ob, &front, all) {
         return Ok(EitherGround::TooMany(front.into_kept(None)));
     }
-    whole(alloc, spec, ob, front, all)
+    whole(spec, ob, front, all)
 }
 
 // The ground problem, of which the front is made: whole or lazy, as is chosen; or that there are too many formulas.
@@ -370,8 +339,8 @@ fn as_chosen(
     let count = spec.relations.len().min(all.len());
     let (relations, counters) = all.split_at(count);
     match choose(alloc, &front, relations, kept) {
-        Ok(Some(pairs)) => lazily_within(alloc, spec, ob, front, pairs, relations, counters),
-        Ok(None) => whole_within(alloc, spec, ob, front, all),
+        Ok(Some(pairs)) => lazily_within(spec, ob, front, pairs, relations, counters),
+        Ok(None) => whole_within(spec, ob, front, all),
         Err(AllocError) => {
             drop(front);
             Err(GroundRefused::Memory)

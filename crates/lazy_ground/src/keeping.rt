@@ -137,11 +137,12 @@ pub fn standing(begun: &Begun, kept: Option<KeptPairs>) -> Option<KeptPairs>
     requires { IfSome kept IsKeptPairs }
     ensures pairs { IfSome result IsKeptPairs }
     ensures numbers { (entry : Option Entry) → HaveNumbers entry kept → IsCutBack entry begun.now
-        → IfSome result (λ k. AllNumbered begun.now.atoms.table k.pairs) }
+        → IfSome result (λ k. AllNumbered begun.now.grounding.atoms.table k.pairs) }
 {
     match kept {
         Some(kept) => {
-            if begun.is_cut && are_below(begun.atoms.size().atoms, kept.pairs.as_slice()) {
+            let atoms = begun.grounding.atoms.size().atoms;
+            if begun.is_cut && are_below(atoms, kept.pairs.as_slice()) {
                 return Some(kept);
             }
             drop(kept);

@@ -2,7 +2,7 @@ use Rattle.ground_groups.proofs.Lists.{seq, seq_refused}
 use Rattle.ground_groups.proofs.conflicting.add_rule.Goals as goal
 
 pub returns-in-Err : goal.returns-in-Err
-returns-in-Err c = seq_refused c.in-Err.refused _ _ _ _ _ _ c.in-Err.ensures
+returns-in-Err c = seq_refused c.in-Err.refused _ _ _ _ c.in-Err.ensures
 
 pub returns : goal.returns
-returns c = seq c.add_each_with_each-2.result _ _ _ _ _ _ _ _ c.in-Ok.ensures c.add_each_with_each-2.ensures
+returns c = seq c.add_each_with_each-2.result _ _ _ _ _ c.in-Ok.ensures c.add_each_with_each-2.ensures

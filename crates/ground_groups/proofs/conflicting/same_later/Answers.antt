@@ -1,17 +1,19 @@
-use Rattle.std.proofs.Common.{arith, sym, ap, ◌∙◌}
+use Rattle.std.proofs.Common.{arith, slice_index, sym, ap, ◌∙◌}
 use Rattle.std.specs.Option.{option_map}
 use Rattle.ground_atoms.specs.Formulas.{form_of}
 use Rattle.stage_defs.specs.Parts.{make_parts}
 use Rattle.ground_groups.proofs.Joining.{later_step, later_end}
 use Rattle.ground_groups.proofs.conflicting.same_later.Goals as goal
 
-pub loop-place-preserved : goal.loop-place-preserved
-loop-place-preserved c =
-    later_step c.args.var c.args.constant c.args.vars.now c.args.consts.now c.loop-place.place (omega (arith, c.loop-place-test.true, c.min-count.ensures)) (omega (arith, c.loop-place-test.true, c.min-count.ensures))
+pub loop-later-preserved : goal.loop-later-preserved
+loop-later-preserved c =
+    let vs = c.args.vars.now in let cs = c.args.consts.now in
+    later_step (slice_index vs c.args.place) (slice_index cs c.args.place) vs cs c.loop-later.later (omega (arith, c.loop-later-test.true, c.min-count.ensures)) (omega (arith, c.loop-later-test.true, c.min-count.ensures))
     _ _ _ _ c.in_ok-done.ensures
-    ∙ c.loop-place.invariant
+    ∙ c.loop-later.invariant
 
 pub returns : goal.returns
 returns c =
-    sym c.loop-place.invariant
-    ∙ ap (make_parts (option_map form_of c.loop-place.done) c.loop-place.atoms) (later_end c.args.var c.args.constant c.args.vars.now c.args.consts.now c.loop-place.place (omega (arith, c.loop-place-test.false, c.loop-place.auto.place-end, c.min-count.ensures)))
+    let vs = c.args.vars.now in let cs = c.args.consts.now in
+    sym c.loop-later.invariant
+    ∙ ap (make_parts (option_map form_of c.loop-later.done) c.loop-later.atoms) (later_end (slice_index vs c.args.place) (slice_index cs c.args.place) vs cs c.loop-later.later (omega (arith, c.loop-later-test.false, c.loop-later.auto.later-end, c.min-count.ensures, c.requires.vars, c.requires.consts)))

@@ -15,4 +15,4 @@ returns c =
     let sorts = c.args.named.now.sorts in
     let lists : c.as_slice-2.result.now ≡ map (of_sort 0 sorts) c.args.vars.now = c.as_slice-2.ensures ∙ c.in_ok-options.ensures ∙ ap (λ (ss : List ℕ). map (of_sort 0 ss) c.args.vars.now) c.as_slice.ensures in
     let e = ap (λ (ls : List (List ℕ)). map (λ vs. signed false (f vs)) (choices ls)) lists ∙ false_each f (choices (map (of_sort 0 sorts) c.args.vars.now)) in
-    subst (λ (fs : List Symbolic). Appends c.add_each_choice.result c.args.out.now c.args.atoms.now fs c.add_each_choice.new.out c.add_each_choice.new.atoms) e c.add_each_choice.ensures
+    subst (λ (fs : List Symbolic). Appends c.add_each_choice.result c.args.grounding.now fs c.add_each_choice.new.grounding) e c.add_each_choice.ensures

@@ -1,9 +1,8 @@
-use Rattle.std.proofs.Common.{arith, ◌+◌, drop, slice_index, sym, ap, ◌∙◌, map}
+use Rattle.std.proofs.Common.{arith, ◌+◌, drop, slice_index, sym, ap, ◌∙◌}
 use Rattle.spec_core.specs.Specification.{op_of}
 use Rattle.ground_problem.specs.Formulas.{caller}
 use Rattle.ground_problem.specs.Entry.{lines_hold, calls_ready}
-use Rattle.ground_atoms.specs.Formulas.{form_of}
-use Rattle.ground_groups.specs.Limited.{make_upto}
+use Rattle.ground_groups.specs.Limited.{made_with}
 use Rattle.ground_groups.specs.Calls.{constants_in}
 use Rattle.ground_groups.proofs.Lists.{pair_step, pair_refused}
 use Rattle.ground_groups.proofs.Ends.{ready_next, ready_end}
@@ -12,7 +11,7 @@ use Rattle.ground_groups.proofs.ready.add_ready.Goals as goal
 pub returns-in-Err : goal.returns-in-Err
 returns-in-Err c =
     let next = ready_next c.args.spec.now (constants_in c.args.named.now) c.args.ops.now c.args.owns.now c.loop-place.place c.index-owns-place.result (omega (arith, c.loop-place-test.true, c.min-count.ensures)) (omega (arith, c.loop-place-test.true, c.min-count.ensures)) c.index-owns-place.is in
-    pair_refused (lines_hold (constants_in c.args.named.now) (caller (constants_in c.args.named.now) c.loop-place.place) (op_of c.args.spec.now (slice_index c.args.ops.now c.loop-place.place)).requires_ c.index-owns-place.result) (calls_ready c.args.spec.now (constants_in c.args.named.now) (c.loop-place.place + 1) (drop (c.loop-place.place + 1) c.args.ops.now) (drop (c.loop-place.place + 1) c.args.owns.now)) (calls_ready c.args.spec.now (constants_in c.args.named.now) c.loop-place.place (drop c.loop-place.place c.args.ops.now) (drop c.loop-place.place c.args.owns.now)) _ next c.in-Err.refused _ _ _ _ _ _ c.loop-place.invariant c.in-Err.ensures
+    pair_refused (lines_hold (constants_in c.args.named.now) (caller (constants_in c.args.named.now) c.loop-place.place) (op_of c.args.spec.now (slice_index c.args.ops.now c.loop-place.place)).requires_ c.index-owns-place.result) (calls_ready c.args.spec.now (constants_in c.args.named.now) (c.loop-place.place + 1) (drop (c.loop-place.place + 1) c.args.ops.now) (drop (c.loop-place.place + 1) c.args.owns.now)) (calls_ready c.args.spec.now (constants_in c.args.named.now) c.loop-place.place (drop c.loop-place.place c.args.ops.now) (drop c.loop-place.place c.args.owns.now)) next c.in-Err.refused _ _ _ _ c.loop-place.invariant c.in-Err.ensures
 
 pub loop-place-preserved : goal.loop-place-preserved
 loop-place-preserved c =
@@ -22,4 +21,4 @@ loop-place-preserved c =
 pub returns : goal.returns
 returns c =
     sym c.loop-place.invariant
-    ∙ ap (make_upto (map form_of c.loop-place.out) c.loop-place.atoms) (ready_end c.args.spec.now (constants_in c.args.named.now) c.loop-place.place c.args.ops.now c.args.owns.now c.loop-place.place (omega (arith, c.loop-place-test.false, c.loop-place.auto.place-end, c.min-count.ensures)))
+    ∙ ap (made_with c.loop-place.grounding) (ready_end c.args.spec.now (constants_in c.args.named.now) c.loop-place.place c.args.ops.now c.args.owns.now c.loop-place.place (omega (arith, c.loop-place-test.false, c.loop-place.auto.place-end, c.min-count.ensures)))

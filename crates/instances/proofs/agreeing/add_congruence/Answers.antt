@@ -15,7 +15,7 @@ of_thing qs x = congruent_pairs x (rising (filter (λ q. is_thing q.thing x) qs)
 pub returns-in-Err : goal.returns-in-Err
 unfolding of_thing
 returns-in-Err c =
-    group_refused_at (of_thing (map reading_of c.args.readings.now)) c.args.things.now c.loop-thing.thing-index _ c.loop-thing-test.true c.in-Err.refused c.loop-thing.out _ _ c.loop-thing.atoms _ _ c.loop-thing.invariant c.in-Err.ensures
+    group_refused_at (of_thing (map reading_of c.args.readings.now)) c.args.things.now c.loop-thing.thing-index _ c.loop-thing-test.true c.in-Err.refused _ _ _ c.loop-thing.invariant c.in-Err.ensures
 
 pub loop-thing-preserved : goal.loop-thing-preserved
 unfolding of_thing

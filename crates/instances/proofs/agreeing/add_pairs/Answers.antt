@@ -7,8 +7,8 @@ use Rattle.instances.proofs.agreeing.add_pairs.Goals as goal
 pub returns-in-Err : goal.returns-in-Err
 returns-in-Err c =
     let i = c.loop-place.place in
-    pair_refused (map (congruent c.args.thing c.index-tuples-place.result) (drop (i + 1) c.args.tuples.now)) (congruent_pairs c.args.thing (drop (i + 1) c.args.tuples.now)) (congruent_pairs c.args.thing (drop i c.args.tuples.now)) _
-    (congruent_next c.args.thing c.args.tuples.now i c.index-tuples-place.result (omega (arith, c.loop-place-test.true)) c.index-tuples-place.is) c.in-Err.refused _ _ _ _ _ _ c.loop-place.invariant c.in-Err.ensures
+    pair_refused (map (congruent c.args.thing c.index-tuples-place.result) (drop (i + 1) c.args.tuples.now)) (congruent_pairs c.args.thing (drop (i + 1) c.args.tuples.now)) (congruent_pairs c.args.thing (drop i c.args.tuples.now))
+    (congruent_next c.args.thing c.args.tuples.now i c.index-tuples-place.result (omega (arith, c.loop-place-test.true)) c.index-tuples-place.is) c.in-Err.refused _ _ _ _ c.loop-place.invariant c.in-Err.ensures
 
 pub loop-place-preserved : goal.loop-place-preserved
 loop-place-preserved c =

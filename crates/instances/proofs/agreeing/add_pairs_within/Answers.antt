@@ -3,4 +3,4 @@ use Rattle.instances.proofs.agreeing.add_pairs_within.Goals as goal
 
 pub returns-in-Err : goal.returns-in-Err
 returns-in-Err c =
-    pairs_beyond c.in-Err.refused c.args.out.now c.args.out.now c.args.atoms.now c.args.atoms.now c.args.thing c.args.tuples.now c.in-Err.ensures
+    pairs_beyond c.in-Err.refused c.args.grounding.now c.args.grounding.now c.args.thing c.args.tuples.now c.in-Err.ensures

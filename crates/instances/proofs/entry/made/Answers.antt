@@ -5,5 +5,5 @@ use Rattle.instances.proofs.entry.made.Goals as goal
 
 pub clauses_of-requires : goal.clauses_of-requires
 clauses_of-requires c =
-    made_below c.add_invariants-added.result c.in-Ok.value c.new-formulas.result c.add_invariants-added.new.out c.as_slice.result.now c.args.arguments c.add_invariants-added.new.atoms
-    (invariants_hold c.args.spec.now (constants_in c.args.named.now)) c.in-Ok.is c.new-formulas.ensures c.as_slice.ensures c.add_invariants-added.ensures
+    made_below c.add_invariants-added.result c.in-Ok.value c.new-grounding.result c.add_invariants-added.new.grounding
+    (invariants_hold c.args.spec.now (constants_in c.args.named.now)) c.in-Ok.is c.new-grounding.ensures.formulas c.add_invariants-added.ensures

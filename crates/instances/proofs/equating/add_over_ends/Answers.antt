@@ -4,7 +4,7 @@ use Rattle.ground_groups.proofs.Lists.{seq, seq_refused}
 use Rattle.instances.proofs.equating.add_over_ends.Goals as goal
 
 pub returns-in-Err : goal.returns-in-Err
-returns-in-Err c = seq_refused c.in-Err.refused _ _ _ _ (where_two c.args.a c.args.b c.args.a c.args.c c.args.b c.args.c ∷ []) (where_two c.args.a c.args.c c.args.b c.args.c c.args.a c.args.b ∷ []) c.in-Err.ensures
+returns-in-Err c = seq_refused c.in-Err.refused _ _ (where_two c.args.a c.args.b c.args.a c.args.c c.args.b c.args.c ∷ []) (where_two c.args.a c.args.c c.args.b c.args.c c.args.a c.args.b ∷ []) c.in-Err.ensures
 
 pub returns : goal.returns
-returns c = seq c.add_implied-2.result _ _ _ _ _ _ (where_two c.args.a c.args.b c.args.a c.args.c c.args.b c.args.c ∷ []) (where_two c.args.a c.args.c c.args.b c.args.c c.args.a c.args.b ∷ []) c.in-Ok.ensures c.add_implied-2.ensures
+returns c = seq c.add_implied-2.result _ _ _ (where_two c.args.a c.args.b c.args.a c.args.c c.args.b c.args.c ∷ []) (where_two c.args.a c.args.c c.args.b c.args.c c.args.a c.args.b ∷ []) c.in-Ok.ensures c.add_implied-2.ensures

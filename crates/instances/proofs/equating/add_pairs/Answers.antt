@@ -8,8 +8,8 @@ use Rattle.instances.proofs.equating.add_pairs.Goals as goal
 pub returns-in-Err : goal.returns-in-Err
 returns-in-Err c =
     let i = c.loop-place.place in
-    pair_refused (flat_map (three_agree c.args.a (slice_index c.args.later.now i)) (drop (i + 1) c.args.later.now)) (agree_with_pairs c.args.a (drop (i + 1) c.args.later.now)) (agree_with_pairs c.args.a (drop i c.args.later.now)) _
-    (pairs_next c.args.a c.args.later.now i (omega (arith, c.loop-place-test.true))) c.in-Err.refused _ _ _ _ _ _ c.loop-place.invariant c.in-Err.ensures
+    pair_refused (flat_map (three_agree c.args.a (slice_index c.args.later.now i)) (drop (i + 1) c.args.later.now)) (agree_with_pairs c.args.a (drop (i + 1) c.args.later.now)) (agree_with_pairs c.args.a (drop i c.args.later.now))
+    (pairs_next c.args.a c.args.later.now i (omega (arith, c.loop-place-test.true))) c.in-Err.refused _ _ _ _ c.loop-place.invariant c.in-Err.ensures
 
 pub loop-place-preserved : goal.loop-place-preserved
 loop-place-preserved c =

@@ -1,8 +1,7 @@
-use Rattle.std.proofs.Common.{◌≡◌, map, drop}
-use Rattle.ground_atoms.specs.Formulas.{form_of}
-use Rattle.ground_groups.specs.Limited.{make_upto}
+use Rattle.std.proofs.Common.{◌≡◌, drop}
+use Rattle.ground_groups.specs.Limited.{made_with}
 use Rattle.ground_problem.specs.Equality.{agree_with_pairs}
 use Rattle.instances.proofs.equating.add_pairs.Given as goal
 
 abbrev pub invariant-loop-place : goal.invariant-loop-place
-invariant-loop-place l = make_upto (map form_of l.out) l.atoms (agree_with_pairs l.a (drop l.place l.later)) ≡ make_upto (map form_of l.initial.out) l.initial.atoms (agree_with_pairs l.a l.later)
+invariant-loop-place l = made_with l.grounding (agree_with_pairs l.a (drop l.place l.later)) ≡ made_with l.initial.grounding (agree_with_pairs l.a l.later)

@@ -8,8 +8,8 @@ use Rattle.instances.proofs.equating.add_triples.Goals as goal
 pub returns-in-Err : goal.returns-in-Err
 returns-in-Err c =
     let i = c.loop-place.place in
-    pair_refused (three_agree c.args.a c.args.b (slice_index c.args.later.now i)) (flat_map (three_agree c.args.a c.args.b) (drop (i + 1) c.args.later.now)) (flat_map (three_agree c.args.a c.args.b) (drop i c.args.later.now)) _
-    (triples_next c.args.a c.args.b c.args.later.now i (omega (arith, c.loop-place-test.true))) c.in-Err.refused _ _ _ _ _ _ c.loop-place.invariant c.in-Err.ensures
+    pair_refused (three_agree c.args.a c.args.b (slice_index c.args.later.now i)) (flat_map (three_agree c.args.a c.args.b) (drop (i + 1) c.args.later.now)) (flat_map (three_agree c.args.a c.args.b) (drop i c.args.later.now))
+    (triples_next c.args.a c.args.b c.args.later.now i (omega (arith, c.loop-place-test.true))) c.in-Err.refused _ _ _ _ c.loop-place.invariant c.in-Err.ensures
 
 pub loop-place-preserved : goal.loop-place-preserved
 loop-place-preserved c =

@@ -9,7 +9,7 @@ use Rattle.instances.proofs.Shared.{entry_of, formulas-begin}
 use Rattle.instances.proofs.grounding.finish.Goals as goal
 
 pub returns-in-Err-clause-ground : goal.returns-in-Err-clause-ground
-returns-in-Err-clause-ground c = ground_refused c.args.spec.now c.args.ob.now c.in-Err.error _ _ c.in-Err.ensures
+returns-in-Err-clause-ground c = ground_refused c.args.spec.now c.args.ob.now c.in-Err.error _ c.in-Err.ensures
 
 pub returns-clause-ground : goal.returns-clause-ground
 returns-clause-ground c =
@@ -29,5 +29,5 @@ pub returns-clause-entry : goal.returns-clause-entry
 returns-clause-entry c =
     let d = c.args.spec.now in let ob = c.args.ob.now in
     let z : constants_in c.args.named ≡ constants_of d ob = c.requires.constants in
-    subst (λ (ss : List ℕ). IfSome c.args.begun.part (λ p. IsEntry d (entry_with ss c.add_all-added.new.atoms c.add_all-added.new.out p))) (sym (ap (λ (y : Constants). y.sorts) z))
-    (entry_of d ob c.args.begun (formulas_of d ob) c.add_all-added.new.atoms c.add_all-added.new.out c.requires.begun (formulas-begin d ob) c.in-Ok.ensures)
+    subst (λ (ss : List ℕ). IfSome c.args.begun.part (λ p. IsEntry d (entry_with ss c.add_all-added.new.grounding.atoms c.add_all-added.new.grounding.formulas p))) (sym (ap (λ (y : Constants). y.sorts) z))
+    (entry_of d ob c.args.begun (formulas_of d ob) c.add_all-added.new.grounding.atoms c.add_all-added.new.grounding.formulas c.requires.begun (formulas-begin d ob) c.in-Ok.ensures)

@@ -2,7 +2,7 @@ use Rattle.ground_groups.proofs.Lists.{seq, seq_refused}
 use Rattle.instances.proofs.listing.add_calls.Goals as goal
 
 pub returns-in-Err : goal.returns-in-Err
-returns-in-Err c = seq_refused c.in-Err.refused _ _ _ _ _ _ c.in-Err.ensures
+returns-in-Err c = seq_refused c.in-Err.refused _ _ _ _ c.in-Err.ensures
 
 pub returns : goal.returns
-returns c = seq c.add_free.result _ _ _ _ _ _ _ _ c.in-Ok.ensures c.add_free.ensures
+returns c = seq c.add_free.result _ _ _ _ _ c.in-Ok.ensures c.add_free.ensures

@@ -2,16 +2,16 @@ use Rattle.std.proofs.Common.{◌≡◌, rules}
 use Rattle.ground_problem.specs.Constants.{constants_of}
 use Rattle.ground_problem.specs.Problem.{stated}
 use Rattle.ground_atoms.specs.Calls.{calls_of}
-use Rattle.ground_groups.proofs.Lists.{seq_refused}
+use Rattle.ground_groups.proofs.Lists.{makes_refused}
 use Rattle.ground_groups.proofs.Started.{defined_then}
 use Rattle.instances.proofs.listing.add_second.Goals as goal
 
 pub returns-in-Err : goal.returns-in-Err
-returns-in-Err c = seq_refused c.in-Err.refused _ _ _ _ _ _ c.in-Err.ensures
+returns-in-Err c = makes_refused c.in-Err.refused _ _ _ _ c.in-Err.ensures
 
 pub returns : goal.returns
 returns c =
     let d = c.args.spec.now in let ob = c.args.ob.now in
     let g : c.as_slice.result.now ≡ calls_of d ob = search rules in
-    defined_then d ob 2 (stated d ob (constants_of d ob)) c.add_definitions.result c.add_stated.new.out _ c.add_stated.new.atoms _
+    defined_then d ob 2 (stated d ob (constants_of d ob)) c.add_definitions.result c.add_stated.new.grounding _
     c.in-Ok.ensures (c.add_definitions.ensures ob g)

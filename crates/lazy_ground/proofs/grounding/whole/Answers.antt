@@ -14,14 +14,14 @@ returns-in-Err-clause-ground c =
     let d = c.args.spec.now in let ob = c.args.ob.now in
     let is : IsFront d ob c.args.front = c.requires.front in
     let all : c.args.all.now ≡ things d = c.requires.things in
-    whole_refused d ob c.in-Err.error _ _ (whole_then d ob (Err c.in-Err.error) c.args.front c.as_slice.result.now c.args.all.now _ _ is c.as_slice.ensures all c.in-Err.ensures)
+    whole_refused d ob c.in-Err.error _ (whole_then d ob (Err c.in-Err.error) c.args.front c.as_slice.result.now c.args.all.now _ is c.as_slice.ensures all c.in-Err.ensures)
 
 pub returns-clause-ground : goal.returns-clause-ground
 returns-clause-ground c =
     let d = c.args.spec.now in let ob = c.args.ob.now in
     let is : IsFront d ob c.args.front = c.requires.front in
     let all : c.args.all.now ≡ things d = c.requires.things in
-    let made = whole_then d ob (Ok tt) c.args.front c.as_slice.result.now c.args.all.now _ _ is c.as_slice.ensures all c.in-Ok.ensures in (
+    let made = whole_then d ob (Ok tt) c.args.front c.as_slice.result.now c.args.all.now _ is c.as_slice.ensures all c.in-Ok.ensures in (
       few_made (numbered_arguments d ob) (formulas_of d ob) _ made,
       record {
         consts = ap (λ (y : Constants). y.sorts) is.constants;
@@ -33,4 +33,4 @@ returns-clause-ground c =
     )
 
 pub returns-clause-kept : goal.returns-clause-kept
-returns-clause-kept c = whole_entry c.args.spec.now c.args.ob.now c.args.front _ _ _ c.requires.front c.in-Ok.ensures
+returns-clause-kept c = whole_entry c.args.spec.now c.args.ob.now c.args.front _ _ c.requires.front c.in-Ok.ensures

@@ -11,5 +11,5 @@ returns c =
     λ d ob is. record {
       entry = c.entry_of.ensures.entry d (front_entry d ob f is);
       pairs = c.kept_with.ensures.pairs;
-      numbers = have_numbers c.entry_of.result c.kept_with.result f.atoms c.entry_of.ensures.atoms (c.kept_with.ensures.numbers f.atoms.table (numbers_for f c.args.pairs c.requires));
+      numbers = have_numbers c.entry_of.result c.kept_with.result f.grounding.atoms c.entry_of.ensures.atoms (c.kept_with.ensures.numbers f.grounding.atoms.table (numbers_for f c.args.pairs c.requires));
     }
