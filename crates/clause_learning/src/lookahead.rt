@@ -70,6 +70,19 @@ pub fn score(left: u64, right: u64) -> u64 {
         .saturating_add(right)
 }
 
+impl Short {
+    // Takes up the open literal behind this many others. It says whether there is a place for it.
+    fn put(&mut self, others: usize, lit: u32) -> bool {
+        match others {
+            0 => self.first = lit,
+            1 => self.second = lit,
+            2 => self.third = Some(lit),
+            _ => return false,
+        }
+        true
+    }
+}
+
 // The open literals of a clause, if these are two or three and none is true.
 fn short_of(lits: &[u32], truths: &[Truth]) -> Option<Short> {
     let mut open = 0usize;
@@ -79,19 +92,14 @@ fn short_of(lits: &[u32], truths: &[Truth]) -> Option<Short> {
         third: None,
     };
     for lit in lits {
-        match truth_of(truths, *lit) {
-            Truth::True => return None,
-            Truth::Open => {
-                match open {
-                    0 => short.first = *lit,
-                    1 => short.second = *lit,
-                    2 => short.third = Some(*lit),
-                    _ => return None,
-                }
-                open = open.saturating_add(1);
-            }
-            Truth::False => {}
+        let truth = truth_of(truths, *lit);
+        if truth == Truth::False {
+            continue;
         }
+        if truth == Truth::True || !short.put(open, *lit) {
+            return None;
+        }
+        open = open.saturating_add(1);
     }
     if open < 2 {
         return None;

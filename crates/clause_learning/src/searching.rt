@@ -104,13 +104,20 @@ enum Progress {
     BudgetExhausted,
 }
 
+// A literal that does less than its opposite, and how good a decision their atom is.
+#[derive(Clone, Copy)]
+struct Candidate {
+    lit: u32,
+    score: u64,
+}
+
 // What the literals of an atom do.
 #[derive(Clone, Copy)]
 enum Look {
     /// A conflict follows from this one.
     Fails(u32),
-    /// This one does less than the other, and how good a decision the atom is.
-    Scores(u32, u64),
+    /// None follows from either.
+    Scores(Candidate),
 }
 
 #[derive(Drop)]
@@ -152,6 +159,14 @@ fn luby(place: u32) -> u32 {
         }
     }
     power
+}
+
+// The better of two decisions; of two that are as good, the first.
+fn better(best: Option<Candidate>, other: Candidate) -> Candidate {
+    match best {
+        Some(best) if best.score >= other.score => best,
+        _ => other,
+    }
 }
 
 fn are_plain(problem: &Problem) -> bool {
@@ -330,8 +345,11 @@ impl Search {
         let Some(right) = self.probe(positive)? else {
             return Ok(Look::Fails(positive));
         };
-        let less = if left > right { positive } else { negative };
-        Ok(Look::Scores(less, score(left, right)))
+        let lit = if left > right { positive } else { negative };
+        Ok(Look::Scores(Candidate {
+            lit,
+            score: score(left, right),
+        }))
     }
 
     // The literal that is decided by lookahead, where an atom has no value.
@@ -339,22 +357,19 @@ impl Search {
         self.lookahead
             .weigh(&self.clauses, self.assignment.truths.as_slice())?;
         let mut best = None;
-        let mut most = 0;
         for _ in 0..LOOKS {
             let Some(atom) = self.lookahead.take(self.assignment.truths.as_slice()) else {
                 break;
             };
             match self.look_at(atom)? {
                 Look::Fails(lit) => return Ok(Some(lit)),
-                Look::Scores(lit, score) => {
-                    if best.is_none() || score > most {
-                        best = Some(lit);
-                        most = score;
-                    }
-                }
+                Look::Scores(candidate) => best = Some(better(best, candidate)),
             }
         }
-        Ok(best)
+        match best {
+            Some(candidate) => Ok(Some(candidate.lit)),
+            None => Ok(None),
+        }
     }
 
     // Decides by lookahead.

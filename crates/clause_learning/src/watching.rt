@@ -150,6 +150,36 @@ impl Clauses {
         visited(&mut self.lits[place], truths, gone)
     }
 
+    // Looks at a clause that watches a literal which became false, unless another one is false already. What is forced is assigned.
+    // Answers another of its literals, where it goes on watching this one.
+    fn follow_one(
+        &mut self,
+        assignment: &mut Assignment,
+        watch: Watch,
+        gone: u32,
+        conflict: &mut Option<u32>,
+    ) -> Result<Option<u32>, AllocError> {
+        if conflict.is_some() {
+            return Ok(Some(watch.other));
+        }
+        match self.visit(assignment.truths.as_slice(), watch, gone) {
+            Visit::True(other) => Ok(Some(other)),
+            Visit::Moved(lit, other) => {
+                let clause = watch.clause;
+                self.watch(lit, Watch { clause, other })?;
+                Ok(None)
+            }
+            Visit::Unit(other) => {
+                assignment.assign(other, Some(watch.clause))?;
+                Ok(Some(other))
+            }
+            Visit::False(other) => {
+                *conflict = Some(watch.clause);
+                Ok(Some(other))
+            }
+        }
+    }
+
     /// Looks at the clauses that watch a literal which became false. What is forced is assigned.
     pub fn follow(
         &mut self,
@@ -162,32 +192,13 @@ impl Clauses {
         let mut conflict = None;
         for place in 0..list.len() {
             let watch = list[place];
-            let other = if conflict.is_some() {
-                Some(watch.other)
-            } else {
-                match self.visit(assignment.truths.as_slice(), watch, gone) {
-                    Visit::True(other) => Some(other),
-                    Visit::Moved(lit, other) => {
-                        let clause = watch.clause;
-                        self.watch(lit, Watch { clause, other })?;
-                        None
-                    }
-                    Visit::Unit(other) => {
-                        assignment.assign(other, Some(watch.clause))?;
-                        Some(other)
-                    }
-                    Visit::False(other) => {
-                        conflict = Some(watch.clause);
-                        Some(other)
-                    }
-                }
+            let Some(other) = self.follow_one(assignment, watch, gone, &mut conflict)? else {
+                continue;
             };
-            if let Some(other) = other {
-                let clause = watch.clause;
-                if kept < list.len() {
-                    list[kept] = Watch { clause, other };
-                    kept += 1;
-                }
+            let clause = watch.clause;
+            if kept < list.len() {
+                list[kept] = Watch { clause, other };
+                kept += 1;
             }
         }
         list.truncate(kept);
