@@ -305,29 +305,37 @@ fn facts_joined(
     Ok(out)
 }
 
+// The sorts of the variables of an invariant; none where there is none at this place.
+fn sorts_of_invariant(spec: &Spec, inv: u8) -> &[u8] {
+    match spec.invariants.as_slice().get(inv as usize) {
+        Some(invariant) => invariant.line.vars.as_slice(),
+        None => &[],
+    }
+}
+
+// The sorts of the variables of a precondition; none where there is none at this place.
+fn sorts_of_requires(spec: &Spec, op: u8, line: u8) -> &[u8] {
+    let Some(operation) = spec.operations.as_slice().get(op as usize) else {
+        return &[];
+    };
+    match operation.requires_.as_slice().get(line as usize) {
+        Some(line) => line.vars.as_slice(),
+        None => &[],
+    }
+}
+
 /// The sorts of the elements at which a conclusion may fail.
 pub fn sorts_of_elements<'a>(spec: &'a Spec, ob: &Obligation) -> &'a [u8] {
     match ob {
         Obligation::Init { inv } | Obligation::Safety { op: _, inv } => {
-            match spec.invariants.as_slice().get(*inv as usize) {
-                Some(invariant) => invariant.line.vars.as_slice(),
-                None => &[],
-            }
+            sorts_of_invariant(spec, *inv)
         }
         Obligation::Commute {
             first: _,
             second: _,
             thing,
         } => spec.places_of(*thing),
-        Obligation::Stable { op, line, other: _ } => {
-            match spec.operations.as_slice().get(*op as usize) {
-                Some(operation) => match operation.requires_.as_slice().get(*line as usize) {
-                    Some(line) => line.vars.as_slice(),
-                    None => &[],
-                },
-                None => &[],
-            }
-        }
+        Obligation::Stable { op, line, other: _ } => sorts_of_requires(spec, *op, *line),
     }
 }
 
