@@ -116,12 +116,13 @@ fn only_in(atoms: &[AtomKind], values: &[bool], trail: &Trail, lits: &[Lit]) -> 
         if is_plainly_true(atoms, values, *lit) {
             return None;
         }
-        if is_candidate(atoms, trail, *lit) {
-            if found.is_some() {
-                return None;
-            }
-            found = Some(*lit);
+        if !is_candidate(atoms, trail, *lit) {
+            continue;
         }
+        if found.is_some() {
+            return None;
+        }
+        found = Some(*lit);
     }
     found
 }
