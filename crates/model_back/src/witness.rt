@@ -26,29 +26,29 @@ use instances::Grounded;
 use items::Items;
 use obligation_list::{Obligation, Witness, breaks};
 use proof_lines::Interpretation;
-use spec_core::{Spec, World};
+use spec_core::Spec;
 use spec_states::State;
 use std::alloc::{AllocError, Global};
 
-// The state of a witness.
+// The state of a witness in a world whose constants stand for these elements.
 fn state_for(
     alloc: Global,
     spec: &Spec,
     ob: &Obligation,
-    world: &World,
-    elements: &[u32],
+    classed: &Classed,
     atoms: &Atoms,
     found: &Interpretation,
 ) -> Result<State, AllocError>
-    requires world { world_fits spec.now world.now ≡ true }
+    requires world { world_fits spec.now classed.now.world ≡ true }
     requires values { list_all in_state_range found.now.ints ≡ true }
     ensures { IfOk result
-        (λ s. IsStateFor spec.now ob.now world.now (slice_index elements.now) found.now.truths
-        found.now.ints atoms.now.table s) }
+        (λ s. IsStateFor spec.now ob.now classed.now.world (slice_index classed.now.elements.items)
+        found.now.truths found.now.ints atoms.now.table s) }
 {
+    let world = &classed.world;
     match ob {
         Obligation::Init { .. } => State::initial(alloc, spec, world),
-        _ => entry_state(alloc, spec, world, elements, atoms, found),
+        _ => entry_state(alloc, spec, world, &classed.elements, atoms, found),
     }
 }
 
@@ -87,8 +87,8 @@ fn witness_in(
     ensures elements { IfOk result
         (λ w. w.elements ≡ map (slice_index classed.elements.items) named.now.consts.now) }
 {
+    let state = state_for(alloc, spec, ob, &classed, named.atoms, found)?;
     let Classed { world, elements } = classed;
-    let state = state_for(alloc, spec, ob, &world, &elements, named.atoms, found)?;
     let at = elements_at(alloc, &elements, named.consts)?;
     let calls = calls_at(alloc, &elements, found.ints.as_slice(), named.calls)?;
     Ok(Witness {
