@@ -10,14 +10,14 @@ ghost use Rattle.std.specs.List.{Contains};
 ghost use Rattle.proof_report.specs.Verdicts.{obligation_count};
 ghost use Rattle.proof_report.specs.Texts.{head_text, end_text};
 ghost use Rattle.proof_report.specs.Events.{told};
-ghost use Rattle.ground_cache.specs.Keeping.{AreKept};
+ghost use Rattle.lazy_ground.specs.Cache.{AreKept};
 ghost use Rattle.check_run.specs.Reports.{written_version};
 ghost use Rattle.check_run.specs.Checking.{progress, IsBlock, AreBlocks, IsReport};
 
 use crate::counting::counted;
 use crate::deciding::decide_next;
 use byte_ports::{Sink, WriteOut, write_text};
-use ground_cache::KeptCache;
+use lazy_ground::KeptCache;
 use obligation_list::{Obligation, list};
 use proof_report::{write_end, write_head, write_verdict};
 use report_lines::head::Tally;

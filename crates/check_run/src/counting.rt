@@ -8,10 +8,10 @@ ghost use Rattle.proof_report.specs.Events.{told, with_verdict};
 ghost use Rattle.report_bytes.specs.Showing.{shown_verdict};
 ghost use Rattle.check_run.specs.Reports.{AreDecided, IsDecided};
 ghost use Rattle.check_run.specs.Checking.{IsCounted};
-ghost use Rattle.ground_cache.specs.Keeping.{AreKept};
+ghost use Rattle.lazy_ground.specs.Cache.{AreKept};
 
 use crate::deciding::decide_next;
-use ground_cache::KeptCache;
+use lazy_ground::KeptCache;
 use obligation_list::{Obligation, list};
 use proof_report::Verdict;
 use report_lines::head::Tally;

@@ -7,7 +7,7 @@
 // `Fitting` (which verdicts lines can hold), `Decided` (what can leave an obligation undecided
 // whose rows are differences), `Reports` (what is written), `Shown` (the state that a witness
 // shows). `Checking` mirrors the code. What decided obligations leave for others is kept by
-// `ground_cache`.
+// `KeptCache` of `lazy_ground`.
 //
 // Decisions:
 // - What obligations share is taken out of `KeptCache` and put back, by value, in `decide_next`;

@@ -9,10 +9,11 @@
 // before any of them is made: a list with too many ends there (src/choosing.rt).
 //
 // Obligations of a specification mostly share their entry and its readings. What is made of the entry is cut back for another
-// obligation, and the pairs are taken over where that one goes on from it and has the same readings (src/keeping.rt).
+// obligation, and the pairs are taken over where that one goes on from it and has the same readings (src/keeping.rt). A check and a
+// verifier keep the same of the obligations that were decided, for others whose constants are alike (src/cache.rt).
 //
 // Definitions, in specs/: `Pairs` (what a relation's tuples stand for), `Lazy` (what the lazy ground problem is), `Kept` (what of it
-// serves the next obligation). `Equal`, `Named` and `Front` mirror the code: what is tested of constants and of tuples, and what is made
+// serves the next obligation), `Cache` (that each thing that is kept serves any obligation). `Equal`, `Named` and `Front` mirror the code: what is tested of constants and of tuples, and what is made
 // before the pairs.
 //
 // In the field's words the instantiation of the axioms of equality is lazy: an instance is made
@@ -30,6 +31,8 @@
 //   order.
 // - Where the list has too many formulas, what was made of the entry is left for the next
 //   obligation, which mostly has too many too.
+// - What is kept is taken out of the cache and put back by value. Whether something serves an
+//   obligation is a hint, and is tested where it is used.
 // - `verify` makes the clauses that a log names (`lazy_logs`), and the whole problem where these
 //   don't do.
 #![tactic(auto)]
@@ -48,6 +51,7 @@ macro_rules! or_drop {
     };
 }
 
+mod cache;
 mod choosing;
 mod columns;
 mod completing;
@@ -59,6 +63,7 @@ mod naming;
 mod numbering;
 mod pairs;
 
+pub use cache::KeptCache;
 pub use completing::WholeGround;
 pub use grounding::{EitherGround, Kept, LazyGround, ground_lazily, ground_lazily_from};
 pub use keeping::KeptPairs;

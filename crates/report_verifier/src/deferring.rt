@@ -7,7 +7,7 @@ ghost use Rattle.std.specs.Prelude.{◌≡◌, suc, ◌+◌, false, length, ◌+
 ghost use Rattle.std.specs.Prelude.{OnOk, IsTrue};
 ghost use Rattle.std.specs.List.{Contains};
 ghost use Rattle.obligation_list.specs.Obligations.{IsObligation, obligations_of};
-ghost use Rattle.ground_cache.specs.Keeping.{AreKept};
+ghost use Rattle.lazy_ground.specs.Cache.{AreKept};
 ghost use Rattle.report_verifier.specs.Verifier.{no_judgement, obligation_due, log_all, logged};
 ghost use Rattle.report_verifier.specs.Posing.{IsLazyOf};
 ghost use Rattle.report_verifier.specs.Deferring.{after_deferred, judgement_of, HasDeferred};

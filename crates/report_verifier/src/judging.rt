@@ -3,7 +3,7 @@ ghost use Rattle.std.specs.Prelude.{◌≡◌, ℕ, true, None, Some, OnOk};
 ghost use Rattle.std.specs.List.{Contains};
 ghost use Rattle.obligation_list.specs.Obligations.{IsObligation, obligations_of};
 ghost use Rattle.proof_report.specs.declared.verdict.Ended.TheVariants as ends;
-ghost use Rattle.ground_cache.specs.Keeping.{AreKept};
+ghost use Rattle.lazy_ground.specs.Cache.{AreKept};
 ghost use Rattle.report_verifier.specs.Verifier.{obligation_due, posed, has_log, begun, begun_in};
 ghost use Rattle.report_verifier.specs.Taking.{ended_as, taken_as};
 ghost use Rattle.report_verifier.specs.Posing.{IsPosed};

@@ -9,14 +9,13 @@ ghost use Rattle.instances.specs.Ground.{IsGrounded};
 ghost use Rattle.instances.specs.Entry.{HasEntry, HasEntryClauses};
 ghost use Rattle.lazy_ground.specs.Lazy.{IsLazyGround};
 ghost use Rattle.lazy_ground.specs.Kept.{HasLazyKept};
-ghost use Rattle.ground_cache.specs.Keeping.{AreKept};
+ghost use Rattle.lazy_ground.specs.Cache.{AreKept};
 ghost use Rattle.report_verifier.specs.Rules.{has_many};
 ghost use Rattle.report_verifier.specs.Posing.{IsPosed};
 
-use ground_cache::KeptCache;
 use ground_numbers::law_obligation_fits;
 use instances::{GroundRefused, Grounded};
-use lazy_ground::{EitherGround, LazyGround, ground_lazily_from};
+use lazy_ground::{EitherGround, KeptCache, LazyGround, ground_lazily_from};
 use obligation_list::Obligation;
 use proof_kernel::Kernel;
 use proof_lines::Problem;

@@ -43,7 +43,7 @@ impl<'a> Model for Verifier<'a> {
     ghost use Rattle.spec_core.specs.Code.{coded_form};
     ghost use Rattle.obligation_list.specs.declared.obligation.Obligation.{Obligation};
     ghost use Rattle.obligation_list.specs.Obligations.{obligations_of, IsObligation};
-    ghost use Rattle.ground_cache.specs.Keeping.{AreKept};
+    ghost use Rattle.lazy_ground.specs.Cache.{AreKept};
     ghost use Rattle.report_verifier.specs.Verifier.{VerifierForm, IsWithin};
     ghost use Rattle.report_verifier.specs.Deferring.{judgement_of, HasDeferred};
 

@@ -1,6 +1,6 @@
 use Rattle.std.proofs.Common.{◌≡◌, ◌≤◌}
 use Rattle.proof_report.specs.Events.{told}
-use Rattle.ground_cache.specs.Keeping.{AreKept}
+use Rattle.lazy_ground.specs.Cache.{AreKept}
 use Rattle.check_run.specs.Checking.{AreWritten}
 use Rattle.check_run.proofs.checking.check_from.Given as goal
 

@@ -1,6 +1,6 @@
 use Rattle.std.proofs.Common.{◌≡◌, take}
 use Rattle.proof_report.specs.Events.{told}
-use Rattle.ground_cache.specs.Keeping.{AreKept}
+use Rattle.lazy_ground.specs.Cache.{AreKept}
 use Rattle.check_run.specs.Reports.{AreDecided}
 use Rattle.check_run.proofs.counting.decide_from.Given as goal
 

@@ -1,4 +1,4 @@
-use Rattle.ground_cache.proofs.keeping.KeptCache.take.Goals as goal
+use Rattle.lazy_ground.proofs.cache.KeptCache.take.Goals as goal
 
 pub returns-else-place-len-clause-taken : goal.returns-else-place-len-clause-taken
 returns-else-place-len-clause-taken c = c.none.ensures c.args.spec.now

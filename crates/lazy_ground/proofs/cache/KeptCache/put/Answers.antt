@@ -3,7 +3,7 @@ use Rattle.std.specs.Prelude.{All}
 use Rattle.std.proofs.lemmas.List.Elements.{All-push}
 use Rattle.lazy_ground.specs.declared.grounding.Kept.{Kept}
 use Rattle.lazy_ground.specs.Kept.{IsKept}
-use Rattle.ground_cache.proofs.keeping.KeptCache.put.Goals as goal
+use Rattle.lazy_ground.proofs.cache.KeptCache.put.Goals as goal
 
 pub returns-in-Ok : goal.returns-in-Ok
 returns-in-Ok c =

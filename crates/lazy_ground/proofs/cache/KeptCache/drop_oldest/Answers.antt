@@ -3,7 +3,7 @@ use Rattle.std.specs.Prelude.{All}
 use Rattle.lazy_ground.specs.declared.grounding.Kept.{Kept}
 use Rattle.lazy_ground.specs.Kept.{IsKept}
 use Rattle.instances.proofs.Lists.{all_removed}
-use Rattle.ground_cache.proofs.keeping.KeptCache.drop_oldest.Goals as goal
+use Rattle.lazy_ground.proofs.cache.KeptCache.drop_oldest.Goals as goal
 
 pub returns-then-len-gt0 : goal.returns-then-len-gt0
 returns-then-len-gt0 c =

@@ -1,14 +1,15 @@
-// What decided obligations leave for others.
+// What the ground problems of obligations leave for others of their specification.
 //
 // An entry and pairs of readings serve obligations whose constants are alike, and those don't stand in a row. So some are kept, as
-// `EntryCache` keeps entries alone.
+// `EntryCache` keeps entries alone. Eviction is by last use: what was used the longest ago goes first, where they are more than 128 or have
+// more than 240,000 formulas.
 ghost use Rattle.spec_core.specs.Specification.{Specification};
 ghost use Rattle.obligation_list.specs.Obligations.{IsObligation};
 ghost use Rattle.lazy_ground.specs.Kept.{IsKept};
-ghost use Rattle.ground_cache.specs.Keeping.{AreKept};
+ghost use Rattle.lazy_ground.specs.Cache.{AreKept};
 
+use crate::Kept;
 use instances::EntryKey;
-use lazy_ground::Kept;
 use obligation_list::Obligation;
 use spec_core::Spec;
 use std::alloc::Global;
