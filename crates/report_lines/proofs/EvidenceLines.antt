@@ -1,5 +1,5 @@
 -- The lines of evidence are exact and clean.
-use Rattle.std.proofs.Common.{◌≡◌, ℕ, List, inl, inr, refl}
+use Rattle.std.proofs.Common.{◌≡◌, ℕ, List, ◌∷◌, ◌++◌, inl, inr, refl}
 use Rattle.std.specs.Prelude.{codes, ℤ}
 use Rattle.proof_lines.specs.declared.clause.Lit.{Lit}
 use Rattle.proof_lines.specs.declared.line.RowStep.{RowStep}
@@ -8,7 +8,7 @@ use Rattle.proof_lines.specs.declared.line.RangeWhat.TheVariants.{Product, Value
 use Rattle.report_lines.specs.Formats.{Format, IsExact, IsClean, behind}
 use Rattle.report_lines.specs.Fields.{integer_format}
 use Rattle.report_lines.specs.Logs.{used_words}
-use Rattle.report_lines.specs.Evidence.{to_rows, of_rows, rows_format, product_words, values_words, RangeParts, to_range, of_what, of_range, range_words, range_format}
+use Rattle.report_lines.specs.Evidence.{to_rows, of_rows, rows_format, product_words, values_words, RangeParts, to_range, of_what, of_range, range_word, what_words, range_words, range_format}
 use Rattle.report_lines.proofs.Exact.{chain_exact, behind_exact, seen_exact, or_exact, or_apart, behind_apart}
 use Rattle.report_lines.proofs.Clean.{chain_clean, behind_clean, seen_clean, or_clean}
 use Rattle.report_lines.proofs.NumberFields.{count_exact, count_clean, integer_exact, integer_clean, list_exact, list_clean}
@@ -58,3 +58,10 @@ range_exact = seen_exact to_range of_range range_words range_back (λ r. what_th
 
 pub range_clean : IsClean range_format
 range_clean = seen_clean to_range of_range range_words range_words_clean
+
+-- the words of the evidence of a range, as they are written: the first one, the used literals and the steps, and what leaves the range
+pub range_put : (used : List Lit) (steps : List RowStep) (what : RangeWhat)
+    → range_word what ∷ used_words.put (used, steps) ++ what_words what ≡ range_format.put (record { used = used; steps = steps; what = what })
+range_put used steps (Product left right place) = refl
+range_put used steps (Value row place values) = refl
+range_put used steps (Sum row place values) = refl

@@ -1,5 +1,6 @@
 -- The lines of evidence of an undecided verdict.
-use Rattle.std.specs.Prelude.{ℕ, ℤ, List, ◌⊎◌, codes}
+use Rattle.std.specs.Prelude.{ℕ, ℤ, List, [], ◌∷◌, ◌⊎◌, codes}
+use Rattle.std.specs.Fmt.{decimal}
 use Rattle.std.proofs.Common.{inl, inr}
 use Rattle.proof_lines.specs.declared.clause.Lit.{Lit}
 use Rattle.proof_lines.specs.declared.line.RowStep.{RowStep}
@@ -57,6 +58,18 @@ of_what rows (Sum row place values) = inr (inr (rows, (row, (place, values))))
 -- the parts of the evidence of a range
 abbrev pub of_range : RangeLine → RangeParts
 of_range r = of_what (r.used, r.steps) r.what
+
+-- the first word of the evidence of a range, by what leaves it
+abbrev pub range_word : RangeWhat → List ℕ
+range_word (Product left right place) = codes "product"
+range_word (Value row place values) = codes "value"
+range_word (Sum row place values) = codes "sum"
+
+-- its last words, behind the used literals and the steps: what leaves the range
+abbrev pub what_words : RangeWhat → List (List ℕ)
+what_words (Product left right place) = decimal left ∷ decimal right ∷ decimal place ∷ []
+what_words (Value row place values) = decision_words.put (row, (place, values))
+what_words (Sum row place values) = decision_words.put (row, (place, values))
 
 -- the words of the evidence of a range
 abbrev pub range_words : Format RangeParts

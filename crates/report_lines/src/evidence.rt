@@ -6,7 +6,8 @@ ghost use Rattle.proof_lines.specs.declared.line.RangeWhat.TheVariants.{Product}
 ghost use Rattle.std.proofs.Common.{inl, inr};
 ghost use Rattle.report_lines.specs.Formats.{both, mapped};
 ghost use Rattle.report_lines.specs.Fields.{count_format};
-ghost use Rattle.report_lines.specs.Evidence.{rows_format, product_words, values_words, to_range, range_format};
+ghost use Rattle.report_lines.specs.Evidence.{rows_format, product_words, values_words, to_range};
+ghost use Rattle.report_lines.specs.Evidence.{range_word as range_word_of, what_words, range_format};
 ghost use Rattle.report_lines.specs.Words.{left, spaced, line_text, Gives};
 
 use crate::fields::count;
@@ -145,46 +146,26 @@ fn put_product(out: &mut Vec<u8>, left: u32, right: u32, place: u32) -> Result<(
     Ok(())
 }
 
-fn write_product(
-    out: &mut Vec<u8>,
-    used: &[Lit],
-    steps: &[RowStep],
-    left: u32,
-    right: u32,
-    place: u32,
-) -> Result<(), AllocError>
-    ensures { OnOk result (out.new.items ≡ out.old.items
-        ++ line_text (range_format.put (record {
-          used = used.now;
-          steps = steps.now;
-          what = Product left right place;
-        }))) }
+// The first word of the line of a number beyond the range.
+fn range_word(what: &RangeWhat) -> &'static [u8]
+    ensures { result.now ≡ range_word_of what.now }
 {
-    out.extend_from_slice(b"product")?;
-    put_used(out, used, steps)?;
-    put_product(out, left, right, place)?;
-    out.push(b'\n')?;
-    Ok(())
+    match what {
+        RangeWhat::Product { .. } => b"product",
+        RangeWhat::Value { .. } => b"value",
+        RangeWhat::Sum { .. } => b"sum",
+    }
 }
 
-fn write_values(
-    out: &mut Vec<u8>,
-    word: &[u8],
-    used: &[Lit],
-    steps: &[RowStep],
-    row: u32,
-    place: u32,
-    values: &[i128],
-) -> Result<(), AllocError>
-    ensures { OnOk result (out.new.items ≡ out.old.items
-        ++ line_text (word.now ∷ values_words.put
-        ((used.now, steps.now), (row, (place, values.now))))) }
+// Its last words.
+fn put_what(out: &mut Vec<u8>, what: &RangeWhat) -> Result<(), AllocError>
+    ensures { OnOk result (out.new.items ≡ out.old.items ++ spaced (what_words what.now)) }
 {
-    out.extend_from_slice(word)?;
-    put_used(out, used, steps)?;
-    put_values(out, row, place, values)?;
-    out.push(b'\n')?;
-    Ok(())
+    match what {
+        RangeWhat::Product { left, right, place } => put_product(out, *left, *right, *place),
+        RangeWhat::Value { row, place, values } => put_values(out, *row, *place, values.as_slice()),
+        RangeWhat::Sum { row, place, values } => put_values(out, *row, *place, values.as_slice()),
+    }
 }
 
 /// Appends the line of evidence of a number beyond the range.
@@ -201,15 +182,9 @@ pub fn write_range(
           what = what.now;
         }))) }
 {
-    match what {
-        RangeWhat::Product { left, right, place } => {
-            write_product(out, used, steps, *left, *right, *place)
-        }
-        RangeWhat::Value { row, place, values } => {
-            write_values(out, b"value", used, steps, *row, *place, values.as_slice())
-        }
-        RangeWhat::Sum { row, place, values } => {
-            write_values(out, b"sum", used, steps, *row, *place, values.as_slice())
-        }
-    }
+    out.extend_from_slice(range_word(what))?;
+    put_used(out, used, steps)?;
+    put_what(out, what)?;
+    out.push(b'\n')?;
+    Ok(())
 }
