@@ -116,14 +116,12 @@ fn take_lines<'b>(
 {
     let mut rest = bytes;
     'lines: for taken in 0..bytes.len() {
-        match next_line(rest) {
-            None => return Ok(rest),
-            Some((line, behind)) => {
-                match take_line(alloc, reader, collected, line) {
-                    Ok(()) => rest = behind,
-                    Err(error) => return Err(error),
-                }
-            }
+        let Some((line, behind)) = next_line(rest) else {
+            return Ok(rest);
+        };
+        match take_line(alloc, reader, collected, line) {
+            Ok(()) => rest = behind,
+            Err(error) => return Err(error),
         }
     }
     Ok(rest)

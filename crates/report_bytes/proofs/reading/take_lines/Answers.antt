@@ -3,8 +3,8 @@ use Rattle.report_bytes.specs.Collecting.{nothing_kept}
 use Rattle.report_bytes.proofs.Following.{onward_end, onward_more, onward_over, refused_there}
 use Rattle.report_bytes.proofs.reading.take_lines.Goals as goal
 
-pub returns-in-None-clause-ok : goal.returns-in-None-clause-ok
-returns-in-None-clause-ok c = onward_end c.args.reader.now nothing_kept c.args.bytes.now c.lines.reader c.lines.collected c.lines.rest.now c.lines.invariant.0 c.in-None.ensures.none
+pub returns-in_default-clause-ok : goal.returns-in_default-clause-ok
+returns-in_default-clause-ok c = onward_end c.args.reader.now nothing_kept c.args.bytes.now c.lines.reader c.lines.collected c.lines.rest.now c.lines.invariant.0 c.in_default.ensures.none
 
 pub returns-in-Err-clause-refused : goal.returns-in-Err-clause-refused
 returns-in-Err-clause-refused c =
