@@ -6,7 +6,7 @@ ghost use Rattle.conflict_variants.specs.Bare.{bare as bare_of};
 ghost use Rattle.conflict_variants.specs.Keyed.{CanBeKeyed, keyed as keyed_of};
 ghost use Rattle.suggest.specs.Pairs.{IsPair, pairs_of, keys_of};
 ghost use Rattle.suggest.specs.Answers.{HaveLogs, IsFoundIn, AreKeyAnswers, IsAnswer, AreAnswers};
-ghost use Rattle.suggest.specs.Answers.{is_refuted as is_refuted_of, keys_after};
+ghost use Rattle.suggest.specs.Answers.{keys_after};
 ghost use Rattle.suggest.specs.declared.answer.Pair.{Pair};
 ghost use Rattle.suggest.specs.declared.answer.Key.{Key};
 
@@ -14,6 +14,7 @@ use crate::answer::{Found, Key, KeyAnswer, Pair, PairAnswer};
 use crate::finding::{find_bare, find_in};
 use crate::known::Known;
 use crate::listing::{list_keys, list_pairs};
+use crate::question::Question;
 use crate::writing::is_refuted;
 use conflict_variants::{bare, keyed};
 use items::Items;
@@ -22,95 +23,87 @@ use spec_core::Spec;
 use std::alloc::{AllocError, Global};
 
 fn key_answer(
-    alloc: Global,
-    spec: &Spec,
-    budget: u32,
-    pair: Pair,
+    question: &Question,
     key: Key,
     free: &[Obligation],
     known: &mut Known,
 ) -> Result<KeyAnswer, AllocError>
-    requires budget { 1 ≤ budget }
-    requires keyed { CanBeKeyed spec.now pair.first key.p pair.second key.q }
-    requires free { HaveLogs (bare_of spec.now) budget free.now }
+    requires keyed { let asked = question.now in
+        CanBeKeyed asked.spec.now asked.pair.first key.p asked.pair.second key.q }
+    requires free { HaveLogs (bare_of question.now.spec.now) question.now.budget free.now }
     ensures key { IfOk result (λ y. y.key ≡ key) }
-    ensures found { IfOk result
-        (λ y. IsFoundIn (keyed_of spec.now pair.first key.p pair.second key.q) budget pair.first
-        pair.second y.found) }
+    ensures found { let asked = question.now in IfOk result
+        (λ y. IsFoundIn (keyed_of asked.spec.now asked.pair.first key.p asked.pair.second key.q)
+        asked.budget asked.pair.first asked.pair.second y.found) }
 {
-    let keyed = keyed(alloc, spec, pair.first, key.p, pair.second, key.q)?;
-    let found = or_drop!(find_in(alloc, &keyed, budget, pair, free, known); keyed);
+    let pair = question.pair;
+    let keyed = keyed(
+        known.alloc,
+        question.spec,
+        pair.first,
+        key.p,
+        pair.second,
+        key.q,
+    )?;
+    let found = or_drop!(find_in(&keyed, question.budget, pair, free, known); keyed);
     drop(keyed);
     Ok(KeyAnswer { key, found })
 }
 
 fn key_answers(
-    alloc: Global,
-    spec: &Spec,
-    budget: u32,
-    pair: Pair,
+    question: &Question,
     keys: &[Key],
     free: &[Obligation],
     known: &mut Known,
 ) -> Result<Items<KeyAnswer>, AllocError>
-    requires budget { 1 ≤ budget }
-    requires keyed { (k : Key) → Contains keys.now k
-        → CanBeKeyed spec.now pair.first k.p pair.second k.q }
-    requires free { HaveLogs (bare_of spec.now) budget free.now }
-    ensures { IfOk result (λ ys. AreKeyAnswers spec.now budget pair.first pair.second keys.now ys) }
+    requires keyed { let asked = question.now in (k : Key) → Contains keys.now k
+        → CanBeKeyed asked.spec.now asked.pair.first k.p asked.pair.second k.q }
+    requires free { HaveLogs (bare_of question.now.spec.now) question.now.budget free.now }
+    ensures { let asked = question.now in IfOk result
+        (λ ys. AreKeyAnswers asked.spec.now asked.budget asked.pair.first asked.pair.second
+        keys.now ys) }
 {
-    let mut answers = Items::new(alloc);
+    let mut answers = Items::new(known.alloc);
     for key in keys {
-        let answer = or_drop!(key_answer(alloc, spec, budget, pair, *key, free, known); answers);
+        let answer = or_drop!(key_answer(question, *key, free, known); answers);
         or_drop!(answers.push(answer); answers);
     }
     Ok(answers)
 }
 
 fn keys_for(
-    alloc: Global,
-    spec: &Spec,
-    budget: u32,
-    pair: Pair,
+    question: &Question,
     found: &Found,
     free: &[Obligation],
     known: &mut Known,
 ) -> Result<Items<KeyAnswer>, AllocError>
-    requires budget { 1 ≤ budget }
-    requires pair { IsPair spec.now pair.first pair.second }
-    requires free { HaveLogs (bare_of spec.now) budget free.now }
-    ensures { IfOk result
-        (λ ys. AreKeyAnswers spec.now budget pair.first pair.second
-        (keys_after found.now (keys_of spec.now pair.first pair.second)) ys) }
+    requires free { HaveLogs (bare_of question.now.spec.now) question.now.budget free.now }
+    ensures { let asked = question.now in IfOk result
+        (λ ys. AreKeyAnswers asked.spec.now asked.budget asked.pair.first asked.pair.second
+        (keys_after found.now (keys_of asked.spec.now asked.pair.first asked.pair.second)) ys) }
 {
     if !is_refuted(found) {
-        return Ok(Items::new(alloc));
+        return Ok(Items::new(known.alloc));
     }
-    let keys = list_keys(alloc, spec, pair)?;
-    let answers =
-        or_drop!(key_answers(alloc, spec, budget, pair, keys.as_slice(), free, known); keys);
+    let keys = list_keys(known.alloc, question.spec, question.pair)?;
+    let answers = or_drop!(key_answers(question, keys.as_slice(), free, known); keys);
     drop(keys);
     Ok(answers)
 }
 
-fn pair_answer(
-    alloc: Global,
-    spec: &Spec,
-    bare: &Spec,
-    budget: u32,
-    pair: Pair,
-) -> Result<PairAnswer, AllocError>
-    requires budget { 1 ≤ budget }
-    requires pair { IsPair spec.now pair.first pair.second }
-    requires bare { bare.now ≡ bare_of spec.now }
-    ensures { IfOk result (λ x. IsAnswer spec.now budget pair x) }
+fn pair_answer(alloc: Global, question: &Question) -> Result<PairAnswer, AllocError>
+    ensures { let asked = question.now in IfOk result
+        (λ x. IsAnswer asked.spec.now asked.budget asked.pair x) }
 {
+    let pair = question.pair;
     let mut known = Known::new(alloc);
     let mut proved = Items::new(alloc);
-    let found =
-        or_drop!(find_bare(alloc, bare, budget, pair, &mut known, &mut proved); known, proved);
+    let found = or_drop!(
+        find_bare(question.bare, question.budget, pair, &mut known, &mut proved);
+        known, proved
+    );
     let keys = or_drop!(
-        keys_for(alloc, spec, budget, pair, &found, proved.as_slice(), &mut known);
+        keys_for(question, &found, proved.as_slice(), &mut known);
         found, known, proved
     );
     drop(known);
@@ -132,7 +125,13 @@ fn pair_answers(
 {
     let mut answers = Items::new(alloc);
     for pair in pairs {
-        let answer = or_drop!(pair_answer(alloc, spec, bare, budget, *pair); answers);
+        let question = Question {
+            spec,
+            bare,
+            budget,
+            pair: *pair,
+        };
+        let answer = or_drop!(pair_answer(alloc, &question); answers);
         or_drop!(answers.push(answer); answers);
     }
     Ok(answers)

@@ -18,7 +18,7 @@ use items::Items;
 use obligation_list::Obligation;
 use proof_report::{Cause, Verdict};
 use spec_core::Spec;
-use std::alloc::{AllocError, Global};
+use std::alloc::AllocError;
 
 // What obligations come to of which the first is undecided.
 fn with_undecided(ob: Obligation, cause: Cause, rest: Found) -> Found
@@ -51,7 +51,6 @@ fn is_among(obligations: &[Obligation], ob: &Obligation) -> bool
 // What obligations come to, one after the other. The first one that is refuted settles it. The free ones, which are proved where nothing
 // conflicts, aren't decided anew. Those that are proved by a log of their own are added to a list.
 fn find(
-    alloc: Global,
     spec: &Spec,
     budget: u32,
     obligations: &[Obligation],
@@ -71,18 +70,17 @@ fn find(
         [] => Ok(Found::Proved),
         [ob, rest @ ..] => {
             if is_among(free, ob) {
-                return find(alloc, spec, budget, rest, free, known, proved);
+                return find(spec, budget, rest, free, known, proved);
             }
-            match known.decide(alloc, spec, ob, budget)? {
+            match known.decide(spec, ob, budget)? {
                 Verdict::Proved(log) => {
                     drop(log);
                     proved.push(*ob)?;
-                    find(alloc, spec, budget, rest, free, known, proved)
+                    find(spec, budget, rest, free, known, proved)
                 }
                 Verdict::Refuted(witness) => Ok(Found::Refuted(*ob, witness)),
                 Verdict::Undecided(cause) => {
-                    let found =
-                        or_drop!(find(alloc, spec, budget, rest, free, known, proved); cause);
+                    let found = or_drop!(find(spec, budget, rest, free, known, proved); cause);
                     Ok(with_undecided(*ob, cause, found))
                 }
             }
@@ -93,7 +91,6 @@ fn find(
 // What the obligations of a pair come to in a specification. The free ones aren't decided anew, and those that are proved by a log of
 // their own are added to a list.
 fn find_pair(
-    alloc: Global,
     spec: &Spec,
     budget: u32,
     pair: Pair,
@@ -109,9 +106,9 @@ fn find_pair(
     ensures proved { OnOk result (HaveLogs spec.now budget proved.new) }
 {
     spec.well_formed();
-    let obligations = list_pair(alloc, spec, pair)?;
+    let obligations = list_pair(known.alloc, spec, pair)?;
     let found = or_drop!(
-        find(alloc, spec, budget, obligations.as_slice(), free, known, proved);
+        find(spec, budget, obligations.as_slice(), free, known, proved);
         obligations
     );
     drop(obligations);
@@ -122,7 +119,6 @@ fn find_pair(
 /// them elsewhere are tried first, and new ones are added to them. Those that were proved are added to a list, up to the first one that is
 /// refuted.
 pub fn find_bare(
-    alloc: Global,
     spec: &Spec,
     budget: u32,
     pair: Pair,
@@ -135,14 +131,13 @@ pub fn find_bare(
     ensures fit { IfOk result (λ found. CanBeWritten spec.now found) }
     ensures proved { OnOk result (HaveLogs spec.now budget proved.new) }
 {
-    find_pair(alloc, spec, budget, pair, &[], known, proved)
+    find_pair(spec, budget, pair, &[], known, proved)
 }
 
 /// What the obligations of a pair come to in a specification, with logs of at most `budget` lines. The free ones, which are proved where
 /// nothing conflicts, aren't decided anew. Values that are known to break some of the others elsewhere are tried first, and new ones are
 /// added to them.
 pub fn find_in(
-    alloc: Global,
     spec: &Spec,
     budget: u32,
     pair: Pair,
@@ -154,8 +149,8 @@ pub fn find_in(
     ensures found { IfOk result (λ found. IsFoundIn spec.now budget pair.first pair.second found) }
     ensures fit { IfOk result (λ found. CanBeWritten spec.now found) }
 {
-    let mut proved = Items::new(alloc);
-    let found = or_drop!(find_pair(alloc, spec, budget, pair, free, known, &mut proved); proved);
+    let mut proved = Items::new(known.alloc);
+    let found = or_drop!(find_pair(spec, budget, pair, free, known, &mut proved); proved);
     drop(proved);
     Ok(found)
 }

@@ -23,6 +23,8 @@ const MOST: usize = 16;
 /// Values that broke obligations of a pair, each where other calls conflict.
 #[derive(Drop)]
 pub struct Known {
+    /// The allocator, for these values and for what is found with them.
+    pub alloc: Global,
     witnesses: Items<Witness>,
 }
 
@@ -90,15 +92,16 @@ impl Known {
     /// No values yet.
     pub fn new(alloc: Global) -> Known {
         Known {
+            alloc,
             witnesses: Items::new(alloc),
         }
     }
 
     // Keeps the values of a verdict that refutes.
-    fn note(&mut self, alloc: Global, verdict: &Verdict) -> Result<(), AllocError> {
+    fn note(&mut self, verdict: &Verdict) -> Result<(), AllocError> {
         match verdict {
             Verdict::Refuted(witness) if self.witnesses.len() < MOST => {
-                let copy = copied(alloc, witness)?;
+                let copy = copied(self.alloc, witness)?;
                 self.witnesses.push(copy)
             }
             _ => Ok(()),
@@ -108,7 +111,6 @@ impl Known {
     /// The verdict on an obligation, with logs of at most `budget` lines: by these values where they break it, else decided anew.
     pub fn decide(
         &mut self,
-        alloc: Global,
         spec: &Spec,
         ob: &Obligation,
         budget: u32,
@@ -118,11 +120,11 @@ impl Known {
         ensures good { IfOk result (λ v. IsGood spec.now budget ob.now (shown_verdict spec.now v)) }
         ensures fit { IfOk result (λ v. IsFit spec.now written_version ob.now v) }
     {
-        if let Some(verdict) = verdict_by(alloc, spec, ob, self.witnesses.as_slice())? {
+        if let Some(verdict) = verdict_by(self.alloc, spec, ob, self.witnesses.as_slice())? {
             return Ok(verdict);
         }
-        let verdict = decide(alloc, spec, ob, budget)?;
-        or_drop!(self.note(alloc, &verdict); verdict);
+        let verdict = decide(self.alloc, spec, ob, budget)?;
+        or_drop!(self.note(&verdict); verdict);
         Ok(verdict)
     }
 }

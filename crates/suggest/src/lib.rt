@@ -40,6 +40,7 @@ mod finding;
 mod known;
 mod law;
 mod listing;
+mod question;
 mod suggesting;
 mod writing;
 

@@ -14,6 +14,7 @@ ghost use Rattle.suggest.specs.declared.answer.Pair.{Pair};
 
 use crate::answer::{Pair, SuggestTally};
 use crate::listing::list_pairs;
+use crate::question::Question;
 use crate::writing::{write_end, write_head, write_pair};
 use byte_ports::{Sink, WriteOut, write_text};
 use conflict_variants::bare;
@@ -23,25 +24,19 @@ use std::alloc::Global;
 // Decides a pair, and writes its answer. Answers the tally with it.
 fn suggest_one<K: Sink>(
     alloc: Global,
-    spec: &Spec,
-    bare: &Spec,
-    budget: u32,
-    pair: Pair,
+    question: &Question,
     tally: SuggestTally,
     out: &mut K,
 ) -> Result<SuggestTally, WriteOut>
-    requires budget { 1 ≤ budget }
-    requires pair { IsPair spec.now pair.first pair.second }
-    requires bare { bare.now ≡ bare_of spec.now }
-    ensures pair { IsPairWritten spec.now budget pair (progress tally (K.held out.old))
-        (K.held out.new)
-        result }
+    ensures pair { let asked = question.now in
+        IsPairWritten asked.spec.now asked.budget asked.pair (progress tally (K.held out.old))
+        (K.held out.new) result }
     ensures fault { IfErr result
         (λ why. why ≡ Fault → IsFault (K.faults out.old) (K.faults out.new)) }
     ensures never_falls { K.faults out.old ≤ K.faults out.new }
 {
     let mut text = Vec::new(alloc);
-    let Ok(now) = write_pair(alloc, spec, bare, budget, pair, tally, &mut text) else {
+    let Ok(now) = write_pair(alloc, question, tally, &mut text) else {
         return Err(WriteOut::Memory);
     };
     match write_text(out, text.as_slice()) {
@@ -74,7 +69,13 @@ fn suggest_each<K: Sink>(
         unknown: 0,
     };
     for pair in pairs {
-        match suggest_one(alloc, spec, bare, budget, *pair, tally, out) {
+        let question = Question {
+            spec,
+            bare,
+            budget,
+            pair: *pair,
+        };
+        match suggest_one(alloc, &question, tally, out) {
             Ok(now) => tally = now,
             Err(why) => return Err(why),
         }

@@ -1,13 +1,13 @@
 // The text of an answer.
 
-ghost use Rattle.std.specs.Prelude.{◌≡◌, ◌≤◌, ◌++◌, ◌∷◌, [], suc, length, codes, OnOk, IfOk};
+ghost use Rattle.std.specs.Prelude.{◌≡◌, ◌++◌, ◌∷◌, [], suc, length, codes, OnOk, IfOk};
 ghost use Rattle.std.specs.List.{Contains};
 ghost use Rattle.obligation_list.specs.Obligations.{IsObligation};
 ghost use Rattle.proof_report.specs.Texts.{block_text, CanStand};
 ghost use Rattle.conflict_variants.specs.Bare.{bare as bare_of};
 ghost use Rattle.conflict_variants.specs.Keyed.{CanBeKeyed};
 ghost use Rattle.report_lines.specs.Words.{line_text};
-ghost use Rattle.suggest.specs.Pairs.{IsPair, pairs_of, keys_of};
+ghost use Rattle.suggest.specs.Pairs.{pairs_of, keys_of};
 ghost use Rattle.suggest.specs.Answers.{HaveLogs, is_refuted as is_refuted_of, keys_after};
 ghost use Rattle.suggest.specs.Answers.{with_answer};
 ghost use Rattle.suggest.specs.Texts.{param_name as param_name_of, found_text};
@@ -18,10 +18,11 @@ ghost use Rattle.suggest.specs.Writing.{IsBareAppended, IsPairAppended};
 ghost use Rattle.suggest.specs.declared.answer.Key.{Key};
 ghost use Rattle.suggest.specs.declared.answer.Found.{Found};
 
-use crate::answer::{Found, Key, Pair, SuggestTally};
+use crate::answer::{Found, Key, SuggestTally};
 use crate::finding::{find_bare, find_in};
 use crate::known::Known;
 use crate::listing::list_keys;
+use crate::question::Question;
 use conflict_variants::keyed;
 use items::Items;
 use itoa::Buffer;
@@ -108,77 +109,76 @@ fn param_name<'a>(spec: &'a Spec, op: u8, param: u8) -> &'a [u8]
 
 // Decides a pair at two parameters, and writes the answer.
 fn write_key(
-    alloc: Global,
-    spec: &Spec,
-    budget: u32,
-    pair: Pair,
+    question: &Question,
     key: Key,
     free: &[Obligation],
     known: &mut Known,
     text: &mut Vec<u8>,
 ) -> Result<(), AllocError>
-    requires budget { 1 ≤ budget }
-    requires keyed { CanBeKeyed spec.now pair.first key.p pair.second key.q }
-    requires free { HaveLogs (bare_of spec.now) budget free.now }
-    ensures { OnOk result (IsKeyAppended spec.now budget pair key text.old.items text.new.items) }
+    requires keyed { let asked = question.now in
+        CanBeKeyed asked.spec.now asked.pair.first key.p asked.pair.second key.q }
+    requires free { HaveLogs (bare_of question.now.spec.now) question.now.budget free.now }
+    ensures { let asked = question.now in OnOk result
+        (IsKeyAppended asked.spec.now asked.budget asked.pair key text.old.items text.new.items) }
 {
-    let keyed = keyed(alloc, spec, pair.first, key.p, pair.second, key.q)?;
-    let found = or_drop!(find_in(alloc, &keyed, budget, pair, free, known); keyed);
-    let first = param_name(spec, pair.first, key.p);
-    let second = param_name(spec, pair.second, key.q);
+    let pair = question.pair;
+    let keyed = keyed(
+        known.alloc,
+        question.spec,
+        pair.first,
+        key.p,
+        pair.second,
+        key.q,
+    )?;
+    let found = or_drop!(find_in(&keyed, question.budget, pair, free, known); keyed);
+    let first = param_name(question.spec, pair.first, key.p);
+    let second = param_name(question.spec, pair.second, key.q);
     or_drop!(write_words(text, key_word(&found), &[first, second]); keyed, found);
-    or_drop!(write_found(alloc, &keyed, found, text); keyed);
+    or_drop!(write_found(known.alloc, &keyed, found, text); keyed);
     drop(keyed);
     Ok(())
 }
 
 fn write_keys(
-    alloc: Global,
-    spec: &Spec,
-    budget: u32,
-    pair: Pair,
+    question: &Question,
     keys: &[Key],
     free: &[Obligation],
     known: &mut Known,
     text: &mut Vec<u8>,
 ) -> Result<(), AllocError>
-    requires budget { 1 ≤ budget }
-    requires keyed { (k : Key) → Contains keys.now k
-        → CanBeKeyed spec.now pair.first k.p pair.second k.q }
-    requires free { HaveLogs (bare_of spec.now) budget free.now }
-    ensures { OnOk result
-        (AreKeysAppended spec.now budget pair keys.now text.old.items text.new.items) }
+    requires keyed { let asked = question.now in (k : Key) → Contains keys.now k
+        → CanBeKeyed asked.spec.now asked.pair.first k.p asked.pair.second k.q }
+    requires free { HaveLogs (bare_of question.now.spec.now) question.now.budget free.now }
+    ensures { let asked = question.now in OnOk result
+        (AreKeysAppended asked.spec.now asked.budget asked.pair keys.now text.old.items
+        text.new.items) }
 {
     for key in keys {
-        write_key(alloc, spec, budget, pair, *key, free, known, text)?;
+        write_key(question, *key, free, known, text)?;
     }
     Ok(())
 }
 
 // Decides a needed pair at each two parameters of one sort, and writes the answers; a pair that isn't needed has none.
 fn write_keys_after(
-    alloc: Global,
-    spec: &Spec,
-    budget: u32,
-    pair: Pair,
+    question: &Question,
     needed: bool,
     free: &[Obligation],
     known: &mut Known,
     text: &mut Vec<u8>,
 ) -> Result<(), AllocError>
-    requires budget { 1 ≤ budget }
-    requires pair { IsPair spec.now pair.first pair.second }
-    requires free { HaveLogs (bare_of spec.now) budget free.now }
-    ensures { OnOk result
+    requires free { HaveLogs (bare_of question.now.spec.now) question.now.budget free.now }
+    ensures { let asked = question.now in OnOk result
         ((f : Found) → needed ≡ is_refuted_of f
-        → AreKeysAppended spec.now budget pair
-        (keys_after f (keys_of spec.now pair.first pair.second)) text.old.items text.new.items) }
+        → AreKeysAppended asked.spec.now asked.budget asked.pair
+        (keys_after f (keys_of asked.spec.now asked.pair.first asked.pair.second))
+        text.old.items text.new.items) }
 {
     if !needed {
         return Ok(());
     }
-    let keys = list_keys(alloc, spec, pair)?;
-    or_drop!(write_keys(alloc, spec, budget, pair, keys.as_slice(), free, known, text); keys);
+    let keys = list_keys(known.alloc, question.spec, question.pair)?;
+    or_drop!(write_keys(question, keys.as_slice(), free, known, text); keys);
     drop(keys);
     Ok(())
 }
@@ -223,59 +223,49 @@ fn with_found(tally: SuggestTally, found: &Found) -> Result<SuggestTally, AllocE
 // Writes what a pair comes to in the bare specification, and counts it. Answers whether it is needed, and the tally. Obligations that were
 // proved are added to a list.
 fn write_bare(
-    alloc: Global,
-    spec: &Spec,
-    bare: &Spec,
-    budget: u32,
-    pair: Pair,
+    question: &Question,
     tally: SuggestTally,
     known: &mut Known,
     proved: &mut Items<Obligation>,
     text: &mut Vec<u8>,
 ) -> Result<(bool, SuggestTally), AllocError>
-    requires budget { 1 ≤ budget }
-    requires bare { bare.now ≡ bare_of spec.now }
-    requires proved { HaveLogs (bare_of spec.now) budget proved.old }
-    ensures text { IfOk result
-        (λ x. IsBareAppended spec.now budget pair (draft tally text.old.items) x.0
+    requires proved { HaveLogs (bare_of question.now.spec.now) question.now.budget proved.old }
+    ensures text { let asked = question.now in IfOk result
+        (λ x. IsBareAppended asked.spec.now asked.budget asked.pair (draft tally text.old.items) x.0
         (draft x.1 text.new.items)) }
-    ensures proved { OnOk result (HaveLogs (bare_of spec.now) budget proved.new) }
+    ensures proved { OnOk result
+        (HaveLogs (bare_of question.now.spec.now) question.now.budget proved.new) }
 {
-    let found = find_bare(alloc, bare, budget, pair, known, proved)?;
+    let pair = question.pair;
+    let found = find_bare(question.bare, question.budget, pair, known, proved)?;
     let needed = is_refuted(&found);
     let now = or_drop!(with_found(tally, &found); found);
-    let first = operation_name(spec, pair.first);
-    let second = operation_name(spec, pair.second);
+    let first = operation_name(question.spec, pair.first);
+    let second = operation_name(question.spec, pair.second);
     or_drop!(write_words(text, pair_word(&found), &[first, second]); found);
-    write_found(alloc, bare, found, text)?;
+    write_found(known.alloc, question.bare, found, text)?;
     Ok((needed, now))
 }
 
 /// Decides a pair, in the bare specification and, where it is needed, in each keyed one; appends the answer's text, and counts it.
 pub fn write_pair(
     alloc: Global,
-    spec: &Spec,
-    bare: &Spec,
-    budget: u32,
-    pair: Pair,
+    question: &Question,
     tally: SuggestTally,
     text: &mut Vec<u8>,
 ) -> Result<SuggestTally, AllocError>
-    requires budget { 1 ≤ budget }
-    requires pair { IsPair spec.now pair.first pair.second }
-    requires bare { bare.now ≡ bare_of spec.now }
-    ensures { IfOk result
-        (λ now. IsPairAppended spec.now budget pair (draft tally text.old.items)
+    ensures { let asked = question.now in IfOk result
+        (λ now. IsPairAppended asked.spec.now asked.budget asked.pair (draft tally text.old.items)
         (draft now text.new.items)) }
 {
     let mut known = Known::new(alloc);
     let mut proved = Items::new(alloc);
     let written = or_drop!(
-        write_bare(alloc, spec, bare, budget, pair, tally, &mut known, &mut proved, text);
+        write_bare(question, tally, &mut known, &mut proved, text);
         known, proved
     );
     or_drop!(
-        write_keys_after(alloc, spec, budget, pair, written.0, proved.as_slice(), &mut known, text);
+        write_keys_after(question, written.0, proved.as_slice(), &mut known, text);
         known, proved
     );
     drop(known);

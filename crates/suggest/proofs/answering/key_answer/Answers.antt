@@ -6,8 +6,10 @@ use Rattle.suggest.proofs.answering.key_answer.Goals as goal
 
 pub find_in-requires-clause-free : goal.find_in-requires-clause-free
 find_in-requires-clause-free c =
-    free_at_key c.args.spec.now c.args.budget c.args.pair.first c.args.key.p c.args.pair.second c.args.key.q c.in_ok-keyed.keyed c.args.free.now c.in_ok-keyed.ensures c.requires.free
+    let asked = c.args.question.now in
+    free_at_key asked.spec.now asked.budget asked.pair.first c.args.key.p asked.pair.second c.args.key.q c.in_ok-keyed.keyed c.args.free.now c.in_ok-keyed.ensures c.requires.free
 
 pub returns-clause-found : goal.returns-clause-found
 returns-clause-found c =
-    subst (λ (s : Specification). IsFoundIn s c.args.budget c.args.pair.first c.args.pair.second c.in-Ok.value) c.in_ok-keyed.ensures c.in-Ok.ensures.found
+    let asked = c.args.question.now in
+    subst (λ (s : Specification). IsFoundIn s asked.budget asked.pair.first asked.pair.second c.in-Ok.value) c.in_ok-keyed.ensures c.in-Ok.ensures.found

@@ -13,9 +13,12 @@ key_answer-requires-clause-keyed c =
 
 pub loop-key-preserved : goal.loop-key-preserved
 loop-key-preserved c =
-    subst (λ (ys : List KeyAnswer). AreKeyAnswers c.args.spec.now c.args.budget c.args.pair.first c.args.pair.second (take (c.loop-key.key-index + 1) c.args.keys.now) ys) (sym c.in-Ok-push.ensures.ok)
-    (key_answered c.args.spec.now c.args.budget c.args.pair c.args.keys.now c.loop-key.key-index (record { p = 0; q = 0 }) c.loop-key.answers c.in-Ok.value
+    let asked = c.args.question.now in
+    subst (λ (ys : List KeyAnswer). AreKeyAnswers asked.spec.now asked.budget asked.pair.first asked.pair.second (take (c.loop-key.key-index + 1) c.args.keys.now) ys) (sym c.in-Ok-push.ensures.ok)
+    (key_answered asked.spec.now asked.budget asked.pair c.args.keys.now c.loop-key.key-index (record { p = 0; q = 0 }) c.loop-key.answers c.in-Ok.value
     c.loop-key-test.true c.loop-key.invariant c.in-Ok.ensures.key c.in-Ok.ensures.found)
 
 pub returns : goal.returns
-returns c = all_answered c.args.spec.now c.args.budget c.args.pair c.args.keys.now c.loop-key.key-index c.loop-key.answers c.loop-key-test.false c.loop-key.auto.key-index-end c.loop-key.invariant
+returns c =
+    let asked = c.args.question.now in
+    all_answered asked.spec.now asked.budget asked.pair c.args.keys.now c.loop-key.key-index c.loop-key.answers c.loop-key-test.false c.loop-key.auto.key-index-end c.loop-key.invariant

@@ -6,8 +6,8 @@ use Rattle.suggest.specs.declared.answer.PairAnswer.{PairAnswer}
 use Rattle.suggest.proofs.Written.{pair_answered, all_answered}
 use Rattle.suggest.proofs.answering.pair_answers.Goals as goal
 
-pub pair_answer-requires-clause-pair : goal.pair_answer-requires-clause-pair
-pair_answer-requires-clause-pair c =
+pub invariant_of-question-clause-is_pair : goal.invariant_of-question-clause-is_pair
+invariant_of-question-clause-is_pair c =
     let p : Pair = record { first = 0; second = 0 } in
     c.requires.members (get_or c.args.pairs.now c.loop-pair.pair-index p) (Contains-get_or c.args.pairs.now c.loop-pair.pair-index p c.loop-pair-test.true)
 

@@ -6,8 +6,8 @@ use Rattle.suggest.specs.declared.answer.Pair.{Pair}
 use Rattle.suggest.proofs.Written.{none_written, next_written, stopped_written, all_written}
 use Rattle.suggest.proofs.suggesting.suggest_each.Goals as goal
 
-pub suggest_one-requires-clause-pair : goal.suggest_one-requires-clause-pair
-suggest_one-requires-clause-pair g c =
+pub invariant_of-question-clause-is_pair : goal.invariant_of-question-clause-is_pair
+invariant_of-question-clause-is_pair g c =
     let p : Pair = record { first = 0; second = 0 } in
     c.requires.members (get_or c.args.pairs.now c.loop-pair.pair-index p) (Contains-get_or c.args.pairs.now c.loop-pair.pair-index p c.loop-pair-test.true)
 

@@ -11,12 +11,14 @@ pub returns-in-Ok-write_text-clause-pair : goal.returns-in-Ok-write_text-clause-
 returns-in-Ok-write_text-clause-pair g c =
     let o : c.new-text.result.items ≡ [] = grind (arith, common_steps) in
     let e : c.as_slice.result.now ≡ c.write_pair.new.text.items = grind (arith, common_steps) in
-    text_written c.args.spec.now c.args.budget c.args.pair c.args.tally c.in-Ok.now c.new-text.result.items c.write_pair.new.text.items c.as_slice.result.now
+    let asked = c.args.question.now in
+    text_written asked.spec.now asked.budget asked.pair c.args.tally c.in-Ok.now c.new-text.result.items c.write_pair.new.text.items c.as_slice.result.now
     (g.K.Sink.held c.args.out.now) (g.K.Sink.held c.write_text.new.out) o e c.in-Ok.ensures c.in-Ok-write_text.ensures.text
 
 pub returns-clause-pair : goal.returns-clause-pair
 returns-clause-pair g c =
     let o : c.new-text.result.items ≡ [] = grind (arith, common_steps) in
     let e : c.as_slice.result.now ≡ c.write_pair.new.text.items = grind (arith, common_steps) in
-    text_stopped c.args.spec.now c.args.budget c.args.pair c.args.tally c.in-Ok.now c.new-text.result.items c.write_pair.new.text.items c.as_slice.result.now
+    let asked = c.args.question.now in
+    text_stopped asked.spec.now asked.budget asked.pair c.args.tally c.in-Ok.now c.new-text.result.items c.write_pair.new.text.items c.as_slice.result.now
     (g.K.Sink.held c.args.out.now) (g.K.Sink.held c.write_text.new.out) c.in-Err.why o e c.in-Ok.ensures c.in-Err.ensures.kind c.in-Err.ensures.text
