@@ -5,7 +5,8 @@ ghost use Rattle.spec_core.specs.Meaning.{invariant_line};
 ghost use Rattle.spec_core.specs.Specification.{op_of, places_of};
 ghost use Rattle.obligation_list.specs.Breaking as breaking;
 ghost use Rattle.obligation_list.specs.Obligations.{IsObligation};
-ghost use Rattle.ground_problem.specs.Constants.{constants_of, sorts_of_params, chosen_vars, chosen_from, concatenated, all_chosen_from};
+ghost use Rattle.ground_problem.specs.Constants.{constants_of, sorts_of_params, chosen_vars};
+ghost use Rattle.ground_problem.specs.Constants.{chosen_from, concatenated, all_chosen_from};
 ghost use Rattle.ground_atoms.specs.Calls.{args_from, ints_among, calls_from, calls_of};
 ghost use Rattle.ground_groups.specs.Calls.{constants_in};
 

@@ -1,8 +1,7 @@
 // What the ground problems of obligations leave for others of their specification.
 //
-// An entry and pairs of readings serve obligations whose constants are alike, and those don't stand in a row. So some are kept, as
-// `EntryCache` keeps entries alone. Eviction is by last use: what was used the longest ago goes first, where they are more than 128 or have
-// more than 240,000 formulas.
+// An entry and pairs of readings serve obligations whose constants are alike, and those don't stand in a row. So some are kept. Eviction is
+// by last use: what was used the longest ago goes first, where they are more than 128 or have more than 240,000 formulas.
 ghost use Rattle.spec_core.specs.Specification.{Specification};
 ghost use Rattle.obligation_list.specs.Obligations.{IsObligation};
 ghost use Rattle.lazy_ground.specs.Kept.{IsKept};

@@ -1,7 +1,9 @@
 // Whether a problem is a part of another one, by a look at its atoms and clauses.
-ghost use Rattle.std.specs.Prelude.{◌≡◌, ◌<◌, suc, [], length, map, slice_get, slice_index_or, IsTrue, IfOk, Some};
+ghost use Rattle.std.specs.Prelude.{◌≡◌, ◌<◌, suc, [], length, map, slice_get, slice_index_or};
+ghost use Rattle.std.specs.Prelude.{IsTrue, IfOk, Some};
 ghost use Rattle.proof_lines.specs.Clauses.{lit_of};
-ghost use Rattle.needed_clauses.specs.Renaming.{number_in, lit_by, IsPart, Rise, HaveKinds, HaveLiterals, HaveClauses};
+ghost use Rattle.needed_clauses.specs.Renaming.{number_in, lit_by, IsPart, Rise, HaveKinds};
+ghost use Rattle.needed_clauses.specs.Renaming.{HaveLiterals, HaveClauses};
 
 use lin_rows::same_row;
 use proof_lines::{AtomKind, Lit, Problem};

@@ -7,7 +7,8 @@ ghost use Rattle.std.proofs.Common.{inl, inr};
 ghost use Rattle.report_lines.specs.Formats.{both, mapped};
 ghost use Rattle.report_lines.specs.Fields.{count_format};
 ghost use Rattle.report_lines.specs.Evidence.{rows_format, product_words, values_words, to_range};
-ghost use Rattle.report_lines.specs.Evidence.{range_word as range_word_of, what_words, range_format};
+ghost use Rattle.report_lines.specs.Evidence.{range_word as range_word_of, what_words};
+ghost use Rattle.report_lines.specs.Evidence.{range_format};
 ghost use Rattle.report_lines.specs.Words.{left, spaced, line_text, Gives};
 
 use crate::fields::count;

@@ -1,7 +1,8 @@
 // Fields of numbers.
 
 ghost use Rattle.report_lines.specs.Formats.{number, both, behind};
-ghost use Rattle.report_lines.specs.Fields.{count_format, integer_format, value_format, element_format};
+ghost use Rattle.report_lines.specs.Fields.{count_format, integer_format, value_format};
+ghost use Rattle.report_lines.specs.Fields.{element_format};
 ghost use Rattle.report_lines.specs.Words.{left, Gives};
 
 use crate::digits::{word_integer, word_number};

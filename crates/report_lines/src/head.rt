@@ -1,7 +1,8 @@
 // The lines that stand once in a report: what they say, and reading them.
 
 ghost use Rattle.std.specs.Prelude.{◌≡◌, ◌∷◌, ◌++◌, [], codes, OnOk};
-ghost use Rattle.report_lines.specs.Heads.{title_format, budget_format, obligations_format, summary_format, outcome_format};
+ghost use Rattle.report_lines.specs.Heads.{title_format, budget_format, obligations_format};
+ghost use Rattle.report_lines.specs.Heads.{summary_format, outcome_format};
 ghost use Rattle.report_lines.specs.Words.{left, line_text, Gives};
 
 use crate::fields::{behind, number};

@@ -11,11 +11,14 @@ ghost use Rattle.obligation_list.specs.Obligations.{IsObligation};
 ghost use Rattle.report_lines.specs.declared.witness.Due.{Due};
 ghost use Rattle.report_lines.specs.Words.{is_part, line_text};
 ghost use Rattle.report_lines.specs.Formats.{IsLine};
-ghost use Rattle.report_lines.specs.Heads.{title_format, budget_format, obligations_format, summary_format, outcome_format};
+ghost use Rattle.report_lines.specs.Heads.{title_format, budget_format, obligations_format};
+ghost use Rattle.report_lines.specs.Heads.{summary_format, outcome_format};
 ghost use Rattle.report_lines.specs.Blocks.{obligation_format, verdict_format};
 ghost use Rattle.report_lines.specs.Logs.{log_format};
 ghost use Rattle.report_lines.specs.Evidence.{rows_format, range_format};
-ghost use Rattle.report_lines.specs.Witnesses.{relation_names, counter_names, is_other, size_format, const_format, fact_format, reading_format, shown_format};
+ghost use Rattle.report_lines.specs.Witnesses.{relation_names, counter_names, is_other};
+ghost use Rattle.report_lines.specs.Witnesses.{size_format, const_format, fact_format};
+ghost use Rattle.report_lines.specs.Witnesses.{reading_format, shown_format};
 
 /// The lines that stand once.
 pub fn law_heads()

@@ -5,7 +5,8 @@ ghost use Rattle.std.specs.Fmt.{decimal, signed_decimal};
 ghost use Rattle.proof_lines.specs.declared.line.Line.TheVariants.{Resolve, Farkas, Drop};
 ghost use Rattle.std.proofs.Common.{inl, inr};
 ghost use Rattle.report_lines.specs.Formats.{mapped};
-ghost use Rattle.report_lines.specs.Logs.{used_words, resolve_words, decision_words, split_words, drop_words, to_line, line_format, may_stand, log_format};
+ghost use Rattle.report_lines.specs.Logs.{used_words, resolve_words, decision_words, split_words};
+ghost use Rattle.report_lines.specs.Logs.{drop_words, to_line, line_format, may_stand, log_format};
 ghost use Rattle.report_lines.specs.Words.{left, spaced, Gives, line_text};
 
 use crate::evidence::RowsLine;

@@ -4,8 +4,12 @@ ghost use Rattle.std.specs.Prelude.{◌≡◌, ◌<◌, ℕ, [], OnOk, OnErr, If
 ghost use Rattle.spec_core.specs.Specification.{Specification};
 ghost use Rattle.report_lines.specs.declared.witness.Shown.TheVariants.{At};
 ghost use Rattle.proof_report.specs.Events.{told as told_of};
-ghost use Rattle.proof_report.specs.Feeding.{after, begun, log_ended, log_left, one_less, no_witness, no_world, at_consts, at_sizes, sized, named, fact_at, reading_at, call_at, showed, shown_at, put_at};
-ghost use Rattle.report_reader.specs.Reader.{IsKept, IsEnd, Tells, begun_end, log_end_at, ended_by, begin_of, log_of_event, end_refuted};
+ghost use Rattle.proof_report.specs.Feeding.{after, begun, log_ended, log_left, one_less};
+ghost use Rattle.proof_report.specs.Feeding.{no_witness, no_world, at_consts, at_sizes, sized};
+ghost use Rattle.proof_report.specs.Feeding.{named, fact_at, reading_at, call_at, showed, shown_at};
+ghost use Rattle.proof_report.specs.Feeding.{put_at};
+ghost use Rattle.report_reader.specs.Reader.{IsKept, IsEnd, Tells, begun_end, log_end_at, ended_by};
+ghost use Rattle.report_reader.specs.Reader.{begin_of, log_of_event, end_refuted};
 
 use crate::showing::witness;
 use items::Items;

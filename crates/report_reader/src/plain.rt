@@ -1,6 +1,7 @@
 // Plain numbers of a line, read where they stand: of a few digits, before a space or at the end. Most numbers of a log are such.
 
-ghost use Rattle.std.specs.Prelude.{◌≡◌, ◌<◌, ◌≤◌, ℕ, List, [], Some, IfSome, true, length, take, slice_index_or};
+ghost use Rattle.std.specs.Prelude.{◌≡◌, ◌<◌, ◌≤◌, ℕ, List, [], Some, IfSome, true, length, take};
+ghost use Rattle.std.specs.Prelude.{slice_index_or};
 ghost use Rattle.std.specs.List.{list_all};
 ghost use Rattle.std.specs.Prelude.{codes};
 ghost use Rattle.word_cut.specs.Texts.{is_digit};

@@ -4,9 +4,14 @@ ghost use Rattle.std.specs.Prelude.{◌≡◌, ◌==◌, ◌≤◌, length, ℕ}
 ghost use Rattle.obligation_list.specs.Obligations.{obligations_of};
 ghost use Rattle.report_lines.specs.Formats.{read as read_as};
 ghost use Rattle.report_lines.specs.Words.{left, parts, Gives};
-ghost use Rattle.proof_report.specs.Verdicts.{obligation_at, obligation_count, const_at, may_drop, relation_due, counter_due};
+ghost use Rattle.proof_report.specs.Verdicts.{obligation_at, obligation_count, const_at, may_drop};
+ghost use Rattle.proof_report.specs.Verdicts.{relation_due, counter_due};
 ghost use Rattle.proof_report.specs.Events.{told as told_of};
-ghost use Rattle.proof_report.specs.Feeding.{last_of, line_at, title_line, budget_line, count_line, opened_line, begin_line, log_line, size_line, const_line, shown_line, rows_line, range_line, summary_line, last_line, due_line, drops_in, due_facts, due_readings, due_calls};
+ghost use Rattle.proof_report.specs.Feeding.{last_of, line_at, title_line, budget_line, count_line};
+ghost use Rattle.proof_report.specs.Feeding.{opened_line, begin_line, log_line, size_line};
+ghost use Rattle.proof_report.specs.Feeding.{const_line, shown_line, rows_line, range_line};
+ghost use Rattle.proof_report.specs.Feeding.{summary_line, last_line, due_line, drops_in};
+ghost use Rattle.proof_report.specs.Feeding.{due_facts, due_readings, due_calls};
 
 use crate::elements::element_count;
 use crate::saying::{all_told, obligation_due, told};

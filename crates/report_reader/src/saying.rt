@@ -4,9 +4,11 @@ ghost use Rattle.std.specs.Prelude.{◌≡◌, ◌==◌, ◌≤◌, length};
 ghost use Rattle.std.specs.Ordering.{nat_cmp, is_lt};
 ghost use Rattle.std.specs.Cmp.Lexicographic.{slice_cmp};
 ghost use Rattle.obligation_list.specs.Obligations.{obligations_of};
-ghost use Rattle.proof_report.specs.Verdicts.{obligation_at, obligation_count, call_count, stands_before, fact_behind, reading_behind};
+ghost use Rattle.proof_report.specs.Verdicts.{obligation_at, obligation_count, call_count};
+ghost use Rattle.proof_report.specs.Verdicts.{stands_before, fact_behind, reading_behind};
 ghost use Rattle.proof_report.specs.Events.{told};
-ghost use Rattle.proof_report.specs.Feeding.{last_of, says, may_show, call_or_end, same_tally, same_outcome};
+ghost use Rattle.proof_report.specs.Feeding.{last_of, says, may_show, call_or_end, same_tally};
+ghost use Rattle.proof_report.specs.Feeding.{same_outcome};
 
 use obligation_list::Obligation;
 use proof_report::event::Event;

@@ -4,7 +4,8 @@ ghost use Rattle.std.specs.Prelude.{◌≡◌, ◌<◌, true, length, IfOk, OnOk
 ghost use Rattle.std.specs.List.{list_all};
 ghost use Rattle.spec_core.specs.State.{reads, with_has, with_count};
 ghost use Rattle.spec_core.specs.Fits.{is_state};
-ghost use Rattle.report_reader.specs.Reader.{with_facts, with_readings, fact_fits, reading_fits, IsShowing, IsShownBy};
+ghost use Rattle.report_reader.specs.Reader.{with_facts, with_readings, fact_fits, reading_fits};
+ghost use Rattle.report_reader.specs.Reader.{IsShowing, IsShownBy};
 
 use items::Items;
 use obligation_list::Witness;

@@ -4,7 +4,8 @@ ghost use Rattle.std.specs.Prelude.{◌≡◌, ℕ, ◌≤◌, true, List, lengt
 ghost use Rattle.spec_core.specs.Specification.{Specification};
 ghost use Rattle.spec_core.specs.Typed.{is_specification};
 ghost use Rattle.report_lines.specs.declared.head.Tally.{Tally};
-ghost use Rattle.report_verifier.specs.Verified.{most_report_bytes, IsAccepted, IsVerified, IsOnAll};
+ghost use Rattle.report_verifier.specs.Verified.{most_report_bytes, IsAccepted, IsVerified};
+ghost use Rattle.report_verifier.specs.Verified.{IsOnAll};
 ghost use Rattle.report_verifier.specs.declared.refused.VerifyRefused.{VerifyRefused};
 ghost use Rattle.report_upgrader.specs.Upgrading.{IsUpgradedText};
 

@@ -3,7 +3,8 @@
 // Lines for which only themselves are written are copied together: any other line ends such a run, and so do
 // 64 KiB. What is gathered is written as soon as it is so much, so that no
 // more than that is held of a log that has millions of lines.
-ghost use Rattle.std.specs.Prelude.{◌≡◌, ℕ, ◌+◌, ◌<◌, ◌≤◌, ◌++◌, [], List, Option, drop, length, take};
+ghost use Rattle.std.specs.Prelude.{◌≡◌, ℕ, ◌+◌, ◌<◌, ◌≤◌, ◌++◌, [], List, Option, drop, length};
+ghost use Rattle.std.specs.Prelude.{take};
 ghost use Rattle.std.specs.Prelude.{IfErr, IfOk, OnErr, OnOk};
 ghost use Rattle.byte_ports.specs.Faults.{IsFault};
 ghost use Rattle.byte_ports.specs.Written.{IsFrontWritten};
@@ -14,7 +15,8 @@ ghost use Rattle.report_upgrader.specs.UpgradedLogs.{upgraded};
 ghost use Rattle.report_bytes.specs.Bytes.{pieces};
 ghost use Rattle.report_verifier.specs.Notes.{IsLong, IsPair, AreNoted};
 ghost use Rattle.report_upgrader.specs.Plans.{written_for};
-ghost use Rattle.report_upgrader.specs.Passing.{proved_text, say_log, IsText, IsPlanned, IsGathered};
+ghost use Rattle.report_upgrader.specs.Passing.{proved_text, say_log, IsText, IsPlanned};
+ghost use Rattle.report_upgrader.specs.Passing.{IsGathered};
 
 use crate::gathering::write_much;
 use crate::log_bytes::{behind_line, is_copied, put_line};

@@ -3,7 +3,8 @@
 // A clause is dropped behind the last line that names it, so the lines are gone through from the last one on: then it is known at each
 // line which clauses the later ones name. A table of these has a byte for each clause, and at most an eighth more; the plan has a byte for
 // each line. How many lines the upgraded log has comes with it, which stands before the log.
-ghost use Rattle.std.specs.Prelude.{◌≡◌, ℕ, ◌+◌, ◌==◌, ◌<◌, ◌≤◌, ◌||◌, ◌∷◌, [], List, false, length};
+ghost use Rattle.std.specs.Prelude.{◌≡◌, ℕ, ◌+◌, ◌==◌, ◌<◌, ◌≤◌, ◌||◌, ◌∷◌, [], List, false};
+ghost use Rattle.std.specs.Prelude.{length};
 ghost use Rattle.std.specs.Prelude.{slice_index_or, IfOk, OnOk};
 ghost use Rattle.proof_lines.specs.declared.line.Line.{Line as Given};
 ghost use Rattle.report_upgrader.specs.UpgradedLogs.{upgraded};

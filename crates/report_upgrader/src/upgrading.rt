@@ -3,7 +3,8 @@ ghost use Rattle.std.specs.Prelude.{◌≡◌, ℕ, ◌+◌, ◌≤◌, [], List
 ghost use Rattle.std.specs.Io.KnownBytes.{IsAtEnd, Consumes};
 ghost use Rattle.byte_ports.specs.Faults.{IsFault};
 ghost use Rattle.report_verifier.specs.Verified.{most_report_bytes, IsVerified};
-ghost use Rattle.report_upgrader.specs.Upgrading.{refused_as, IsUpgraded, IsUpgradedFrom, IsOnAll, IsUnwritten};
+ghost use Rattle.report_upgrader.specs.Upgrading.{refused_as, IsUpgraded, IsUpgradedFrom, IsOnAll};
+ghost use Rattle.report_upgrader.specs.Upgrading.{IsUnwritten};
 
 use crate::log_writing::LeftLines;
 use crate::refused::UpgradeRefused;
