@@ -1,2 +1,3 @@
 mod Wholes
 mod Same
+mod Drops

@@ -1,5 +1,7 @@
-// Whether two logs are the same, line by line.
-ghost use Rattle.std.specs.Prelude.{◌≡◌, IsTrue};
+// Whether lines are those of a log that drop no clause.
+ghost use Rattle.std.specs.Prelude.{◌≡◌, ◌∷◌, List, IsTrue, IfSome};
+ghost use Rattle.proof_lines.specs.declared.line.Line.{Line as LogLine};
+ghost use Rattle.lazy_logs.specs.Drops.{without_drops};
 
 use proof_lines::{Line, Lit, RowStep};
 
@@ -42,17 +44,32 @@ fn same_line(one: &Line, other: &Line) -> bool
     }
 }
 
-/// Whether two logs have the same lines.
-pub fn same_lines(one: &[Line], other: &[Line]) -> bool
-    ensures { IsTrue result → one.now ≡ other.now }
+// What is left of lines behind the next one of a log, where that is the first of them or drops clauses.
+fn behind_line<'a>(rest: &'a [Line], line: &Line) -> Option<&'a [Line]>
+    ensures { IfSome result (λ behind. (later : List LogLine) → behind.now ≡ without_drops later
+        → rest.now ≡ without_drops (line.now ∷ later)) }
 {
-    if one.len() != other.len() {
-        return false;
+    if let Line::Drop { .. } = line {
+        return Some(rest);
     }
-    for place in 0..one.len() {
-        if !same_line(&one[place], &other[place]) {
-            return false;
+    let (first, behind) = rest.split_first()?;
+    if same_line(first, line) {
+        Some(behind)
+    } else {
+        None
+    }
+}
+
+/// Whether these are the lines of a log that drop no clause.
+pub fn are_without_drops(own: &[Line], lines: &[Line]) -> bool
+    ensures { IsTrue result → own.now ≡ without_drops lines.now }
+{
+    let mut rest = own;
+    for line in lines {
+        match behind_line(rest, line) {
+            Some(behind) => rest = behind,
+            None => return false,
         }
     }
-    true
+    rest.is_empty()
 }

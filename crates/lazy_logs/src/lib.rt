@@ -6,18 +6,24 @@
 // back, they have to be the lines of the log; then the whole problem's kernel takes the log too, as is proved of logs of a part
 // (`needed_clauses`).
 //
+// Lines that drop clauses give none and move no number, so they are left out of all this. The log is accepted with them where it is
+// without them and each line names and drops only clauses that are left by then (src/dropping.rt; proofs/Drops has the law).
+//
 // So the whole problem isn't made. Where a log isn't known to refute it, nothing is said: the kernel has to take it on the whole
 // problem.
 //
-// Definitions: specs/Refuted (when a log refutes a problem).
+// Definitions: specs/Refuted (when a log refutes a problem), specs/Drops (a log without its lines that drop clauses, and when
+// these stand).
 //
 // Decisions:
-// - A log of any other lines than Resolve and Farkas, and one that names a clause or an atom that no
-//   clause of the part has, isn't looked at further.
+// - A log with a Split line, and one that names a clause or an atom that no clause of the part has, isn't looked at further.
+// - What is left is noted for each clause of the whole problem, a byte each, and not for those alone that the log names: a number is
+//   found at once.
 #![tactic(auto)]
 
 mod choosing;
 mod comparing;
+mod dropping;
 mod refuting;
 mod renaming;
 

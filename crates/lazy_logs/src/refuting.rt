@@ -8,7 +8,8 @@ ghost use Rattle.lazy_search.specs.Refuting.{AreSizes, AreOf};
 ghost use Rattle.lazy_logs.specs.Refuted.{Refutes};
 
 use crate::choosing::{add_named, literals_used, number_of_empty, numbers_named, picks_of};
-use crate::comparing::same_lines;
+use crate::comparing::are_without_drops;
+use crate::dropping::drops_well;
 use crate::renaming::lines_in;
 use items::{Items, or_drop};
 use lazy_ground::LazyGround;
@@ -31,7 +32,7 @@ fn is_accepted(alloc: Global, problem: &Problem, lines: &[Line]) -> Result<bool,
     }
 }
 
-// Whether lines of a part, which are accepted there, are those of a log.
+// Whether lines of a part, which are accepted there, are those of a log that drop no clause, and its others drop clauses as they may.
 fn are_of_log(
     alloc: Global,
     ground: &LazyGround,
@@ -54,7 +55,12 @@ fn are_of_log(
     let numbers = part.picks.numbers.as_slice();
     let atoms = part.atoms.as_slice();
     let log = renumbered(alloc, numbers, sizes.clauses, atoms, sizes.atoms, own)?;
-    Ok(same_lines(log.as_slice(), lines))
+    let same = are_without_drops(log.as_slice(), lines);
+    drop(log);
+    if !same {
+        return Ok(false);
+    }
+    drops_well(alloc, sizes.clauses, lines)
 }
 
 // Whether a log is accepted on a part.

@@ -1,4 +1,4 @@
-// The lines of a log with the numbers that its clauses and atoms have in a part.
+// The lines of a log that drop no clause, with the numbers that its clauses and atoms have in a part.
 //
 // Nothing is promised of them: with the numbers of the whole, they are compared with the log.
 use items::{Items, or_drop};
@@ -71,7 +71,8 @@ fn line_in(
     }
 }
 
-/// The lines over the numbers of a part, where the whole has so many clauses; nothing where one names what isn't in the part.
+/// The lines that drop no clause, over the numbers of a part, where the whole has so many clauses; nothing where one names what isn't
+/// in the part.
 pub fn lines_in(
     alloc: Global,
     part: &Part,
@@ -80,6 +81,9 @@ pub fn lines_in(
 ) -> Result<Option<Items<Line>>, AllocError> {
     let mut renamed = Items::from_vec(Vec::with_capacity(alloc, lines.len())?);
     for line in lines {
+        if let Line::Drop { .. } = line {
+            continue;
+        }
         match line_in(alloc, part, many, line) {
             Ok(Some(line)) => renamed.push(line)?,
             Ok(None) => {
