@@ -1,8 +1,9 @@
 // The log of a proved verdict, whose lines are deferred to its end.
 //
-// A log names few of the clauses of its obligation's problem, and most that prove are accepted over these alone (`lazy_logs`). So the whole
-// problem isn't made before the lines are there. Where they aren't known to refute it, where a line is of another kind, and where there
-// is no room for more of them, the whole problem is made, and its kernel takes the lines as if it had been there from the first one on.
+// A log names few of the clauses of its obligation's problem, and most that prove are accepted over these alone (`lazy_logs`), whether or
+// not they drop clauses. So the whole problem isn't made before the lines are there. Where they aren't known to refute it, where a line
+// is a Split line, and where there is no room for more of them, the whole problem is made, and its kernel takes the lines as if it had
+// been there from the first one on.
 ghost use Rattle.std.specs.Prelude.{◌≡◌, suc, ◌+◌, false, length, ◌++◌, ◌∷◌, [], Some, None, IfOk};
 ghost use Rattle.std.specs.Prelude.{OnOk, IsTrue};
 ghost use Rattle.std.specs.List.{Contains};
@@ -25,14 +26,15 @@ use spec_core::Spec;
 use std::alloc::{AllocError, Global};
 use std::mem;
 
-/// So many lines of a log at most are deferred: twice what a check writes that searched a part of a problem.
+/// So many lines of a log at most are deferred: twice what a check writes that searched a part of a problem, since an upgraded log has a
+/// line that drops clauses for each other one at most.
 const MOST_LINES: u32 = 4000;
 
-/// So many literals and steps at most have the lines that are deferred.
+/// So many literals, steps and dropped clauses at most have the lines that are deferred.
 const MOST_PARTS: usize = 40_000;
 
-/// The lines of a log that the kernel hasn't taken yet, how many literals and steps they have, and the lazy ground problem of their
-/// obligation.
+/// The lines of a log that the kernel hasn't taken yet, how many literals, steps and dropped clauses they have, and the lazy ground
+/// problem of their obligation.
 #[derive(Drop)]
 pub struct DeferredLog {
     pub ground: LazyGround,
@@ -79,14 +81,15 @@ impl DeferredLog {
         }
     }
 
-    // How many literals and steps there are with those of a line more; nothing where it is of another kind than those that are deferred.
+    // How many literals, steps and dropped clauses there are with those of a line more; nothing where it is a Split line.
     fn parts_with(&self, line: &Line) -> Option<usize> {
         match line {
             Line::Resolve { .. } => Some(self.parts),
             Line::Farkas { used, steps } => {
                 self.parts.checked_add(used.len())?.checked_add(steps.len())
             }
-            _ => None,
+            Line::Drop { clauses } => self.parts.checked_add(clauses.len()),
+            Line::Split { .. } => None,
         }
     }
 
