@@ -58,12 +58,12 @@ fn take_lines<K: Sink>(
 {
     let mut rest = lines;
     'lines: for taken in 0..lines.bytes.len() {
-        match next_line(rest) {
-            None => return write_out(text, out),
-            Some((line, behind)) => match pass_line(alloc, line, behind, text, out) {
-                Ok(left) => rest = left,
-                Err(why) => return Err(why),
-            },
+        let Some((line, behind)) = next_line(rest) else {
+            return write_out(text, out);
+        };
+        match pass_line(alloc, line, behind, text, out) {
+            Ok(left) => rest = left,
+            Err(why) => return Err(why),
         }
     }
     write_out(text, out)

@@ -3,13 +3,13 @@ use Rattle.report_upgrader.specs.Passing.{Progress}
 use Rattle.report_upgrader.proofs.Steps.{no_line, all_written, front_written}
 use Rattle.report_upgrader.proofs.rewriting.take_lines.Goals as goal
 
-pub returns-in-None-clause-ok : goal.returns-in-None-clause-ok
-returns-in-None-clause-ok g c = λ task way.
+pub returns-in_default-clause-ok : goal.returns-in_default-clause-ok
+returns-in_default-clause-ok g c = λ task way.
     let at : Progress = record { rest = c.lines.rest.bytes.now; text = c.lines.text.items } in
-    all_written c.write_out.result task at (g.K.Sink.held c.lines.out) (g.K.Sink.held c.write_out.new.out) c.in-None.ensures.none (c.lines.invariant.way task way) c.write_out.ensures.ok
+    all_written c.write_out.result task at (g.K.Sink.held c.lines.out) (g.K.Sink.held c.write_out.new.out) c.in_default.ensures.none (c.lines.invariant.way task way) c.write_out.ensures.ok
 
-pub returns-in-None-clause-front : goal.returns-in-None-clause-front
-returns-in-None-clause-front g c = λ task way.
+pub returns-in_default-clause-front : goal.returns-in_default-clause-front
+returns-in_default-clause-front g c = λ task way.
     let at : Progress = record { rest = c.lines.rest.bytes.now; text = c.lines.text.items } in
     front_written c.write_out.result task at (g.K.Sink.held c.lines.out) (g.K.Sink.held c.write_out.new.out) (c.lines.invariant.way task way) c.write_out.ensures.front
 
