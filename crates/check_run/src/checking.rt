@@ -16,6 +16,7 @@ ghost use Rattle.check_run.specs.Checking.{progress, IsBlock, AreBlocks, IsRepor
 
 use crate::counting::counted;
 use crate::deciding::decide_next;
+use crate::question::Question;
 use byte_ports::{Sink, WriteOut, write_text};
 use lazy_ground::KeptCache;
 use obligation_list::{Obligation, list};
@@ -27,29 +28,28 @@ use std::alloc::Global;
 // Decides an obligation, and writes its block.
 fn check_one<K: Sink>(
     alloc: Global,
-    spec: &Spec,
-    budget: u32,
-    ob: &Obligation,
+    question: &Question,
     cache: &mut KeptCache,
     tally: &mut Tally,
     out: &mut K,
 ) -> Result<(), WriteOut>
-    requires member { IsObligation spec.now ob.now }
-    requires budget { 1 ≤ budget }
-    requires kept { AreKept spec.now cache.old }
+    requires member { IsObligation question.now.spec.now question.now.ob.now }
+    requires kept { AreKept question.now.spec.now cache.old }
     requires few { told tally.old < 2 ^ 31 }
-    ensures block { IsBlock spec.now budget ob.now (progress tally.old (K.held out.old))
+    ensures block { let asked = question.now in
+        IsBlock asked.spec.now asked.budget asked.ob.now (progress tally.old (K.held out.old))
         (progress tally.new (K.held out.new)) result }
     ensures fault { IfErr result
         (λ why. why ≡ Fault → IsFault (K.faults out.old) (K.faults out.new)) }
     ensures never_falls { K.faults out.old ≤ K.faults out.new }
-    ensures kept { AreKept spec.now cache.new }
+    ensures kept { AreKept question.now.spec.now cache.new }
 {
-    let Ok(verdict) = decide_next(alloc, spec, ob, budget, cache) else {
+    let ob = question.ob;
+    let Ok(verdict) = decide_next(alloc, question.spec, ob, question.budget, cache) else {
         return Err(WriteOut::Memory);
     };
     let mut text = Vec::new(alloc);
-    let made = write_verdict(alloc, spec, *ob, &verdict, &mut text);
+    let made = write_verdict(alloc, question.spec, *ob, &verdict, &mut text);
     let counted = counted(*tally, &verdict);
     drop(verdict);
     let Ok(()) = made else {
@@ -92,7 +92,8 @@ fn check_from<K: Sink>(
         undecided: 0,
     };
     for ob in obligations {
-        match check_one(alloc, spec, budget, ob, cache, &mut tally, out) {
+        let question = Question { spec, ob, budget };
+        match check_one(alloc, &question, cache, &mut tally, out) {
             Ok(()) => {}
             Err(why) => return Err(why),
         }

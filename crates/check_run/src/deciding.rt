@@ -19,6 +19,7 @@ ghost use Rattle.lazy_ground.specs.Lazy.{IsLazyGround};
 ghost use Rattle.lazy_ground.specs.Kept.{IsKept, HasClauses, HasLazyKept};
 
 use crate::fitting::numbered;
+use crate::question::Question;
 use clausify::problem_of;
 use ground_atoms::GroundFormula;
 use ground_numbers::{law_clauses_make_formulas_true, law_obligation_fits};
@@ -110,26 +111,29 @@ pub fn refuted_by(spec: &Spec, ob: &Obligation, witness: Witness) -> Option<Verd
 // The verdict that an answer of the search gives.
 fn verdict_of(
     alloc: Global,
-    spec: &Spec,
-    ob: &Obligation,
-    budget: u32,
+    question: &Question,
     ground: &Grounded,
     answer: Answer,
 ) -> Result<Verdict, AllocError>
-    requires member { IsObligation spec.now ob.now }
-    requires few { HasFew spec.now ob.now }
-    requires ground { IsGrounded spec.now ob.now ground.now }
-    requires answer { IsAnswer true true (problem_of spec.now ob.now) budget answer }
-    requires fitting { problem_fits (problem_of spec.now ob.now) ≡ true
-        → IsAnswer false false (problem_of spec.now ob.now) budget answer }
-    ensures good { IfOk result (λ v. IsGood spec.now budget ob.now (shown_verdict spec.now v)) }
-    ensures shown { IfOk result (λ v. HasShown spec.now ob.now v) }
-    ensures decided { problem_fits (problem_of spec.now ob.now) ≡ true
-        → IfOk result (λ v. IsDecided (length (problem_of spec.now ob.now).atoms) budget v) }
+    requires member { IsObligation question.now.spec.now question.now.ob.now }
+    requires few { HasFew question.now.spec.now question.now.ob.now }
+    requires ground { IsGrounded question.now.spec.now question.now.ob.now ground.now }
+    requires answer { let asked = question.now in
+        IsAnswer true true (problem_of asked.spec.now asked.ob.now) asked.budget answer }
+    requires fitting { let asked = question.now in
+        let problem = problem_of asked.spec.now asked.ob.now in
+        problem_fits problem ≡ true → IsAnswer false false problem asked.budget answer }
+    ensures good { let asked = question.now in IfOk result
+        (λ v. IsGood asked.spec.now asked.budget asked.ob.now (shown_verdict asked.spec.now v)) }
+    ensures shown { IfOk result (λ v. HasShown question.now.spec.now question.now.ob.now v) }
+    ensures decided { let asked = question.now in
+        let problem = problem_of asked.spec.now asked.ob.now in
+        problem_fits problem ≡ true
+        → IfOk result (λ v. IsDecided (length problem.atoms) asked.budget v) }
 {
     match answer {
         Answer::Unsat(log) => Ok(Verdict::Proved(log)),
-        Answer::Sat(found) => refute(alloc, spec, ob, ground, &found),
+        Answer::Sat(found) => refute(alloc, question.spec, question.ob, ground, &found),
         Answer::Lines(log) => Ok(Verdict::Undecided(Cause::Lines(log))),
         Answer::Rows(evidence) => Ok(Verdict::Undecided(Cause::Rows(evidence))),
         Answer::Range(evidence) => Ok(Verdict::Undecided(Cause::Range(evidence))),
@@ -181,25 +185,27 @@ fn search_for(
 // Decides an obligation whose formulas are there, and whose problem probably has an interpretation or not.
 fn decide_grounded(
     alloc: Global,
-    spec: &Spec,
-    ob: &Obligation,
-    budget: u32,
+    question: &Question,
     ground: &Grounded,
     is_likely: bool,
 ) -> Result<Verdict, AllocError>
-    requires member { IsObligation spec.now ob.now }
-    requires few { HasFew spec.now ob.now }
-    requires ground { IsGrounded spec.now ob.now ground.now }
-    ensures good { IfOk result (λ v. IsGood spec.now budget ob.now (shown_verdict spec.now v)) }
-    ensures fit { IfOk result (λ v. IsFit spec.now written_version ob.now v) }
-    ensures decided { problem_fits (problem_of spec.now ob.now) ≡ true
-        → IfOk result (λ v. IsDecided (length (problem_of spec.now ob.now).atoms) budget v) }
+    requires member { IsObligation question.now.spec.now question.now.ob.now }
+    requires few { HasFew question.now.spec.now question.now.ob.now }
+    requires ground { IsGrounded question.now.spec.now question.now.ob.now ground.now }
+    ensures good { let asked = question.now in IfOk result
+        (λ v. IsGood asked.spec.now asked.budget asked.ob.now (shown_verdict asked.spec.now v)) }
+    ensures fit { let asked = question.now in IfOk result
+        (λ v. IsFit asked.spec.now written_version asked.ob.now v) }
+    ensures decided { let asked = question.now in
+        let problem = problem_of asked.spec.now asked.ob.now in
+        problem_fits problem ≡ true
+        → IfOk result (λ v. IsDecided (length problem.atoms) asked.budget v) }
 {
-    let problem = pose(alloc, spec, ob, ground)?;
+    let problem = pose(alloc, question.spec, question.ob, ground)?;
     let front = front_of(&problem, ground.formulas.as_slice());
-    let answer = search_for(alloc, &problem, front, budget, is_likely);
+    let answer = search_for(alloc, &problem, front, question.budget, is_likely);
     drop(problem);
-    numbered(verdict_of(alloc, spec, ob, budget, ground, answer)?)
+    numbered(verdict_of(alloc, question, ground, answer)?)
 }
 
 // Keeps this for the next obligation.
@@ -213,23 +219,25 @@ fn keep(kept: &mut Kept, next: Kept)
 // Decides an obligation by its whole ground problem.
 fn decide_whole(
     alloc: Global,
-    spec: &Spec,
-    ob: &Obligation,
-    budget: u32,
+    question: &Question,
     ground: Grounded,
     kept: &mut Kept,
 ) -> Result<Verdict, AllocError>
-    requires member { IsObligation spec.now ob.now }
-    requires few { HasFew spec.now ob.now }
-    requires ground { IsGrounded spec.now ob.now ground }
-    requires taken { HasEntry spec.now ground }
-    ensures good { IfOk result (λ v. IsGood spec.now budget ob.now (shown_verdict spec.now v)) }
-    ensures fit { IfOk result (λ v. IsFit spec.now written_version ob.now v) }
-    ensures decided { problem_fits (problem_of spec.now ob.now) ≡ true
-        → IfOk result (λ v. IsDecided (length (problem_of spec.now ob.now).atoms) budget v) }
-    ensures kept { IsKept spec.now kept.new }
+    requires member { IsObligation question.now.spec.now question.now.ob.now }
+    requires few { HasFew question.now.spec.now question.now.ob.now }
+    requires ground { IsGrounded question.now.spec.now question.now.ob.now ground }
+    requires taken { HasEntry question.now.spec.now ground }
+    ensures good { let asked = question.now in IfOk result
+        (λ v. IsGood asked.spec.now asked.budget asked.ob.now (shown_verdict asked.spec.now v)) }
+    ensures fit { let asked = question.now in IfOk result
+        (λ v. IsFit asked.spec.now written_version asked.ob.now v) }
+    ensures decided { let asked = question.now in
+        let problem = problem_of asked.spec.now asked.ob.now in
+        problem_fits problem ≡ true
+        → IfOk result (λ v. IsDecided (length problem.atoms) asked.budget v) }
+    ensures kept { IsKept question.now.spec.now kept.new }
 {
-    let verdict = decide_grounded(alloc, spec, ob, budget, &ground, false);
+    let verdict = decide_grounded(alloc, question, &ground, false);
     keep(kept, EitherGround::Whole(ground).into_kept());
     verdict
 }
@@ -237,27 +245,29 @@ fn decide_whole(
 // Decides an obligation by its whole ground problem, completed from the lazy one; it probably has an interpretation or not.
 fn decide_completed(
     alloc: Global,
-    spec: &Spec,
-    ob: &Obligation,
-    budget: u32,
+    question: &Question,
     ground: LazyGround,
     is_likely: bool,
     kept: &mut Kept,
 ) -> Result<Verdict, AllocError>
-    requires member { IsObligation spec.now ob.now }
-    requires ground { IsLazyGround spec.now ob.now ground }
-    requires taken { HasLazyKept spec.now ground }
-    requires kept { IsKept spec.now kept.old }
-    ensures good { IfOk result (λ v. IsGood spec.now budget ob.now (shown_verdict spec.now v)) }
-    ensures fit { IfOk result (λ v. IsFit spec.now written_version ob.now v) }
-    ensures decided { problem_fits (problem_of spec.now ob.now) ≡ true
-        → IfOk result (λ v. IsDecided (length (problem_of spec.now ob.now).atoms) budget v) }
-    ensures kept { IsKept spec.now kept.new }
+    requires member { IsObligation question.now.spec.now question.now.ob.now }
+    requires ground { IsLazyGround question.now.spec.now question.now.ob.now ground }
+    requires taken { HasLazyKept question.now.spec.now ground }
+    requires kept { IsKept question.now.spec.now kept.old }
+    ensures good { let asked = question.now in IfOk result
+        (λ v. IsGood asked.spec.now asked.budget asked.ob.now (shown_verdict asked.spec.now v)) }
+    ensures fit { let asked = question.now in IfOk result
+        (λ v. IsFit asked.spec.now written_version asked.ob.now v) }
+    ensures decided { let asked = question.now in
+        let problem = problem_of asked.spec.now asked.ob.now in
+        problem_fits problem ≡ true
+        → IfOk result (λ v. IsDecided (length problem.atoms) asked.budget v) }
+    ensures kept { IsKept question.now.spec.now kept.new }
 {
-    let Ok(whole) = ground.into_whole(alloc, spec, ob) else {
+    let Ok(whole) = ground.into_whole(alloc, question.spec, question.ob) else {
         return Err(AllocError);
     };
-    let verdict = decide_grounded(alloc, spec, ob, budget, &whole.ground, is_likely);
+    let verdict = decide_grounded(alloc, question, &whole.ground, is_likely);
     keep(kept, whole.into_kept());
     verdict
 }
@@ -265,38 +275,36 @@ fn decide_completed(
 // Decides an obligation by its lazy ground problem, and by the whole one where that neither proves nor refutes it.
 fn decide_lazily(
     alloc: Global,
-    spec: &Spec,
-    ob: &Obligation,
-    budget: u32,
+    question: &Question,
     ground: LazyGround,
     kept: &mut Kept,
 ) -> Result<Verdict, AllocError>
-    requires member { IsObligation spec.now ob.now }
-    requires ground { IsLazyGround spec.now ob.now ground }
+    requires member { IsObligation question.now.spec.now question.now.ob.now }
+    requires ground { IsLazyGround question.now.spec.now question.now.ob.now ground }
     requires clauses { HasClauses ground }
-    requires taken { HasLazyKept spec.now ground }
-    requires kept { IsKept spec.now kept.old }
-    ensures good { IfOk result (λ v. IsGood spec.now budget ob.now (shown_verdict spec.now v)) }
-    ensures fit { IfOk result (λ v. IsFit spec.now written_version ob.now v) }
-    ensures decided { problem_fits (problem_of spec.now ob.now) ≡ true
-        → IfOk result (λ v. IsDecided (length (problem_of spec.now ob.now).atoms) budget v) }
-    ensures kept { IsKept spec.now kept.new }
+    requires taken { HasLazyKept question.now.spec.now ground }
+    requires kept { IsKept question.now.spec.now kept.old }
+    ensures good { let asked = question.now in IfOk result
+        (λ v. IsGood asked.spec.now asked.budget asked.ob.now (shown_verdict asked.spec.now v)) }
+    ensures fit { let asked = question.now in IfOk result
+        (λ v. IsFit asked.spec.now written_version asked.ob.now v) }
+    ensures decided { let asked = question.now in
+        let problem = problem_of asked.spec.now asked.ob.now in
+        problem_fits problem ≡ true
+        → IfOk result (λ v. IsDecided (length problem.atoms) asked.budget v) }
+    ensures kept { IsKept question.now.spec.now kept.new }
 {
-    match search_lazily(alloc, spec, ob, &ground, budget) {
+    match search_lazily(alloc, question.spec, question.ob, &ground, question.budget) {
         Ok(LazyAnswer::Refuted(log)) => {
             keep(kept, ground.into_kept());
             numbered(Verdict::Proved(log))
         }
         Ok(LazyAnswer::Broken(witness)) => {
             keep(kept, ground.into_kept());
-            numbered(refute_by(alloc, spec, ob, witness)?)
+            numbered(refute_by(alloc, question.spec, question.ob, witness)?)
         }
-        Ok(LazyAnswer::Satisfiable) => {
-            decide_completed(alloc, spec, ob, budget, ground, true, kept)
-        }
-        Ok(LazyAnswer::Unknown) => {
-            decide_completed(alloc, spec, ob, budget, ground, false, kept)
-        }
+        Ok(LazyAnswer::Satisfiable) => decide_completed(alloc, question, ground, true, kept),
+        Ok(LazyAnswer::Unknown) => decide_completed(alloc, question, ground, false, kept),
         Err(AllocError) => {
             drop(ground);
             Err(AllocError)
@@ -305,27 +313,25 @@ fn decide_lazily(
 }
 
 // Decides an obligation from what another one left, and leaves what serves others.
-fn decide_from(
-    alloc: Global,
-    spec: &Spec,
-    ob: &Obligation,
-    budget: u32,
-    kept: &mut Kept,
-) -> Result<Verdict, AllocError>
-    requires member { IsObligation spec.now ob.now }
-    requires budget { 1 ≤ budget }
-    requires kept { IsKept spec.now kept.old }
-    ensures good { IfOk result (λ v. IsGood spec.now budget ob.now (shown_verdict spec.now v)) }
-    ensures fit { IfOk result (λ v. IsFit spec.now written_version ob.now v) }
-    ensures many { HasMany spec.now ob.now → IfOk result (λ v. v ≡ Undecided Instances) }
-    ensures decided { HasFew spec.now ob.now → problem_fits (problem_of spec.now ob.now) ≡ true
-        → IfOk result (λ v. IsDecided (length (problem_of spec.now ob.now).atoms) budget v) }
-    ensures kept { IsKept spec.now kept.new }
+fn decide_from(alloc: Global, question: &Question, kept: &mut Kept) -> Result<Verdict, AllocError>
+    requires member { IsObligation question.now.spec.now question.now.ob.now }
+    requires kept { IsKept question.now.spec.now kept.old }
+    ensures good { let asked = question.now in IfOk result
+        (λ v. IsGood asked.spec.now asked.budget asked.ob.now (shown_verdict asked.spec.now v)) }
+    ensures fit { let asked = question.now in IfOk result
+        (λ v. IsFit asked.spec.now written_version asked.ob.now v) }
+    ensures many { HasMany question.now.spec.now question.now.ob.now
+        → IfOk result (λ v. v ≡ Undecided Instances) }
+    ensures decided { let asked = question.now in
+        let problem = problem_of asked.spec.now asked.ob.now in
+        HasFew asked.spec.now asked.ob.now → problem_fits problem ≡ true
+        → IfOk result (λ v. IsDecided (length problem.atoms) asked.budget v) }
+    ensures kept { IsKept question.now.spec.now kept.new }
 {
     let taken = mem::replace(kept, Kept::none());
-    match ground_lazily_from(alloc, spec, ob, taken) {
-        Ok(EitherGround::Whole(ground)) => decide_whole(alloc, spec, ob, budget, ground, kept),
-        Ok(EitherGround::Lazy(ground)) => decide_lazily(alloc, spec, ob, budget, ground, kept),
+    match ground_lazily_from(alloc, question.spec, question.ob, taken) {
+        Ok(EitherGround::Whole(ground)) => decide_whole(alloc, question, ground, kept),
+        Ok(EitherGround::Lazy(ground)) => decide_lazily(alloc, question, ground, kept),
         Ok(EitherGround::TooMany(left)) => {
             keep(kept, left);
             Ok(Verdict::Undecided(Cause::Instances))
@@ -353,8 +359,9 @@ pub fn decide_next(
         → IfOk result (λ v. IsDecided (length (problem_of spec.now ob.now).atoms) budget v) }
     ensures kept { AreKept spec.now cache.new }
 {
+    let question = Question { spec, ob, budget };
     let mut kept = cache.take(alloc, spec, ob);
-    let verdict = decide_from(alloc, spec, ob, budget, &mut kept);
+    let verdict = decide_from(alloc, &question, &mut kept);
     cache.put(spec, kept);
     verdict
 }
@@ -377,8 +384,9 @@ pub fn decide(
     ensures decided { HasFew spec.now ob.now → problem_fits (problem_of spec.now ob.now) ≡ true
         → IfOk result (λ v. IsDecided (length (problem_of spec.now ob.now).atoms) budget v) }
 {
+    let question = Question { spec, ob, budget };
     let mut kept = Kept::none();
-    let verdict = decide_from(alloc, spec, ob, budget, &mut kept);
+    let verdict = decide_from(alloc, &question, &mut kept);
     drop(kept);
     verdict
 }

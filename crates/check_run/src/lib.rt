@@ -20,6 +20,7 @@ mod counting;
 mod deciding;
 mod fitting;
 mod laws;
+mod question;
 
 pub use byte_ports::WriteOut;
 pub use checking::check_all;

@@ -6,4 +6,4 @@ use Rattle.check_run.proofs.deciding.decide_grounded.Goals as goal
 
 pub verdict_of-requires-clause-fitting : goal.verdict_of-requires-clause-fitting
 verdict_of-requires-clause-fitting c =
-    subst (λ (p : PlainProblem). problem_fits p ≡ true → IsAnswer false false p c.args.budget c.search_for-answer.result) c.in_ok-problem.ensures c.search_for-answer.ensures.fitting
+    subst (λ (p : PlainProblem). problem_fits p ≡ true → IsAnswer false false p c.args.question.now.budget c.search_for-answer.result) c.in_ok-problem.ensures c.search_for-answer.ensures.fitting

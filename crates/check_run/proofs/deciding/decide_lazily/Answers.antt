@@ -12,9 +12,11 @@ of_value P x (Err w) e p = tt
 
 pub returns-in_ok-refute_by-in-Ok-Broken-clause-good : goal.returns-in_ok-refute_by-in-Ok-Broken-clause-good
 returns-in_ok-refute_by-in-Ok-Broken-clause-good c =
-    of_value (λ v. IsGood c.args.spec.now c.args.budget c.args.ob.now (shown_verdict c.args.spec.now v)) c.in_ok-refute_by-in-Ok-Broken.field-0 c.numbered-in-Ok-Broken.result c.numbered-in-Ok-Broken.ensures.same (c.in_ok-refute_by-in-Ok-Broken.ensures.good c.args.budget)
+    let asked = c.args.question.now in
+    of_value (λ v. IsGood asked.spec.now asked.budget asked.ob.now (shown_verdict asked.spec.now v)) c.in_ok-refute_by-in-Ok-Broken.field-0 c.numbered-in-Ok-Broken.result c.numbered-in-Ok-Broken.ensures.same (c.in_ok-refute_by-in-Ok-Broken.ensures.good asked.budget)
 
 pub returns-in_ok-refute_by-in-Ok-Broken-clause-decided : goal.returns-in_ok-refute_by-in-Ok-Broken-clause-decided
 returns-in_ok-refute_by-in-Ok-Broken-clause-decided c = λ f.
-    let atoms = length (problem_of c.args.spec.now c.args.ob.now).atoms in
-    of_value (λ v. IsDecided atoms c.args.budget v) c.in_ok-refute_by-in-Ok-Broken.field-0 c.numbered-in-Ok-Broken.result c.numbered-in-Ok-Broken.ensures.same (c.in_ok-refute_by-in-Ok-Broken.ensures.decided atoms c.args.budget)
+    let asked = c.args.question.now in
+    let atoms = length (problem_of asked.spec.now asked.ob.now).atoms in
+    of_value (λ v. IsDecided atoms asked.budget v) c.in_ok-refute_by-in-Ok-Broken.field-0 c.numbered-in-Ok-Broken.result c.numbered-in-Ok-Broken.ensures.same (c.in_ok-refute_by-in-Ok-Broken.ensures.decided atoms asked.budget)
