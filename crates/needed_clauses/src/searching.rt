@@ -30,6 +30,14 @@ const FEW_CLAUSES: usize = 100;
 // With so many atoms there are more clauses than a log has lines.
 const MANY_ATOMS: usize = 32;
 
+/// A problem that is searched, the clauses up to `front` first, and how many lines a log may have.
+#[derive(Clone, Copy)]
+pub struct Task<'a> {
+    pub problem: &'a Problem,
+    pub front: usize,
+    pub budget: u32,
+}
+
 /// What a round comes to.
 #[derive(Drop)]
 pub enum Round {
@@ -130,15 +138,18 @@ fn found_in_whole(alloc: Global, problem: &Problem, found: Interpretation, budge
 // What an interpretation of a part comes to.
 fn judge_found(
     alloc: Global,
-    problem: &Problem,
+    task: &Task<'_>,
     part: &Part,
     taken: &mut Taken,
-    front: usize,
     found: Interpretation,
-    budget: u32,
 ) -> Result<Round, AllocError>
-    ensures { IfOk result (λ round. IsRound round problem.now budget) }
+    ensures { IfOk result (λ round. IsRound round task.now.problem.now task.now.budget) }
 {
+    let Task {
+        problem,
+        front,
+        budget,
+    } = *task;
     let Interpretation { truths, ints } = found;
     let places = part.places.as_slice();
     let mut values =
@@ -158,23 +169,17 @@ fn judge_found(
     }
 }
 
-fn search_part(
-    alloc: Global,
-    problem: &Problem,
-    front: usize,
-    taken: &mut Taken,
-    budget: u32,
-) -> Result<Round, AllocError>
-    ensures { IfOk result (λ round. IsRound round problem.now budget) }
+fn search_part(alloc: Global, task: &Task<'_>, taken: &mut Taken) -> Result<Round, AllocError>
+    ensures { IfOk result (λ round. IsRound round task.now.problem.now task.now.budget) }
 {
     let numbers = numbers_of(alloc, taken)?;
-    let Some(part) = part_of(alloc, problem, numbers)? else {
+    let Some(part) = part_of(alloc, task.problem, numbers)? else {
         return Ok(Round::Whole);
     };
-    let few = few_of(budget);
+    let few = few_of(task.budget);
     match watched_search::search(alloc, &part.problem, few) {
-        Answer::Unsat(log) => judge_log(alloc, problem, &part, log, few, budget),
-        Answer::Sat(found) => judge_found(alloc, problem, &part, taken, front, found, budget),
+        Answer::Unsat(log) => judge_log(alloc, task.problem, &part, log, few, task.budget),
+        Answer::Sat(found) => judge_found(alloc, task, &part, taken, found),
         Answer::Memory => Err(AllocError),
         other => {
             drop(other);
@@ -195,9 +200,14 @@ fn searched_in_parts(
     if problem.clauses.len().saturating_sub(front) < FEW_CLAUSES {
         return Ok(None);
     }
+    let task = Task {
+        problem,
+        front,
+        budget,
+    };
     let mut taken = front_taken(alloc, problem, front)?;
     for _ in 0..ROUNDS {
-        match search_part(alloc, problem, front, &mut taken, budget)? {
+        match search_part(alloc, &task, &mut taken)? {
             Round::Answered(answer) => return Ok(Some(answer)),
             Round::More => {}
             Round::Whole => return Ok(None),
