@@ -13,7 +13,7 @@ use items::Items;
 use lazy_ground::LazyGround;
 use lazy_search::counting::Sizes;
 use lazy_search::testing::Picks;
-use lazy_search::{Chosen, Layout};
+use lazy_search::{Chosen, Layout, PairAt};
 use needed_clauses::parts::{NOWHERE, number_of};
 use proof_lines::{Clause, Line, Lit};
 use std::alloc::{AllocError, Global};
@@ -56,14 +56,6 @@ pub fn literals_used(alloc: Global, lines: &[Line]) -> Result<Items<Lit>, AllocE
         }
     }
     Ok(used_by)
-}
-
-/// Two tuples of a relation's pairs, by their places.
-#[derive(Clone, Copy, PartialEq, Eq)]
-struct PairAt {
-    relation: usize,
-    earlier: usize,
-    later: usize,
 }
 
 // The two of so many tuples whose pair stands at a place among all of theirs.
@@ -150,7 +142,7 @@ pub fn add_named(
             continue;
         }
         if let Some(at) = pair {
-            chosen.add_pair(alloc, ground, layout, at.relation, at.earlier, at.later)?;
+            chosen.add_pair(alloc, ground, layout, at)?;
         }
         last = pair;
     }

@@ -12,10 +12,12 @@ use Rattle.proof_kernel.specs.Rules.{State, run}
 use Rattle.ground_numbers.specs.Numbers.{Table}
 use Rattle.ground_numbers.specs.Problem.{kind_of}
 use Rattle.lazy_ground.specs.declared.grounding.LazyGround.{LazyGround}
-use Rattle.lazy_ground.specs.Lazy.{lazy_problem}
+use Rattle.lazy_ground.specs.Lazy.{lazy_problem, ArePairs}
+use Rattle.lazy_ground.specs.Kept.{HasClauses}
 use Rattle.lazy_search.specs.declared.choosing.Chosen.{Chosen}
-use Rattle.lazy_search.specs.Chosen.{AreAt}
+use Rattle.lazy_search.specs.Chosen.{AreAt, IsLayout}
 use Rattle.lazy_search.specs.declared.counting.Sizes.{Sizes}
+use Rattle.lazy_search.specs.declared.measured.Measured.{Measured}
 use Rattle.lazy_search.specs.declared.searching.LazyAnswer.{LazyAnswer}
 use Rattle.lazy_search.specs.declared.searching.LazyAnswer.TheVariants.{Refuted, Broken, Satisfiable, Unknown}
 use Rattle.lazy_search.specs.declared.searching.Step.{Step}
@@ -40,6 +42,13 @@ pub record AreSizes (g : LazyGround) (sizes : Sizes) : Type 0 where
   pub atoms : sizes.atoms ≡ length (lazy_problem g).atoms
   pub names : (lazy_problem g).atoms ≡ atoms_with g.atoms.table sizes.names
   pub clauses : sizes.clauses ≡ length (lazy_problem g).clauses
+
+-- A problem with its sizes and its layout. Its pairs have their numbers, and the clauses of the entry that are at hand are the entry's.
+pub record IsMeasured (m : Measured) : Type 0 where
+  pub pairs : ArePairs m.ground.now.atoms.table m.ground.now.pairs
+  pub clauses : HasClauses m.ground.now
+  pub sizes : AreSizes m.ground.now m.sizes.now
+  pub layout : IsLayout m.ground.now (length m.ground.now.atoms.table.atoms) m.layout.now
 
 -- the chosen clauses are those of the whole problem that have these numbers
 abbrev pub AreOf : LazyGround → Chosen → Type 0

@@ -9,8 +9,8 @@ use lazy_ground::{LazyGround, ReadingPairs};
 use needed_clauses::parts::{NOWHERE, number_of, place_of};
 use std::alloc::{AllocError, Global};
 
-/// Two tuples of a relation's pairs, by their places.
-#[derive(Clone, Copy)]
+/// Two tuples of a relation's pairs, by their places: the relation's among those with pairs, and the tuples', the earlier first.
+#[derive(Clone, Copy, PartialEq, Eq)]
 pub struct PairAt {
     pub relation: usize,
     pub earlier: usize,
@@ -46,10 +46,11 @@ fn least_equal(
 ) -> Result<Vec<u32>, AllocError> {
     let mut least = Vec::new(alloc);
     for number in part.atoms.iter() {
-        if let Some(Atom::Same(lesser, greater)) = ground.atoms.atom(*number) {
-            if value_of(part, truths, *number) {
-                note_equal(&mut least, *lesser, *greater)?;
-            }
+        let Some(Atom::Same(lesser, greater)) = ground.atoms.atom(*number) else {
+            continue;
+        };
+        if value_of(part, truths, *number) {
+            note_equal(&mut least, *lesser, *greater)?;
         }
     }
     Ok(least)
@@ -146,49 +147,53 @@ fn differ(values: &[bool], one: usize, other: usize) -> bool {
     }
 }
 
-// Adds the pairs of a tuple with those before it that it is equal to and doesn't agree with.
-fn add_disagreeing(
-    least: &[u32],
-    values: &[bool],
-    pairs: &ReadingPairs,
+// A relation as an interpretation reads it: its place and its tuples, which of their readings are true, and for each constant the least one
+// that it is equal to.
+#[derive(Clone, Copy)]
+struct ReadRelation<'a> {
     relation: usize,
-    later: usize,
-    chains: &mut Chains,
-    out: &mut Vec<PairAt>,
-) -> Result<(), AllocError> {
-    let tuple = tuple_at(pairs, later);
-    let mut place = chains.add(chain_of(least, tuple, pairs.tuples.len()))?;
-    for _ in 0..later {
-        if place == NOWHERE {
-            break;
-        }
-        let earlier = place as usize;
-        if differ(values, earlier, later) && are_equal(least, tuple_at(pairs, earlier), tuple) {
-            out.push(PairAt {
-                relation,
-                earlier,
-                later,
-            })?;
-        }
-        place = chains.before(place);
-    }
-    Ok(())
+    pairs: &'a ReadingPairs,
+    values: &'a [bool],
+    least: &'a [u32],
 }
 
-// Adds the pairs of a relation's tuples that are equal and don't agree.
-fn add_all_disagreeing(
-    alloc: Global,
-    least: &[u32],
-    values: &[bool],
-    pairs: &ReadingPairs,
-    relation: usize,
-    out: &mut Vec<PairAt>,
-) -> Result<(), AllocError> {
-    let mut chains = Chains::new(alloc, pairs.tuples.len())?;
-    for later in 0..pairs.tuples.len() {
-        add_disagreeing(least, values, pairs, relation, later, &mut chains, out)?;
+impl ReadRelation<'_> {
+    // Adds the pairs of a tuple with those before it that it is equal to and doesn't agree with.
+    fn add_disagreeing(
+        &self,
+        later: usize,
+        chains: &mut Chains,
+        out: &mut Vec<PairAt>,
+    ) -> Result<(), AllocError> {
+        let tuple = tuple_at(self.pairs, later);
+        let mut place = chains.add(chain_of(self.least, tuple, self.pairs.tuples.len()))?;
+        for _ in 0..later {
+            if place == NOWHERE {
+                break;
+            }
+            let earlier = place as usize;
+            let other = tuple_at(self.pairs, earlier);
+            if differ(self.values, earlier, later) && are_equal(self.least, other, tuple) {
+                out.push(PairAt {
+                    relation: self.relation,
+                    earlier,
+                    later,
+                })?;
+            }
+            place = chains.before(place);
+        }
+        Ok(())
     }
-    Ok(())
+
+    // Adds the pairs of its tuples that are equal and don't agree.
+    fn add_all_disagreeing(&self, alloc: Global, out: &mut Vec<PairAt>) -> Result<(), AllocError> {
+        let many = self.pairs.tuples.len();
+        let mut chains = Chains::new(alloc, many)?;
+        for later in 0..many {
+            self.add_disagreeing(later, &mut chains, out)?;
+        }
+        Ok(())
+    }
 }
 
 /// The pairs of tuples that these truth values of a part make equal, and of which they read one true and one false.
@@ -205,14 +210,13 @@ pub(crate) fn disagreeing(
     }
     for (relation, pairs) in ground.pairs.iter().enumerate() {
         let values = values_of(alloc, part, truths, pairs)?;
-        add_all_disagreeing(
-            alloc,
-            least.as_slice(),
-            values.as_slice(),
-            pairs,
+        let read = ReadRelation {
             relation,
-            &mut out,
-        )?;
+            pairs,
+            values: values.as_slice(),
+            least: least.as_slice(),
+        };
+        read.add_all_disagreeing(alloc, &mut out)?;
     }
     Ok(out)
 }

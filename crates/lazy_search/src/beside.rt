@@ -69,11 +69,12 @@ impl Found {
     // Notes the parts that a clause names.
     fn note_parts(&mut self, first: u32, place: u32, lits: &[Lit]) {
         for lit in lits {
-            if let Some(part) = lit.atom.checked_sub(first) {
-                let part = part as usize;
-                if part < self.firsts.len() && place < self.firsts[part] {
-                    self.firsts[part] = place;
-                }
+            let Some(part) = lit.atom.checked_sub(first) else {
+                continue;
+            };
+            let part = part as usize;
+            if part < self.firsts.len() && place < self.firsts[part] {
+                self.firsts[part] = place;
             }
         }
     }

@@ -9,6 +9,7 @@ ghost use Rattle.clausify.specs.Kept.{AreClausesOf};
 ghost use Rattle.lazy_ground.specs.Kept.{HasClauses};
 ghost use Rattle.lazy_search.specs.Chosen.{AreAt, StandFrom, IsBehind, IsLayout};
 
+use crate::agreeing::PairAt;
 use crate::places::{Layout, Place, firsts_of, place_of_pair};
 use clausify::{KeptClauses, write_clauses};
 use ground_atoms::GroundFormula;
@@ -194,16 +195,14 @@ impl Chosen {
         Ok(true)
     }
 
-    /// Adds the clauses of the tuples at two places of a relation's pairs, the earlier first, where `relation` is its place among these.
-    /// It says whether it did: it does not where the formula isn't told, a place isn't there, or numbers don't reach.
+    /// Adds the clauses of two tuples of a relation. It says whether it did: it does not where the formula isn't told, a place isn't there,
+    /// or numbers don't reach.
     pub fn add_pair(
         &mut self,
         alloc: Global,
         ground: &LazyGround,
         layout: &Layout,
-        relation: usize,
-        earlier: usize,
-        later: usize,
+        pair: PairAt,
     ) -> Result<bool, AllocError>
         requires { ArePairs ground.now.atoms.table ground.now.pairs }
         ensures { OnOk result ((name : ℕ) → IsLayout ground.now name layout.now
@@ -212,6 +211,11 @@ impl Chosen {
             → AreAt (all_clauses name (lazy_forms ground.now))
             self.new.clauses self.new.numbers.items) }
     {
+        let PairAt {
+            relation,
+            earlier,
+            later,
+        } = pair;
         if relation >= ground.pairs.len() || relation >= layout.firsts.len() {
             return Ok(false);
         }

@@ -42,6 +42,7 @@ mod agreeing;
 mod beside;
 mod choosing;
 pub mod counting;
+mod measured;
 pub mod parts;
 mod picking;
 mod places;
@@ -49,6 +50,7 @@ mod searching;
 pub mod testing;
 mod trying;
 
+pub use agreeing::PairAt;
 pub use choosing::{Chosen, chosen_front};
 pub use places::{Layout, Place};
 pub use searching::{LazyAnswer, search_lazily};

@@ -6,7 +6,7 @@ ghost use Rattle.lazy_search.specs.Refuting.{AreSizes, AreOf};
 
 use crate::Chosen;
 use crate::counting::{Sizes, count_ints};
-use crate::testing::{Picks, is_part};
+use crate::testing::{Picks, Proposed, is_part};
 use ground_atoms::{Atom, Atoms};
 use items::{Items, or_drop};
 use lazy_ground::LazyGround;
@@ -131,7 +131,12 @@ pub fn part_of(
     let Some(problem) = own else {
         return Ok(None);
     };
-    if !is_part(&problem, ground, sizes, chosen, &picks, atoms.as_slice()) {
+    let proposed = Proposed {
+        problem: &problem,
+        picks: &picks,
+        atoms: atoms.as_slice(),
+    };
+    if !is_part(&proposed, ground, sizes, chosen) {
         drop(problem);
         return Ok(None);
     }

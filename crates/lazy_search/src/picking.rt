@@ -68,11 +68,12 @@ fn is_beside(atoms: &Atoms, places: &[u32], lits: &[Lit]) -> bool {
     }
     let mut is_other = false;
     for lit in lits {
-        if !is_equality(atoms, lit.atom) {
-            is_other = true;
-            if place_of(places, lit.atom) != NOWHERE {
-                return true;
-            }
+        if is_equality(atoms, lit.atom) {
+            continue;
+        }
+        is_other = true;
+        if place_of(places, lit.atom) != NOWHERE {
+            return true;
         }
     }
     !is_other
@@ -105,11 +106,12 @@ fn mark_named(
 ) -> Result<(), AllocError> {
     for lit in lits {
         let atom = lit.atom as usize;
-        if atom < places.len() && places[atom] == NOWHERE {
-            places[atom] = 0;
-            if !is_equality(atoms, lit.atom) {
-                named.push(lit.atom)?;
-            }
+        if atom >= places.len() || places[atom] != NOWHERE {
+            continue;
+        }
+        places[atom] = 0;
+        if !is_equality(atoms, lit.atom) {
+            named.push(lit.atom)?;
         }
     }
     Ok(())
@@ -253,21 +255,30 @@ impl Picked {
             && ((number as usize) < self.kept.len()) == of_entry
     }
 
-    /// The clauses that are picked, those of the entry first.
-    pub fn picks(&self, alloc: Global, numbers: &[u32]) -> Result<Picks, AllocError> {
-        let mut places = Vec::new(alloc);
-        let mut own = Vec::new(alloc);
-        for of_entry in [true, false] {
-            for (place, number) in numbers.iter().enumerate() {
-                if self.is_picked(place, *number, of_entry) {
-                    places.push(number_of(place))?;
-                    own.push(*number)?;
-                }
+    // Adds the clauses that are picked, of those of the entry or of the others.
+    fn add_picks(
+        &self,
+        numbers: &[u32],
+        of_entry: bool,
+        picks: &mut Picks,
+    ) -> Result<(), AllocError> {
+        for (place, number) in numbers.iter().enumerate() {
+            if self.is_picked(place, *number, of_entry) {
+                picks.places.push(number_of(place))?;
+                picks.numbers.push(*number)?;
             }
         }
-        Ok(Picks {
-            places,
-            numbers: own,
-        })
+        Ok(())
+    }
+
+    /// The clauses that are picked, those of the entry first.
+    pub fn picks(&self, alloc: Global, numbers: &[u32]) -> Result<Picks, AllocError> {
+        let mut picks = Picks {
+            places: Vec::new(alloc),
+            numbers: Vec::new(alloc),
+        };
+        self.add_picks(numbers, true, &mut picks)?;
+        self.add_picks(numbers, false, &mut picks)?;
+        Ok(picks)
     }
 }

@@ -1,5 +1,5 @@
 // The rounds of a search that takes the clauses of more pairs of readings as it needs them.
-ghost use Rattle.std.specs.Prelude.{◌≡◌, ◌+◌, ℕ, true, length, IfOk, IfSome, OnOk};
+ghost use Rattle.std.specs.Prelude.{ℕ, true, IfOk, IfSome, OnOk};
 ghost use Rattle.spec_core.specs.Specification.{Specification};
 ghost use Rattle.obligation_list.specs.declared.obligation.Obligation.{Obligation as TheObligation};
 ghost use Rattle.obligation_list.specs.Obligations.{IsObligation};
@@ -7,16 +7,16 @@ ghost use Rattle.sat_core.specs.Answers.{IsRefuted};
 ghost use Rattle.needed_clauses.specs.Renaming.{IsPart};
 ghost use Rattle.lazy_ground.specs.Lazy.{lazy_problem, ArePairs};
 ghost use Rattle.lazy_ground.specs.Kept.{HasClauses};
-ghost use Rattle.lazy_search.specs.Chosen.{IsLayout};
-ghost use Rattle.lazy_search.specs.Refuting.{AreSizes, AreOf, IsLazyAnswer, IsStep};
+ghost use Rattle.lazy_search.specs.Refuting.{AreOf, IsMeasured, IsLazyAnswer, IsStep};
 ghost use Rattle.lazy_search.specs.Refuting.{IsLazyAnswerTo, IsStepTo};
 
 use crate::agreeing::{PairAt, disagreeing};
-use crate::counting::{Sizes, count_atoms, sizes_of};
+use crate::counting::{count_atoms, sizes_of};
+use crate::measured::Measured;
 use crate::parts::{Part, part_of};
 use crate::picking::Picked;
 use crate::trying::{Aim, broken_by};
-use crate::{Chosen, Layout, chosen_front};
+use crate::{Chosen, chosen_front};
 use instances::kept_clauses;
 use items::{Items, or_drop};
 use lazy_ground::LazyGround;
@@ -78,26 +78,25 @@ fn few_of(budget: u32) -> u32 {
 // What a log of a part comes to.
 fn judge_log(
     alloc: Global,
-    ground: &LazyGround,
-    sizes: &Sizes,
+    measured: &Measured<'_>,
     part: &Part,
     log: Items<Line>,
     few: u32,
     aim: &Aim<'_>,
 ) -> Result<Step, AllocError>
-    requires sizes { AreSizes ground.now sizes.now }
-    requires part { IsPart part.now.problem (lazy_problem ground.now) part.now.picks.numbers.items
-        part.now.atoms.items }
+    requires measured { IsMeasured measured.now }
+    requires part { IsPart part.now.problem (lazy_problem measured.now.ground.now)
+        part.now.picks.numbers.items part.now.atoms.items }
     requires refuted { IsRefuted true part.now.problem few log }
-    ensures { IfOk result (λ step. IsStepTo aim.now ground.now step) }
+    ensures { IfOk result (λ step. IsStepTo aim.now measured.now.ground.now step) }
 {
-    let _ground = ground;
     if log.len() > aim.budget as usize || !are_plain_lines(log.as_slice()) {
         drop(log);
         return Ok(Step::Answered(LazyAnswer::Unknown));
     }
     let numbers = part.picks.numbers.as_slice();
     let atoms = part.atoms.as_slice();
+    let sizes = measured.sizes;
     let lines = renumbered(alloc, numbers, sizes.clauses, atoms, sizes.atoms, log)?;
     Ok(Step::Answered(LazyAnswer::Refuted(lines)))
 }
@@ -105,14 +104,13 @@ fn judge_log(
 // The places of the entry's clauses that truth values of a part make false; they are chosen now.
 fn false_kept(
     alloc: Global,
-    ground: &LazyGround,
-    sizes: &Sizes,
+    measured: &Measured<'_>,
     picked: &mut Picked,
     part: &Part,
     truths: &[bool],
 ) -> Result<Vec<u32>, AllocError> {
-    match kept_clauses(&ground.part) {
-        Some((kept, _)) => picked.choose_false(alloc, kept, sizes.first, part, truths),
+    match kept_clauses(&measured.ground.part) {
+        Some((kept, _)) => picked.choose_false(alloc, kept, measured.sizes.first, part, truths),
         None => Ok(Vec::new(alloc)),
     }
 }
@@ -121,22 +119,21 @@ fn false_kept(
 // and then it makes tuples equal that aren't.
 fn judge_found(
     alloc: Global,
-    ground: &LazyGround,
-    sizes: &Sizes,
+    measured: &Measured<'_>,
     chosen: &Chosen,
     picked: &mut Picked,
     part: &Part,
     truths: &[bool],
 ) -> Result<Step, AllocError>
     ensures { IfOk result (λ step. (d : Specification) (ob : TheObligation) (budget : ℕ)
-        → IsStep d ob ground.now budget step) }
+        → IsStep d ob measured.now.ground.now budget step) }
 {
     let is_picking = picked.pick_false(chosen, part, truths);
-    let places = false_kept(alloc, ground, sizes, picked, part, truths)?;
+    let places = false_kept(alloc, measured, picked, part, truths)?;
     let pairs = if is_picking {
         Vec::new(alloc)
     } else {
-        or_drop!(disagreeing(alloc, ground, part, truths); places)
+        or_drop!(disagreeing(alloc, measured.ground, part, truths); places)
     };
     if !is_picking && places.is_empty() && pairs.is_empty() {
         drop(places);
@@ -153,29 +150,29 @@ fn judge_found(
 // A search of the chosen clauses that are picked.
 fn search_picked(
     alloc: Global,
-    ground: &LazyGround,
-    sizes: &Sizes,
+    measured: &Measured<'_>,
     chosen: &Chosen,
     picked: &mut Picked,
     aim: &Aim<'_>,
 ) -> Result<Step, AllocError>
+    requires measured { IsMeasured measured.now }
     requires member { IsObligation aim.now.spec.now aim.now.ob.now }
-    requires sizes { AreSizes ground.now sizes.now }
-    requires chosen { AreOf ground.now chosen.now }
-    ensures { IfOk result (λ step. IsStepTo aim.now ground.now step) }
+    requires chosen { AreOf measured.now.ground.now chosen.now }
+    ensures { IfOk result (λ step. IsStepTo aim.now measured.now.ground.now step) }
 {
     let picks = picked.picks(alloc, chosen.numbers.as_slice())?;
+    let (ground, sizes) = (measured.ground, measured.sizes);
     let Some(part) = part_of(alloc, ground, sizes, chosen, picks, &[])? else {
         return Ok(Step::Answered(LazyAnswer::Unknown));
     };
     let few = few_of(aim.budget);
     match watched_search::search(alloc, &part.problem, few) {
-        Answer::Unsat(log) => judge_log(alloc, ground, sizes, &part, log, few, aim),
+        Answer::Unsat(log) => judge_log(alloc, measured, &part, log, few, aim),
         Answer::Sat(found) => match broken_by(alloc, aim, ground, &part, &found) {
             Ok(Some(witness)) => Ok(Step::Answered(LazyAnswer::Broken(witness))),
             Ok(None) => {
                 let truths = found.truths.as_slice();
-                judge_found(alloc, ground, sizes, chosen, picked, &part, truths)
+                judge_found(alloc, measured, chosen, picked, &part, truths)
             }
             Err(AllocError) => Err(AllocError),
         },
@@ -190,26 +187,17 @@ fn search_picked(
 // Adds the clauses of these pairs. It says whether it added any.
 fn add_pairs(
     alloc: Global,
-    ground: &LazyGround,
-    layout: &Layout,
+    measured: &Measured<'_>,
     chosen: &mut Chosen,
     pairs: &[PairAt],
 ) -> Result<bool, AllocError>
-    requires pairs { ArePairs ground.now.atoms.table ground.now.pairs }
-    requires layout { IsLayout ground.now (length ground.now.atoms.table.atoms) layout.now }
-    requires chosen { AreOf ground.now chosen.now }
-    ensures { OnOk result (AreOf ground.now chosen.new) }
+    requires measured { IsMeasured measured.now }
+    requires chosen { AreOf measured.now.ground.now chosen.now }
+    ensures { OnOk result (AreOf measured.now.ground.now chosen.new) }
 {
     let mut some = false;
     for pair in pairs {
-        if chosen.add_pair(
-            alloc,
-            ground,
-            layout,
-            pair.relation,
-            pair.earlier,
-            pair.later,
-        )? {
+        if chosen.add_pair(alloc, measured.ground, measured.layout, *pair)? {
             some = true;
         }
     }
@@ -219,19 +207,17 @@ fn add_pairs(
 // Adds the entry's clauses at these places. It says whether it added any.
 fn add_kept(
     alloc: Global,
-    ground: &LazyGround,
-    sizes: &Sizes,
+    measured: &Measured<'_>,
     chosen: &mut Chosen,
     places: &[u32],
 ) -> Result<bool, AllocError>
-    requires clauses { HasClauses ground.now }
-    requires sizes { AreSizes ground.now sizes.now }
-    requires chosen { AreOf ground.now chosen.now }
-    ensures { OnOk result (AreOf ground.now chosen.new) }
+    requires measured { IsMeasured measured.now }
+    requires chosen { AreOf measured.now.ground.now chosen.now }
+    ensures { OnOk result (AreOf measured.now.ground.now chosen.new) }
 {
     let mut some = false;
     for place in places {
-        if chosen.add_kept(alloc, ground, sizes.first, *place)? {
+        if chosen.add_kept(alloc, measured.ground, measured.sizes.first, *place)? {
             some = true;
         }
     }
@@ -241,75 +227,83 @@ fn add_kept(
 // Adds what is to be searched too. It says whether there is anything new.
 fn add_more(
     alloc: Global,
-    ground: &LazyGround,
-    sizes: &Sizes,
-    layout: &Layout,
+    measured: &Measured<'_>,
     chosen: &mut Chosen,
     more: &MoreClauses,
 ) -> Result<bool, AllocError>
-    requires pairs { ArePairs ground.now.atoms.table ground.now.pairs }
-    requires clauses { HasClauses ground.now }
-    requires sizes { AreSizes ground.now sizes.now }
-    requires layout { IsLayout ground.now (length ground.now.atoms.table.atoms) layout.now }
-    requires chosen { AreOf ground.now chosen.now }
-    ensures { OnOk result (AreOf ground.now chosen.new) }
+    requires measured { IsMeasured measured.now }
+    requires chosen { AreOf measured.now.ground.now chosen.now }
+    ensures { OnOk result (AreOf measured.now.ground.now chosen.new) }
 {
-    let has_kept = add_kept(alloc, ground, sizes, chosen, more.places.as_slice())?;
-    let has_pairs = add_pairs(alloc, ground, layout, chosen, more.pairs.as_slice())?;
+    let has_kept = add_kept(alloc, measured, chosen, more.places.as_slice())?;
+    let has_pairs = add_pairs(alloc, measured, chosen, more.pairs.as_slice())?;
     Ok(more.is_picking || has_kept || has_pairs)
 }
 
 // Picks the clauses for the next round: the new ones, and after some rounds all.
 fn pick_next(
     alloc: Global,
-    ground: &LazyGround,
-    sizes: &Sizes,
+    measured: &Measured<'_>,
     chosen: &mut Chosen,
     picked: &mut Picked,
     round: u32,
 ) -> Result<(), AllocError>
-    requires clauses { HasClauses ground.now }
-    requires sizes { AreSizes ground.now sizes.now }
-    requires chosen { AreOf ground.now chosen.now }
-    ensures { OnOk result (AreOf ground.now chosen.new) }
+    requires measured { IsMeasured measured.now }
+    requires chosen { AreOf measured.now.ground.now chosen.now }
+    ensures { OnOk result (AreOf measured.now.ground.now chosen.new) }
 {
     if round < PICKY_ROUNDS {
         return picked.pick_new(chosen.clauses.len());
     }
     let places = picked.choose_others(alloc)?;
-    add_kept(alloc, ground, sizes, chosen, places.as_slice())?;
+    add_kept(alloc, measured, chosen, places.as_slice())?;
     picked.pick_all(chosen.clauses.len())
+}
+
+// A round: a search, and what is to be searched too in the next one. Nothing is answered where another round is to come.
+fn search_round(
+    alloc: Global,
+    measured: &Measured<'_>,
+    chosen: &mut Chosen,
+    picked: &mut Picked,
+    aim: &Aim<'_>,
+) -> Result<Option<LazyAnswer>, AllocError>
+    requires measured { IsMeasured measured.now }
+    requires chosen { AreOf measured.now.ground.now chosen.now }
+    requires member { IsObligation aim.now.spec.now aim.now.ob.now }
+    ensures answer { IfOk result (λ found. IfSome found
+        (IsLazyAnswerTo aim.now measured.now.ground.now)) }
+    ensures chosen { OnOk result (AreOf measured.now.ground.now chosen.new) }
+{
+    let more = match search_picked(alloc, measured, chosen, picked, aim)? {
+        Step::Answered(answer) => return Ok(Some(answer)),
+        Step::MoreClauses(more) => more,
+    };
+    if !add_more(alloc, measured, chosen, &more)? {
+        return Ok(Some(LazyAnswer::Unknown));
+    }
+    Ok(None)
 }
 
 // Rounds until there is an answer, or nothing more to be chosen.
 fn rounds(
     alloc: Global,
-    ground: &LazyGround,
-    sizes: &Sizes,
-    layout: &Layout,
+    measured: &Measured<'_>,
     chosen: &mut Chosen,
     picked: &mut Picked,
     aim: &Aim<'_>,
 ) -> Result<LazyAnswer, AllocError>
-    requires pairs { ArePairs ground.now.atoms.table ground.now.pairs }
-    requires clauses { HasClauses ground.now }
-    requires sizes { AreSizes ground.now sizes.now }
-    requires layout { IsLayout ground.now (length ground.now.atoms.table.atoms) layout.now }
-    requires chosen { AreOf ground.now chosen.now }
+    requires measured { IsMeasured measured.now }
+    requires chosen { AreOf measured.now.ground.now chosen.now }
     requires member { IsObligation aim.now.spec.now aim.now.ob.now }
-    ensures answer { IfOk result (λ answer. IsLazyAnswerTo aim.now ground.now answer) }
-    ensures chosen { OnOk result (AreOf ground.now chosen.new) }
+    ensures answer { IfOk result (λ answer. IsLazyAnswerTo aim.now measured.now.ground.now answer) }
+    ensures chosen { OnOk result (AreOf measured.now.ground.now chosen.new) }
 {
     for round in 0..ROUNDS {
-        match search_picked(alloc, ground, sizes, chosen, picked, aim)? {
-            Step::Answered(answer) => return Ok(answer),
-            Step::MoreClauses(more) => {
-                if !add_more(alloc, ground, sizes, layout, chosen, &more)? {
-                    return Ok(LazyAnswer::Unknown);
-                }
-            }
+        if let Some(answer) = search_round(alloc, measured, chosen, picked, aim)? {
+            return Ok(answer);
         }
-        pick_next(alloc, ground, sizes, chosen, picked, round)?;
+        pick_next(alloc, measured, chosen, picked, round)?;
     }
     Ok(LazyAnswer::Unknown)
 }
@@ -329,21 +323,19 @@ fn is_first_without_entry(ground: &LazyGround) -> bool {
 // Adds of the entry's clauses those that are searched first.
 fn add_entry(
     alloc: Global,
-    ground: &LazyGround,
-    sizes: &Sizes,
+    measured: &Measured<'_>,
     chosen: &mut Chosen,
     picked: &mut Picked,
 ) -> Result<(), AllocError>
-    requires clauses { HasClauses ground.now }
-    requires sizes { AreSizes ground.now sizes.now }
-    requires chosen { AreOf ground.now chosen.now }
-    ensures { OnOk result (AreOf ground.now chosen.new) }
+    requires measured { IsMeasured measured.now }
+    requires chosen { AreOf measured.now.ground.now chosen.now }
+    ensures { OnOk result (AreOf measured.now.ground.now chosen.new) }
 {
-    let Some((kept, _)) = kept_clauses(&ground.part) else {
+    let Some((kept, _)) = kept_clauses(&measured.ground.part) else {
         return Ok(());
     };
-    let places = picked.choose_kept(alloc, &ground.atoms, kept)?;
-    add_kept(alloc, ground, sizes, chosen, places.as_slice())?;
+    let places = picked.choose_kept(alloc, &measured.ground.atoms, kept)?;
+    add_kept(alloc, measured, chosen, places.as_slice())?;
     picked.pick_new(chosen.clauses.len())
 }
 
@@ -351,31 +343,26 @@ fn add_entry(
 // them where that doesn't refute the problem.
 fn search_chosen(
     alloc: Global,
-    ground: &LazyGround,
-    sizes: &Sizes,
-    layout: &Layout,
+    measured: &Measured<'_>,
     chosen: &mut Chosen,
     aim: &Aim<'_>,
 ) -> Result<LazyAnswer, AllocError>
+    requires measured { IsMeasured measured.now }
     requires member { IsObligation aim.now.spec.now aim.now.ob.now }
-    requires pairs { ArePairs ground.now.atoms.table ground.now.pairs }
-    requires clauses { HasClauses ground.now }
-    requires sizes { AreSizes ground.now sizes.now }
-    requires layout { IsLayout ground.now (length ground.now.atoms.table.atoms) layout.now }
-    requires chosen { AreOf ground.now chosen.now }
-    ensures { IfOk result (λ answer. IsLazyAnswerTo aim.now ground.now answer) }
+    requires chosen { AreOf measured.now.ground.now chosen.now }
+    ensures { IfOk result (λ answer. IsLazyAnswerTo aim.now measured.now.ground.now answer) }
 {
-    let mut picked = Picked::first(alloc, &ground.atoms, chosen)?;
-    if is_first_without_entry(ground) {
-        match rounds(alloc, ground, sizes, layout, chosen, &mut picked, aim)? {
+    let mut picked = Picked::first(alloc, &measured.ground.atoms, chosen)?;
+    if is_first_without_entry(measured.ground) {
+        match rounds(alloc, measured, chosen, &mut picked, aim)? {
             LazyAnswer::Refuted(log) => return Ok(LazyAnswer::Refuted(log)),
             LazyAnswer::Broken(witness) => return Ok(LazyAnswer::Broken(witness)),
             LazyAnswer::Satisfiable => {}
             LazyAnswer::Unknown => {}
         }
     }
-    add_entry(alloc, ground, sizes, chosen, &mut picked)?;
-    rounds(alloc, ground, sizes, layout, chosen, &mut picked, aim)
+    add_entry(alloc, measured, chosen, &mut picked)?;
+    rounds(alloc, measured, chosen, &mut picked, aim)
 }
 
 /// A search of the lazy ground problem of an obligation, with logs of at most `budget` lines: a log that shows that the problem has no
@@ -403,6 +390,11 @@ pub fn search_lazily(
     let Some(sizes) = sizes_of(first, &layout) else {
         return Ok(LazyAnswer::Unknown);
     };
+    let measured = Measured {
+        ground,
+        sizes: &sizes,
+        layout: &layout,
+    };
     let aim = Aim { spec, ob, budget };
-    search_chosen(alloc, ground, &sizes, &layout, &mut chosen, &aim)
+    search_chosen(alloc, &measured, &mut chosen, &aim)
 }

@@ -82,25 +82,37 @@ pub struct Picks {
     pub numbers: Vec<u32>,
 }
 
+/// A problem that is to be the part of a whole one: the clauses of the whole that were picked for it, and the numbers of its atoms there.
+#[derive(Clone, Copy)]
+pub struct Proposed<'a> {
+    pub problem: &'a Problem,
+    pub picks: &'a Picks,
+    pub atoms: &'a [u32],
+}
+
 // Whether the clause of a part at a place is the chosen one that was picked there, which has its number among all.
 fn has_clause(
-    part: &Problem,
+    proposed: &Proposed<'_>,
     ground: &LazyGround,
     chosen: &Chosen,
-    picks: &Picks,
-    atoms: &[u32],
     whole: usize,
     place: usize,
 ) -> bool
     requires chosen { AreOf ground.now chosen.now }
-    requires place { place < length picks.now.numbers.items }
-    requires part { length part.now.clauses ≡ length picks.now.numbers.items }
+    requires place { place < length proposed.now.picks.now.numbers.items }
+    requires part { length proposed.now.problem.now.clauses
+        ≡ length proposed.now.picks.now.numbers.items }
     ensures { IsTrue result → slice_get (lazy_problem ground.now).clauses
-        (slice_index_or picks.now.numbers.items place 0)
-        ≡ Some (map (lit_by (number_in atoms.now whole))
-        (slice_index_or part.now.clauses place [])) }
+        (slice_index_or proposed.now.picks.now.numbers.items place 0)
+        ≡ Some (map (lit_by (number_in proposed.now.atoms.now whole))
+        (slice_index_or proposed.now.problem.now.clauses place [])) }
 {
     let _ground = ground;
+    let Proposed {
+        problem,
+        picks,
+        atoms,
+    } = *proposed;
     let Some(pick) = picks.places.get(place) else {
         return false;
     };
@@ -108,28 +120,22 @@ fn has_clause(
     if pick >= chosen.numbers.len() || chosen.numbers[pick] != picks.numbers[place] {
         return false;
     }
-    match (part.clauses.get(place), chosen.clauses.get(pick)) {
+    match (problem.clauses.get(place), chosen.clauses.get(pick)) {
         (Some(small), Some(large)) => have_literals(atoms, whole, small.lits(), large.lits()),
         _ => false,
     }
 }
 
-fn have_clauses(
-    part: &Problem,
-    ground: &LazyGround,
-    chosen: &Chosen,
-    picks: &Picks,
-    atoms: &[u32],
-    whole: usize,
-) -> bool
+fn have_clauses(proposed: &Proposed<'_>, ground: &LazyGround, chosen: &Chosen, whole: usize) -> bool
     requires chosen { AreOf ground.now chosen.now }
-    requires part { length part.now.clauses ≡ length picks.now.numbers.items }
-    ensures { IsTrue result → HaveClauses (number_in atoms.now whole)
-        (length picks.now.numbers.items) part.now.clauses (lazy_problem ground.now).clauses
-        picks.now.numbers.items }
+    requires part { length proposed.now.problem.now.clauses
+        ≡ length proposed.now.picks.now.numbers.items }
+    ensures { IsTrue result → HaveClauses (number_in proposed.now.atoms.now whole)
+        (length proposed.now.picks.now.numbers.items) proposed.now.problem.now.clauses
+        (lazy_problem ground.now).clauses proposed.now.picks.now.numbers.items }
 {
-    for place in 0..picks.numbers.len() {
-        if !has_clause(part, ground, chosen, picks, atoms, whole, place) {
+    for place in 0..proposed.picks.numbers.len() {
+        if !has_clause(proposed, ground, chosen, whole, place) {
             return false;
         }
     }
@@ -146,23 +152,26 @@ fn is_sized(part: &Problem, atoms: &[u32], numbers: &[u32]) -> bool
 
 /// Whether a problem over the atoms with these numbers is the part of the whole one that has the clauses that were picked.
 pub(crate) fn is_part(
-    part: &Problem,
+    proposed: &Proposed<'_>,
     ground: &LazyGround,
     sizes: &Sizes,
     chosen: &Chosen,
-    picks: &Picks,
-    atoms: &[u32],
 ) -> bool
     requires sizes { AreSizes ground.now sizes.now }
     requires chosen { AreOf ground.now chosen.now }
-    ensures { IsTrue result
-        → IsPart part.now (lazy_problem ground.now) picks.now.numbers.items atoms.now }
+    ensures { IsTrue result → IsPart proposed.now.problem.now (lazy_problem ground.now)
+        proposed.now.picks.now.numbers.items proposed.now.atoms.now }
 {
-    if !is_sized(part, atoms, picks.numbers.as_slice()) {
+    let Proposed {
+        problem,
+        picks,
+        atoms,
+    } = *proposed;
+    if !is_sized(problem, atoms, picks.numbers.as_slice()) {
         return false;
     }
-    if !rise(atoms, sizes.atoms) || !have_kinds(part, ground, sizes, atoms) {
+    if !rise(atoms, sizes.atoms) || !have_kinds(problem, ground, sizes, atoms) {
         return false;
     }
-    have_clauses(part, ground, chosen, picks, atoms, sizes.atoms)
+    have_clauses(proposed, ground, chosen, sizes.atoms)
 }

@@ -8,7 +8,7 @@ use Rattle.lazy_search.proofs.searching.judge_log.Goals as goal
 
 pub returns : goal.returns
 returns c =
-    let p = lazy_problem c.args.ground.now in
+    let p = lazy_problem c.args.measured.now.ground.now in
     let part = c.args.part.now in
     let f : ℕ → ℕ = number_in part.picks.numbers.items (length p.clauses) in
     let g : ℕ → ℕ = number_in part.atoms.items (length p.atoms) in
@@ -17,5 +17,5 @@ returns c =
     let within : length c.args.log ≤ c.args.aim.now.budget = let l = c.len.ensures in omega (arith, l, c.if-len-aim.false) in
     let lines : c.in_ok-lines.lines ≡ map (line_by f g) c.args.log =
     c.in_ok-lines.ensures
-    ∙ (λ i. map (line_by (number_in (c.as_slice-numbers.ensures.value i) (c.requires.sizes.clauses i)) (number_in (c.as_slice-atoms.ensures.value i) (c.requires.sizes.atoms i))) c.args.log) in
+    ∙ (λ i. map (line_by (number_in (c.as_slice-numbers.ensures.value i) (c.requires.measured.sizes.clauses i)) (number_in (c.as_slice-atoms.ensures.value i) (c.requires.measured.sizes.atoms i))) c.args.log) in
     of_whole f g part.problem p c.args.few c.args.aim.now.budget c.args.log c.in_ok-lines.lines c.requires.part c.requires.refuted plain within lines

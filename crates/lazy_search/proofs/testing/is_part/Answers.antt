@@ -7,9 +7,9 @@ use Rattle.lazy_search.proofs.testing.is_part.Goals as goal
 pub returns : goal.returns
 returns c = λ t.
     let p = lazy_problem c.args.ground.now in
-    let q = c.args.part.now in
-    let numbers = c.args.picks.now.numbers.items in
-    let atoms = c.args.atoms.now in
+    let q = c.args.proposed.now.problem.now in
+    let numbers = c.args.proposed.now.picks.now.numbers.items in
+    let atoms = c.args.proposed.now.atoms.now in
     let whole = c.requires.sizes.atoms in
     let rising : Rise (length atoms) atoms (length p.atoms) = subst (λ (z : ℕ). Rise (length atoms) atoms z) whole (c.if-not-rise.ensures cc) in
     let some : HaveClauses (number_in atoms (length p.atoms)) (length numbers) q.clauses p.clauses numbers =

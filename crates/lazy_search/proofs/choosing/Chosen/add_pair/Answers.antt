@@ -13,7 +13,7 @@ use Rattle.lazy_search.proofs.choosing.Chosen.add_pair.Goals as goal
 pub pair_formula-requires-clause-atoms : goal.pair_formula-requires-clause-atoms
 pair_formula-requires-clause-atoms c =
     let g : LazyGround = c.args.ground.now in
-    let r : ℕ = c.args.relation in
+    let r : ℕ = c.args.pair.relation in
     let s : ReadingPairs = c.index-as_slice-relation.result in
     let item : slice_get g.pairs r ≡ Some s =
     slice_get_read g.pairs c.len.result r s c.len.ensures c.if-relation-len.false (c.index-as_slice-relation.is ∙ ap (λ (z : List ReadingPairs). get_or z r s) c.as_slice.ensures) in
@@ -22,7 +22,7 @@ pair_formula-requires-clause-atoms c =
 pub returns-in-Ok : goal.returns-in-Ok
 returns-in-Ok c = λ name h old.
     let g : LazyGround = c.args.ground.now in
-    let r : ℕ = c.args.relation in
+    let r : ℕ = c.args.pair.relation in
     let s : ReadingPairs = c.index-as_slice-relation.result in
     let first : Place = c.index-first.result.now in
     let item : slice_get g.pairs r ≡ Some s =
@@ -30,9 +30,9 @@ returns-in-Ok c = λ name h old.
     let placed : List Place = c.args.layout.now.firsts.items in
     let short : r < length placed = let l = c.len-else-relation-len.ensures in omega (arith, l, c.if-relation-len-2.false) in
     let there : slice_get placed r ≡ Some first = slice_get_read placed (length placed) r first refl short c.index-first.ensures in
-    let within : c.args.later < length s.tuples = let a = c.len-else-earlier-later.ensures in let b = c.if-later-len.false in omega (arith, a, b) in
-    let moved : IsMoved first (pair_place (length s.tuples) c.args.earlier c.args.later) c.in-Some.at =
-    subst (λ (z : ℕ). IsMoved first (pair_place z c.args.earlier c.args.later) c.in-Some.at) c.len-2.ensures c.in-Some.ensures in
-    let stands = pair_stands g name r c.args.earlier c.args.later s (form_of c.in-Some-2.form) first c.in-Some.at c.requires item (h.firsts r first there)
+    let within : c.args.pair.later < length s.tuples = let a = c.len-else-earlier-later.ensures in let b = c.if-later-len.false in omega (arith, a, b) in
+    let moved : IsMoved first (pair_place (length s.tuples) c.args.pair.earlier c.args.pair.later) c.in-Some.at =
+    subst (λ (z : ℕ). IsMoved first (pair_place z c.args.pair.earlier c.args.pair.later) c.in-Some.at) c.len-2.ensures c.in-Some.ensures in
+    let stands = pair_stands g name r c.args.pair.earlier c.args.pair.later s (form_of c.in-Some-2.form) first c.in-Some.at c.requires item (h.firsts r first there)
     c.if-earlier-later.false within moved (rw c.in-Some-2.is at c.in_ok-form.ensures) in
     c.in-Ok.ensures.chosen (all_clauses name (lazy_forms g)) stands old
