@@ -1,5 +1,6 @@
 // Whether a problem is the part of a whole one that has some of the chosen clauses, by a look at its atoms and clauses.
-ghost use Rattle.std.specs.Prelude.{◌≡◌, ◌<◌, [], length, map, slice_get, slice_index_or, IsTrue, Some};
+ghost use Rattle.std.specs.Prelude.{◌≡◌, ◌<◌, [], length, map, slice_get, slice_index_or, IsTrue};
+ghost use Rattle.std.specs.Prelude.{Some};
 ghost use Rattle.proof_lines.specs.declared.problem.AtomKind.TheVariants as plain_kind;
 ghost use Rattle.needed_clauses.specs.Renaming.{number_in, lit_by, HaveKinds, HaveClauses, IsPart};
 ghost use Rattle.ground_numbers.specs.Problem.{kind_of};

@@ -4,7 +4,8 @@ ghost use Rattle.report_reader.specs.Resolving.{resolve_told};
 ghost use Rattle.report_bytes.specs.Collecting.{budget_in};
 ghost use Rattle.report_verifier.specs.Notes.{IsPair};
 ghost use Rattle.report_verifier.specs.Taking.{IsTold};
-ghost use Rattle.report_verifier.specs.Verifier.{first_verifier, next_verifier, IsTaken, IsFinished};
+ghost use Rattle.report_verifier.specs.Verifier.{first_verifier, next_verifier, IsTaken};
+ghost use Rattle.report_verifier.specs.Verifier.{IsFinished};
 ghost use Rattle.report_verifier.specs.Verifier.{IsCutOff};
 ghost use Rattle.report_verifier.specs.Verifier.{IsJudgement, IsMissing, clauses_in, most_kept};
 
