@@ -49,8 +49,8 @@ fn row_with(alloc: Global, terms: &[RowTerm], bound: i128) -> Result<Row, AllocE
     }
 }
 
-fn terms(alloc: Global, words: &str) -> Result<Vec<RowTerm>, AllocError> {
-    let mut terms = Vec::new(alloc);
+fn terms(alloc: Global, words: &str) -> Result<Items<RowTerm>, AllocError> {
+    let mut terms = Items::new(alloc);
     let mut place = 0u32;
     for word in words.split(' ') {
         if let Ok(coef) = word.parse::<i128>() {
