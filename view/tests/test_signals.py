@@ -3,7 +3,6 @@ N-th line that it comes to, a signal comes. Whatever N is, the call ends by that
 the program's status behind its whole answer; and nobody sees a trace."""
 from __future__ import annotations
 
-import contextlib
 import os
 import posix
 import signal
@@ -68,8 +67,8 @@ def call(
 ) -> tuple[int, bytes, bytes, int]:
     """How a call ended, what it wrote on standard output and on standard error, and how many lines
     it came to."""
-    with contextlib.ExitStack() as files:
-        out, error, told = (files.enter_context(tempfile.TemporaryFile()) for _ in range(3))
+    new = tempfile.TemporaryFile
+    with new() as out, new() as error, new() as told:
         sys.stdout.flush()
         sys.stderr.flush()
         child = os.fork()
