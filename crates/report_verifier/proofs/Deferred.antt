@@ -1,9 +1,7 @@
 -- What stands once the kernel has taken the lines of a log that were deferred.
 use Rattle.std.proofs.Common.{OnOk, IfSome, ◌≡◌, ℕ, zero, suc, ◌+◌, Bool, List, [], ◌∷◌, ◌++◌, length, take, slice_get, Option, Some, None, Result, Ok, Err, refl, sym, ◌∙◌, ap, subst, arith}
-use Rattle.std.proofs.lemmas.Option.{get_or_from_slice_get}
 use Rattle.spec_core.specs.Specification.{Specification}
 use Rattle.obligation_list.specs.declared.obligation.Obligation.{Obligation}
-use Rattle.obligation_list.specs.Obligations.{obligations_of}
 use Rattle.ground_numbers.specs.Problem.{problem_of}
 use Rattle.proof_lines.specs.declared.line.Line.{Line}
 use Rattle.proof_lines.specs.Problems.{PlainProblem}
@@ -11,7 +9,7 @@ use Rattle.proof_kernel.specs.Rules.{State, start}
 use Rattle.proof_report.specs.declared.kind.Fault.{Fault}
 use Rattle.proof_report.specs.declared.kind.ReportKind.TheVariants as kinds
 use Rattle.proof_report.specs.declared.verdict.Ended.TheVariants as ends
-use Rattle.proof_report.specs.Events.{told, with_proved}
+use Rattle.proof_report.specs.Events.{with_proved}
 use Rattle.lazy_logs.specs.Refuted.{Refutes}
 use Rattle.report_verifier.specs.declared.judgement.Judgement.{Judgement}
 use Rattle.report_verifier.specs.Rules.{fault_at, unless, or_else}
@@ -67,10 +65,6 @@ refuted_log d budget p ls j r =
     ap (λ (b : Bool). or_else j.fault (unless b (fault_at j.line kinds.NoEmpty))) r.empty ∙ no_later j.fault in
     ap (ended_as d budget (Some ends.Proved)) logs
     ∙ (λ k. record { tally = with_proved j.tally; line = j.line; many = j.many; kernel = None; log = j.log + length ls; fault = empty k })
-
--- the obligation of the next verdict is the one that is found in the list
-pub due_so : (d : Specification) (obs : List Obligation) (j : Judgement) (ob : Obligation) → obs ≡ obligations_of d → slice_get obs (told j.tally) ≡ Some ob → obligation_due d j ≡ ob
-due_so d obs j ob e h = get_or_from_slice_get (obligations_of d) (told j.tally) ob _ (subst (λ (z : List Obligation). slice_get z (told j.tally) ≡ Some ob) e h)
 
 -- what stands once the lines that were deferred are taken by the kernel of this problem
 pub settled_so : {E : Type 0} (d : Specification) (j k i : Judgement) (s : State) (ls ms : List Line) (ob : Obligation) (r : Result (Unit {0}) E) → k ≡ with_kernel (Some s) j → s ≡ start (problem_of d ob) → obligation_due d j ≡ ob → ls ≡ ms

@@ -1,4 +1,5 @@
 mod Listed
+mod Due
 mod Same
 mod Valid
 mod Safe

@@ -6,4 +6,5 @@ pub mod Taking
 pub mod Pieces
 pub mod Notes
 pub mod Posing
+pub mod Listed
 pub mod Deferring

@@ -6,20 +6,19 @@
 // been there from the first one on.
 ghost use Rattle.std.specs.Prelude.{◌≡◌, suc, ◌+◌, false, length, ◌++◌, ◌∷◌, [], Some, None, IfOk};
 ghost use Rattle.std.specs.Prelude.{OnOk, IsTrue};
-ghost use Rattle.std.specs.List.{Contains};
-ghost use Rattle.obligation_list.specs.Obligations.{IsObligation, obligations_of};
 ghost use Rattle.lazy_ground.specs.Cache.{AreKept};
 ghost use Rattle.report_verifier.specs.Verifier.{no_judgement, obligation_due, log_all, logged};
+ghost use Rattle.report_verifier.specs.Listed.{IsListed};
 ghost use Rattle.report_verifier.specs.Posing.{IsLazyOf};
 ghost use Rattle.report_verifier.specs.Deferring.{after_deferred, judgement_of, HasDeferred};
 ghost use Rattle.report_verifier.specs.Deferring.{IsRefutedBy};
 
-use crate::judgement::{Judgement, log_line, no_judgement, obligation_due};
+use crate::judgement::{Judgement, log_line, no_judgement};
+use crate::obligations::{Listed, obligation_due};
 use crate::posing::Poser;
 use items::Items;
 use lazy_ground::LazyGround;
 use lazy_logs::is_refuted_by;
-use obligation_list::Obligation;
 use proof_lines::Line;
 use report_lines::verdict::VerdictWord;
 use spec_core::Spec;
@@ -142,22 +141,21 @@ fn add_lines(lines: &[Line], judgement: &mut Judgement) -> Result<(), AllocError
 // The kernel of the whole problem takes the lines of a log that were deferred.
 fn settle_log(
     poser: &mut Poser,
-    spec: &Spec,
-    obligations: &[Obligation],
+    listed: &Listed<'_>,
     log: DeferredLog,
     judgement: &mut Judgement,
 ) -> Result<(), AllocError>
-    requires list { obligations.now ≡ obligations_of spec.now }
-    requires members { (ob : Obligation) → Contains obligations.now ob → IsObligation spec.now ob }
-    requires kept { AreKept spec.now poser.old.cache }
-    requires log { IsLazyOf spec.now (obligation_due spec.now judgement.old) log.ground }
-    ensures kept { AreKept spec.now poser.new.cache }
+    requires listed { IsListed listed.now }
+    requires kept { AreKept listed.now.spec.now poser.old.cache }
+    requires log { IsLazyOf listed.now.spec.now (obligation_due listed.now.spec.now judgement.old)
+        log.ground }
+    ensures kept { AreKept listed.now.spec.now poser.new.cache }
     ensures settled { OnOk result
-        (judgement.new ≡ after_deferred spec.now judgement.old (Some log)) }
+        (judgement.new ≡ after_deferred listed.now.spec.now judgement.old (Some log)) }
 {
     let DeferredLog { ground, lines, .. } = log;
-    let ob = or_drop!(obligation_due(obligations, &judgement.tally); ground, lines);
-    let kernel = or_drop!(poser.complete(spec, ob, ground); lines);
+    let ob = or_drop!(obligation_due(listed, &judgement.tally); ground, lines);
+    let kernel = or_drop!(poser.complete(listed.spec, ob, ground); lines);
     judgement.kernel = Some(kernel);
     let added = add_lines(lines.as_slice(), judgement);
     drop(lines);
@@ -167,20 +165,19 @@ fn settle_log(
 /// The kernel of the whole problem takes the lines that were deferred, if any were.
 pub fn settle(
     poser: &mut Poser,
-    spec: &Spec,
-    obligations: &[Obligation],
+    listed: &Listed<'_>,
     judging: &mut Judging,
 ) -> Result<(), AllocError>
-    requires list { obligations.now ≡ obligations_of spec.now }
-    requires members { (ob : Obligation) → Contains obligations.now ob → IsObligation spec.now ob }
-    requires kept { AreKept spec.now poser.old.cache }
-    requires deferred { HasDeferred spec.now judging.old }
-    ensures kept { AreKept spec.now poser.new.cache }
-    ensures settled { OnOk result (judging.new.judgement ≡ judgement_of spec.now judging.old) }
+    requires listed { IsListed listed.now }
+    requires kept { AreKept listed.now.spec.now poser.old.cache }
+    requires deferred { HasDeferred listed.now.spec.now judging.old }
+    ensures kept { AreKept listed.now.spec.now poser.new.cache }
+    ensures settled { OnOk result
+        (judging.new.judgement ≡ judgement_of listed.now.spec.now judging.old) }
     ensures none { judging.new.deferred ≡ None }
 {
     match mem::replace(&mut judging.deferred, None) {
-        Some(log) => settle_log(poser, spec, obligations, log, &mut judging.judgement),
+        Some(log) => settle_log(poser, listed, log, &mut judging.judgement),
         None => Ok(()),
     }
 }
@@ -213,25 +210,23 @@ fn defer(
 /// A line of a log. It is deferred where lines before it were, and it may be; else the kernel takes it.
 pub fn log_or_defer(
     poser: &mut Poser,
-    spec: &Spec,
-    obligations: &[Obligation],
+    listed: &Listed<'_>,
     number: u32,
     line: &Line,
     judging: &mut Judging,
 ) -> Result<(), AllocError>
-    requires list { obligations.now ≡ obligations_of spec.now }
-    requires members { (ob : Obligation) → Contains obligations.now ob → IsObligation spec.now ob }
-    requires kept { AreKept spec.now poser.old.cache }
-    requires deferred { HasDeferred spec.now judging.old }
-    ensures kept { AreKept spec.now poser.new.cache }
-    ensures deferred { OnOk result (HasDeferred spec.now judging.new) }
-    ensures taken { OnOk result (judgement_of spec.now judging.new
-        ≡ logged number (Some line.now) (judgement_of spec.now judging.old)) }
+    requires listed { IsListed listed.now }
+    requires kept { AreKept listed.now.spec.now poser.old.cache }
+    requires deferred { HasDeferred listed.now.spec.now judging.old }
+    ensures kept { AreKept listed.now.spec.now poser.new.cache }
+    ensures deferred { OnOk result (HasDeferred listed.now.spec.now judging.new) }
+    ensures taken { OnOk result (judgement_of listed.now.spec.now judging.new
+        ≡ logged number (Some line.now) (judgement_of listed.now.spec.now judging.old)) }
 {
-    if defer(poser.alloc, spec, number, line, judging)? {
+    if defer(poser.alloc, listed.spec, number, line, judging)? {
         return Ok(());
     }
-    settle(poser, spec, obligations, judging)?;
+    settle(poser, listed, judging)?;
     log_line(number, line, &mut judging.judgement)
 }
 

@@ -58,13 +58,11 @@ fn feed_lines<'a>(verifier: &mut Verifier<'_>, bytes: &'a [u8]) -> Result<&'a [u
 {
     let mut rest = bytes;
     'lines: for taken in 0..bytes.len() {
-        match next_line(rest) {
-            None => return Ok(rest),
-            Some((line, behind)) => match verifier.feed(line) {
-                Ok(()) => rest = behind,
-                Err(error) => return Err(error),
-            },
-        }
+        let Some((line, behind)) = next_line(rest) else {
+            return Ok(rest);
+        };
+        verifier.feed(line)?;
+        rest = behind;
     }
     Ok(rest)
 }
@@ -83,14 +81,13 @@ fn take_lines<'a>(
 {
     let mut rest = bytes;
     'lines: for taken in 0..bytes.len() {
-        match next_line(rest) {
-            None => return Ok(rest),
-            Some((line, behind)) => match take_line(verifier, line, notes) {
-                Ok(true) => rest = behind,
-                Ok(false) => return feed_lines(verifier, behind),
-                Err(error) => return Err(error),
-            },
+        let Some((line, behind)) = next_line(rest) else {
+            return Ok(rest);
+        };
+        if !take_line(verifier, line, notes)? {
+            return feed_lines(verifier, behind);
         }
+        rest = behind;
     }
     Ok(rest)
 }

@@ -1,21 +1,18 @@
 // What is kept of the verdicts of a report, line by line.
-ghost use Rattle.std.specs.Prelude.{◌≡◌, suc, Some, IfOk, OnOk, slice_get};
-ghost use Rattle.std.specs.List.{Contains};
-ghost use Rattle.obligation_list.specs.Obligations.{IsObligation, obligations_of};
-ghost use Rattle.proof_report.specs.Events.{told};
+ghost use Rattle.std.specs.Prelude.{◌≡◌, suc, Some, IfOk, OnOk};
 ghost use Rattle.report_verifier.specs.Rules.{or_else};
 ghost use Rattle.report_verifier.specs.Verifier.{no_judgement, has_log, logged};
-ghost use Rattle.report_verifier.specs.Taking.{end_fault_of, ended_as, with_ended_as};
+ghost use Rattle.report_verifier.specs.Taking.{ended_as, with_ended_as};
+ghost use Rattle.report_verifier.specs.Listed.{IsListed};
 
 use crate::ending::end_fault;
 use crate::logs::kind_of;
-use obligation_list::Obligation;
+use crate::obligations::{Listed, obligation_due};
 use proof_kernel::Kernel;
 use proof_lines::{Line, LineRefused};
 use proof_report::{Ended, Fault};
 use report_lines::head::Tally;
 use report_lines::verdict::VerdictWord;
-use spec_core::Spec;
 use std::alloc::AllocError;
 
 /// How many verdicts of each kind there are; of the last one its line, whether its obligation has too many formulas, the kernel after
@@ -49,17 +46,6 @@ pub fn no_judgement() -> Judgement
     }
 }
 
-// How many verdicts there are. More than 32 bits hold are answered as want of memory.
-fn told(tally: &Tally) -> Result<usize, AllocError>
-    ensures { IfOk result (λ n. n ≡ told tally.now) }
-{
-    let sum = u64::from(tally.proved) + (u64::from(tally.refuted) + u64::from(tally.undecided));
-    match usize::try_from(sum) {
-        Ok(sum) => Ok(sum),
-        Err(_) => Err(AllocError),
-    }
-}
-
 /// Whether a log follows the word.
 pub fn has_log(word: &VerdictWord) -> bool
     ensures { result ≡ has_log word.now }
@@ -77,19 +63,6 @@ fn or_else(first: Option<Fault>, later: Option<Fault>) -> Option<Fault>
     match first {
         Some(fault) => Some(fault),
         None => later,
-    }
-}
-
-/// The obligation of the next verdict. A report tells of no verdict beyond the last one.
-pub fn obligation_due<'o>(
-    obligations: &'o [Obligation],
-    tally: &Tally,
-) -> Result<&'o Obligation, AllocError>
-    ensures { IfOk result (λ ob. slice_get obligations.now (told tally.now) ≡ Some ob.now) }
-{
-    match obligations.get(told(tally)?) {
-        Some(ob) => Ok(ob),
-        None => Err(AllocError),
     }
 }
 
@@ -143,20 +116,18 @@ pub fn with_ended(ended: &Ended, tally: Tally) -> Result<Tally, AllocError>
 
 /// A verdict ends, whose log the kernel has taken.
 pub fn end(
-    spec: &Spec,
-    obligations: &[Obligation],
+    listed: &Listed<'_>,
     budget: u32,
     ended: &Ended,
     judgement: &mut Judgement,
 ) -> Result<(), AllocError>
-    requires list { obligations.now ≡ obligations_of spec.now }
-    requires members { (ob : Obligation) → Contains obligations.now ob → IsObligation spec.now ob }
+    requires { IsListed listed.now }
     ensures { OnOk result
-        (judgement.new ≡ ended_as spec.now budget (Some ended.now) judgement.old) }
+        (judgement.new ≡ ended_as listed.now.spec.now budget (Some ended.now) judgement.old) }
 {
-    let ob = obligation_due(obligations, &judgement.tally)?;
+    let ob = obligation_due(listed, &judgement.tally)?;
     let tally = with_ended(ended, judgement.tally)?;
-    let fault = end_fault(spec, ob, budget, judgement, ended)?;
+    let fault = end_fault(listed.spec, ob, budget, judgement, ended)?;
     judgement.tally = tally;
     judgement.kernel = None;
     judgement.fault = or_else(judgement.fault, fault);

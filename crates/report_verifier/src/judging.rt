@@ -1,17 +1,18 @@
 // What is kept of the verdicts of a report, as a reader tells of its lines.
 ghost use Rattle.std.specs.Prelude.{◌≡◌, ℕ, true, None, Some, OnOk};
-ghost use Rattle.std.specs.List.{Contains};
-ghost use Rattle.obligation_list.specs.Obligations.{IsObligation, obligations_of};
+ghost use Rattle.obligation_list.specs.Obligations.{IsObligation};
 ghost use Rattle.proof_report.specs.declared.verdict.Ended.TheVariants as ends;
 ghost use Rattle.lazy_ground.specs.Cache.{AreKept};
 ghost use Rattle.report_verifier.specs.Verifier.{obligation_due, posed, has_log, begun, begun_in};
 ghost use Rattle.report_verifier.specs.Taking.{ended_as, taken_as};
+ghost use Rattle.report_verifier.specs.Listed.{IsListed};
 ghost use Rattle.report_verifier.specs.Posing.{IsPosed};
 ghost use Rattle.report_verifier.specs.Deferring.{with_kernel, judgement_of, HasDeferred};
 ghost use Rattle.report_verifier.specs.Deferring.{IsRefutedBy};
 
 use crate::deferring::{DeferredLog, Judging, is_deferred, is_refuted, log_or_defer, settle};
-use crate::judgement::{end, has_log, obligation_due, with_ended};
+use crate::judgement::{end, has_log, with_ended};
+use crate::obligations::{Listed, obligation_due};
 use crate::posing::{Posed, Poser};
 use obligation_list::Obligation;
 use proof_report::{Ended, Fed};
@@ -87,22 +88,21 @@ fn begin_on(
 
 fn begin(
     poser: &mut Poser,
-    spec: &Spec,
-    obligations: &[Obligation],
+    listed: &Listed<'_>,
     number: u32,
     word: &VerdictWord,
     judging: &mut Judging,
 ) -> Result<(), AllocError>
-    requires list { obligations.now ≡ obligations_of spec.now }
-    requires members { (ob : Obligation) → Contains obligations.now ob → IsObligation spec.now ob }
-    requires kept { AreKept spec.now poser.old.cache }
-    requires deferred { HasDeferred spec.now judging.old }
-    ensures kept { AreKept spec.now poser.new.cache }
-    ensures deferred { OnOk result (HasDeferred spec.now judging.new) }
-    ensures begun { OnOk result (judgement_of spec.now judging.new
-        ≡ begun spec.now number (Some word.now) (judgement_of spec.now judging.old)) }
+    requires listed { IsListed listed.now }
+    requires kept { AreKept listed.now.spec.now poser.old.cache }
+    requires deferred { HasDeferred listed.now.spec.now judging.old }
+    ensures kept { AreKept listed.now.spec.now poser.new.cache }
+    ensures deferred { OnOk result (HasDeferred listed.now.spec.now judging.new) }
+    ensures begun { OnOk result (judgement_of listed.now.spec.now judging.new
+        ≡ begun listed.now.spec.now number (Some word.now)
+        (judgement_of listed.now.spec.now judging.old)) }
 {
-    settle(poser, spec, obligations, judging)?;
+    settle(poser, listed, judging)?;
     if judging.judgement.fault.is_some() {
         judging.judgement.line = number;
         judging.judgement.many = false;
@@ -110,8 +110,8 @@ fn begin(
         judging.judgement.log = 0;
         return Ok(());
     }
-    let ob = obligation_due(obligations, &judging.judgement.tally)?;
-    begin_on(poser, spec, ob, number, word, judging)
+    let ob = obligation_due(listed, &judging.judgement.tally)?;
+    begin_on(poser, listed.spec, ob, number, word, judging)
 }
 
 // A proved verdict ends, whose lines were deferred and refute its problem.
@@ -146,57 +146,55 @@ fn end_proved(poser: &mut Poser, spec: &Spec, judging: &mut Judging) -> Result<(
 // A verdict ends. Where its lines were deferred and are known to refute its problem, the whole problem isn't made.
 fn end_or_settle(
     poser: &mut Poser,
-    spec: &Spec,
-    obligations: &[Obligation],
+    listed: &Listed<'_>,
     budget: u32,
     ended: &Ended,
     judging: &mut Judging,
 ) -> Result<(), AllocError>
-    requires list { obligations.now ≡ obligations_of spec.now }
-    requires members { (ob : Obligation) → Contains obligations.now ob → IsObligation spec.now ob }
-    requires kept { AreKept spec.now poser.old.cache }
-    requires deferred { HasDeferred spec.now judging.old }
-    ensures kept { AreKept spec.now poser.new.cache }
+    requires listed { IsListed listed.now }
+    requires kept { AreKept listed.now.spec.now poser.old.cache }
+    requires deferred { HasDeferred listed.now.spec.now judging.old }
+    ensures kept { AreKept listed.now.spec.now poser.new.cache }
     ensures none { OnOk result (judging.new.deferred ≡ None) }
-    ensures ended { OnOk result (judging.new.judgement
-        ≡ ended_as spec.now budget (Some ended.now) (judgement_of spec.now judging.old)) }
+    ensures ended { OnOk result
+        (judging.new.judgement ≡ ended_as listed.now.spec.now budget (Some ended.now)
+        (judgement_of listed.now.spec.now judging.old)) }
 {
     if let Ended::Proved = ended {
-        if is_refuted(poser.alloc, spec, judging)? {
-            return end_proved(poser, spec, judging);
+        if is_refuted(poser.alloc, listed.spec, judging)? {
+            return end_proved(poser, listed.spec, judging);
         }
     }
-    settle(poser, spec, obligations, judging)?;
-    end(spec, obligations, budget, ended, &mut judging.judgement)
+    settle(poser, listed, judging)?;
+    end(listed, budget, ended, &mut judging.judgement)
 }
 
 /// Takes what a reader tells of the line of this number.
 pub fn take(
     poser: &mut Poser,
-    spec: &Spec,
-    obligations: &[Obligation],
+    listed: &Listed<'_>,
     budget: u32,
     number: u32,
     fed: &Fed,
     judging: &mut Judging,
 ) -> Result<(), AllocError>
-    requires list { obligations.now ≡ obligations_of spec.now }
-    requires members { (ob : Obligation) → Contains obligations.now ob → IsObligation spec.now ob }
-    requires kept { AreKept spec.now poser.old.cache }
-    requires deferred { HasDeferred spec.now judging.old }
-    ensures kept { AreKept spec.now poser.new.cache }
-    ensures deferred { OnOk result (HasDeferred spec.now judging.new) }
-    ensures taken { OnOk result (judgement_of spec.now judging.new
-        ≡ taken_as spec.now budget number fed.now (judgement_of spec.now judging.old)) }
+    requires listed { IsListed listed.now }
+    requires kept { AreKept listed.now.spec.now poser.old.cache }
+    requires deferred { HasDeferred listed.now.spec.now judging.old }
+    ensures kept { AreKept listed.now.spec.now poser.new.cache }
+    ensures deferred { OnOk result (HasDeferred listed.now.spec.now judging.new) }
+    ensures taken { OnOk result (judgement_of listed.now.spec.now judging.new
+        ≡ taken_as listed.now.spec.now budget number fed.now
+        (judgement_of listed.now.spec.now judging.old)) }
 {
     if let Some(word) = &fed.begin {
-        begin(poser, spec, obligations, number, word, judging)?;
+        begin(poser, listed, number, word, judging)?;
     }
     if let Some(line) = &fed.log {
-        log_or_defer(poser, spec, obligations, number, line, judging)?;
+        log_or_defer(poser, listed, number, line, judging)?;
     }
     if let Some(ended) = &fed.ended {
-        end_or_settle(poser, spec, obligations, budget, ended, judging)?;
+        end_or_settle(poser, listed, budget, ended, judging)?;
     }
     Ok(())
 }

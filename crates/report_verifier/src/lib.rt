@@ -6,8 +6,8 @@
 //
 // Definitions, in the order in which a reader needs them: specs/Valid (when a verdict is valid), specs/Rules (the same as a function:
 // the fault of a verdict and its line, and the first one of a report), specs/Verified (what is answered to bytes), specs/Verifier
-// (what is kept of a report line by line), specs/Notes (what is noted of the lines of a report that is held). specs/Taking, specs/Posing
-// and specs/Deferring mirror the code.
+// (what is kept of a report line by line), specs/Notes (what is noted of the lines of a report that is held). specs/Taking, specs/Listed,
+// specs/Posing and specs/Deferring mirror the code.
 //
 // Decisions:
 // - After the first fault of a verdict no further problem is posed; only the text is read on.
@@ -47,6 +47,7 @@ mod judging;
 mod laws;
 mod logs;
 mod notes;
+mod obligations;
 mod pieces;
 mod posing;
 mod refused;

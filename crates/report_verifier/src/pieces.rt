@@ -45,13 +45,11 @@ fn feed_piece(
 {
     let mut rest = piece;
     'lines: for taken in 0..piece.len() {
-        match next_line(rest) {
-            None => return line.extend_from_slice(rest),
-            Some((front, behind)) => match end_line(verifier, line, front) {
-                Ok(()) => rest = behind,
-                Err(error) => return Err(error),
-            },
-        }
+        let Some((front, behind)) = next_line(rest) else {
+            return line.extend_from_slice(rest);
+        };
+        end_line(verifier, line, front)?;
+        rest = behind;
     }
     Ok(())
 }

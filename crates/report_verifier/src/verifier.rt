@@ -13,6 +13,7 @@ use crate::deferring::{Judging, log_or_defer, no_judging, settle};
 use crate::judgement::Judgement;
 use crate::judging::take;
 use crate::notes::ResolvedPair;
+use crate::obligations::Listed;
 use crate::posing::Poser;
 use crate::refused::VerifyRefused;
 use items::Items;
@@ -119,8 +120,10 @@ impl<'a> Verifier<'a> {
     {
         match take(
             &mut self.poser,
-            self.spec,
-            self.obligations.as_slice(),
+            &Listed {
+                spec: self.spec,
+                obligations: self.obligations.as_slice(),
+            },
             budget_in(&self.reader),
             self.reader.taken(),
             fed,
@@ -147,8 +150,10 @@ impl<'a> Verifier<'a> {
         };
         match log_or_defer(
             &mut self.poser,
-            self.spec,
-            self.obligations.as_slice(),
+            &Listed {
+                spec: self.spec,
+                obligations: self.obligations.as_slice(),
+            },
             self.reader.taken(),
             &line,
             &mut self.judging,
@@ -232,8 +237,10 @@ impl<'a> Verifier<'a> {
     {
         match settle(
             &mut self.poser,
-            self.spec,
-            self.obligations.as_slice(),
+            &Listed {
+                spec: self.spec,
+                obligations: self.obligations.as_slice(),
+            },
             &mut self.judging,
         ) {
             Ok(()) => Ok(()),
@@ -256,8 +263,10 @@ impl<'a> Verifier<'a> {
     {
         match settle(
             &mut self.poser,
-            self.spec,
-            self.obligations.as_slice(),
+            &Listed {
+                spec: self.spec,
+                obligations: self.obligations.as_slice(),
+            },
             &mut self.judging,
         ) {
             Ok(()) => Ok(clauses_in(&self.judging.judgement)),

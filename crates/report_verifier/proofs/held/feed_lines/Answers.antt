@@ -9,15 +9,15 @@ lines-init c = record {
   fewer = omega arith;
 }
 
-pub returns-in-None-clause-fed : goal.returns-in-None-clause-fed
-returns-in-None-clause-fed c = onward_end c.args.verifier.now c.args.bytes.now c.lines.verifier c.lines.rest.now c.lines.invariant.fed c.in-None.ensures.none
+pub returns-in_default-clause-fed : goal.returns-in_default-clause-fed
+returns-in_default-clause-fed c = onward_end c.args.verifier.now c.args.bytes.now c.lines.verifier c.lines.rest.now c.lines.invariant.fed c.in_default.ensures.none
 
 pub lines-preserved : goal.lines-preserved
 lines-preserved c =
     let fewer = c.lines.invariant.fewer in
     let less = c.in-Some.ensures.fewer in
     record {
-      fed = onward_more c.args.verifier.now c.args.bytes.now c.lines.verifier c.lines.rest.now c.in-Some.line.now c.in-Some.behind.now c.feed.new.self c.lines.invariant.fed c.in-Some.ensures.some c.in-Ok.ensures.1;
+      fed = onward_more c.args.verifier.now c.args.bytes.now c.lines.verifier c.lines.rest.now c.in-Some.line.now c.in-Some.behind.now c.feed.new.self c.lines.invariant.fed c.in-Some.ensures.some c.in_ok-feed.ensures.1;
       fewer = omega (arith, fewer, less);
     }
 

@@ -8,5 +8,5 @@ use Rattle.report_verifier.proofs.judging.end_or_settle.Goals as goal
 pub returns-then-branch-clause-ended : goal.returns-then-branch-clause-ended
 returns-then-branch-clause-ended c =
     on_ok c.end_proved.result
-    (λ h. subst (λ (e : Ended). c.end_proved.new.judging.judgement ≡ ended_as c.args.spec.now c.args.budget (Some e) (judgement_of c.args.spec.now c.args.judging.now)) (sym c.in-Proved.is) (h c.args.budget))
+    (λ h. subst (λ (e : Ended). c.end_proved.new.judging.judgement ≡ ended_as c.args.listed.now.spec.now c.args.budget (Some e) (judgement_of c.args.listed.now.spec.now c.args.judging.now)) (sym c.in-Proved.is) (h c.args.budget))
     c.end_proved.ensures.ended

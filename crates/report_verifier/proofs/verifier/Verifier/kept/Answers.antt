@@ -5,7 +5,11 @@ use Rattle.report_verifier.specs.declared.deferring.DeferredLog.{DeferredLog}
 use Rattle.report_verifier.specs.Deferring.{after_deferred, judgement_of}
 use Rattle.report_verifier.proofs.Within.{kept_bound}
 use Rattle.report_verifier.proofs.Deferred.{settled_is, none_deferred}
+use Rattle.report_verifier.proofs.Due.{listed-held}
 use Rattle.report_verifier.proofs.verifier.Verifier.kept.Goals as goal
+
+pub settle-requires-clause-listed : goal.settle-requires-clause-listed
+settle-requires-clause-listed c = listed-held c.self.inside.spec.now c.self.inside.obligations _ c.as_slice.ensures c.self.invariant.0 c.self.invariant.2
 
 pub invariant_of-self : goal.invariant_of-self
 invariant_of-self c = (

@@ -1,7 +1,11 @@
 use Rattle.std.proofs.Common.{sym}
 use Rattle.report_verifier.specs.Deferring.{judgement_of}
 use Rattle.report_verifier.proofs.Within.{told_so, within_so}
+use Rattle.report_verifier.proofs.Due.{listed-held}
 use Rattle.report_verifier.proofs.verifier.Verifier.take.Goals as goal
+
+pub take-requires-clause-listed : goal.take-requires-clause-listed
+take-requires-clause-listed c = listed-held c.self.inside.spec.now c.self.inside.obligations _ c.as_slice.ensures c.self.invariant.0 c.self.invariant.2
 
 pub invariant_of-self : goal.invariant_of-self
 invariant_of-self c = (

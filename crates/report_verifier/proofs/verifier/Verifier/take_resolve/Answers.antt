@@ -3,7 +3,11 @@ use Rattle.report_reader.specs.Resolving.{resolve_told}
 use Rattle.report_bytes.specs.Collecting.{budget_in}
 use Rattle.report_verifier.specs.Deferring.{judgement_of}
 use Rattle.report_verifier.proofs.Within.{told_so, within_so}
+use Rattle.report_verifier.proofs.Due.{listed-held}
 use Rattle.report_verifier.proofs.verifier.Verifier.take_resolve.Goals as goal
+
+pub log_or_defer-requires-clause-listed : goal.log_or_defer-requires-clause-listed
+log_or_defer-requires-clause-listed c = listed-held c.self.inside.spec.now c.self.inside.obligations _ c.as_slice.ensures c.self.invariant.0 c.self.invariant.2
 
 pub invariant_of-self : goal.invariant_of-self
 invariant_of-self c = (
