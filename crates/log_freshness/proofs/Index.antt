@@ -13,7 +13,8 @@ use Rattle.proof_lines.specs.Numbers.{stands_in}
 use Rattle.log_freshness.specs.Index.{spot, spots, HasNoEntry, slot_new, slot_within, entry_within, finds, PutsOne, MarksAre, with_marks, marked, marked_both_ways, marked_slot_within, finds_marked, lits_marked, HasNoMark}
 use Rattle.log_freshness.specs.declared.blocks.Blocks.{Blocks}
 use Rattle.log_freshness.specs.Blocks.{finds_in_blocks}
-use Rattle.log_freshness.specs.Puts.{IsIndex, PutsEither}
+use Rattle.log_freshness.specs.declared.freshness.Index.{Index}
+use Rattle.log_freshness.specs.Puts.{IsIndex, IsIndexOf, PutsClause, PutsEither}
 use Rattle.std.proofs.lemmas.Bool.{and_parts, and_from, or_left, or_right, eqb-true}
 use Rattle.proof_lines.proofs.Sets.{has-cases, same_nat-refl}
 use Rattle.log_freshness.proofs.Slots.{live_of-next}
@@ -271,12 +272,13 @@ before-some slots i j d c e lt g = ap (λ (k : ℕ). live_of (take k slots)) e �
 before-none : (slots : List (Option (List Lit))) (i j : ℕ) (d : Option (List Lit)) → j ≡ suc i → i < length slots → get_or slots i d ≡ None → live_of (take j slots) ≡ live_of (take i slots)
 before-none slots i j d e lt g = ap (λ (k : ℕ). live_of (take k slots)) e ∙ live_of-next slots i d lt ∙ ap (λ (z : Option (List Lit)). live_of (take i slots) ++ live_of (z ∷ [])) g ∙ append-nil (live_of (take i slots))
 
-pub index-some : (m : ℕ) (slots : List (Option (List Lit))) (old new : List (List Entry)) (old_blocks new_blocks : Blocks) (i j : ℕ) (d : Option (List Lit)) (c : List Lit)
-    → j ≡ suc i → i < length slots → get_or slots i d ≡ Some c → PutsEither m c i old new old_blocks new_blocks
-    → IsIndex m slots old old_blocks (live_of (take i slots)) → IsIndex m slots new new_blocks (live_of (take j slots))
-index-some m slots old new old_blocks new_blocks i j d c e lt g p h =
-    subst (λ (z : List (List Lit)). IsIndex m slots new new_blocks z) (sym (before-some slots i j d c e lt g))
-    (index-put m slots old new old_blocks new_blocks (live_of (take i slots)) i c h (get_or_default slots i None d lt ∙ g) p)
+pub index-some : (slots : List (Option (List Lit))) (old new : Index) (i j : ℕ) (d : Option (List Lit)) (c : List Lit)
+    → j ≡ suc i → i < length slots → get_or slots i d ≡ Some c → PutsClause c i old new
+    → IsIndexOf slots old (live_of (take i slots)) → IsIndexOf slots new (live_of (take j slots))
+index-some slots old new i j d c e lt g p h =
+    subst (λ (m : ℕ). IsIndex m slots new.lists.items new.blocks (live_of (take j slots))) (sym p.count)
+    (subst (λ (z : List (List Lit)). IsIndex old.count slots new.lists.items new.blocks z) (sym (before-some slots i j d c e lt g))
+    (index-put old.count slots old.lists.items new.lists.items old.blocks new.blocks (live_of (take i slots)) i c h (get_or_default slots i None d lt ∙ g) p.either))
 
 pub index-dropped : (m : ℕ) (slots : List (Option (List Lit))) (lists : List (List Entry)) (blocks : Blocks) (i j : ℕ) (d : Option (List Lit)) → j ≡ suc i → i < length slots → get_or slots i d ≡ None
     → IsIndex m slots lists blocks (live_of (take i slots)) → IsIndex m slots lists blocks (live_of (take j slots))

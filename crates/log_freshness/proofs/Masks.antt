@@ -14,7 +14,8 @@ use Rattle.log_freshness.specs.declared.blocks.Blocks.{Blocks}
 use Rattle.log_freshness.specs.Index.{spots, slot_within, marked, MarksAre}
 use Rattle.log_freshness.specs.Blocks.{number_within, block_within, slot_has, number_has, mask_bit, BlockFits, AllFit, BlocksFit, IsClearAt, RulesOut, BitsAre, PutsNumber, MovesLast, PutsInBlocks, IsEmptyBlock, HasNoClause}
 use Rattle.log_freshness.specs.declared.freshness.Entry.{Entry}
-use Rattle.log_freshness.specs.Puts.{PutsEither}
+use Rattle.log_freshness.specs.declared.freshness.Index.{Index}
+use Rattle.log_freshness.specs.Puts.{IndexFits, PutsClause, PutsEither}
 use Rattle.log_freshness.proofs.Index.{sub-all_spots}
 
 -- what spots rule out
@@ -185,9 +186,18 @@ none-in_blocks m blocks full last = record {
 }
 
 -- a clause more in the lists or in the blocks
-pub fits-some : (m : ℕ) (slots : List (Option (List Lit))) (old_lists new_lists : List (List Entry)) (old new : Blocks) (i : ℕ) (d : Option (List Lit)) (c : List Lit)
+fits-some : (m : ℕ) (slots : List (Option (List Lit))) (old_lists new_lists : List (List Entry)) (old new : Blocks) (i : ℕ) (d : Option (List Lit)) (c : List Lit)
     → i < length slots → get_or slots i d ≡ Some c → PutsEither m c i old_lists new_lists old new → BlocksFit m slots old → BlocksFit m slots new
 fits-some m slots old_lists new_lists old new i d c lt g puts fits = elim puts [
   | inl p ↦ subst (BlocksFit m slots) (sym p.1) fits
   | inr p ↦ p.1.fits slots (get_or_default slots i None d lt ∙ g) fits
 ]
+
+pub index_fits-some : (slots : List (Option (List Lit))) (old new : Index) (i : ℕ) (d : Option (List Lit)) (c : List Lit)
+    → i < length slots → get_or slots i d ≡ Some c → PutsClause c i old new → IndexFits slots old → IndexFits slots new
+index_fits-some slots old new i d c lt g puts h = record {
+  some = subst (λ (m : ℕ). 0 < m) (sym puts.count) h.some;
+  listed = puts.listed;
+  blocks = subst (λ (m : ℕ). BlocksFit m slots new.blocks) (sym puts.count)
+      (fits-some old.count slots old.lists.items new.lists.items old.blocks new.blocks i d c lt g puts.either h.blocks);
+}

@@ -16,8 +16,7 @@ ghost use Rattle.std.specs.List.{list_any};
 ghost use Rattle.log_freshness.specs.Index.{MarksAre};
 ghost use Rattle.log_freshness.specs.Blocks.{number_within, block_within, finds_in_blocks, AllFit, BlockFits, BlocksFit, RulesOut, AreNotWithin, BitsAre, PutsNumber, PutsInBlocks, MovesLast, IsEmptyBlock, HasNoClause};
 
-use crate::freshness::{is_marked, marked_slot_within, spot};
-use crate::store::ClauseStore;
+use crate::freshness::{Hints, Look, is_marked, marked_slot_within, spot};
 use items::Items;
 use proof_lines::clause::Lit;
 use std::alloc::{AllocError, Global};
@@ -146,122 +145,77 @@ fn has_bit(mask: u128, place: usize) -> bool
     (mask >> place) & 1 == 1
 }
 
-// Whether the clause of a number, which may have been ruled out, lies within another.
-fn is_left_within(
-    count: usize,
-    marks: &[bool],
-    slots: &ClauseStore,
-    lits: &[Lit],
-    ruled: bool,
-    number: usize,
-    hint: &mut usize,
-) -> bool
-    requires some { 0 < count }
-    requires marks { MarksAre count marks.now lits.now }
-    requires out { ruled ≡ true → number_within slots.now lits.now number ≡ false }
-    ensures { result ≡ number_within slots.now lits.now number }
+// Whether the clause of a number, which may have been ruled out, lies within the one looked at.
+fn is_left_within(look: &Look<'_>, ruled: bool, number: usize, hint: &mut usize) -> bool
+    requires some { 0 < look.now.count }
+    requires marks { MarksAre look.now.count look.now.marks.now look.now.lits.now }
+    requires out { ruled ≡ true
+        → number_within look.now.slots.now look.now.lits.now number ≡ false }
+    ensures { result ≡ number_within look.now.slots.now look.now.lits.now number }
 {
     if ruled {
         return false;
     }
-    marked_slot_within(count, marks, slots, number, lits, hint)
+    marked_slot_within(look, number, hint)
 }
 
-// Whether one of the clauses of some numbers, of which those at set bits are ruled out, lies within another.
-fn any_left_within(
-    count: usize,
-    marks: &[bool],
-    slots: &ClauseStore,
-    lits: &[Lit],
-    numbers: &[usize],
-    out: u128,
-    hint: &mut usize,
-) -> bool
-    requires some { 0 < count }
-    requires marks { MarksAre count marks.now lits.now }
+// Whether one of the clauses of some numbers, of which those at set bits are ruled out, lies within
+// the one looked at.
+fn any_left_within(look: &Look<'_>, numbers: &[usize], out: u128, hint: &mut usize) -> bool
+    requires some { 0 < look.now.count }
+    requires marks { MarksAre look.now.count look.now.marks.now look.now.lits.now }
     requires few { length numbers.now ≤ 128 }
-    requires out { AreNotWithin slots.now lits.now numbers.now out }
-    ensures { result ≡ list_any (number_within slots.now lits.now) numbers.now }
+    requires out { AreNotWithin look.now.slots.now look.now.lits.now numbers.now out }
+    ensures { result
+        ≡ list_any (number_within look.now.slots.now look.now.lits.now) numbers.now }
 {
     for (i, number) in numbers.iter().enumerate() {
         let ruled = has_bit(out, i);
-        if is_left_within(count, marks, slots, lits, ruled, *number, hint) {
+        if is_left_within(look, ruled, *number, hint) {
             return true;
         }
     }
     false
 }
 
-// Whether one of the clauses of a block lies within another.
-fn any_in_block(
-    count: usize,
-    marks: &[bool],
-    slots: &ClauseStore,
-    lits: &[Lit],
-    block: &Block,
-    hint: &mut usize,
-    telling: &mut Vec<usize>,
-) -> bool
-    requires some { 0 < count }
-    requires marks { MarksAre count marks.now lits.now }
-    requires fits { BlockFits count slots.now block.now }
-    ensures { result ≡ block_within slots.now lits.now block.now }
+// Whether one of the clauses of a block lies within the one looked at.
+fn any_in_block(look: &Look<'_>, block: &Block, hints: &mut Hints) -> bool
+    requires some { 0 < look.now.count }
+    requires marks { MarksAre look.now.count look.now.marks.now look.now.lits.now }
+    requires fits { BlockFits look.now.count look.now.slots.now block.now }
+    ensures { result ≡ block_within look.now.slots.now look.now.lits.now block.now }
 {
-    let out = ruled_out(marks, block.masks.as_slice(), telling);
+    let out = ruled_out(look.marks, block.masks.as_slice(), &mut hints.telling);
     if out == u128::MAX {
         return false;
     }
     let numbers = block.numbers.as_slice();
-    any_left_within(count, marks, slots, lits, numbers, out, hint)
+    any_left_within(look, numbers, out, &mut hints.place)
 }
 
-fn any_in_full(
-    count: usize,
-    marks: &[bool],
-    slots: &ClauseStore,
-    lits: &[Lit],
-    full: &[Block],
-    hint: &mut usize,
-    telling: &mut Vec<usize>,
-) -> bool
-    requires some { 0 < count }
-    requires marks { MarksAre count marks.now lits.now }
-    requires fits { AllFit count slots.now full.now }
-    ensures { result ≡ list_any (block_within slots.now lits.now) full.now }
+fn any_in_full(look: &Look<'_>, full: &[Block], hints: &mut Hints) -> bool
+    requires some { 0 < look.now.count }
+    requires marks { MarksAre look.now.count look.now.marks.now look.now.lits.now }
+    requires fits { AllFit look.now.count look.now.slots.now full.now }
+    ensures { result ≡ list_any (block_within look.now.slots.now look.now.lits.now) full.now }
 {
     for block in full {
-        if any_in_block(count, marks, slots, lits, block, hint, telling) {
+        if any_in_block(look, block, hints) {
             return true;
         }
     }
     false
 }
 
-/// Whether one of the clauses of all blocks lies within another clause.
-pub fn any_in_blocks(
-    count: usize,
-    marks: &[bool],
-    slots: &ClauseStore,
-    lits: &[Lit],
-    blocks: &Blocks,
-    hint: &mut usize,
-    telling: &mut Vec<usize>,
-) -> bool
-    requires some { 0 < count }
-    requires marks { MarksAre count marks.now lits.now }
-    requires fits { BlocksFit count slots.now blocks.now }
-    ensures { result ≡ finds_in_blocks slots.now blocks.now lits.now }
+/// Whether one of the clauses of all blocks lies within the one looked at.
+pub fn any_in_blocks(look: &Look<'_>, blocks: &Blocks, hints: &mut Hints) -> bool
+    requires some { 0 < look.now.count }
+    requires marks { MarksAre look.now.count look.now.marks.now look.now.lits.now }
+    requires fits { BlocksFit look.now.count look.now.slots.now blocks.now }
+    ensures { result ≡ finds_in_blocks look.now.slots.now blocks.now look.now.lits.now }
 {
-    telling.clear();
-    any_in_full(
-        count,
-        marks,
-        slots,
-        lits,
-        blocks.full.as_slice(),
-        hint,
-        telling,
-    ) || any_in_block(count, marks, slots, lits, &blocks.last, hint, telling)
+    hints.telling.clear();
+    any_in_full(look, blocks.full.as_slice(), hints) || any_in_block(look, &blocks.last, hints)
 }
 
 // Sets the bit of a place in the masks of the spots of literals.

@@ -26,7 +26,7 @@ ghost use Rattle.log_freshness.specs.Freshness.{live_of, is_new, each_new};
 ghost use Rattle.proof_lines.specs.Numbers.{stands_in};
 ghost use Rattle.log_freshness.specs.Index.{HasNoEntry, HasNoMark, slot_new, PutsOne, finds, finds_marked, marked, all_marked, lits_marked, any_opposite_marked, marked_both_ways, marked_within, marked_slot_within, sign_number, slot_within, spot, spots, with_marks, MarksAre};
 ghost use Rattle.log_freshness.specs.Blocks.{finds_in_blocks, BlocksFit};
-ghost use Rattle.log_freshness.specs.Puts.{IsIndex, PutsEither};
+ghost use Rattle.log_freshness.specs.Puts.{IndexFits, IsIndexOf, PutsClause};
 
 use crate::blocks::{Blocks, any_in_blocks, is_crowded, is_for_blocks, no_blocks, put_in_blocks};
 use crate::store::ClauseStore;
@@ -41,11 +41,21 @@ const MOST_SHIFT: usize = 2;
 #[derive(Drop)]
 pub struct Hints {
     /// Where the last search for a literal without a mark ended.
-    place: usize,
+    pub place: usize,
     /// How many clauses of the lists were compared with the last clause literal by literal.
-    compared: usize,
+    pub compared: usize,
     /// Spots that ruled out clauses of blocks.
-    telling: Vec<usize>,
+    pub telling: Vec<usize>,
+}
+
+/// A look at a clause: its literals, whose spots are marked, and those that may lie within it.
+#[derive(Clone, Copy)]
+pub struct Look<'a> {
+    /// How many spots there are.
+    pub count: usize,
+    pub marks: &'a [bool],
+    pub slots: &'a ClauseStore,
+    pub lits: &'a [Lit],
 }
 
 /// An earlier clause in a list of the index: its number, and the spots of three of its literals, or 0 where it has fewer.
@@ -55,6 +65,18 @@ pub struct Entry {
     second: usize,
     third: usize,
     fourth: usize,
+}
+
+// Earlier clauses, each in a list or in a block.
+#[derive(Drop)]
+struct Index {
+    // How many spots there are.
+    count: usize,
+    // How many of the clauses have a literal of each spot.
+    seen: Vec<usize>,
+    // The list of each spot.
+    lists: Vec<Items<Entry>>,
+    blocks: Blocks,
 }
 
 fn sign_number(positive: bool) -> usize
@@ -151,21 +173,16 @@ fn marked_both_ways(count: usize, marks: &[bool], lits: &[Lit]) -> bool
     any_opposite_marked(count, marks, lits) && holds_both_ways(lits)
 }
 
-/// Whether the clause of a number has marked spots alone and lies within another.
-pub fn marked_slot_within(
-    count: usize,
-    marks: &[bool],
-    slots: &ClauseStore,
-    number: usize,
-    lits: &[Lit],
-    hint: &mut usize,
-) -> bool
-    requires { 0 < count }
-    ensures { result ≡ marked_slot_within count marks.now lits.now
-        (slice_index_or slots.now number None) }
+/// Whether the clause of a number has marked spots alone and lies within the one looked at.
+pub fn marked_slot_within(look: &Look<'_>, number: usize, hint: &mut usize) -> bool
+    requires { 0 < look.now.count }
+    ensures { result ≡ marked_slot_within look.now.count look.now.marks.now look.now.lits.now
+        (slice_index_or look.now.slots.now number None) }
 {
-    match slots.get(number) {
-        Some(clause) => lits_marked(count, marks, clause, hint) && is_within(clause, lits),
+    match look.slots.get(number) {
+        Some(clause) => {
+            lits_marked(look.count, look.marks, clause, hint) && is_within(clause, look.lits)
+        }
         None => false,
     }
 }
@@ -191,38 +208,26 @@ fn list_at(lists: &[Items<Entry>], at: usize) -> &[Entry]
     }
 }
 
-// Whether an entry has marked spots alone, and so has its clause, which lies within another.
-fn is_entry_within(
-    count: usize,
-    marks: &[bool],
-    slots: &ClauseStore,
-    lits: &[Lit],
-    entry: Entry,
-    hints: &mut Hints,
-) -> bool
-    requires { 0 < count }
-    ensures { result ≡ marked_within count marks.now slots.now lits.now entry }
+// Whether an entry and its clause have marked spots alone, and this lies within the one looked at.
+fn is_entry_within(look: &Look<'_>, entry: Entry, hints: &mut Hints) -> bool
+    requires { 0 < look.now.count }
+    ensures { result ≡ marked_within look.now.count look.now.marks.now look.now.slots.now
+        look.now.lits.now entry }
 {
-    if !all_marked(marks, entry) {
+    if !all_marked(look.marks, entry) {
         return false;
     }
     hints.compared = hints.compared.saturating_add(1);
-    marked_slot_within(count, marks, slots, entry.number, lits, &mut hints.place)
+    marked_slot_within(look, entry.number, &mut hints.place)
 }
 
-fn any_within(
-    count: usize,
-    marks: &[bool],
-    slots: &ClauseStore,
-    lits: &[Lit],
-    entries: &[Entry],
-    hints: &mut Hints,
-) -> bool
-    requires { 0 < count }
-    ensures { result ≡ list_any (marked_within count marks.now slots.now lits.now) entries.now }
+fn any_within(look: &Look<'_>, entries: &[Entry], hints: &mut Hints) -> bool
+    requires { 0 < look.now.count }
+    ensures { result ≡ list_any (marked_within look.now.count look.now.marks.now look.now.slots.now
+        look.now.lits.now) entries.now }
 {
     for entry in entries {
-        if is_entry_within(count, marks, slots, lits, *entry, hints) {
+        if is_entry_within(look, *entry, hints) {
             return true;
         }
     }
@@ -230,43 +235,23 @@ fn any_within(
 }
 
 // Whether a marked entry of a list of a clause's spots names a clause that subsumes it.
-fn finds_marked(
-    count: usize,
-    marks: &[bool],
-    slots: &ClauseStore,
-    lists: &[Items<Entry>],
-    lits: &[Lit],
-    hints: &mut Hints,
-) -> bool
-    requires { 0 < count }
-    ensures { result ≡ finds_marked count marks.now slots.now lists.now lits.now }
+fn finds_marked(look: &Look<'_>, lists: &[Items<Entry>], hints: &mut Hints) -> bool
+    requires { 0 < look.now.count }
+    ensures { result ≡ finds_marked look.now.count look.now.marks.now look.now.slots.now lists.now
+        look.now.lits.now }
 {
-    any_within(count, marks, slots, lits, list_at(lists, 0), hints)
-        || finds_at_literals(count, marks, slots, lists, lits, hints)
+    any_within(look, list_at(lists, 0), hints) || finds_at_literals(look, lists, hints)
 }
 
 // Whether an entry of the lists of a clause's own literals names one that subsumes it.
-fn finds_at_literals(
-    count: usize,
-    marks: &[bool],
-    slots: &ClauseStore,
-    lists: &[Items<Entry>],
-    lits: &[Lit],
-    hints: &mut Hints,
-) -> bool
-    requires { 0 < count }
-    ensures { result ≡ list_any (λ k. list_any (marked_within count marks.now slots.now lits.now)
-        (slice_index_or lists.now k [])) (map (spot count) lits.now) }
+fn finds_at_literals(look: &Look<'_>, lists: &[Items<Entry>], hints: &mut Hints) -> bool
+    requires { 0 < look.now.count }
+    ensures { result ≡ list_any (λ k. list_any (marked_within look.now.count look.now.marks.now
+        look.now.slots.now look.now.lits.now) (slice_index_or lists.now k []))
+        (map (spot look.now.count) look.now.lits.now) }
 {
-    for lit in lits {
-        if any_within(
-            count,
-            marks,
-            slots,
-            lits,
-            list_at(lists, spot(count, *lit)),
-            hints,
-        ) {
+    for lit in look.lits {
+        if any_within(look, list_at(lists, spot(look.count, *lit)), hints) {
             return true;
         }
     }
@@ -274,59 +259,47 @@ fn finds_at_literals(
 }
 
 // Whether one of the earlier clauses, in a list or in a block, lies within a clause whose spots are marked.
-fn finds_either(
-    count: usize,
-    marks: &[bool],
-    slots: &ClauseStore,
-    lists: &[Items<Entry>],
-    blocks: &Blocks,
-    lits: &[Lit],
-    hints: &mut Hints,
-) -> bool
-    requires some { 0 < count }
-    requires marks { MarksAre count marks.now lits.now }
-    requires fits { BlocksFit count slots.now blocks.now }
-    ensures { result ≡ (finds count slots.now lists.now lits.now
-        || finds_in_blocks slots.now blocks.now lits.now) }
+fn finds_either(look: &Look<'_>, index: &Index, hints: &mut Hints) -> bool
+    requires some { 0 < look.now.count }
+    requires marks { MarksAre look.now.count look.now.marks.now look.now.lits.now }
+    requires fits { BlocksFit look.now.count look.now.slots.now index.now.blocks }
+    ensures { result
+        ≡ (finds look.now.count look.now.slots.now index.now.lists.items look.now.lits.now
+        || finds_in_blocks look.now.slots.now index.now.blocks look.now.lits.now) }
 {
-    let listed = finds_marked(count, marks, slots, lists, lits, hints);
+    let listed = finds_marked(look, index.lists.as_slice(), hints);
     if listed {
         return true;
     }
-    any_in_blocks(
-        count,
-        marks,
-        slots,
-        lits,
-        blocks,
-        &mut hints.place,
-        &mut hints.telling,
-    )
+    any_in_blocks(look, &index.blocks, hints)
 }
 
 // Whether one of the earlier clauses lies within a clause.
 fn finds(
-    count: usize,
+    index: &Index,
     marks: &mut Vec<bool>,
     slots: &ClauseStore,
-    lists: &[Items<Entry>],
-    blocks: &Blocks,
     lits: &[Lit],
     hints: &mut Hints,
 ) -> bool
-    requires some { 0 < count }
-    requires sized { length marks.old.items ≡ count }
+    requires fits { IndexFits slots.now index.now }
+    requires sized { length marks.old.items ≡ index.now.count }
     requires clear { HasNoMark marks.old.items }
-    requires fits { BlocksFit count slots.now blocks.now }
-    ensures is { result ≡ (finds count slots.now lists.now lits.now
-        || finds_in_blocks slots.now blocks.now lits.now) }
-    ensures sized { length marks.new.items ≡ count }
+    ensures is { result ≡ (finds index.now.count slots.now index.now.lists.items lits.now
+        || finds_in_blocks slots.now index.now.blocks lits.now) }
+    ensures sized { length marks.new.items ≡ index.now.count }
     ensures clear { HasNoMark marks.new.items }
 {
     hints.compared = 0;
-    mark(marks, count, lits, true);
-    let found = finds_either(count, marks.as_slice(), slots, lists, blocks, lits, hints);
-    mark(marks, count, lits, false);
+    mark(marks, index.count, lits, true);
+    let look = Look {
+        count: index.count,
+        marks: marks.as_slice(),
+        slots,
+        lits,
+    };
+    let found = finds_either(&look, index, hints);
+    mark(marks, index.count, lits, false);
     found
 }
 
@@ -405,79 +378,67 @@ fn put_at(lists: &mut Vec<Items<Entry>>, at: usize, entry: Entry) -> Result<(), 
 }
 
 // Puts a clause into the list of the rarest of its spots.
-fn put(
-    count: usize,
-    seen: &mut Vec<usize>,
-    lists: &mut Vec<Items<Entry>>,
-    number: usize,
-    lits: &[Lit],
-) -> Result<(), AllocError>
-    requires some { 0 < count }
-    requires listed { length lists.old.items ≡ count }
-    ensures { OnOk result (PutsOne count lits.now number lists.old.items lists.new.items) }
+fn put(index: &mut Index, number: usize, lits: &[Lit]) -> Result<(), AllocError>
+    requires some { 0 < index.old.count }
+    requires listed { length index.old.lists.items ≡ index.old.count }
+    ensures count { index.new.count ≡ index.old.count }
+    ensures blocks { index.new.blocks ≡ index.old.blocks }
+    ensures puts { OnOk result (PutsOne index.old.count lits.now number index.old.lists.items
+        index.new.lists.items) }
 {
-    let first = rarest(count, seen.as_slice(), lits, 0, 0, 0);
-    let second = rarest(count, seen.as_slice(), lits, first, 0, 0);
-    let third = rarest(count, seen.as_slice(), lits, first, second, 0);
-    let fourth = rarest(count, seen.as_slice(), lits, first, second, third);
+    let count = index.count;
+    let seen = index.seen.as_slice();
+    let first = rarest(count, seen, lits, 0, 0, 0);
+    let second = rarest(count, seen, lits, first, 0, 0);
+    let third = rarest(count, seen, lits, first, second, 0);
+    let fourth = rarest(count, seen, lits, first, second, third);
     let entry = Entry {
         number,
         second,
         third,
         fourth,
     };
-    count_in(count, seen, lits);
-    put_at(lists, first, entry)
+    count_in(count, &mut index.seen, lits);
+    put_at(&mut index.lists, first, entry)
 }
 
 // Puts a clause into the index: into a block where it wants one, and else into a list.
 fn put_clause(
     alloc: Global,
-    count: usize,
-    seen: &mut Vec<usize>,
-    lists: &mut Vec<Items<Entry>>,
-    blocks: &mut Blocks,
+    index: &mut Index,
     number: usize,
     lits: &[Lit],
     crowded: bool,
 ) -> Result<(), AllocError>
-    requires some { 0 < count }
-    requires listed { length lists.old.items ≡ count }
-    requires room { length blocks.old.last.numbers < 128 }
-    requires sized { length blocks.old.last.masks.items ≡ count }
-    ensures listed { OnOk result (length lists.new.items ≡ count) }
-    ensures puts { OnOk result
-        (PutsEither count lits.now number lists.old.items lists.new.items blocks.old blocks.new) }
+    requires some { 0 < index.old.count }
+    requires listed { length index.old.lists.items ≡ index.old.count }
+    requires room { length index.old.blocks.last.numbers < 128 }
+    requires sized { length index.old.blocks.last.masks.items ≡ index.old.count }
+    ensures { OnOk result (PutsClause lits.now number index.old index.new) }
 {
-    if is_for_blocks(count, lits, crowded) {
-        return put_in_blocks(alloc, count, blocks, number, lits);
+    if is_for_blocks(index.count, lits, crowded) {
+        return put_in_blocks(alloc, index.count, &mut index.blocks, number, lits);
     }
-    put(count, seen, lists, number, lits)
+    put(index, number, lits)
 }
 
 // Puts the clause of a number into the index, unless it was dropped.
 fn put_slot(
     alloc: Global,
-    count: usize,
+    index: &mut Index,
     slots: &ClauseStore,
-    seen: &mut Vec<usize>,
-    lists: &mut Vec<Items<Entry>>,
-    blocks: &mut Blocks,
     number: usize,
     crowded: bool,
 ) -> Result<(), AllocError>
-    requires some { 0 < count }
-    requires listed { length lists.old.items ≡ count }
-    requires fits { BlocksFit count slots.now blocks.old }
+    requires fits { IndexFits slots.now index.old }
     requires there { number < length slots.now }
-    ensures listed { OnOk result (length lists.new.items ≡ count) }
-    ensures fits { OnOk result (BlocksFit count slots.now blocks.new) }
-    ensures next { OnOk result (IsIndex count slots.now lists.old.items blocks.old
-        (live_of (take number slots.now)) → IsIndex count slots.now lists.new.items blocks.new
-        (live_of (take (number + 1) slots.now))) }
+    ensures count { OnOk result (index.new.count ≡ index.old.count) }
+    ensures fits { OnOk result (IndexFits slots.now index.new) }
+    ensures next { OnOk result (IsIndexOf slots.now index.old (live_of (take number slots.now))
+        → IsIndexOf slots.now index.new (live_of (take (number + 1) slots.now))) }
 {
     match slots.get(number) {
-        Some(clause) => put_clause(alloc, count, seen, lists, blocks, number, clause, crowded),
+        Some(clause) => put_clause(alloc, index, number, clause, crowded),
         None => Ok(()),
     }
 }
@@ -496,55 +457,44 @@ fn empty_lists(alloc: Global, count: usize) -> Result<Vec<Items<Entry>>, AllocEr
 // Puts the clauses before a number into an empty index.
 fn put_before(
     alloc: Global,
-    count: usize,
+    index: &mut Index,
     slots: &ClauseStore,
-    seen: &mut Vec<usize>,
-    lists: &mut Vec<Items<Entry>>,
-    blocks: &mut Blocks,
     number: usize,
 ) -> Result<(), AllocError>
-    requires some { 0 < count }
+    requires fits { IndexFits slots.now index.old }
     requires there { number ≤ length slots.now }
-    requires listed { length lists.old.items ≡ count }
-    requires fits { BlocksFit count slots.now blocks.old }
-    requires none { IsIndex count slots.now lists.old.items blocks.old [] }
-    ensures listed { OnOk result (length lists.new.items ≡ count) }
-    ensures fits { OnOk result (BlocksFit count slots.now blocks.new) }
-    ensures is { OnOk result (IsIndex count slots.now lists.new.items blocks.new
-        (live_of (take number slots.now))) }
+    requires none { IsIndexOf slots.now index.old [] }
+    ensures fits { OnOk result (IndexFits slots.now index.new) }
+    ensures is { OnOk result (IsIndexOf slots.now index.new (live_of (take number slots.now))) }
 {
     for i in 0..number {
-        put_slot(alloc, count, slots, seen, lists, blocks, i, false)?;
+        put_slot(alloc, index, slots, i, false)?;
     }
     Ok(())
 }
 
 // Whether the clause of a number, if it wasn't dropped, is new among those before it.
 fn is_slot_new(
-    count: usize,
+    index: &Index,
     marks: &mut Vec<bool>,
     slots: &ClauseStore,
-    lists: &[Items<Entry>],
-    blocks: &Blocks,
     number: usize,
     hints: &mut Hints,
 ) -> bool
-    requires some { 0 < count }
-    requires sized { length marks.old.items ≡ count }
+    requires fits { IndexFits slots.now index.now }
+    requires sized { length marks.old.items ≡ index.now.count }
     requires clear { HasNoMark marks.old.items }
     requires there { number < length slots.now }
-    requires fits { BlocksFit count slots.now blocks.now }
-    requires before { IsIndex count slots.now lists.now blocks.now
-        (live_of (take number slots.now)) }
+    requires before { IsIndexOf slots.now index.now (live_of (take number slots.now)) }
     ensures is { result ≡ slot_new (live_of (take number slots.now))
         (slice_index_or slots.now number None) }
-    ensures sized { length marks.new.items ≡ count }
+    ensures sized { length marks.new.items ≡ index.now.count }
     ensures clear { HasNoMark marks.new.items }
 {
     match slots.get(number) {
         Some(clause) => {
-            let found = finds(count, marks, slots, lists, blocks, clause, hints);
-            let both = is_both_ways(count, marks, clause);
+            let found = finds(index, marks, slots, clause, hints);
+            let both = is_both_ways(index.count, marks, clause);
             !found && !both && !clause.is_empty()
         }
         None => true,
@@ -554,42 +504,28 @@ fn is_slot_new(
 // Whether each clause from a number on is new, by an index of those before the number.
 fn each_new_after(
     alloc: Global,
-    count: usize,
+    index: &mut Index,
     slots: &ClauseStore,
-    seen: &mut Vec<usize>,
-    lists: &mut Vec<Items<Entry>>,
-    blocks: &mut Blocks,
     given: usize,
 ) -> Result<bool, AllocError>
-    requires some { 0 < count }
+    requires fits { IndexFits slots.now index.old }
     requires there { given ≤ length slots.now }
-    requires listed { length lists.old.items ≡ count }
-    requires fits { BlocksFit count slots.now blocks.old }
-    requires before { IsIndex count slots.now lists.old.items blocks.old
-        (live_of (take given slots.now)) }
+    requires before { IsIndexOf slots.now index.old (live_of (take given slots.now)) }
     ensures { IfOk result (λ b. b ≡ each_new (live_of (take given slots.now))
         (live_of (drop given slots.now))) }
 {
-    let mut marks = vec![in alloc; false; count]?;
+    let mut marks = vec![in alloc; false; index.count]?;
     let mut hints = Hints {
         place: 0,
         compared: 0,
         telling: Vec::new(alloc),
     };
     for i in given..slots.len() {
-        if !is_slot_new(
-            count,
-            &mut marks,
-            slots,
-            lists.as_slice(),
-            blocks,
-            i,
-            &mut hints,
-        ) {
+        if !is_slot_new(index, &mut marks, slots, i, &mut hints) {
             return Ok(false);
         }
-        let crowded = is_crowded(hints.compared, i.saturating_sub(given), blocks);
-        put_slot(alloc, count, slots, seen, lists, blocks, i, crowded)?;
+        let crowded = is_crowded(hints.compared, i.saturating_sub(given), &index.blocks);
+        put_slot(alloc, index, slots, i, crowded)?;
     }
     Ok(true)
 }
@@ -605,27 +541,17 @@ fn each_new_by_index(
     ensures { IfOk result (λ b. b ≡ each_new (live_of (take given slots.now))
         (live_of (drop given slots.now))) }
 {
-    let mut seen = vec![in alloc; 0; count]?;
-    let mut lists = empty_lists(alloc, count)?;
-    let mut blocks = no_blocks(alloc, count)?;
-    put_before(
-        alloc,
+    let seen = vec![in alloc; 0; count]?;
+    let lists = empty_lists(alloc, count)?;
+    let blocks = no_blocks(alloc, count)?;
+    let mut index = Index {
         count,
-        slots,
-        &mut seen,
-        &mut lists,
-        &mut blocks,
-        given,
-    )?;
-    each_new_after(
-        alloc,
-        count,
-        slots,
-        &mut seen,
-        &mut lists,
-        &mut blocks,
-        given,
-    )
+        seen,
+        lists,
+        blocks,
+    };
+    put_before(alloc, &mut index, slots, given)?;
+    each_new_after(alloc, &mut index, slots, given)
 }
 
 // Whether the clause of a number lies within another.

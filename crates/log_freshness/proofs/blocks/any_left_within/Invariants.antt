@@ -4,4 +4,4 @@ use Rattle.log_freshness.specs.Blocks.{number_within}
 use Rattle.log_freshness.proofs.blocks.any_left_within.Given as goal
 
 abbrev pub invariant-loop-i : goal.invariant-loop-i
-invariant-loop-i l = list_any (number_within l.slots l.lits) l.numbers ≡ list_any (number_within l.slots l.lits) (drop l.i l.numbers)
+invariant-loop-i l = list_any (number_within l.look.slots.now l.look.lits.now) l.numbers ≡ list_any (number_within l.look.slots.now l.look.lits.now) (drop l.i l.numbers)

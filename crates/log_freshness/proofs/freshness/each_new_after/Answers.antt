@@ -9,10 +9,9 @@ loop-i-preserved c =
     let slots = c.args.slots.now in
     let i = c.loop-i.i in
     record {
-      listed = c.in_ok-put_slot.ensures.listed;
       fits = c.in_ok-put_slot.ensures.fits;
-      index = c.in_ok-put_slot.ensures.next c.loop-i.invariant.index;
-      sized = c.is_slot_new.ensures.sized;
+      before = c.in_ok-put_slot.ensures.next c.loop-i.invariant.before;
+      sized = c.is_slot_new.ensures.sized ∙ sym c.in_ok-put_slot.ensures.count;
       clear = c.is_slot_new.ensures.clear;
       rest = c.loop-i.invariant.rest ∙ each_new-slot slots i _ (omega arith) (omega (arith, c.loop-i-test.true, c.len-i-end.ensures))
           ∙ ap (λ (b : Bool). b && each_new (live_of (take (i + 1) slots)) (live_of (drop (i + 1) slots))) (sym c.is_slot_new.ensures.is ∙ c.if-not-is_slot_new.false);

@@ -1,5 +1,6 @@
-use Rattle.std.proofs.Common.{◌≡◌, ◌∙◌, sym, Bool, true, false, ◌||◌, arith}
-use Rattle.log_freshness.specs.Index.{finds}
+use Rattle.std.proofs.Common.{◌≡◌, ◌∙◌, sym, ap, Bool, true, false, List, ◌||◌, arith}
+use Rattle.log_freshness.specs.declared.freshness.Entry.{Entry}
+use Rattle.log_freshness.specs.Index.{finds, finds_marked}
 use Rattle.log_freshness.specs.Blocks.{finds_in_blocks}
 use Rattle.log_freshness.proofs.Index.{finds-marked}
 use Rattle.log_freshness.proofs.freshness.finds_either.Goals as goal
@@ -12,11 +13,17 @@ or_second a b h = grind arith
 
 pub returns-then-listed : goal.returns-then-listed
 returns-then-listed c =
-    or_first (finds c.args.count c.args.slots.now c.args.lists.now c.args.lits.now) (finds_in_blocks c.args.slots.now c.args.blocks.now c.args.lits.now)
-    (sym (finds-marked c.args.count c.args.marks.now c.args.slots.now c.args.lists.now c.args.lits.now c.requires.marks) ∙ sym c.finds_marked-listed.ensures ∙ c.if-listed.true)
+    let look = c.args.look.now in
+    let lists = c.args.index.now.lists.items in
+    or_first (finds look.count look.slots.now lists look.lits.now) (finds_in_blocks look.slots.now c.args.index.now.blocks look.lits.now)
+    (sym (c.finds_marked-listed.ensures ∙ ap (λ (z : List (List Entry)). finds_marked look.count look.marks.now look.slots.now z look.lits.now) c.as_slice.ensures.value
+    ∙ finds-marked look.count look.marks.now look.slots.now lists look.lits.now c.requires.marks) ∙ c.if-listed.true)
 
 pub returns : goal.returns
 returns c =
+    let look = c.args.look.now in
+    let lists = c.args.index.now.lists.items in
     c.any_in_blocks.ensures
-    ∙ or_second (finds c.args.count c.args.slots.now c.args.lists.now c.args.lits.now) (finds_in_blocks c.args.slots.now c.args.blocks.now c.args.lits.now)
-    (sym (finds-marked c.args.count c.args.marks.now c.args.slots.now c.args.lists.now c.args.lits.now c.requires.marks) ∙ sym c.finds_marked-listed.ensures ∙ c.if-listed.false)
+    ∙ or_second (finds look.count look.slots.now lists look.lits.now) (finds_in_blocks look.slots.now c.args.index.now.blocks look.lits.now)
+    (sym (c.finds_marked-listed.ensures ∙ ap (λ (z : List (List Entry)). finds_marked look.count look.marks.now look.slots.now z look.lits.now) c.as_slice.ensures.value
+    ∙ finds-marked look.count look.marks.now look.slots.now lists look.lits.now c.requires.marks) ∙ c.if-listed.false)

@@ -4,9 +4,9 @@ use Rattle.std.specs.Prelude.{◌++◌, ◌∷◌, [], slice_set, slice_index_or
 use Rattle.log_freshness.specs.declared.freshness.Entry.{Entry}
 use Rattle.log_freshness.proofs.freshness.put.Goals as goal
 
-pub returns : goal.returns
-returns c =
-    let old = c.args.lists.now.items in
+pub returns-clause-puts : goal.returns-clause-puts
+returns-clause-puts c =
+    let old = c.args.index.now.lists.items in
     let first = c.rarest-first.result in
     let entry : Entry = record { number = c.args.number; second = c.rarest-second.result; third = c.rarest-third.result; fourth = c.rarest-fourth.result } in
     on_ok_weaker c.put_at.result

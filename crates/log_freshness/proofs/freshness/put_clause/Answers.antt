@@ -1,24 +1,24 @@
-use Rattle.std.proofs.Common.{◌∙◌, refl, ap, inl, inr, length}
+use Rattle.std.proofs.Common.{◌∙◌, sym, refl, ap, inl, inr, length}
 use Rattle.std.proofs.lemmas.Result.{on_ok_weaker}
 use Rattle.std.proofs.lemmas.List.{length-set}
 use Rattle.log_freshness.specs.Index.{PutsOne}
 use Rattle.log_freshness.specs.Blocks.{PutsInBlocks}
 use Rattle.log_freshness.proofs.freshness.put_clause.Goals as goal
 
-pub returns-then-is_for_blocks-clause-puts : goal.returns-then-is_for_blocks-clause-puts
-returns-then-is_for_blocks-clause-puts c =
+pub returns-then-is_for_blocks : goal.returns-then-is_for_blocks
+returns-then-is_for_blocks c =
+    let old = c.args.index.now in
     on_ok_weaker c.put_in_blocks.result
-    (λ (p : PutsInBlocks c.args.count c.args.lits.now c.args.number c.args.blocks.now c.put_in_blocks.new.blocks). inr (refl, p))
+    (λ (p : PutsInBlocks old.count c.args.lits.now c.args.number old.blocks c.put_in_blocks.new.blocks). record { count = refl; listed = c.requires.listed; either = inr (refl, p) })
     c.put_in_blocks.ensures
 
-pub returns-clause-listed : goal.returns-clause-listed
-returns-clause-listed c =
+pub returns : goal.returns
+returns c =
+    let old = c.args.index.now in
     on_ok_weaker c.put.result
-    (λ (p : PutsOne c.args.count c.args.lits.now c.args.number c.args.lists.now.items c.put.new.lists.items). ap length p.lists ∙ length-set c.args.lists.now.items p.at _ ∙ c.requires.listed)
-    c.put.ensures
-
-pub returns-clause-puts : goal.returns-clause-puts
-returns-clause-puts c =
-    on_ok_weaker c.put.result
-    (λ (p : PutsOne c.args.count c.args.lits.now c.args.number c.args.lists.now.items c.put.new.lists.items). inl (p, refl))
-    c.put.ensures
+    (λ (p : PutsOne old.count c.args.lits.now c.args.number old.lists.items c.put.new.index.lists.items). record {
+      count = c.put.ensures.count;
+      listed = ap length p.lists ∙ length-set old.lists.items p.at _ ∙ c.requires.listed ∙ sym c.put.ensures.count;
+      either = inl (p, c.put.ensures.blocks);
+    })
+    c.put.ensures.puts
