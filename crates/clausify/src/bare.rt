@@ -1,9 +1,10 @@
 // Plain formulas: those without truth values, each of whose parts stands apart in memory.
 ghost use Rattle.std.specs.Prelude.{◌≡◌};
-ghost use Rattle.proof_lines.specs.Clauses.{same_bool};
+ghost use Rattle.proof_lines.specs.Clauses.{same_bool, lit_of};
 ghost use Rattle.clausify.specs.Formulas.{is_plain};
 
 use ground_atoms::GroundFormula;
+use proof_lines::Lit;
 
 /// A formula once its truth values are folded: a truth value, or a plain formula.
 #[derive(Drop)]
@@ -28,6 +29,13 @@ pub fn is_plain(form: &GroundFormula) -> bool
         GroundFormula::And(parts) => is_plain(&parts.0) && is_plain(&parts.1),
         GroundFormula::Or(parts) => is_plain(&parts.0) && is_plain(&parts.1),
     }
+}
+
+/// A literal of an atom.
+pub fn literal(atom: u32, positive: bool) -> Lit
+    ensures { result ≡ lit_of atom positive }
+{
+    Lit { atom, positive }
 }
 
 /// The value, or its negation where `sign` is false.

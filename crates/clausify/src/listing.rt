@@ -7,7 +7,7 @@ ghost use Rattle.clausify.specs.Formulas.{is_plain, is_plain_if_unsettled, norma
 
 use crate::bare::{Folded, is_plain};
 use crate::folding::folded;
-use crate::straight::{write_congruent, write_implied};
+use crate::straight::{Congruence, write_congruent, write_implied};
 use crate::writing::{write_either, write_folded, write_whole};
 use ground_atoms::GroundFormula;
 use items::Items;
@@ -112,9 +112,15 @@ fn write_formula(
             left,
             right,
         } => {
-            write_congruent(
-                alloc, next, *places, *agreement, *equal, *also, *left, *right, out,
-            )
+            let said = Congruence {
+                places: *places,
+                agreement: *agreement,
+                equal: *equal,
+                also: *also,
+                left: *left,
+                right: *right,
+            };
+            write_congruent(alloc, next, said, out)
         }
         _ => write_parts_of(alloc, next, form, out),
     }

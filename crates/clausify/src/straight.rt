@@ -3,6 +3,7 @@ ghost use Rattle.std.specs.Prelude.{◌≡◌, ◌+◌, ◌++◌, ◌∷◌, [],
 ghost use Rattle.proof_lines.specs.Clauses.{join, lit_of};
 ghost use Rattle.clausify.specs.Straight.{differing, agreeing};
 
+use crate::bare::literal;
 use ground_atoms::{Agreement, Places};
 use items::Items;
 use proof_lines::{Clause, Lit};
@@ -30,57 +31,39 @@ pub fn write_implied(
         ++ join [] (lit_of first false ∷ lit_of second false ∷ lit_of third true ∷ []) ∷ []) }
 {
     let lits = [
-        Lit {
-            atom: first,
-            positive: false,
-        },
-        Lit {
-            atom: second,
-            positive: false,
-        },
-        Lit {
-            atom: third,
-            positive: true,
-        },
+        literal(first, false),
+        literal(second, false),
+        literal(third, true),
     ];
     write_literals(alloc, &lits, out)
+}
+
+/// What a formula `Congruent` holds.
+#[derive(Clone, Copy)]
+pub struct Congruence {
+    pub places: Places,
+    pub agreement: Agreement,
+    pub equal: u32,
+    pub also: u32,
+    pub left: u32,
+    pub right: u32,
 }
 
 // Appends the clause that two tuples differ or an atom is true, which names that their readings are one.
 fn write_premise(
     alloc: Global,
     name: u32,
-    places: Places,
-    equal: u32,
-    also: u32,
+    said: Congruence,
     out: &mut Items<Clause>,
 ) -> Result<(), AllocError>
-    ensures { OnOk result (out.new ≡ out.old ++ differing name places equal also ∷ []) }
+    ensures { OnOk result (out.new ≡ out.old
+        ++ differing name said.places said.equal said.also ∷ []) }
 {
-    let named = Lit {
-        atom: name,
-        positive: true,
-    };
-    let lit = Lit {
-        atom: equal,
-        positive: false,
-    };
-    match places {
-        Places::Only => write_literals(alloc, &[lit, named], out),
-        Places::First => write_literals(alloc, &[lit, named], out),
-        Places::Second => write_literals(alloc, &[lit, named], out),
-        Places::Both => write_literals(
-            alloc,
-            &[
-                lit,
-                Lit {
-                    atom: also,
-                    positive: false,
-                },
-                named,
-            ],
-            out,
-        ),
+    let named = literal(name, true);
+    let lit = literal(said.equal, false);
+    match said.places {
+        Places::Only | Places::First | Places::Second => write_literals(alloc, &[lit, named], out),
+        Places::Both => write_literals(alloc, &[lit, literal(said.also, false), named], out),
     }
 }
 
@@ -88,51 +71,19 @@ fn write_premise(
 fn write_agreement(
     alloc: Global,
     name: u32,
-    agreement: Agreement,
-    left: u32,
-    right: u32,
+    said: Congruence,
     out: &mut Items<Clause>,
 ) -> Result<(), AllocError>
-    ensures { OnOk result (out.new ≡ out.old ++ agreeing name agreement left right) }
+    ensures { OnOk result (out.new ≡ out.old
+        ++ agreeing name said.agreement said.left said.right) }
 {
-    let front = Lit {
-        atom: name,
-        positive: false,
-    };
-    let first = Lit {
-        atom: left,
-        positive: true,
-    };
-    let second = Lit {
-        atom: right,
-        positive: true,
-    };
-    match agreement {
+    let front = literal(name, false);
+    let first = literal(said.left, true);
+    let second = literal(said.right, true);
+    match said.agreement {
         Agreement::Relation => {
-            write_literals(
-                alloc,
-                &[
-                    front,
-                    Lit {
-                        atom: left,
-                        positive: false,
-                    },
-                    second,
-                ],
-                out,
-            )?;
-            write_literals(
-                alloc,
-                &[
-                    front,
-                    first,
-                    Lit {
-                        atom: right,
-                        positive: false,
-                    },
-                ],
-                out,
-            )
+            write_literals(alloc, &[front, literal(said.left, false), second], out)?;
+            write_literals(alloc, &[front, first, literal(said.right, false)], out)
         }
         Agreement::Counter => {
             write_literals(alloc, &[front, first], out)?;
@@ -145,19 +96,17 @@ fn write_agreement(
 pub fn write_congruent(
     alloc: Global,
     name: u32,
-    places: Places,
-    agreement: Agreement,
-    equal: u32,
-    also: u32,
-    left: u32,
-    right: u32,
+    said: Congruence,
     out: &mut Items<Clause>,
 ) -> Result<u32, AllocError>
     ensures made { OnOk result
-        (out.new ≡ out.old ++ differing name places equal also ∷ agreeing name agreement left right) }
+        (out.new
+        ≡ out.old
+        ++ differing name said.places said.equal said.also
+        ∷ agreeing name said.agreement said.left said.right) }
     ensures next { IfOk result (λ n. n ≡ name + 1) }
 {
-    write_premise(alloc, name, places, equal, also, out)?;
-    write_agreement(alloc, name, agreement, left, right, out)?;
+    write_premise(alloc, name, said, out)?;
+    write_agreement(alloc, name, said, out)?;
     name.checked_add(1).ok_or(AllocError)
 }

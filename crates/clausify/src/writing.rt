@@ -6,7 +6,7 @@ ghost use Rattle.proof_lines.specs.Clauses.{join, lit_of};
 ghost use Rattle.ground_atoms.specs.Formulas.{form_of};
 ghost use Rattle.clausify.specs.Formulas.{is_plain, is_plain_if_unsettled, normal, folded_of};
 
-use crate::bare::{Folded, signed};
+use crate::bare::{Folded, literal, signed};
 use ground_atoms::GroundFormula;
 use items::Items;
 use proof_lines::{Clause, Lit};
@@ -17,18 +17,8 @@ fn add_name(name: u32, clause: &mut Clause) -> Result<u32, AllocError>
     ensures made { OnOk result (clause.new ≡ join clause.old (lit_of name true ∷ [])) }
     ensures next { IfOk result (λ n. n ≡ name + 1) }
 {
-    clause.insert(Lit {
-        atom: name,
-        positive: true,
-    })?;
+    clause.insert(literal(name, true))?;
     name.checked_add(1).ok_or(AllocError)
-}
-
-// A literal of an atom.
-fn literal(atom: u32, positive: bool) -> Lit
-    ensures { result ≡ lit_of atom positive }
-{
-    Lit { atom, positive }
 }
 
 // Adds two literals to a clause.
@@ -52,51 +42,31 @@ fn add_literals(
     ensures next { IfOk result (λ n. n ≡ name + names (normal sign (form_of form.now))) }
 {
     match form {
-        GroundFormula::Truth(_) => unreachable!(),
-        GroundFormula::Implied(_, _, _) => unreachable!(),
-        GroundFormula::Congruent { .. } => unreachable!(),
+        GroundFormula::Truth(_)
+        | GroundFormula::Implied(_, _, _)
+        | GroundFormula::Congruent { .. } => unreachable!(),
         GroundFormula::Lit(atom, positive) => {
-            clause.insert(Lit {
-                atom: *atom,
-                positive: signed(sign, *positive),
-            })?;
+            clause.insert(literal(*atom, signed(sign, *positive)))?;
             Ok(name)
         }
         GroundFormula::NotAtom(atom) => {
-            clause.insert(Lit {
-                atom: *atom,
-                positive: signed(!sign, true),
-            })?;
+            clause.insert(literal(*atom, signed(!sign, true)))?;
             Ok(name)
         }
+        GroundFormula::Not(inner) => add_literals(!sign, name, inner, clause),
+        GroundFormula::BothAtoms(_, _) | GroundFormula::And(_) if sign => add_name(name, clause),
+        GroundFormula::AtomImplies(_, _) | GroundFormula::Or(_) if !sign => add_name(name, clause),
         GroundFormula::BothAtoms(first, second) => {
-            if sign {
-                return add_name(name, clause);
-            }
             add_two(literal(*first, false), literal(*second, false), clause)?;
             Ok(name)
         }
         GroundFormula::AtomImplies(first, second) => {
-            if !sign {
-                return add_name(name, clause);
-            }
             add_two(literal(*first, false), literal(*second, true), clause)?;
             Ok(name)
         }
-        GroundFormula::Not(inner) => add_literals(!sign, name, inner, clause),
-        GroundFormula::And(both) => {
-            if sign {
-                return add_name(name, clause);
-            }
-            let next = add_literals(false, name, &both.0, clause)?;
-            add_literals(false, next, &both.1, clause)
-        }
-        GroundFormula::Or(both) => {
-            if !sign {
-                return add_name(name, clause);
-            }
-            let next = add_literals(true, name, &both.0, clause)?;
-            add_literals(true, next, &both.1, clause)
+        GroundFormula::And(both) | GroundFormula::Or(both) => {
+            let next = add_literals(sign, name, &both.0, clause)?;
+            add_literals(sign, next, &both.1, clause)
         }
     }
 }
@@ -177,6 +147,7 @@ fn write_named(
 }
 
 // Appends the clause of the parts of an "or", after the literal in front, if any. `name` names its first "and".
+// The answer is where the clauses on its named parts begin.
 fn write_clause(
     alloc: Global,
     sign: bool,
@@ -184,40 +155,45 @@ fn write_clause(
     name: u32,
     form: &GroundFormula,
     out: &mut Items<Clause>,
-) -> Result<u32, AllocError>
+) -> Result<Naming, AllocError>
     requires { is_plain form.now ≡ true }
     ensures made { OnOk result (out.new ≡ out.old
         ++ clause_of front name (normal sign (form_of form.now)) ∷ []) }
-    ensures next { IfOk result (λ n. n ≡ name + names (normal sign (form_of form.now))) }
+    ensures name { IfOk result (λ r. r.name ≡ name) }
+    ensures next { IfOk result (λ r. r.next ≡ name + names (normal sign (form_of form.now))) }
 {
     let mut clause = clause_after(alloc, front)?;
     let next = add_literals(sign, name, form, &mut clause)?;
     out.push(clause)?;
-    Ok(next)
+    Ok(Naming { name, next })
 }
 
-// Appends the clause of the parts of "or" of two formulas. `name` names its first "and".
+// Appends the clause of the parts of "or" of two formulas. `name` names its first "and". The answer is where the
+// clauses on its named parts begin.
 fn write_clause_of_two(
     alloc: Global,
     name: u32,
     left: &GroundFormula,
     right: &GroundFormula,
     out: &mut Items<Clause>,
-) -> Result<u32, AllocError>
+) -> Result<Naming, AllocError>
     requires left { is_plain left.now ≡ true }
     requires right { is_plain right.now ≡ true }
     ensures made { OnOk result
         (out.new
         ≡ out.old
         ++ clause_of None name (any (normal true (form_of left.now)) (normal true (form_of right.now))) ∷ []) }
+    ensures name { IfOk result (λ r. r.name ≡ name) }
     ensures next { IfOk result
-        (λ n. n ≡ name + names (any (normal true (form_of left.now)) (normal true (form_of right.now)))) }
+        (λ r. r.next
+        ≡ name
+        + names (any (normal true (form_of left.now)) (normal true (form_of right.now)))) }
 {
     let mut clause = Clause::empty(alloc);
     let beside = add_literals(true, name, left, &mut clause)?;
     let next = add_literals(true, beside, right, &mut clause)?;
     out.push(clause)?;
-    Ok(next)
+    Ok(Naming { name, next })
 }
 
 /// Appends the clauses of a plain formula, each after the literal in front, if any. `next` is the next naming atom.
@@ -236,63 +212,42 @@ pub fn write_whole(
     ensures next { IfOk result (λ n. n ≡ next + new_names (normal sign (form_of form.now))) }
 {
     match form {
-        GroundFormula::Truth(_) => unreachable!(),
-        GroundFormula::Implied(_, _, _) => unreachable!(),
-        GroundFormula::Congruent { .. } => unreachable!(),
-        GroundFormula::Lit(_, _) => {
-            let _ = write_clause(alloc, sign, front, next, form, out)?;
-            Ok(next)
-        }
-        GroundFormula::NotAtom(_) => {
-            let _ = write_clause(alloc, sign, front, next, form, out)?;
-            Ok(next)
-        }
-        GroundFormula::BothAtoms(first, second) => {
-            if sign {
-                let (left, right) = (literal(*first, true), literal(*second, true));
-                write_two(alloc, front, left, right, out)?;
-                return Ok(next);
-            }
-            let _ = write_clause(alloc, false, front, next, form, out)?;
-            Ok(next)
-        }
-        GroundFormula::AtomImplies(first, second) => {
-            if !sign {
-                let (left, right) = (literal(*first, true), literal(*second, false));
-                write_two(alloc, front, left, right, out)?;
-                return Ok(next);
-            }
-            let _ = write_clause(alloc, true, front, next, form, out)?;
-            Ok(next)
-        }
+        GroundFormula::Truth(_)
+        | GroundFormula::Implied(_, _, _)
+        | GroundFormula::Congruent { .. } => unreachable!(),
         GroundFormula::Not(inner) => write_whole(alloc, !sign, front, next, inner, out),
-        GroundFormula::And(both) => {
-            if sign {
-                let after = write_whole(alloc, true, front, next, &both.0, out)?;
-                return write_whole(alloc, true, front, after, &both.1, out);
-            }
-            let from = write_clause(alloc, false, front, next, form, out)?;
-            let start = Naming {
-                name: next,
-                next: from,
-            };
+        GroundFormula::BothAtoms(first, second) if sign => {
+            let (left, right) = (literal(*first, true), literal(*second, true));
+            write_two(alloc, front, left, right, out)?;
+            Ok(next)
+        }
+        GroundFormula::AtomImplies(first, second) if !sign => {
+            let (left, right) = (literal(*first, true), literal(*second, false));
+            write_two(alloc, front, left, right, out)?;
+            Ok(next)
+        }
+        GroundFormula::Lit(_, _)
+        | GroundFormula::NotAtom(_)
+        | GroundFormula::BothAtoms(_, _)
+        | GroundFormula::AtomImplies(_, _) => {
+            let _ = write_clause(alloc, sign, front, next, form, out)?;
+            Ok(next)
+        }
+        GroundFormula::And(both) if !sign => {
+            let start = write_clause(alloc, false, front, next, form, out)?;
             let after = write_parts(alloc, false, start, &both.0, out)?;
             let end = write_parts(alloc, false, after, &both.1, out)?;
             Ok(end.next)
         }
-        GroundFormula::Or(both) => {
-            if !sign {
-                let after = write_whole(alloc, false, front, next, &both.0, out)?;
-                return write_whole(alloc, false, front, after, &both.1, out);
-            }
-            let from = write_clause(alloc, true, front, next, form, out)?;
-            let start = Naming {
-                name: next,
-                next: from,
-            };
+        GroundFormula::Or(both) if sign => {
+            let start = write_clause(alloc, true, front, next, form, out)?;
             let after = write_parts(alloc, true, start, &both.0, out)?;
             let end = write_parts(alloc, true, after, &both.1, out)?;
             Ok(end.next)
+        }
+        GroundFormula::And(both) | GroundFormula::Or(both) => {
+            let after = write_whole(alloc, sign, front, next, &both.0, out)?;
+            write_whole(alloc, sign, front, after, &both.1, out)
         }
     }
 }
@@ -314,53 +269,36 @@ fn write_parts(
         + inner_names (normal sign (form_of form.now))) }
 {
     match form {
-        GroundFormula::Truth(_) => unreachable!(),
-        GroundFormula::Implied(_, _, _) => unreachable!(),
-        GroundFormula::Congruent { .. } => unreachable!(),
-        GroundFormula::Lit(_, _) => Ok(at),
-        GroundFormula::NotAtom(_) => Ok(at),
-        GroundFormula::BothAtoms(first, second) => {
-            if sign {
-                let (left, right) = (literal(*first, true), literal(*second, true));
-                return write_named(alloc, at, left, right, out);
-            }
-            Ok(at)
-        }
-        GroundFormula::AtomImplies(first, second) => {
-            if !sign {
-                let (left, right) = (literal(*first, true), literal(*second, false));
-                return write_named(alloc, at, left, right, out);
-            }
-            Ok(at)
-        }
+        GroundFormula::Truth(_)
+        | GroundFormula::Implied(_, _, _)
+        | GroundFormula::Congruent { .. } => unreachable!(),
         GroundFormula::Not(inner) => write_parts(alloc, !sign, at, inner, out),
-        GroundFormula::And(both) => {
-            if sign {
-                let front = Some(Lit {
-                    atom: at.name,
-                    positive: false,
-                });
-                let after = write_whole(alloc, true, front, at.next, &both.0, out)?;
-                let next = write_whole(alloc, true, front, after, &both.1, out)?;
-                let name = at.name.checked_add(1).ok_or(AllocError)?;
-                return Ok(Naming { name, next });
-            }
+        GroundFormula::BothAtoms(first, second) if sign => {
+            let (left, right) = (literal(*first, true), literal(*second, true));
+            write_named(alloc, at, left, right, out)
+        }
+        GroundFormula::AtomImplies(first, second) if !sign => {
+            let (left, right) = (literal(*first, true), literal(*second, false));
+            write_named(alloc, at, left, right, out)
+        }
+        GroundFormula::Lit(_, _)
+        | GroundFormula::NotAtom(_)
+        | GroundFormula::BothAtoms(_, _)
+        | GroundFormula::AtomImplies(_, _) => Ok(at),
+        GroundFormula::And(both) if !sign => {
             let after = write_parts(alloc, false, at, &both.0, out)?;
             write_parts(alloc, false, after, &both.1, out)
         }
-        GroundFormula::Or(both) => {
-            if !sign {
-                let front = Some(Lit {
-                    atom: at.name,
-                    positive: false,
-                });
-                let after = write_whole(alloc, false, front, at.next, &both.0, out)?;
-                let next = write_whole(alloc, false, front, after, &both.1, out)?;
-                let name = at.name.checked_add(1).ok_or(AllocError)?;
-                return Ok(Naming { name, next });
-            }
+        GroundFormula::Or(both) if sign => {
             let after = write_parts(alloc, true, at, &both.0, out)?;
             write_parts(alloc, true, after, &both.1, out)
+        }
+        GroundFormula::And(both) | GroundFormula::Or(both) => {
+            let front = Some(literal(at.name, false));
+            let after = write_whole(alloc, sign, front, at.next, &both.0, out)?;
+            let next = write_whole(alloc, sign, front, after, &both.1, out)?;
+            let name = at.name.checked_add(1).ok_or(AllocError)?;
+            Ok(Naming { name, next })
         }
     }
 }
@@ -382,11 +320,7 @@ pub fn write_either(
     ensures next { IfOk result
         (λ n. n ≡ next + new_names (any (normal true (form_of left.now)) (normal true (form_of right.now)))) }
 {
-    let from = write_clause_of_two(alloc, next, left, right, out)?;
-    let start = Naming {
-        name: next,
-        next: from,
-    };
+    let start = write_clause_of_two(alloc, next, left, right, out)?;
     let after = write_parts(alloc, true, start, left, out)?;
     let end = write_parts(alloc, true, after, right, out)?;
     Ok(end.next)
