@@ -1,5 +1,5 @@
 -- The text of each word, and which words there are.
-use Rattle.std.specs.Prelude.{◌≡◌, ℕ, Bool, true, if◌then◌else◌, ◌&&◌, not, List, [], ◌∷◌, codes, Option, Some, None, nat_lt}
+use Rattle.std.specs.Prelude.{◌≡◌, ℕ, Bool, true, false, if◌then◌else◌, ◌&&◌, not, List, [], ◌∷◌, codes, Option, Some, None, nat_lt}
 use Rattle.std.specs.List.{AllByRecursion}
 use Rattle.std.specs.Str.{bytes_eq}
 use Rattle.std.specs.Fmt.{decimal}
@@ -53,6 +53,24 @@ key_text keys.And = codes "and"
 key_text keys.Or = codes "or"
 key_text keys.Implies = codes "implies"
 key_text keys.Int = codes "int"
+
+-- whether a key is a sign, not a reserved name
+abbrev pub is_sign : Key → Bool
+is_sign keys.Open = true
+is_sign keys.Close = true
+is_sign keys.Comma = true
+is_sign keys.Colon = true
+is_sign keys.Dot = true
+is_sign keys.Star = true
+is_sign keys.Plus = true
+is_sign keys.Minus = true
+is_sign keys.Equal = true
+is_sign keys.Unequal = true
+is_sign keys.Less = true
+is_sign keys.AtMost = true
+is_sign keys.Greater = true
+is_sign keys.AtLeast = true
+is_sign _ = false
 
 -- each reserved name and each sign
 abbrev pub all_keys : List Key

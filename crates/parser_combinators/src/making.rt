@@ -3,7 +3,8 @@
 ghost use Rattle.std.specs.Prelude.{◌≡◌, ◌+◌, ◌≤◌, length, true, false, IfOk};
 ghost use Rattle.word_cut.specs.Texts.{is_word, is_long_number};
 ghost use Rattle.word_cut.specs.Words.{IsCut, Stands};
-ghost use Rattle.parser_combinators.specs.Texts.{key_text as text_for, key_from, key_of as key_for};
+ghost use Rattle.parser_combinators.specs.Texts.{key_text as text_for, is_sign};
+ghost use Rattle.parser_combinators.specs.Texts.{key_from, key_of as key_for};
 ghost use Rattle.parser_combinators.specs.Texts.{symbol_of as symbol_for};
 ghost use Rattle.parser_combinators.specs.Tokens.{token_of as token_for, tokens_of};
 
@@ -75,6 +76,16 @@ pub fn key_text(key: Key) -> &'static [u8]
         Key::AtMost => b"<=".as_slice(),
         Key::Greater => b">".as_slice(),
         Key::AtLeast => b">=".as_slice(),
+        _ => word_text(key),
+    }
+}
+
+// The text of a reserved name.
+fn word_text(key: Key) -> &'static [u8]
+    requires { is_sign key ≡ false }
+    ensures { result.now ≡ text_for key }
+{
+    match key {
         Key::Cise => b"cise".as_slice(),
         Key::Sort => b"sort".as_slice(),
         Key::Const => b"const".as_slice(),
@@ -102,6 +113,7 @@ pub fn key_text(key: Key) -> &'static [u8]
         Key::Or => b"or".as_slice(),
         Key::Implies => b"implies".as_slice(),
         Key::Int => b"int".as_slice(),
+        _ => unreachable!(),
     }
 }
 
