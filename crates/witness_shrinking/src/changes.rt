@@ -1,6 +1,6 @@
 // Drafts with a change: facts left out, two elements made one, other numbers.
 
-use crate::draft::{Draft, Fact, copies, is_number};
+use crate::draft::{Draft, Fact, copies, draft_of, is_number, push_fact};
 use items::{Items, or_drop};
 use obligation_list::Obligation;
 use spec_core::{Call, Kind, Param, Spec, Thing};
@@ -59,16 +59,6 @@ impl Left {
     }
 }
 
-// A fact with another value.
-fn fact_with(alloc: Global, fact: &Fact, value: i64) -> Result<Fact, AllocError> {
-    let elements = Items::from_slice(alloc, fact.elements.as_slice())?;
-    Ok(Fact {
-        thing: fact.thing,
-        elements,
-        value,
-    })
-}
-
 fn facts_without(
     alloc: Global,
     spec: &Spec,
@@ -78,8 +68,8 @@ fn facts_without(
     let mut out = Items::new(alloc);
     for (place, fact) in facts.iter().enumerate() {
         if !left.leaves_out(spec, place, fact) {
-            let kept = or_drop!(fact_with(alloc, fact, fact.value); out);
-            or_drop!(out.push(kept); out);
+            let elements = fact.elements.as_slice();
+            or_drop!(push_fact(alloc, fact.thing, elements, fact.value, &mut out); out);
         }
     }
     Ok(out)
@@ -92,17 +82,14 @@ fn draft_with(
     facts: Items<Fact>,
     calls: Items<Call>,
 ) -> Result<Draft, AllocError> {
-    let sizes = or_drop!(Items::from_slice(alloc, draft.sizes.as_slice()); facts, calls);
-    let consts = or_drop!(Items::from_slice(alloc, draft.consts.as_slice()); facts, calls, sizes);
-    let elements =
-        or_drop!(Items::from_slice(alloc, draft.elements.as_slice()); facts, calls, sizes, consts);
-    Ok(Draft {
-        sizes,
-        consts,
+    draft_of(
+        alloc,
+        draft.sizes.as_slice(),
+        draft.consts.as_slice(),
+        draft.elements.as_slice(),
         facts,
         calls,
-        elements,
-    })
+    )
 }
 
 /// A draft with facts left out.
@@ -120,11 +107,9 @@ fn facts_moved(
 ) -> Result<Items<Fact>, AllocError> {
     let mut out = Items::new(alloc);
     for (place, fact) in facts.iter().enumerate() {
-        let mut kept = or_drop!(fact_with(alloc, fact, fact.value); out);
-        if place == at {
-            kept.thing = thing;
-        }
-        or_drop!(out.push(kept); out);
+        let moved = if place == at { thing } else { fact.thing };
+        let elements = fact.elements.as_slice();
+        or_drop!(push_fact(alloc, moved, elements, fact.value, &mut out); out);
     }
     Ok(out)
 }
@@ -237,18 +222,19 @@ fn args_joined(
     Ok(out)
 }
 
-fn call_joined(
+fn push_call_joined(
     alloc: Global,
     spec: &Spec,
     call: &Call,
     joined: Joined,
-) -> Result<Call, AllocError> {
+    calls: &mut Items<Call>,
+) -> Result<(), AllocError> {
     let params = match spec.operations.as_slice().get(call.op as usize) {
         Some(operation) => operation.params.as_slice(),
         None => &[],
     };
     let args = args_joined(alloc, params, call.args.as_slice(), joined)?;
-    Ok(Call { op: call.op, args })
+    calls.push(Call { op: call.op, args })
 }
 
 fn calls_joined(
@@ -259,8 +245,7 @@ fn calls_joined(
 ) -> Result<Items<Call>, AllocError> {
     let mut out = Items::new(alloc);
     for call in calls {
-        let call = or_drop!(call_joined(alloc, spec, call, joined); out);
-        or_drop!(out.push(call); out);
+        or_drop!(push_call_joined(alloc, spec, call, joined, &mut out); out);
     }
     Ok(out)
 }
@@ -276,6 +261,26 @@ pub fn has(facts: &[Fact], thing: Thing, elements: &[u32]) -> bool {
 }
 
 // Of two facts that become one, the first stays: a tuple is true then, and a counter has the first value.
+fn push_fact_joined(
+    alloc: Global,
+    spec: &Spec,
+    fact: &Fact,
+    joined: Joined,
+    facts: &mut Items<Fact>,
+) -> Result<(), AllocError> {
+    let sorts = spec.places_of(fact.thing);
+    let elements = elements_joined(alloc, sorts, fact.elements.as_slice(), joined)?;
+    if has(facts.as_slice(), fact.thing, elements.as_slice()) {
+        drop(elements);
+        return Ok(());
+    }
+    facts.push(Fact {
+        thing: fact.thing,
+        elements,
+        value: fact.value,
+    })
+}
+
 fn facts_joined(
     alloc: Global,
     spec: &Spec,
@@ -285,22 +290,9 @@ fn facts_joined(
 ) -> Result<Items<Fact>, AllocError> {
     let mut out = Items::new(alloc);
     for (place, fact) in facts.iter().enumerate() {
-        if left.leaves_out(spec, place, fact) {
-            continue;
+        if !left.leaves_out(spec, place, fact) {
+            or_drop!(push_fact_joined(alloc, spec, fact, joined, &mut out); out);
         }
-        let sorts = spec.places_of(fact.thing);
-        let own = fact.elements.as_slice();
-        let elements = or_drop!(elements_joined(alloc, sorts, own, joined); out);
-        if has(out.as_slice(), fact.thing, elements.as_slice()) {
-            drop(elements);
-            continue;
-        }
-        let moved = Fact {
-            thing: fact.thing,
-            elements,
-            value: fact.value,
-        };
-        or_drop!(out.push(moved); out);
     }
     Ok(out)
 }
@@ -350,10 +342,15 @@ pub fn made_one(
 ) -> Result<Draft, AllocError> {
     let sorts = sorts_of_elements(spec, ob);
     let sizes = sizes_joined(alloc, draft.sizes.as_slice(), two)?;
-    let consts = consts_joined(alloc, spec, draft.consts.as_slice(), two)?;
-    let elements = elements_joined(alloc, sorts, draft.elements.as_slice(), two)?;
-    let calls = calls_joined(alloc, spec, draft.calls.as_slice(), two)?;
-    let facts = or_drop!(facts_joined(alloc, spec, draft.facts.as_slice(), two, left); calls);
+    let consts = or_drop!(consts_joined(alloc, spec, draft.consts.as_slice(), two); sizes);
+    let elements =
+        or_drop!(elements_joined(alloc, sorts, draft.elements.as_slice(), two); sizes, consts);
+    let calls =
+        or_drop!(calls_joined(alloc, spec, draft.calls.as_slice(), two); sizes, consts, elements);
+    let facts = or_drop!(
+        facts_joined(alloc, spec, draft.facts.as_slice(), two, left);
+        sizes, consts, elements, calls
+    );
     Ok(Draft {
         sizes,
         consts,
@@ -422,8 +419,8 @@ fn facts_changed(
     for (place, fact) in facts.iter().enumerate() {
         let value = changed(changes, Place::Value(place), fact.value);
         if value != 0 {
-            let kept = or_drop!(fact_with(alloc, fact, value); out);
-            or_drop!(out.push(kept); out);
+            let elements = fact.elements.as_slice();
+            or_drop!(push_fact(alloc, fact.thing, elements, value, &mut out); out);
         }
     }
     Ok(out)
@@ -442,6 +439,17 @@ fn args_changed(
     Ok(out)
 }
 
+fn push_call_changed(
+    alloc: Global,
+    call: &Call,
+    place: usize,
+    changes: &[Number],
+    calls: &mut Items<Call>,
+) -> Result<(), AllocError> {
+    let args = args_changed(alloc, call.args.as_slice(), place, changes)?;
+    calls.push(Call { op: call.op, args })
+}
+
 fn calls_changed(
     alloc: Global,
     calls: &[Call],
@@ -449,8 +457,7 @@ fn calls_changed(
 ) -> Result<Items<Call>, AllocError> {
     let mut out = Items::new(alloc);
     for (place, call) in calls.iter().enumerate() {
-        let args = or_drop!(args_changed(alloc, call.args.as_slice(), place, changes); out);
-        or_drop!(out.push(Call { op: call.op, args }); out);
+        or_drop!(push_call_changed(alloc, call, place, changes, &mut out); out);
     }
     Ok(out)
 }

@@ -28,6 +28,22 @@ pub struct Draft {
     pub elements: Items<u32>,
 }
 
+/// Adds a fact at these elements.
+pub fn push_fact(
+    alloc: Global,
+    thing: Thing,
+    elements: &[u32],
+    value: i64,
+    facts: &mut Items<Fact>,
+) -> Result<(), AllocError> {
+    let elements = Items::from_slice(alloc, elements)?;
+    facts.push(Fact {
+        thing,
+        elements,
+        value,
+    })
+}
+
 // ---- the draft of a witness
 
 fn add_tuples(
@@ -39,12 +55,7 @@ fn add_tuples(
 ) -> Result<(), AllocError> {
     for tuple in tuples {
         if state.has(relation, tuple.as_slice()) {
-            let elements = Items::from_slice(alloc, tuple.as_slice())?;
-            facts.push(Fact {
-                thing: Thing::Relation(relation),
-                elements,
-                value: 1,
-            })?;
+            push_fact(alloc, Thing::Relation(relation), tuple.as_slice(), 1, facts)?;
         }
     }
     Ok(())
@@ -60,12 +71,7 @@ fn add_values(
     for key in keys {
         let value = i64::try_from(state.count(counter, key.as_slice())).unwrap_or(0);
         if value != 0 {
-            let elements = Items::from_slice(alloc, key.as_slice())?;
-            facts.push(Fact {
-                thing: Thing::Counter(counter),
-                elements,
-                value,
-            })?;
+            push_fact(alloc, Thing::Counter(counter), key.as_slice(), value, facts)?;
         }
     }
     Ok(())
@@ -110,14 +116,39 @@ fn facts_of(alloc: Global, spec: &Spec, witness: &Witness) -> Result<Items<Fact>
     Ok(facts)
 }
 
+fn push_call(alloc: Global, call: &Call, calls: &mut Items<Call>) -> Result<(), AllocError> {
+    let args = Items::from_slice(alloc, call.args.as_slice())?;
+    calls.push(Call { op: call.op, args })
+}
+
 /// Copies of calls.
 pub fn copies(alloc: Global, calls: &[Call]) -> Result<Items<Call>, AllocError> {
     let mut out = Items::new(alloc);
     for call in calls {
-        let args = or_drop!(Items::from_slice(alloc, call.args.as_slice()); out);
-        or_drop!(out.push(Call { op: call.op, args }); out);
+        or_drop!(push_call(alloc, call, &mut out); out);
     }
     Ok(out)
+}
+
+/// A draft of copies of these lists, with facts and calls.
+pub fn draft_of(
+    alloc: Global,
+    sizes: &[u32],
+    consts: &[u32],
+    elements: &[u32],
+    facts: Items<Fact>,
+    calls: Items<Call>,
+) -> Result<Draft, AllocError> {
+    let sizes = or_drop!(Items::from_slice(alloc, sizes); facts, calls);
+    let consts = or_drop!(Items::from_slice(alloc, consts); facts, calls, sizes);
+    let elements = or_drop!(Items::from_slice(alloc, elements); facts, calls, sizes, consts);
+    Ok(Draft {
+        sizes,
+        consts,
+        facts,
+        calls,
+        elements,
+    })
 }
 
 // ---- the witness of a draft
@@ -253,27 +284,30 @@ fn with_values(facts: &[Fact], size: Size) -> Size {
 impl Draft {
     /// The draft of a witness.
     pub fn of(alloc: Global, spec: &Spec, witness: &Witness) -> Result<Draft, AllocError> {
-        let sizes = Items::from_slice(alloc, witness.world.sizes.as_slice())?;
-        let consts = Items::from_slice(alloc, witness.world.consts.as_slice())?;
-        let elements = Items::from_slice(alloc, witness.elements.as_slice())?;
-        let calls = copies(alloc, witness.calls.as_slice())?;
-        let facts = or_drop!(facts_of(alloc, spec, witness); calls);
-        Ok(Draft {
-            sizes,
-            consts,
+        let facts = facts_of(alloc, spec, witness)?;
+        let calls = or_drop!(copies(alloc, witness.calls.as_slice()); facts);
+        let world = &witness.world;
+        draft_of(
+            alloc,
+            world.sizes.as_slice(),
+            world.consts.as_slice(),
+            witness.elements.as_slice(),
             facts,
             calls,
-            elements,
-        })
+        )
+    }
+
+    fn world(&self, alloc: Global) -> Result<World, AllocError> {
+        let sizes = Items::from_slice(alloc, self.sizes.as_slice())?;
+        let consts = or_drop!(Items::from_slice(alloc, self.consts.as_slice()); sizes);
+        Ok(World { sizes, consts })
     }
 
     /// The witness of a draft; none where its world is none.
     pub fn witness(&self, alloc: Global, spec: &Spec) -> Result<Option<Witness>, AllocError> {
-        let sizes = Items::from_slice(alloc, self.sizes.as_slice())?;
-        let consts = Items::from_slice(alloc, self.consts.as_slice())?;
-        let elements = Items::from_slice(alloc, self.elements.as_slice())?;
-        let world = World { sizes, consts };
-        let calls = or_drop!(copies(alloc, self.calls.as_slice()); world);
+        let world = self.world(alloc)?;
+        let elements = or_drop!(Items::from_slice(alloc, self.elements.as_slice()); world);
+        let calls = or_drop!(copies(alloc, self.calls.as_slice()); world, elements);
         match state_of(alloc, spec, &world, self.facts.as_slice()) {
             Ok(Some(state)) => Ok(Some(Witness {
                 world,
@@ -282,10 +316,14 @@ impl Draft {
                 elements,
             })),
             Ok(None) => {
+                drop(world);
+                drop(elements);
                 drop(calls);
                 Ok(None)
             }
             Err(AllocError) => {
+                drop(world);
+                drop(elements);
                 drop(calls);
                 Err(AllocError)
             }

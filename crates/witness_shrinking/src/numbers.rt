@@ -30,6 +30,11 @@ fn nearer(number: Number, sign: i64, by: i64) -> Number {
     }
 }
 
+// A number without its sign.
+fn size_of(number: Number) -> i64 {
+    number.value.wrapping_mul(number.value.signum())
+}
+
 impl Refutation<'_> {
     fn sets(&mut self, changes: &[Number]) -> Result<bool, AllocError> {
         let candidate = with_numbers(self.alloc, &self.draft, changes)?;
@@ -42,28 +47,6 @@ impl Refutation<'_> {
 
     fn number(&self, place: Place) -> Option<Number> {
         number_at(self.spec, &self.draft, place)
-    }
-
-    // Brings a number as near to 0 as halving the distance shows.
-    fn halves(&mut self, number: Number) -> Result<bool, AllocError> {
-        let sign = number.value.signum();
-        let mut low = 0i64;
-        let mut high = number.value.wrapping_mul(sign);
-        let mut changed = false;
-        for n in 0..MOST_HALVES {
-            let gap = high.wrapping_sub(low);
-            if gap < 2 {
-                return Ok(changed);
-            }
-            let middle = low.wrapping_add(if n == 0 { 1 } else { gap / 2 });
-            if self.sets_one(number.place, middle.wrapping_mul(sign))? {
-                high = middle;
-                changed = true;
-            } else {
-                low = middle;
-            }
-        }
-        Ok(changed)
     }
 
     // Makes a number below 0 one above it.
@@ -91,7 +74,7 @@ impl Refutation<'_> {
         let Some(number) = self.number(place) else {
             return Ok(is_turned);
         };
-        let is_halved = self.halves(number)?;
+        let is_halved = self.halves(&[number], size_of(number))?;
         Ok(is_turned || is_halved)
     }
 
@@ -114,7 +97,7 @@ impl Refutation<'_> {
         let (Some(first), Some(second)) = (self.number(one), self.number(other)) else {
             return Ok(false);
         };
-        let mut by = first.value.wrapping_mul(first.value.signum());
+        let mut by = size_of(first);
         for _ in 0..MOST_HALVES {
             if by < 1 {
                 return Ok(false);
@@ -154,7 +137,7 @@ impl Refutation<'_> {
             let Some(number) = self.number(place_at(n)) else {
                 continue;
             };
-            if size == number.value.wrapping_mul(number.value.signum()) {
+            if size == size_of(number) {
                 found.push(number)?;
             }
         }
@@ -177,7 +160,7 @@ impl Refutation<'_> {
     }
 
     // Brings numbers of one size nearer to 0 together, as near as halving the distance shows.
-    fn halves_all(&mut self, numbers: &[Number], size: i64) -> Result<bool, AllocError> {
+    fn halves(&mut self, numbers: &[Number], size: i64) -> Result<bool, AllocError> {
         let mut low = 0i64;
         let mut high = size;
         let mut changed = false;
@@ -202,15 +185,27 @@ impl Refutation<'_> {
         let Some(number) = self.number(place) else {
             return Ok(false);
         };
-        let size = number.value.wrapping_mul(number.value.signum());
+        let size = size_of(number);
         let numbers = self.of_size(size)?;
         let is_changed = if numbers.len() > 2 {
-            self.halves_all(numbers.as_slice(), size)
+            self.halves(numbers.as_slice(), size)
         } else {
             Ok(false)
         };
         drop(numbers);
         is_changed
+    }
+
+    // Makes a value 0, and another number nearer to 0 by this much, or farther from it.
+    fn trades_by(
+        &mut self,
+        value: Number,
+        other: Number,
+        sign: i64,
+        by: i64,
+    ) -> Result<bool, AllocError> {
+        let none = nearer(value, 1, value.value);
+        self.sets(&[none, nearer(other, sign, by)])
     }
 
     // Makes a value 0 where another number is 0 too, or grows or falls a little for it.
@@ -221,13 +216,12 @@ impl Refutation<'_> {
         if value == other {
             return Ok(false);
         }
-        let none = nearer(first, 1, first.value);
         Ok(
-            self.sets(&[none, nearer(second, 1, second.value)])?
-                || self.sets(&[none, nearer(second, -1, 1)])?
-                || self.sets(&[none, nearer(second, -1, 2)])?
-                || self.sets(&[none, nearer(second, 1, 1)])?
-                || self.sets(&[none, nearer(second, 1, 2)])?,
+            self.trades_by(first, second, 1, second.value)?
+                || self.trades_by(first, second, -1, 1)?
+                || self.trades_by(first, second, -1, 2)?
+                || self.trades_by(first, second, 1, 1)?
+                || self.trades_by(first, second, 1, 2)?,
         )
     }
 
