@@ -15,7 +15,8 @@ use Rattle.token_protocol.proofs.Places.{absent, map_more}
 use Rattle.token_core.specs.declared.replica.Replica.{Replica}
 use Rattle.token_core.specs.Held.{node_of}
 use Rattle.token_core.specs.HeldNet.{replica_of}
-use Rattle.token_core.specs.Fields.{held_replica, replica_at, network_with, network_in, FitsIn, IsNet, IsFirst}
+use Rattle.token_core.specs.Held.{FitsIn}
+use Rattle.token_core.specs.Fields.{held_replica, replica_at, network_with, network_in, IsNet, IsFirst}
 
 module _ (d : Specification) (w : World) where
   abbrev first : ℕ → ReplicaOf
@@ -35,7 +36,7 @@ module _ (d : Specification) (w : World) where
   pub none_first : (replicas : List Replica) → replicas ≡ [] → IsFirst d w 0 replicas
   none_first replicas e = subst (IsFirst d w 0) (sym e) (record { first = refl; fit = λ r at h. absurd (absent at h) })
 
-  pub more_first : (n : ℕ) (replicas : List Replica) (at : Replica) → IsFirst d w n replicas → replica_at at ≡ first n → FitsIn d w at → IsFirst d w (n + 1) (replicas ++ at ∷ [])
+  pub more_first : (n : ℕ) (replicas : List Replica) (at : Replica) → IsFirst d w n replicas → replica_at at ≡ first n → FitsIn d w at.node.state at.spare → IsFirst d w (n + 1) (replicas ++ at ∷ [])
   more_first n replicas at is new fits = record {
     first =
         ap (map replica_of) (map_more held_replica replicas at)
@@ -45,7 +46,7 @@ module _ (d : Specification) (w : World) where
         ∙ sym (first_last 0 n);
     fit = λ r other here. elim (front_or_last replicas at r other here) [
       | inl old ↦ is.fit r other old
-      | inr last ↦ subst (FitsIn d w) last.1 fits
+      | inr last ↦ subst (λ (x : Replica). FitsIn d w x.node.state x.spare) last.1 fits
     ];
   }
 

@@ -16,7 +16,8 @@ use Rattle.token_core.specs.declared.log.Log.{Log}
 use Rattle.token_core.specs.declared.replica.Replica.{Replica}
 use Rattle.token_core.specs.HeldNet.{HeldReplica, replica_of, HeldNet, network_held}
 use Rattle.token_core.specs.Log.{Lists, lists_of}
-use Rattle.token_core.specs.Fields.{held_replica, replica_at, replicas_in, network_with, network_in, held_in, FitsIn, IsNet}
+use Rattle.token_core.specs.Held.{FitsIn}
+use Rattle.token_core.specs.Fields.{held_replica, replica_at, replicas_in, network_with, network_in, held_in, IsNet}
 use Rattle.token_core.specs.Stepped.{IsStepped}
 use Rattle.token_core.proofs.Leaving.{set_same}
 
@@ -63,7 +64,7 @@ module _ (d : Specification) (w : World) (count : ℕ) where
         (told : (result ≡ Err unable.Memory) ⊎ (result ≡ answer o))
         (ok : OnOk result (network_with (set (replicas_in replicas) r (replica_at next)) granted (lists_of after) ≡ network_after net o))
         (err : OnErr result ((held_replica next ≡ held_replica at) × (lists_of after ≡ lists_of log)))
-        (fits : FitsIn d w next) where
+        (fits : FitsIn d w next.node.state next.spare) where
       abbrev new : HeldNet
       new = held_in d w count (set replicas r next) granted after
 
@@ -101,7 +102,7 @@ module _ (d : Specification) (w : World) (count : ℕ) where
       replica_kept = record {
         kept = kept_after result (on_ok result ok) (on_err result err);
         fit = λ q x there. elim (get_set replicas r q next x there) [
-          | inl p ↦ subst (FitsIn d w) p.1 fits
+          | inl p ↦ subst (λ (x : Replica). FitsIn d w x.node.state x.spare) p.1 fits
           | inr old_one ↦ is.fit q x old_one
         ];
       }

@@ -1,14 +1,13 @@
 -- What the fields of a network hold and keep; this mirrors src/net.rt.
-use Rattle.std.specs.Prelude.{◌≡◌, ℕ, true, List, Some, map, slice_get}
+use Rattle.std.specs.Prelude.{◌≡◌, ℕ, List, Some, map, slice_get}
 use Rattle.spec_core.specs.declared.world.World.{World}
 use Rattle.spec_core.specs.Specification.{Specification}
-use Rattle.spec_core.specs.Fits.{is_state}
-use Rattle.effectors.specs.Spare.{IsSpare}
 use Rattle.token_protocol.specs.declared.granted.Granted.{Granted}
 use Rattle.token_protocol.specs.Network.{Network, Replica as ReplicaOf, first_replicas}
 use Rattle.token_protocol.specs.Kept.{IsKept}
 use Rattle.token_core.specs.declared.log.Log.{Log}
 use Rattle.token_core.specs.Log.{Lists, lists_of}
+use Rattle.token_core.specs.Held.{FitsIn}
 use Rattle.token_core.specs.HeldNet.{HeldReplica, replica_of, HeldNet}
 use Rattle.token_core.specs.declared.replica.Replica.{Replica}
 
@@ -51,21 +50,16 @@ held_in d w steps replicas granted log = record {
   happened = log.happened.items;
 }
 
--- The state of a replica's node is one of the world, and so is the one beside it, which reads alike.
-pub record FitsIn (d : Specification) (w : World) (at : Replica) : Type 0 where
-  pub state : is_state d w at.node.state ≡ true
-  pub spare : IsSpare d w at.node.state at.spare
-
 -- What the fields keep: the network is kept, and its replicas fit.
 pub record IsNet (d : Specification) (w : World) (replicas : List Replica) (granted : List Granted)
     (log : Log) : Type 0 where
   pub kept : IsKept d w (network_in replicas granted log)
   pub fit : (r : ℕ) (at : Replica) → slice_get replicas r ≡ Some at
-      → FitsIn d w at
+      → FitsIn d w at.node.state at.spare
 
 -- Replicas before the first step.
 pub record IsFirst (d : Specification) (w : World) (count : ℕ)
     (replicas : List Replica) : Type 0 where
   pub first : replicas_in replicas ≡ first_replicas d w 0 count
   pub fit : (r : ℕ) (at : Replica) → slice_get replicas r ≡ Some at
-      → FitsIn d w at
+      → FitsIn d w at.node.state at.spare

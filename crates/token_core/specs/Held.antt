@@ -1,9 +1,10 @@
 -- A node as a program holds it: its state is listed.
-use Rattle.std.specs.Prelude.{ℕ, Bool, true, List, Option, None, Some}
+use Rattle.std.specs.Prelude.{◌≡◌, ℕ, Bool, true, List, Option, None, Some}
 use Rattle.spec_core.specs.declared.world.World.{World}
 use Rattle.spec_core.specs.Specification.{Specification}
 use Rattle.spec_core.specs.State.{Listing, reads}
-use Rattle.spec_core.specs.Fits.{call_fits}
+use Rattle.spec_core.specs.Fits.{call_fits, is_state}
+use Rattle.effectors.specs.Spare.{IsSpare}
 use Rattle.token_protocol.specs.declared.message.EventId.{EventId}
 use Rattle.token_protocol.specs.declared.message.Request.{Request}
 use Rattle.token_protocol.specs.declared.message.Message.{Message}
@@ -29,6 +30,12 @@ node_of n = record {
   void = n.void;
   waiting = n.waiting;
 }
+
+-- A node's state is one of the world, and so is the spare one beside it, if there is one, which reads alike.
+pub record FitsIn (d : Specification) (w : World) (held : Listing)
+    (beside : Option Listing) : Type 0 where
+  pub state : is_state d w held ≡ true
+  pub spare : IsSpare d w held beside
 
 -- the call that waits, if one does, has the arguments of its operation
 abbrev pub waiting_fits : Specification → World → Option Request → Bool

@@ -15,13 +15,18 @@ use Rattle.token_protocol.specs.declared.node.Heard.TheVariants as heard
 use Rattle.token_protocol.specs.declared.network.NetDid.{NetDid}
 use Rattle.token_protocol.specs.declared.network.NetDid.TheVariants as did
 use Rattle.token_protocol.specs.Network.{Happened, number_of}
-use Rattle.token_core.specs.Log.{Lists}
+use Rattle.token_core.specs.declared.log.Log.{Log}
+use Rattle.token_core.specs.Log.{Lists, lists_of}
 
 -- What a step did, what the lists are then, and what its replica has taken then.
 pub record Left : Type 0 where
   pub did : NetDid
   pub lists : Lists
   pub taken : List ℕ
+
+-- what is left where a step did this, of a log and of what its replica has taken
+abbrev pub left_of : NetDid → Log → List ℕ → Left
+left_of what log taken = record { did = what; lists = lists_of log; taken = taken }
 
 -- the call of which a message tells
 abbrev pub id_of : Message → EventId

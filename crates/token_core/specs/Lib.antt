@@ -2,6 +2,7 @@ pub mod Members
 pub mod Log
 pub mod Held
 pub mod Ended
+pub mod Answered
 pub mod Left
 pub mod HeldNet
 pub mod Fields

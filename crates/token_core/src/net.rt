@@ -1,16 +1,14 @@
 // A network: its replicas, its manager, and what was sent.
 
-ghost use Rattle.std.specs.Prelude.{◌≡◌, ℕ, ◌+◌, ◌<◌, ◌⊎◌, true, [], Some, Err, List, length, map};
-ghost use Rattle.std.specs.Prelude.{get_or, slice_get, All, IfOk, OnOk, OnErr};
+ghost use Rattle.std.specs.Prelude.{◌≡◌, ◌<◌, true, Some, length, slice_get, IfOk};
 ghost use Rattle.std.specs.Option.{is_some};
-ghost use Rattle.spec_core.specs.State.{reads};
 ghost use Rattle.spec_core.specs.Fits.{is_state};
 ghost use Rattle.token_protocol.specs.declared.network.NetStep.TheVariants as step;
-ghost use Rattle.token_protocol.specs.Network.{first_network, outcome, network_after, answer};
+ghost use Rattle.token_protocol.specs.Network.{first_network};
 ghost use Rattle.token_protocol.specs.Executed.{IsExecuted, IsGranted};
 ghost use Rattle.token_core.specs.HeldNet.{HeldReplica, network_held};
 ghost use Rattle.token_core.specs.Fields.{IsFirst};
-ghost use Rattle.token_core.specs.Stepped.{IsStepped};
+ghost use Rattle.token_core.specs.Stepped.{IsStepped, IsCounted};
 
 use crate::log::{Happened, Log};
 use crate::node::Node;
@@ -209,18 +207,7 @@ impl<R: Runner + Drop> Net<R> {
 
     // Carries a step out, and counts it.
     fn go_on(&mut self, step: &NetStep) -> Result<NetDid, NetRefused>
-        ensures answer { (result ≡ Err NetRefused.Memory)
-            ⊎ (result
-            ≡ answer (outcome self.old.spec self.old.world (network_held self.old) step.now)) }
-        ensures ok { OnOk result
-            (network_held self.new
-            ≡ network_after (network_held self.old)
-            (outcome self.old.spec self.old.world (network_held self.old) step.now)) }
-        ensures spec { self.new.spec ≡ self.old.spec }
-        ensures world { self.new.world ≡ self.old.world }
-        ensures steps { OnOk result
-            ((self.old.steps < 4000000000) × (self.new.steps ≡ self.old.steps + 1)) }
-        ensures err { OnErr result (self.new ≡ self.old) }
+        ensures { IsCounted self.old self.new step.now result }
     {
         if self.steps >= MOST_STEPS {
             return Err(NetRefused::Memory);
@@ -239,18 +226,7 @@ impl<R: Runner + Drop> Net<R> {
     /// have more than 32 bits, a replica would have used up 4,000,000,000 turns, or the network has carried out 4,000,000,000 steps, the
     /// answer is want of memory.
     pub fn step(&mut self, step: &NetStep) -> Result<NetDid, NetRefused>
-        ensures answer { (result ≡ Err NetRefused.Memory)
-            ⊎ (result
-            ≡ answer (outcome self.old.spec self.old.world (network_held self.old) step.now)) }
-        ensures ok { OnOk result
-            (network_held self.new
-            ≡ network_after (network_held self.old)
-            (outcome self.old.spec self.old.world (network_held self.old) step.now)) }
-        ensures spec { self.new.spec ≡ self.old.spec }
-        ensures world { self.new.world ≡ self.old.world }
-        ensures steps { OnOk result
-            ((self.old.steps < 4000000000) × (self.new.steps ≡ self.old.steps + 1)) }
-        ensures err { OnErr result (self.new ≡ self.old) }
+        ensures counted { IsCounted self.old self.new step.now result }
         ensures executed { IsExecuted self.new.spec self.new.world (network_held self.new) }
     {
         let answer = self.go_on(step);

@@ -1,7 +1,6 @@
 // A node, which runs calls and takes the events of others.
 
-ghost use Rattle.std.specs.Prelude.{◌≡◌, ◌<◌, ◌⊎◌, ◌||◌, not, true, None, Some, Err, IfOk, OnOk};
-ghost use Rattle.std.specs.Prelude.{OnErr, List};
+ghost use Rattle.std.specs.Prelude.{◌≡◌, ◌<◌, ◌||◌, not, true, None, IfOk, OnOk};
 ghost use Rattle.std.specs.Option.{option_copied};
 ghost use Rattle.spec_core.specs.State.{reads};
 ghost use Rattle.spec_core.specs.Fits.{call_fits, is_state};
@@ -9,15 +8,13 @@ ghost use Rattle.effectors.specs.Effect.{after, after_call};
 ghost use Rattle.effectors.specs.Beyond.{first_beyond};
 ghost use Rattle.effectors.specs.Spare.{IsSpare};
 ghost use Rattle.token_protocol.specs.Ids.{is_among};
-ghost use Rattle.token_protocol.specs.Node.{waits, with_waiting, with_turn, takes_none, turn_of};
-ghost use Rattle.token_protocol.specs.Node.{begin_with, run, node_after_run, first_node, begin};
-ghost use Rattle.token_protocol.specs.Node.{begin_answer, node_after_begin, hear, hear_grant};
-ghost use Rattle.token_protocol.specs.Node.{grant_open, hear_done, take_within, hear_void};
-ghost use Rattle.token_protocol.specs.Node.{hear_answer, node_after_hear};
-ghost use Rattle.token_protocol.specs.Node.{first_open as first_open_of};
-ghost use Rattle.token_core.specs.Held.{node_of, waiting_fits, message_fits};
+ghost use Rattle.token_protocol.specs.Node.{takes_none, turn_of, run, first_node, begin, hear};
+ghost use Rattle.token_protocol.specs.Node.{hear_grant, grant_open, hear_done, take_within};
+ghost use Rattle.token_protocol.specs.Node.{hear_void, first_open as first_open_of};
+ghost use Rattle.token_core.specs.Held.{node_of, FitsIn, waiting_fits, message_fits};
+ghost use Rattle.token_core.specs.Answered.{waiting_turn, HasRun, HasBegun, HasHeard};
 ghost use Rattle.replica_replay.specs.Tried.{IsTried};
-ghost use Rattle.token_core.specs.Ended.{ended_of, begun_of, heard_of, refused_effect};
+ghost use Rattle.token_core.specs.Ended.{begun_of, heard_of, refused_effect};
 
 use crate::ids::Ids;
 use effectors::ApplyRefused;
@@ -164,26 +161,16 @@ impl Node {
         tried: Tried,
         spare: &mut Option<State>,
     ) -> Result<Ended, AllocError>
-        requires state { is_state (R.specification runner.now) (R.setting runner.now) self.old.state
-            ≡ true }
-        requires spare { IsSpare (R.specification runner.now) (R.setting runner.now)
-            self.old.state spare.old }
+        requires fits { FitsIn (R.specification runner.now) (R.setting runner.now) self.old.state
+            spare.old }
         requires call { call_fits (R.specification runner.now) (R.setting runner.now) call ≡ true }
         requires tried { IsTried (R.specification runner.now) (R.setting runner.now)
             (reads self.old.state) call tried }
-        ensures ended { IfOk result
-            (λ ended. ended
-            ≡ ended_of (run (R.specification runner.now) (R.setting runner.now)
-            (node_of self.old) id call)) }
-        ensures node { OnOk result
-            (node_of self.new
-            ≡ node_after_run
-            (run (R.specification runner.now) (R.setting runner.now) (node_of self.old) id call)) }
-        ensures fits { OnOk result
-            (is_state (R.specification runner.now) (R.setting runner.now) self.new.state ≡ true) }
-        ensures spare { IsSpare (R.specification runner.now) (R.setting runner.now)
-            self.new.state spare.new }
-        ensures err { OnErr result (self.new ≡ self.old) }
+        ensures run { HasRun self.old self.new
+            (run (R.specification runner.now) (R.setting runner.now) (node_of self.old) id call)
+            result }
+        ensures fits { FitsIn (R.specification runner.now) (R.setting runner.now) self.new.state
+            spare.new }
     {
         match tried {
             Tried::Never(why) => {
@@ -207,24 +194,14 @@ impl Node {
         id: EventId,
         call: Call,
     ) -> Result<Ended, AllocError>
-        requires state { is_state (R.specification runner.now) (R.setting runner.now) self.old.state
-            ≡ true }
-        requires spare { IsSpare (R.specification runner.now) (R.setting runner.now)
-            self.old.state spare.old }
+        requires fits { FitsIn (R.specification runner.now) (R.setting runner.now) self.old.state
+            spare.old }
         requires call { call_fits (R.specification runner.now) (R.setting runner.now) call ≡ true }
-        ensures ended { IfOk result
-            (λ ended. ended
-            ≡ ended_of (run (R.specification runner.now) (R.setting runner.now)
-            (node_of self.old) id call)) }
-        ensures node { OnOk result
-            (node_of self.new
-            ≡ node_after_run
-            (run (R.specification runner.now) (R.setting runner.now) (node_of self.old) id call)) }
-        ensures fits { OnOk result
-            (is_state (R.specification runner.now) (R.setting runner.now) self.new.state ≡ true) }
-        ensures spare { IsSpare (R.specification runner.now) (R.setting runner.now)
-            self.new.state spare.new }
-        ensures err { OnErr result (self.new ≡ self.old) }
+        ensures run { HasRun self.old self.new
+            (run (R.specification runner.now) (R.setting runner.now) (node_of self.old) id call)
+            result }
+        ensures fits { FitsIn (R.specification runner.now) (R.setting runner.now) self.new.state
+            spare.new }
     {
         let tried = try_call_over(runner, &self.state, spare, &call)?;
         self.end(runner, id, call, tried, spare)
@@ -239,28 +216,17 @@ impl Node {
         call: &Call,
     ) -> Result<Begun, NodeRefused>
         requires turn { self.old.turn < 4000000000 }
-        requires state { is_state (R.specification runner.now) (R.setting runner.now) self.old.state
-            ≡ true }
-        requires spare { IsSpare (R.specification runner.now) (R.setting runner.now)
-            self.old.state spare.old }
+        requires fits { FitsIn (R.specification runner.now) (R.setting runner.now) self.old.state
+            spare.old }
         requires call { call_fits (R.specification runner.now) (R.setting runner.now) call.now
             ≡ true }
         requires free { takes_none (R.specification runner.now) call.now ≡ true }
-        ensures answer { (result ≡ Err NodeRefused.Memory)
-            ⊎ (result
-            ≡ begin_answer
-            (turn_of (R.specification runner.now) (R.setting runner.now)
-            (node_of self.old) id call.now)) }
-        ensures ok { OnOk result
-            (node_of self.new
-            ≡ node_after_begin (node_of self.old)
+        ensures begun { HasBegun self.old self.new
             (turn_of (R.specification runner.now) (R.setting runner.now) (node_of self.old) id
-            call.now)) }
-        ensures fits { OnOk result
-            (is_state (R.specification runner.now) (R.setting runner.now) self.new.state ≡ true) }
-        ensures spare { IsSpare (R.specification runner.now) (R.setting runner.now)
-            self.new.state spare.new }
-        ensures err { OnErr result (self.new ≡ self.old) }
+            call.now)
+            result }
+        ensures fits { FitsIn (R.specification runner.now) (R.setting runner.now) self.new.state
+            spare.new }
     {
         let call = copy_call(self.alloc, call)?;
         let ended = self.run(runner, spare, id, call)?;
@@ -271,14 +237,9 @@ impl Node {
     // A call that waits for a grant, with its turn used up.
     fn wait(&mut self, id: EventId, call: &Call) -> Result<Begun, NodeRefused>
         requires turn { self.old.turn < 4000000000 }
-        ensures answer { (result ≡ Err NodeRefused.Memory)
-            ⊎ (result
-            ≡ begin_answer (waits (record { id = id; call = call.now }) (node_of self.new))) }
-        ensures ok { OnOk result
-            (node_of self.new
-            ≡ with_waiting (with_turn (node_of self.old)) (record { id = id; call = call.now })) }
+        ensures begun { HasBegun self.old self.new (waiting_turn (node_of self.old) id call.now)
+            result }
         ensures state { self.new.state ≡ self.old.state }
-        ensures err { OnErr result (self.new ≡ self.old) }
     {
         let asked = copy_call(self.alloc, call)?;
         let waiting = copy_call(self.alloc, call)?;
@@ -295,25 +256,13 @@ impl Node {
         call: &Call,
     ) -> Result<Begun, NodeRefused>
         requires turn { self.old.turn < 4000000000 }
-        requires state { is_state (R.specification runner.now) (R.setting runner.now) self.old.state
-            ≡ true }
-        requires spare { IsSpare (R.specification runner.now) (R.setting runner.now)
-            self.old.state spare.old }
-        ensures answer { (result ≡ Err NodeRefused.Memory)
-            ⊎ (result
-            ≡ begin_answer
-            (begin (R.specification runner.now) (R.setting runner.now)
-            (node_of self.old) call.now)) }
-        ensures ok { OnOk result
-            (node_of self.new
-            ≡ node_after_begin (node_of self.old)
-            (begin (R.specification runner.now) (R.setting runner.now) (node_of self.old)
-            call.now)) }
-        ensures fits { OnOk result
-            (is_state (R.specification runner.now) (R.setting runner.now) self.new.state ≡ true) }
-        ensures spare { IsSpare (R.specification runner.now) (R.setting runner.now)
-            self.new.state spare.new }
-        ensures err { OnErr result (self.new ≡ self.old) }
+        requires fits { FitsIn (R.specification runner.now) (R.setting runner.now) self.old.state
+            spare.old }
+        ensures begun { HasBegun self.old self.new
+            (begin (R.specification runner.now) (R.setting runner.now) (node_of self.old) call.now)
+            result }
+        ensures fits { FitsIn (R.specification runner.now) (R.setting runner.now) self.new.state
+            spare.new }
     {
         if !call.fits(runner.spec(), runner.world()) {
             return Err(NodeRefused::Arguments);
@@ -338,19 +287,11 @@ impl Node {
         requires turn { self.old.turn < 4000000000 }
         requires state { is_state (R.specification runner.now) (R.setting runner.now) self.old.state
             ≡ true }
-        ensures answer { (result ≡ Err NodeRefused.Memory)
-            ⊎ (result
-            ≡ begin_answer
-            (begin (R.specification runner.now) (R.setting runner.now)
-            (node_of self.old) call.now)) }
-        ensures ok { OnOk result
-            (node_of self.new
-            ≡ node_after_begin (node_of self.old)
-            (begin (R.specification runner.now) (R.setting runner.now) (node_of self.old)
-            call.now)) }
+        ensures begun { HasBegun self.old self.new
+            (begin (R.specification runner.now) (R.setting runner.now) (node_of self.old) call.now)
+            result }
         ensures fits { OnOk result
             (is_state (R.specification runner.now) (R.setting runner.now) self.new.state ≡ true) }
-        ensures err { OnErr result (self.new ≡ self.old) }
     {
         let mut spare = None;
         self.begin_over(runner, &mut spare, call)
@@ -383,26 +324,15 @@ impl Node {
         id: EventId,
         call: Call,
     ) -> Result<Heard, NodeRefused>
-        requires state { is_state (R.specification runner.now) (R.setting runner.now) self.old.state
-            ≡ true }
-        requires spare { IsSpare (R.specification runner.now) (R.setting runner.now)
-            self.old.state spare.old }
+        requires fits { FitsIn (R.specification runner.now) (R.setting runner.now) self.old.state
+            spare.old }
         requires call { call_fits (R.specification runner.now) (R.setting runner.now) call ≡ true }
-        ensures answer { (result ≡ Err NodeRefused.Memory)
-            ⊎ (result
-            ≡ hear_answer
+        ensures heard { HasHeard self.old self.new
             (grant_open (R.specification runner.now) (R.setting runner.now) (node_of self.old)
-            (record { id = id; call = call }) None)) }
-        ensures ok { OnOk result
-            (node_of self.new
-            ≡ node_after_hear (node_of self.old)
-            (grant_open (R.specification runner.now) (R.setting runner.now) (node_of self.old)
-            (record { id = id; call = call }) None)) }
-        ensures fits { OnOk result
-            (is_state (R.specification runner.now) (R.setting runner.now) self.new.state ≡ true) }
-        ensures spare { IsSpare (R.specification runner.now) (R.setting runner.now)
-            self.new.state spare.new }
-        ensures err { OnErr result (self.new ≡ self.old) }
+            (record { id = id; call = call }) None)
+            result }
+        ensures fits { FitsIn (R.specification runner.now) (R.setting runner.now) self.new.state
+            spare.new }
     {
         let ended = self.run(runner, spare, id, call)?;
         self.waiting = None;
@@ -417,27 +347,16 @@ impl Node {
         id: EventId,
         after: &[EventId],
     ) -> Result<Heard, NodeRefused>
-        requires state { is_state (R.specification runner.now) (R.setting runner.now) self.old.state
-            ≡ true }
-        requires spare { IsSpare (R.specification runner.now) (R.setting runner.now)
-            self.old.state spare.old }
+        requires fits { FitsIn (R.specification runner.now) (R.setting runner.now) self.old.state
+            spare.old }
         requires waiting { waiting_fits (R.specification runner.now) (R.setting runner.now)
             self.old.waiting ≡ true }
-        ensures answer { (result ≡ Err NodeRefused.Memory)
-            ⊎ (result
-            ≡ hear_answer
+        ensures heard { HasHeard self.old self.new
             (hear_grant (R.specification runner.now) (R.setting runner.now) (node_of self.old) id
-            after.now self.old.waiting)) }
-        ensures ok { OnOk result
-            (node_of self.new
-            ≡ node_after_hear (node_of self.old)
-            (hear_grant (R.specification runner.now) (R.setting runner.now) (node_of self.old) id
-            after.now self.old.waiting)) }
-        ensures fits { OnOk result
-            (is_state (R.specification runner.now) (R.setting runner.now) self.new.state ≡ true) }
-        ensures spare { IsSpare (R.specification runner.now) (R.setting runner.now)
-            self.new.state spare.new }
-        ensures err { OnErr result (self.new ≡ self.old) }
+            after.now self.old.waiting)
+            result }
+        ensures fits { FitsIn (R.specification runner.now) (R.setting runner.now) self.new.state
+            spare.new }
     {
         let Some(waiting) = &self.waiting else {
             return Ok(Heard::Old);
@@ -461,32 +380,19 @@ impl Node {
         id: EventId,
         call: &Call,
     ) -> Result<Heard, NodeRefused>
-        requires state { is_state (R.specification runner.now) (R.setting runner.now) self.old.state
-            ≡ true }
-        requires spare { IsSpare (R.specification runner.now) (R.setting runner.now)
-            self.old.state spare.old }
+        requires fits { FitsIn (R.specification runner.now) (R.setting runner.now) self.old.state
+            spare.old }
         requires call { call_fits (R.specification runner.now) (R.setting runner.now) call.now
             ≡ true }
-        ensures answer { (result ≡ Err NodeRefused.Memory)
-            ⊎ (result
-            ≡ hear_answer
-            (take_within (R.specification runner.now) (R.setting runner.now) (node_of self.old) id
-            call.now (first_beyond 0
-            (after_call (R.specification runner.now) (R.setting runner.now) call.now
-            (reads self.old.state)).counters))) }
-        ensures ok { OnOk result
-            (node_of self.new
-            ≡ node_after_hear (node_of self.old)
+        ensures heard { HasHeard self.old self.new
             (take_within (R.specification runner.now) (R.setting runner.now) (node_of self.old) id
             call.now
             (first_beyond 0
             (after_call (R.specification runner.now) (R.setting runner.now) call.now
-            (reads self.old.state)).counters))) }
-        ensures fits { OnOk result
-            (is_state (R.specification runner.now) (R.setting runner.now) self.new.state ≡ true) }
-        ensures spare { IsSpare (R.specification runner.now) (R.setting runner.now)
-            self.new.state spare.new }
-        ensures err { OnErr result (self.new ≡ self.old) }
+            (reads self.old.state)).counters))
+            result }
+        ensures fits { FitsIn (R.specification runner.now) (R.setting runner.now) self.new.state
+            spare.new }
     {
         match runner.effect_over(&self.state, spare.take(), call) {
             Ok(next) => {
@@ -507,27 +413,16 @@ impl Node {
         call: &Call,
         seen: &[EventId],
     ) -> Result<Heard, NodeRefused>
-        requires state { is_state (R.specification runner.now) (R.setting runner.now) self.old.state
-            ≡ true }
-        requires spare { IsSpare (R.specification runner.now) (R.setting runner.now)
-            self.old.state spare.old }
+        requires fits { FitsIn (R.specification runner.now) (R.setting runner.now) self.old.state
+            spare.old }
         requires call { call_fits (R.specification runner.now) (R.setting runner.now) call.now
             ≡ true }
-        ensures answer { (result ≡ Err NodeRefused.Memory)
-            ⊎ (result
-            ≡ hear_answer
+        ensures heard { HasHeard self.old self.new
             (hear_done (R.specification runner.now) (R.setting runner.now) (node_of self.old) id
-            call.now seen.now)) }
-        ensures ok { OnOk result
-            (node_of self.new
-            ≡ node_after_hear (node_of self.old)
-            (hear_done (R.specification runner.now) (R.setting runner.now) (node_of self.old) id
-            call.now seen.now)) }
-        ensures fits { OnOk result
-            (is_state (R.specification runner.now) (R.setting runner.now) self.new.state ≡ true) }
-        ensures spare { IsSpare (R.specification runner.now) (R.setting runner.now)
-            self.new.state spare.new }
-        ensures err { OnErr result (self.new ≡ self.old) }
+            call.now seen.now)
+            result }
+        ensures fits { FitsIn (R.specification runner.now) (R.setting runner.now) self.new.state
+            spare.new }
     {
         if self.taken.has(id) {
             return Ok(Heard::Old);
@@ -540,13 +435,8 @@ impl Node {
 
     // The node gets a Void.
     fn hear_void(&mut self, id: EventId) -> Result<Heard, NodeRefused>
-        ensures answer { (result ≡ Err NodeRefused.Memory)
-            ⊎ (result ≡ hear_answer (hear_void (node_of self.old) id)) }
-        ensures ok { OnOk result
-            (node_of self.new ≡ node_after_hear (node_of self.old)
-            (hear_void (node_of self.old) id)) }
+        ensures heard { HasHeard self.old self.new (hear_void (node_of self.old) id) result }
         ensures state { self.new.state ≡ self.old.state }
-        ensures err { OnErr result (self.new ≡ self.old) }
     {
         if self.void.has(id) {
             return Ok(Heard::Old);
@@ -562,29 +452,17 @@ impl Node {
         spare: &mut Option<State>,
         message: &Message,
     ) -> Result<Heard, NodeRefused>
-        requires state { is_state (R.specification runner.now) (R.setting runner.now) self.old.state
-            ≡ true }
-        requires spare { IsSpare (R.specification runner.now) (R.setting runner.now)
-            self.old.state spare.old }
+        requires fits { FitsIn (R.specification runner.now) (R.setting runner.now) self.old.state
+            spare.old }
         requires waiting { waiting_fits (R.specification runner.now) (R.setting runner.now)
             self.old.waiting ≡ true }
         requires message { message_fits (R.specification runner.now)
             (R.setting runner.now) message.now ≡ true }
-        ensures answer { (result ≡ Err NodeRefused.Memory)
-            ⊎ (result
-            ≡ hear_answer
+        ensures heard { HasHeard self.old self.new
             (hear (R.specification runner.now) (R.setting runner.now) (node_of self.old)
-            message.now)) }
-        ensures ok { OnOk result
-            (node_of self.new
-            ≡ node_after_hear (node_of self.old)
-            (hear (R.specification runner.now) (R.setting runner.now) (node_of self.old)
-            message.now)) }
-        ensures fits { OnOk result
-            (is_state (R.specification runner.now) (R.setting runner.now) self.new.state ≡ true) }
-        ensures spare { IsSpare (R.specification runner.now) (R.setting runner.now)
-            self.new.state spare.new }
-        ensures err { OnErr result (self.new ≡ self.old) }
+            message.now) result }
+        ensures fits { FitsIn (R.specification runner.now) (R.setting runner.now) self.new.state
+            spare.new }
     {
         match message {
             Message::Grant { id, after } => {
@@ -609,19 +487,11 @@ impl Node {
             self.old.waiting ≡ true }
         requires message { message_fits (R.specification runner.now)
             (R.setting runner.now) message.now ≡ true }
-        ensures answer { (result ≡ Err NodeRefused.Memory)
-            ⊎ (result
-            ≡ hear_answer
+        ensures heard { HasHeard self.old self.new
             (hear (R.specification runner.now) (R.setting runner.now) (node_of self.old)
-            message.now)) }
-        ensures ok { OnOk result
-            (node_of self.new
-            ≡ node_after_hear (node_of self.old)
-            (hear (R.specification runner.now) (R.setting runner.now) (node_of self.old)
-            message.now)) }
+            message.now) result }
         ensures fits { OnOk result
             (is_state (R.specification runner.now) (R.setting runner.now) self.new.state ≡ true) }
-        ensures err { OnErr result (self.new ≡ self.old) }
     {
         let mut spare = None;
         self.hear_over(runner, &mut spare, message)

@@ -12,10 +12,10 @@ ghost use Rattle.token_protocol.specs.Network.{Replica as ReplicaOf, number_of a
 ghost use Rattle.token_protocol.specs.Network.{node_refused, begin_at, hears_message, asks};
 ghost use Rattle.token_protocol.specs.Network.{network_after, answer};
 ghost use Rattle.token_core.specs.Log.{lists_of, HasRoom};
-ghost use Rattle.token_core.specs.Held.{node_of, waiting_fits, message_fits};
-ghost use Rattle.token_core.specs.Left.{id_of, event_of, event_for, after_begun, IsAfterHeard};
-ghost use Rattle.token_core.specs.Left.{IsPrepared, Left, after_ran, after_void};
-ghost use Rattle.token_core.specs.Fields.{network_with, held_replica, replica_at, FitsIn};
+ghost use Rattle.token_core.specs.Held.{node_of, FitsIn, waiting_fits, message_fits};
+ghost use Rattle.token_core.specs.Left.{left_of, id_of, event_of, event_for, after_ran, after_void};
+ghost use Rattle.token_core.specs.Left.{after_begun, IsAfterHeard, IsPrepared};
+ghost use Rattle.token_core.specs.Fields.{network_with, held_replica, replica_at};
 ghost use Rattle.token_manager.specs.Grants.{AreGrants};
 
 use crate::log::{CallEvent, Happened, Log, make_room, number_of, put};
@@ -134,11 +134,7 @@ fn event_for(
 fn keep_ran(log: &mut Log, taken: &mut Vec<u32>, event: CallEvent, done: Message) -> NetDid
     requires room { HasRoom log.old }
     requires place { vec_len taken.old < vec_capacity taken.old }
-    ensures { (let left : Left = record {
-      did = result;
-      lists = lists_of log.new;
-      taken = taken.new.items;
-    } in left)
+    ensures { left_of result log.new taken.new.items
         ≡ after_ran (lists_of log.old) taken.old.items event done }
 {
     let id = id_of(&done);
@@ -152,12 +148,7 @@ fn keep_ran(log: &mut Log, taken: &mut Vec<u32>, event: CallEvent, done: Message
 // A call is void, which is sent.
 fn keep_void(log: &mut Log, why: WhyVoid, told: Message) -> NetDid
     requires room { HasRoom log.old }
-    ensures { (taken : List ℕ)
-        → (let left : Left = record {
-          did = result;
-          lists = lists_of log.new;
-          taken = taken;
-        } in left)
+    ensures { (taken : List ℕ) → left_of result log.new taken
         ≡ after_void (lists_of log.old) taken why told }
 {
     let number = log.messages.len() as u32;
@@ -172,11 +163,7 @@ fn keep_void(log: &mut Log, why: WhyVoid, told: Message) -> NetDid
 fn keep_begun(log: &mut Log, taken: &mut Vec<u32>, event: CallEvent, begun: Begun) -> NetDid
     requires room { HasRoom log.old }
     requires place { vec_len taken.old < vec_capacity taken.old }
-    ensures { (let left : Left = record {
-      did = result;
-      lists = lists_of log.new;
-      taken = taken.new.items;
-    } in left)
+    ensures { left_of result log.new taken.new.items
         ≡ after_begun (lists_of log.old) taken.old.items event begun }
 {
     match begun {
@@ -214,7 +201,7 @@ fn keep_heard(
     requires place { vec_len taken.old < vec_capacity taken.old }
     requires prepared { IsPrepared event heard }
     ensures { IsAfterHeard (lists_of log.old) taken.old.items id event heard
-        (record { did = result; lists = lists_of log.new; taken = taken.new.items }) }
+        (left_of result log.new taken.new.items) }
 {
     match heard {
         Heard::Ran(done) => {
@@ -257,7 +244,8 @@ pub fn begin_at<R: Runner>(
     at: &mut Replica,
     call: &Call,
 ) -> Result<NetDid, NetRefused>
-    requires fits { FitsIn (R.specification runner.now) (R.setting runner.now) at.old }
+    requires fits { FitsIn (R.specification runner.now) (R.setting runner.now) at.old.node.state
+        at.old.spare }
     ensures answer { (replicas : List ReplicaOf) (granted : List Granted) (r : ℕ)
         → (result ≡ Err NetRefused.Memory)
         ⊎ (result
@@ -272,7 +260,8 @@ pub fn begin_at<R: Runner>(
         (begin_at (network_with replicas granted (lists_of log.old)) r (replica_at at.old)
         (begin (R.specification runner.now) (R.setting runner.now)
         (node_of at.old.node) call.now))) }
-    ensures fits { FitsIn (R.specification runner.now) (R.setting runner.now) at.new }
+    ensures fits { FitsIn (R.specification runner.now) (R.setting runner.now) at.new.node.state
+        at.new.spare }
     ensures err { OnErr result
         ((held_replica at.new ≡ held_replica at.old) × (lists_of log.new ≡ lists_of log.old)) }
 {
@@ -296,7 +285,8 @@ pub fn hear_at<R: Runner>(
     at: &mut Replica,
     message: u32,
 ) -> Result<NetDid, NetRefused>
-    requires fits { FitsIn (R.specification runner.now) (R.setting runner.now) at.old }
+    requires fits { FitsIn (R.specification runner.now) (R.setting runner.now) at.old.node.state
+        at.old.spare }
     requires waiting { waiting_fits (R.specification runner.now) (R.setting runner.now)
         at.old.node.waiting ≡ true }
     requires message { (m : Sent) → slice_get log.old.messages.items message ≡ Some m
@@ -316,7 +306,8 @@ pub fn hear_at<R: Runner>(
         (hears_message (R.specification runner.now) (R.setting runner.now)
         (network_with replicas granted (lists_of log.old)) r (replica_at at.old)
         (slice_get log.old.messages.items message))) }
-    ensures fits { FitsIn (R.specification runner.now) (R.setting runner.now) at.new }
+    ensures fits { FitsIn (R.specification runner.now) (R.setting runner.now) at.new.node.state
+        at.new.spare }
     ensures err { OnErr result
         ((held_replica at.new ≡ held_replica at.old) × (lists_of log.new ≡ lists_of log.old)) }
 {

@@ -19,7 +19,7 @@ returns-in-Ok-clause-answer g c = λ replicas granted r.
     let after = c.keep_begun.ensures
     ∙ ap (λ (l : Lists). after_begun l c.make_room-2.new.list.items c.in_ok-event.event c.in-Ok.begun) c.make_room.ensures.same
     ∙ ap (λ (t : List ℕ). after_begun lists t c.in_ok-event.event c.in-Ok.begun) c.make_room-2.ensures.same in
-    let told = told_so c.in-Ok.begun refusal.Memory (begin_answer (begin d w n c.args.call.now)) c.in-Ok.ensures.answer in
+    let told = told_so c.in-Ok.begun refusal.Memory (begin_answer (begin d w n c.args.call.now)) c.in-Ok.ensures.begun.answer in
     inr (begin_left d w replicas granted lists r n taken c.args.call.now c.in-Ok.begun c.in_ok-event.event left is after told).did
 
 pub returns-in-Ok-clause-ok : goal.returns-in-Ok-clause-ok
@@ -32,6 +32,6 @@ returns-in-Ok-clause-ok g c = λ replicas granted r here.
     let after = c.keep_begun.ensures
     ∙ ap (λ (l : Lists). after_begun l c.make_room-2.new.list.items c.in_ok-event.event c.in-Ok.begun) c.make_room.ensures.same
     ∙ ap (λ (t : List ℕ). after_begun lists t c.in_ok-event.event c.in-Ok.begun) c.make_room-2.ensures.same in
-    let told = told_so c.in-Ok.begun refusal.Memory (begin_answer (begin d w n c.args.call.now)) c.in-Ok.ensures.answer in
+    let told = told_so c.in-Ok.begun refusal.Memory (begin_answer (begin d w n c.args.call.now)) c.in-Ok.ensures.begun.answer in
     next_network d w replicas granted lists r n taken left (node_of c.begin_over.new.self) (node_after_begin n (begin d w n c.args.call.now)) (begin_at (network_with replicas granted lists) r (replica n taken) (begin d w n c.args.call.now))
-    (begin_left d w replicas granted lists r n taken c.args.call.now c.in-Ok.begun c.in_ok-event.event left is after told) c.in-Ok.ensures.ok
+    (begin_left d w replicas granted lists r n taken c.args.call.now c.in-Ok.begun c.in_ok-event.event left is after told) c.in-Ok.ensures.begun.ok

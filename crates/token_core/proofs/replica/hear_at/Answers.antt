@@ -33,7 +33,7 @@ keep_heard-requires-clause-prepared g c =
     let lt : c.args.message < length c.make_room.new.self.messages.items = omega (arith, c.if-message-len.false, c.len.ensures, c.args.log.now.messages.ok.0, same_length) in
     let sent = subst (λ (l : Lists). slice_get l.messages c.args.message ≡ Some m) c.make_room.ensures.same (read_at c.make_room.new.self.messages.items c.args.message m lt c.index-sent.ensures) in
     let is = c.in_ok-event.ensures ∙ ap (λ (t : List ℕ). event_for t n.waiting m) (c.as_slice.ensures.value ∙ c.make_room-2.ensures.same) in
-    let told = told_so c.in-Ok.heard refusal.Memory (hear_answer (hear d w n m)) c.in-Ok.ensures.answer in
+    let told = told_so c.in-Ok.heard refusal.Memory (hear_answer (hear d w n m)) c.in-Ok.ensures.heard.answer in
     is_prepared d w [] [] lists 0 n taken m c.in-Ok.heard c.in_ok-event.event is told
 
 pub returns-in-Ok-clause-answer : goal.returns-in-Ok-clause-answer
@@ -51,7 +51,7 @@ returns-in-Ok-clause-answer g c = λ replicas granted r here.
     subst (λ (t : List ℕ). IsAfterHeard lists t (id_of m) c.in_ok-event.event c.in-Ok.heard left) c.make_room-2.ensures.same
     (subst (λ (l : Lists). IsAfterHeard l c.make_room-2.new.list.items (id_of m) c.in_ok-event.event c.in-Ok.heard left) c.make_room.ensures.same
     (subst (λ (i : EventId). IsAfterHeard (lists_of c.make_room.new.self) c.make_room-2.new.list.items i c.in_ok-event.event c.in-Ok.heard left) c.id_of-id.ensures c.keep_heard.ensures)) in
-    let told = told_so c.in-Ok.heard refusal.Memory (hear_answer (hear d w n m)) c.in-Ok.ensures.answer in
+    let told = told_so c.in-Ok.heard refusal.Memory (hear_answer (hear d w n m)) c.in-Ok.ensures.heard.answer in
     let known = hear_left d w replicas granted lists r n taken m c.in-Ok.heard c.in_ok-event.event is left here after told in
     inr (known.did ∙ ap (λ o. answer (hears_message d w (network_with replicas granted lists) r (replica n taken) o)) (sym sent))
 
@@ -70,7 +70,7 @@ returns-in-Ok-clause-ok g c = λ replicas granted r here.
     subst (λ (t : List ℕ). IsAfterHeard lists t (id_of m) c.in_ok-event.event c.in-Ok.heard left) c.make_room-2.ensures.same
     (subst (λ (l : Lists). IsAfterHeard l c.make_room-2.new.list.items (id_of m) c.in_ok-event.event c.in-Ok.heard left) c.make_room.ensures.same
     (subst (λ (i : EventId). IsAfterHeard (lists_of c.make_room.new.self) c.make_room-2.new.list.items i c.in_ok-event.event c.in-Ok.heard left) c.id_of-id.ensures c.keep_heard.ensures)) in
-    let told = told_so c.in-Ok.heard refusal.Memory (hear_answer (hear d w n m)) c.in-Ok.ensures.answer in
+    let told = told_so c.in-Ok.heard refusal.Memory (hear_answer (hear d w n m)) c.in-Ok.ensures.heard.answer in
     let known = hear_left d w replicas granted lists r n taken m c.in-Ok.heard c.in_ok-event.event is left here after told in
-    next_network d w replicas granted lists r n taken left (node_of c.hear_over.new.self) (node_after_hear n (hear d w n m)) (hear_at (network_with replicas granted lists) r (replica n taken) (hear d w n m)) known c.in-Ok.ensures.ok
+    next_network d w replicas granted lists r n taken left (node_of c.hear_over.new.self) (node_after_hear n (hear d w n m)) (hear_at (network_with replicas granted lists) r (replica n taken) (hear d w n m)) known c.in-Ok.ensures.heard.ok
     ∙ ap (λ o. network_after (network_with replicas granted lists) (hears_message d w (network_with replicas granted lists) r (replica n taken) o)) (sym sent)
